@@ -1,0 +1,5 @@
+use Rattle.literal_base.proofs.Exists.{leftmost_exists_lem}
+use Rattle.literal_base.proofs.laws.leftmost_exists.Goals as goal
+
+pub returns : goal.returns
+returns c = leftmost_exists_lem

@@ -1,0 +1,5 @@
+pub mod Counts
+pub mod Found
+pub mod Greedy
+pub mod Leftmost
+pub mod Occurs

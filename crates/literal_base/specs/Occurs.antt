@@ -1,0 +1,47 @@
+-- Where patterns stand in a haystack.
+-- A pattern and a haystack are lists of bytes. The patterns are numbered from 0, in the order of a list.
+-- A place is an offset in the whole haystack.
+use Rattle.std.specs.Prelude.{◌≡◌, ℕ, ◌+◌, ◌<◌, ◌≤◌, Bool, if◌then◌else◌, List, [], length, map, slice_range, slice_index_or}
+use Rattle.std.specs.Char.{to_ascii_lowercase}
+use Rattle.literal_base.specs.declared.search.Span.{Span}
+
+-- the bytes; where case is ignored, each of A to Z is replaced by its small letter
+abbrev pub case_folded : Bool → List ℕ → List ℕ
+case_folded ignore_case bytes = if ignore_case then map to_ascii_lowercase bytes else bytes
+
+-- a and b have one length and equal bytes, once each of A to Z is replaced where case is ignored
+abbrev pub Same : Bool → List ℕ → List ℕ → Type 0
+Same ignore_case a b = case_folded ignore_case a ≡ case_folded ignore_case b
+
+-- the pattern of a number, and the empty list where there is none
+abbrev pub pattern_at : List (List ℕ) → ℕ → List ℕ
+pattern_at patterns i = slice_index_or patterns i []
+
+-- the bytes stand whole in the haystack at a place
+pub record StandsAt (ignore_case : Bool) (bytes haystack : List ℕ) (at : ℕ) : Type 0 where
+  pub fits : at + length bytes ≤ length haystack
+  pub same : Same ignore_case (slice_range haystack at (at + length bytes)) bytes
+
+-- the span is a part of the haystack
+pub record IsValidSpan (haystack : List ℕ) (span : Span) : Type 0 where
+  pub ordered : span.start ≤ span.end
+  pub in_haystack : span.end ≤ length haystack
+
+-- the whole haystack
+abbrev pub whole_of : List ℕ → Span
+whole_of haystack = record { start = 0; end = length haystack }
+
+-- the part of the haystack from a place to its end
+abbrev pub rest_from : List ℕ → ℕ → Span
+rest_from haystack at = record { start = at; end = length haystack }
+
+-- pattern i occurs at a place of the span: it lies whole in the span, and the haystack's bytes there are the pattern's
+pub record Occurs (patterns : List (List ℕ)) (ignore_case : Bool) (haystack : List ℕ) (span : Span) (i at : ℕ) : Type 0 where
+  pub is_pattern : i < length patterns
+  pub after_start : span.start ≤ at
+  pub before_end : at + length (pattern_at patterns i) ≤ span.end
+  pub same : Same ignore_case (slice_range haystack at (at + length (pattern_at patterns i))) (pattern_at patterns i)
+
+-- no pattern occurs in the span
+abbrev pub NothingOccurs : List (List ℕ) → Bool → List ℕ → Span → Type 0
+NothingOccurs patterns ignore_case haystack span = (i at : ℕ) → ¬ Occurs patterns ignore_case haystack span i at

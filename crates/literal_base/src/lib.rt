@@ -1,0 +1,9 @@
+//! Spans, matches, counts of steps, and the definitions of what a search has to answer.
+#![tactic(auto)]
+
+pub mod count;
+pub mod laws;
+pub mod packed;
+pub mod search;
+
+pub use search::{Match, Span};
