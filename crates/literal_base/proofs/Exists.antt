@@ -1,5 +1,5 @@
 -- There is a leftmost answer, and a greedy list: found by going over the places and the patterns.
-use Rattle.std.proofs.Common.{◌≡◌, ℕ, ◌+◌, ◌-◌, ◌<◌, ◌≤◌, ◌⊎◌, inl, inr, Bool, true, false, List, [], ◌∷◌, length, Option, Some, None, refl, sym, subst, arith, zero, suc, slice_range, MatchOption}
+use Rattle.std.proofs.Common.{ℕ, ◌+◌, ◌<◌, ◌≤◌, ◌⊎◌, inl, inr, Bool, true, false, List, [], ◌∷◌, length, Option, Some, None, refl, sym, subst, arith, zero, suc, slice_range}
 use Rattle.std.specs.Bool.{Decides}
 use Rattle.std.specs.List.{All}
 use Rattle.std.specs.Str.{bytes_eq}
@@ -9,7 +9,7 @@ use Rattle.literal_base.specs.declared.packed.MatchKind.{MatchKind}
 use Rattle.literal_base.specs.declared.packed.MatchKind.TheVariants.{LeftmostFirst, LeftmostLongest}
 use Rattle.literal_base.specs.declared.search.Span.{Span}
 use Rattle.literal_base.specs.Found.{Found}
-use Rattle.literal_base.specs.Occurs.{case_folded, pattern_at, Occurs, NothingOccurs, rest_from}
+use Rattle.literal_base.specs.Occurs.{case_folded, pattern_at, Occurs, rest_from}
 use Rattle.literal_base.specs.Leftmost.{IsBetter, IsLeftmostMatch, IsLeftmost}
 use Rattle.literal_base.specs.Greedy.{IsGreedy}
 use Rattle.literal_base.proofs.Unique.{better_one}
@@ -76,16 +76,22 @@ module _ (patterns : List (List ℕ)) (kind : MatchKind) (ignore_case : Bool) (h
   better_of : (n at b : ℕ) → IsBestOf n at b → OccursAt n at → (a : ℕ) × IsBestOf (suc n) at a
   better_of n at b h occurs =
       elim (better_one kind patterns b n h.below) [
-        | inl kept ↦ (b, record {
-          below = omega arith;
-          occurs = h.occurs;
-          best = one_more {P = λ i. IsBetter kind patterns i b → ¬ OccursAt i at} n h.best (λ better. absurd (better-irreflexive kind patterns n (better-transitive kind patterns n b n better kept)));
-        })
-        | inr taken ↦ (n, record {
-          below = omega arith;
-          occurs = occurs;
-          best = one_more {P = λ i. IsBetter kind patterns i n → ¬ OccursAt i at} n (λ i below better. h.best i below (better-transitive kind patterns i n b better taken)) (λ better. absurd (better-irreflexive kind patterns n better));
-        })
+        | inl kept ↦ (
+          b,
+          record {
+            below = omega arith;
+            occurs = h.occurs;
+            best = one_more {P = λ i. IsBetter kind patterns i b → ¬ OccursAt i at} n h.best (λ better. absurd (better-irreflexive kind patterns n (better-transitive kind patterns n b n better kept)));
+          },
+        )
+        | inr taken ↦ (
+          n,
+          record {
+            below = omega arith;
+            occurs = occurs;
+            best = one_more {P = λ i. IsBetter kind patterns i n → ¬ OccursAt i at} n (λ i below better. h.best i below (better-transitive kind patterns i n b better taken)) (λ better. absurd (better-irreflexive kind patterns n better));
+          },
+        )
       ]
 
   best_of : (n at : ℕ) → n ≤ length patterns → ((i : ℕ) → i < n → ¬ OccursAt i at) ⊎ ((b : ℕ) × IsBestOf n at b)
@@ -94,19 +100,25 @@ module _ (patterns : List (List ℕ)) (kind : MatchKind) (ignore_case : Bool) (h
       elim (best_of n at (omega arith)) [
         | inl none ↦ elim (occurs_or_not n at (omega arith)) [
           | inr not ↦ inl (one_more {P = λ i. ¬ OccursAt i at} n none not)
-          | inl occurs ↦ inr (n, record {
-            below = omega arith;
-            occurs = occurs;
-            best = one_more {P = λ i. IsBetter kind patterns i n → ¬ OccursAt i at} n (λ i below better. none i below) (λ better. absurd (better-irreflexive kind patterns n better));
-          })
+          | inl occurs ↦ inr (
+            n,
+            record {
+              below = omega arith;
+              occurs = occurs;
+              best = one_more {P = λ i. IsBetter kind patterns i n → ¬ OccursAt i at} n (λ i below better. none i below) (λ better. absurd (better-irreflexive kind patterns n better));
+            },
+          )
         ]
         | inr found ↦ elim (occurs_or_not n at (omega arith)) [
           | inl occurs ↦ inr (better_of n at found.0 found.1 occurs)
-          | inr not ↦ inr (found.0, record {
-            below = omega (arith, found.1.below);
-            occurs = found.1.occurs;
-            best = one_more {P = λ i. IsBetter kind patterns i found.0 → ¬ OccursAt i at} n found.1.best (λ better. not);
-          })
+          | inr not ↦ inr (
+            found.0,
+            record {
+              below = omega (arith, found.1.below);
+              occurs = found.1.occurs;
+              best = one_more {P = λ i. IsBetter kind patterns i found.0 → ¬ OccursAt i at} n found.1.best (λ better. not);
+            },
+          )
         ]
       ]
 
@@ -118,12 +130,15 @@ module _ (patterns : List (List ℕ)) (kind : MatchKind) (ignore_case : Bool) (h
         | inr found ↦ inr found
         | inl none ↦ elim (best_of (length patterns) m (omega arith)) [
           | inl nothing ↦ inl (λ i. one_more {P = λ at. ¬ OccursAt i at} m (none i) (λ o. nothing i o.is_pattern o))
-          | inr found ↦ inr (record { pattern = found.0; start = m; end = m + length (pattern_at patterns found.0) }, record {
-            occurs = found.1.occurs;
-            whole = refl;
-            earliest = none;
-            best = λ i better o. found.1.best i o.is_pattern better o;
-          })
+          | inr found ↦ inr (
+            record { pattern = found.0; start = m; end = m + length (pattern_at patterns found.0) },
+            record {
+              occurs = found.1.occurs;
+              whole = refl;
+              earliest = none;
+              best = λ i better o. found.1.best i o.is_pattern better o;
+            },
+          )
         ]
       ]
 
@@ -148,10 +163,12 @@ module _ (patterns : List (List ℕ)) (kind : MatchKind) (ignore_case : Bool) (h
 
   -- at most so many bytes are left, and each match takes one or more
   pub greedy_within : (most at : ℕ) → length haystack ≤ at + most → GreedyFrom at
-  greedy_within zero at h =
-      ([], λ i s o.
-          let some : 0 < length (pattern_at patterns i) = not_empty i [] o.is_pattern in
-          omega (arith, o.before_end, o.after_start))
+  greedy_within zero at h = (
+    [],
+    λ i s o.
+        let some : 0 < length (pattern_at patterns i) = not_empty i [] o.is_pattern in
+        omega (arith, o.before_end, o.after_start),
+  )
   greedy_within (suc most) at h =
       let answer = leftmost_exists_lem patterns kind ignore_case haystack (rest_from haystack at) in
       greedy_from at (λ e after. greedy_within most e (omega arith)) answer.0 answer.1

@@ -1,0 +1,5 @@
+use Rattle.literal_packed.specs.State.{AddsAll}
+use Rattle.literal_packed.proofs.api.Builder.put_all.Given as goal
+
+abbrev pub invariant-loop-bytes : goal.invariant-loop-bytes
+invariant-loop-bytes g l = AddsAll l.fn.self l.yielded l.self

@@ -1,0 +1,385 @@
+//! The configuration, the builder, and the searcher.
+ghost use Rattle.std.specs.Prelude.{◌≡◌, ◌<◌, ◌⊎◌, ◌∷◌, [], length, Ok, Err, false, IsOk, IfOk, IfErr, OnOk, OnErr, IfSome, MatchResult};
+ghost use Rattle.std.specs.Borrow.{sem};
+ghost use Rattle.std.specs.Iterator.{ExtendsWithItems, IsFinite};
+ghost use Rattle.literal_base.specs.Occurs.{IsValidSpan, whole_of};
+ghost use Rattle.literal_base.specs.Leftmost.{IsLeftmost};
+ghost use Rattle.literal_packed.specs.Collected.{IsInOrder, shortest_len};
+ghost use Rattle.literal_packed.specs.State.{Adds, AddsAll, Builds, BuildsItems, IsBuildable, WouldKeep, builder_of, default_config, kept};
+ghost use Rattle.literal_packed.specs.Lending.{RestsAtErr, LentRestsAtErr, HoldsTaken, HoldsAll};
+
+use crate::pattern::Patterns;
+use crate::plain::leftmost;
+use literal_base::count::Tally;
+use literal_base::packed::MatchKind;
+use literal_base::{Match, Span};
+use std::alloc::{AllocError, Global};
+use std::fmt;
+use std::marker::Model;
+
+/// How many patterns a builder keeps at most: a search for a few patterns loses its use beyond.
+const PATTERN_LIMIT: usize = 128;
+
+/// What a [`Builder`] is made by: which occurrence is the match.
+#[derive(Clone, Debug, Drop)]
+pub struct Config {
+    kind: MatchKind,
+}
+
+impl Model for Config {
+    ghost use Rattle.literal_packed.specs.State.{Configured};
+
+    ghost Value = { Configured };
+
+    ghost view = { λ config. record { kind = config.kind } };
+}
+
+impl Config {
+    /// The usual configuration: [`MatchKind::LeftmostFirst`].
+    pub fn new() -> Config
+        ensures { result ≡ default_config }
+    {
+        Config {
+            kind: MatchKind::LeftmostFirst,
+        }
+    }
+
+    /// A builder of this configuration, with no pattern.
+    pub fn builder(&self, alloc: Global) -> Builder
+        ensures { result ≡ builder_of self.now [] }
+    {
+        Builder {
+            config: Config { kind: self.kind },
+            inert: false,
+            patterns: Patterns::new(alloc),
+        }
+    }
+
+    /// Sets which occurrence is the match.
+    pub fn match_kind(&mut self, kind: MatchKind) -> &mut Config
+        ensures same { result.ghost_name ≡ self.entry.ghost_name }
+        ensures now { result.now ≡ record self.old { kind = kind } }
+    {
+        self.kind = kind;
+        self
+    }
+
+    /// Changes nothing: Rabin and Karp's search is the only algorithm that there is.
+    pub fn only_rabin_karp(&mut self, _yes: bool) -> &mut Config
+        ensures same { result.ghost_name ≡ self.entry.ghost_name }
+        ensures now { result.now ≡ self.old }
+    {
+        self
+    }
+}
+
+/// The usual configuration, as [`Config::new`].
+impl Default for Config {
+    ghost is_default = { λ config. config ≡ default_config };
+
+    fn default() -> Config {
+        Config::new()
+    }
+}
+
+/// Collects patterns, and builds a searcher for them. It keeps up to 128 patterns that are not
+/// empty. An empty pattern, or one more than 128, makes it *inert* for good: it then keeps no
+/// pattern, and builds no searcher, whatever is added later.
+#[derive(Drop)]
+pub struct Builder {
+    config: Config,
+    inert: bool,
+    patterns: Patterns,
+}
+
+impl Model for Builder {
+    ghost use Rattle.literal_packed.specs.State.{Building};
+
+    ghost Value = { Building };
+
+    ghost use Rattle.literal_packed.specs.BuilderInside.{building, IsSound};
+
+    ghost view = { building };
+
+    ghost invariant = { IsSound };
+}
+
+impl Builder {
+    /// No pattern, and the usual configuration.
+    pub fn new(alloc: Global) -> Builder
+        ensures { result ≡ builder_of default_config [] }
+    {
+        Config::new().builder(alloc)
+    }
+
+    /// A searcher for the patterns, or `None` where there are none or the builder is inert. The
+    /// builder stays as it is.
+    pub fn build(&self) -> Result<Option<Searcher>, AllocError>
+        ensures ok { IfOk result (Builds self.now) }
+        ensures no_memory { IsOk result ⊎ IsBuildable self.now }
+    {
+        if self.patterns.is_empty() {
+            return Ok(None);
+        }
+        let mut patterns = self.patterns.try_clone()?;
+        patterns.set_match_kind(self.config.kind)?;
+        let _len = patterns.len();
+        Ok(Some(Searcher { patterns }))
+    }
+
+    /// Adds a copy of a pattern, unless the builder is inert. An empty pattern, and one more than
+    /// 128, makes it so. Where memory is refused, all stays as it was; where the pattern is not kept
+    /// no memory is asked for.
+    pub fn add(&mut self, bytes: &[u8]) -> Result<&mut Builder, AllocError>
+        ensures* err { sem 𝓛 (RestsAtErr (λ b. b ≡ self.old) self.entry result) }
+        ensures same { IfOk result (λ b. b.ghost_name ≡ self.entry.ghost_name) }
+        ensures ok { IfOk result (λ b. Adds self.old (bytes.now ∷ []) b.now) }
+        ensures no_memory { OnErr result (WouldKeep self.old bytes.now) }
+    {
+        unwrapped(self.try_add(bytes))
+    }
+
+    fn try_add(&mut self, bytes: &[u8]) -> Result<Lent<'_>, AllocError>
+        ensures* err { sem 𝓛 (LentRestsAtErr (λ b. b ≡ self.old) self.entry result) }
+        ensures same { IfOk result (λ l. l.builder.ghost_name ≡ self.entry.ghost_name) }
+        ensures ok { IfOk result (λ l. Adds self.old (bytes.now ∷ []) l.builder.now) }
+        ensures no_memory { OnErr result (WouldKeep self.old bytes.now) }
+    {
+        self.put(bytes)?;
+        Ok(Lent { builder: self })
+    }
+
+    fn put(&mut self, bytes: &[u8]) -> Result<(), AllocError>
+        ensures ok { OnOk result (Adds self.old (bytes.now ∷ []) self.new) }
+        ensures no_memory { OnErr result (WouldKeep self.old bytes.now) }
+        ensures err { OnErr result (self.new ≡ self.old) }
+    {
+        if self.inert {
+            return Ok(());
+        }
+        if bytes.is_empty() || self.patterns.len() >= PATTERN_LIMIT {
+            self.inert = true;
+            self.patterns.reset();
+            return Ok(());
+        }
+        self.patterns.add(bytes)?;
+        Ok(())
+    }
+
+    /// Adds the patterns that the iterator gives, each as [`Builder::add`] does. The iterator has to
+    /// end. Where memory is refused, the patterns before the refused one stay added.
+    pub fn extend<'a, I: IntoIterator<Item = &'a [u8]>>(
+        &mut self,
+        patterns: I,
+    ) -> Result<&mut Builder, AllocError>
+        requires { (it : I.IntoIter) → I.into_iter_gives patterns it
+            → I.IntoIter.can_next it × IsFinite (I.IntoIter.remaining it) }
+        ensures* err { sem 𝓛 (RestsAtErr (HoldsTaken I.into_iter_gives I.IntoIter.next_gives patterns self.old) self.entry result) }
+        ensures same { IfOk result (λ b. b.ghost_name ≡ self.entry.ghost_name) }
+        ensures ok { IfOk result (λ b. HoldsAll I.into_iter_gives I.IntoIter.next_gives patterns self.old b.now) }
+    {
+        unwrapped(self.try_extend(patterns))
+    }
+
+    fn try_extend<'a, I: IntoIterator<Item = &'a [u8]>>(
+        &mut self,
+        patterns: I,
+    ) -> Result<Lent<'_>, AllocError>
+        requires { (it : I.IntoIter) → I.into_iter_gives patterns it
+            → I.IntoIter.can_next it × IsFinite (I.IntoIter.remaining it) }
+        ensures* err { sem 𝓛 (LentRestsAtErr (HoldsTaken I.into_iter_gives I.IntoIter.next_gives patterns self.old) self.entry result) }
+        ensures same { IfOk result (λ l. l.builder.ghost_name ≡ self.entry.ghost_name) }
+        ensures ok { IfOk result (λ l. HoldsAll I.into_iter_gives I.IntoIter.next_gives patterns self.old l.builder.now) }
+    {
+        self.put_all(patterns)?;
+        Ok(Lent { builder: self })
+    }
+
+    fn put_all<'a, I: IntoIterator<Item = &'a [u8]>>(
+        &mut self,
+        patterns: I,
+    ) -> Result<(), AllocError>
+        requires { (it : I.IntoIter) → I.into_iter_gives patterns it
+            → I.IntoIter.can_next it × IsFinite (I.IntoIter.remaining it) }
+        ensures { ExtendsWithItems I.into_iter_gives I.IntoIter.next_gives AddsAll patterns self.old self.new result }
+    {
+        for bytes in patterns {
+            self.put(bytes)?;
+        }
+        Ok(())
+    }
+
+    /// The number of patterns that are kept, 0 where the builder is inert.
+    pub fn len(&self) -> usize
+        ensures { result ≡ length (kept self.now) }
+    {
+        self.patterns.len()
+    }
+
+    /// The length of the shortest pattern that is kept, in bytes, and `usize::MAX` where there is
+    /// none.
+    pub fn minimum_len(&self) -> usize
+        ensures { result ≡ shortest_len (kept self.now) }
+    {
+        self.patterns.minimum_len()
+    }
+
+    /// A copy: the same configuration and patterns, and inert where this builder is.
+    pub fn try_clone(&self) -> Result<Builder, AllocError>
+        ensures { IfOk result (λ copy. copy ≡ self.now) }
+    {
+        Ok(Builder {
+            config: Config {
+                kind: self.config.kind,
+            },
+            inert: self.inert,
+            patterns: self.patterns.try_clone()?,
+        })
+    }
+}
+
+/// Says which configuration it has, and how many patterns.
+impl fmt::Debug for Builder {
+    fn fmt<W: fmt::Write>(&self, f: &mut fmt::Formatter<W>) -> fmt::Result {
+        let kind = self.config.kind;
+        let inert = self.inert;
+        let len = self.patterns.len();
+        write!(
+            f,
+            "Builder {{ kind: {kind:?}, inert: {inert:?}, len: {len} }}"
+        )
+    }
+}
+
+/// The builder, after an addition.
+#[derive(Drop)]
+struct Lent<'b> {
+    builder: &'b mut Builder,
+}
+
+fn unwrapped(lent: Result<Lent<'_>, AllocError>) -> Result<&mut Builder, AllocError>
+    ensures { MatchResult lent.entry (λ l. result ≡ Ok l.builder) (λ e. result ≡ Err e) }
+{
+    match lent {
+        Ok(Lent { builder }) => Ok(builder),
+        Err(error) => Err(error),
+    }
+}
+
+/// Searches for the patterns that it was built for: one to 128 of them, none empty.
+#[derive(Drop)]
+pub struct Searcher {
+    patterns: Patterns,
+}
+
+impl Model for Searcher {
+    ghost use Rattle.literal_packed.specs.Searched.{Searched};
+    ghost use Rattle.literal_packed.specs.Collected.{IsSearchable};
+
+    ghost Value = { Searched };
+
+    ghost view = { λ a. record { kind = a.patterns.kind; patterns = a.patterns.patterns } };
+
+    ghost invariant = { λ a. IsSearchable a.patterns };
+}
+
+impl Searcher {
+    /// A searcher for the patterns that the iterator gives, with the usual configuration: what
+    /// [`Builder::extend`] and [`Builder::build`] of a new builder make. The iterator has to end.
+    pub fn new<'a, I: IntoIterator<Item = &'a [u8]>>(
+        alloc: Global,
+        patterns: I,
+    ) -> Result<Option<Searcher>, AllocError>
+        requires { (it : I.IntoIter) → I.into_iter_gives patterns it
+            → I.IntoIter.can_next it × IsFinite (I.IntoIter.remaining it) }
+        ensures { IfOk result (BuildsItems I.into_iter_gives I.IntoIter.next_gives patterns) }
+    {
+        let mut builder = Builder::new(alloc);
+        builder.put_all(patterns)?;
+        builder.build()
+    }
+
+    /// The usual configuration.
+    pub fn config() -> Config
+        ensures { result ≡ default_config }
+    {
+        Config::new()
+    }
+
+    /// A builder with no pattern and the usual configuration.
+    pub fn builder(alloc: Global) -> Builder
+        ensures { result ≡ builder_of default_config [] }
+    {
+        Builder::new(alloc)
+    }
+
+    /// The leftmost match in the haystack: [`Searcher::find_in`] of all of it.
+    pub fn find(&self, haystack: &[u8]) -> Option<Match>
+        ensures leftmost { IsLeftmost self.now.patterns self.now.kind false haystack.now (whole_of haystack.now) result }
+        ensures not_empty { IfSome result (λ found. found.start < found.end) }
+    {
+        self.find_in(
+            haystack,
+            Span {
+                start: 0,
+                end: haystack.len(),
+            },
+        )
+    }
+
+    /// The leftmost match in a span of the haystack: of the occurrences of patterns that lie whole
+    /// in the span the one that begins first, and of those that begin there the one that the match
+    /// kind prefers. Offsets, those of the answer too, are in the whole haystack. The span has to be
+    /// valid: its `start` at most its `end`, and that at most the haystack's length.
+    pub fn find_in(&self, haystack: &[u8], span: Span) -> Option<Match>
+        requires { IsValidSpan haystack.now span }
+        ensures leftmost { IsLeftmost self.now.patterns self.now.kind false haystack.now span result }
+        ensures not_empty { IfSome result (λ found. found.start < found.end) }
+    {
+        let mut tally = Tally::new();
+        self.find_in_counted(haystack, span, &mut tally)
+    }
+
+    /// The same, with the steps that it takes added to a tally. No byte is scanned and no place
+    /// tried.
+    pub fn find_in_counted(&self, haystack: &[u8], span: Span, tally: &mut Tally) -> Option<Match>
+        requires { IsValidSpan haystack.now span }
+        ensures leftmost { IsLeftmost self.now.patterns self.now.kind false haystack.now span result }
+        ensures not_empty { IfSome result (λ found. found.start < found.end) }
+        ensures counted { tally.new ≡ record tally.old { hashed = tally.new.hashed; entries = tally.new.entries; compared = tally.new.compared } }
+    {
+        leftmost(&self.patterns, haystack, span, tally)
+    }
+
+    /// Which occurrence is the match.
+    pub fn match_kind(&self) -> &MatchKind
+        ensures { result.now ≡ self.now.kind }
+    {
+        self.patterns.match_kind()
+    }
+
+    /// The length in bytes below which a haystack is too short for a search: 0, since none is.
+    pub fn minimum_len(&self) -> usize
+        ensures { result ≡ 0 }
+    {
+        0
+    }
+
+    /// A copy: the same patterns and match kind.
+    pub fn try_clone(&self) -> Result<Searcher, AllocError>
+        ensures { IfOk result (λ copy. copy ≡ self.now) }
+    {
+        Ok(Searcher {
+            patterns: self.patterns.try_clone()?,
+        })
+    }
+}
+
+/// Says which occurrence is the match, and how many patterns there are.
+impl fmt::Debug for Searcher {
+    fn fmt<W: fmt::Write>(&self, f: &mut fmt::Formatter<W>) -> fmt::Result {
+        let kind = *self.patterns.match_kind();
+        let len = self.patterns.len();
+        write!(f, "Searcher {{ kind: {kind:?}, len: {len} }}")
+    }
+}
