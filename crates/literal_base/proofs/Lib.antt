@@ -1,2 +1,3 @@
 pub mod Exists
+pub mod Ties
 pub mod Unique

@@ -1,11 +1,13 @@
 //! Laws of the definitions that contracts cite. Each function does nothing, and its contract is the
 //! law.
-ghost use Rattle.std.specs.Prelude.{◌≡◌, ◌<◌, List, ℕ, Bool, Option, length};
+ghost use Rattle.std.specs.Prelude.{◌≡◌, ◌<◌, ◌≤◌, List, ℕ, Bool, Option, length};
 ghost use Rattle.std.specs.List.{All};
 ghost use Rattle.literal_base.specs.declared.packed.MatchKind.{MatchKind};
+ghost use Rattle.literal_base.specs.declared.packed.MatchKind.TheVariants.{LeftmostFirst, LeftmostLongest};
 ghost use Rattle.literal_base.specs.declared.search.Span.{Span};
 ghost use Rattle.literal_base.specs.Found.{Found};
-ghost use Rattle.literal_base.specs.Leftmost.{IsLeftmost};
+ghost use Rattle.literal_base.specs.Leftmost.{IsLeftmost, IsLeftmostMatch};
+ghost use Rattle.literal_base.specs.Occurs.{Occurs, pattern_at};
 ghost use Rattle.literal_base.specs.Greedy.{IsGreedy};
 
 /// Every search has a leftmost answer.
@@ -35,4 +37,23 @@ pub fn greedy_is_unique()
         → IsGreedy patterns kind ignore_case haystack at a
         → IsGreedy patterns kind ignore_case haystack at b
         → a ≡ b }
+{}
+
+/// With [`MatchKind::LeftmostLongest`](crate::packed::MatchKind::LeftmostLongest) the smallest
+/// identifier of equal patterns is answered.
+pub fn longest_answers_the_first_of_equal_patterns()
+    ensures { (patterns : List (List ℕ)) (ignore_case : Bool) (haystack : List ℕ) (span : Span) (found : Found) (j : ℕ)
+        → IsLeftmostMatch patterns LeftmostLongest ignore_case haystack span found
+        → j < length patterns
+        → pattern_at patterns j ≡ pattern_at patterns found.pattern
+        → found.pattern ≤ j }
+{}
+
+/// With [`MatchKind::LeftmostFirst`](crate::packed::MatchKind::LeftmostFirst) the order of adding
+/// alone decides at a place: the smallest identifier that occurs there is answered.
+pub fn first_answers_the_first_added()
+    ensures { (patterns : List (List ℕ)) (ignore_case : Bool) (haystack : List ℕ) (span : Span) (found : Found) (j : ℕ)
+        → IsLeftmostMatch patterns LeftmostFirst ignore_case haystack span found
+        → Occurs patterns ignore_case haystack span j found.start
+        → found.pattern ≤ j }
 {}

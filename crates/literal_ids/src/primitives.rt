@@ -44,9 +44,7 @@ impl PatternID {
         ensures refused { IfErr result (λ error. error ≡ value) }
     {
         if value < PatternID::LIMIT {
-            Ok(PatternID {
-                value: value as u32,
-            })
+            Ok(PatternID::must(value))
         } else {
             Err(PatternIDError {
                 attempted: value as u64,

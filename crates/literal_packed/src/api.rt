@@ -65,10 +65,11 @@ impl Config {
     }
 
     /// Changes nothing: Rabin and Karp's search is the only algorithm that there is.
-    pub fn only_rabin_karp(&mut self, _yes: bool) -> &mut Config
+    pub fn only_rabin_karp(&mut self, yes: bool) -> &mut Config
         ensures same { result.ghost_name ≡ self.entry.ghost_name }
         ensures now { result.now ≡ self.old }
     {
+        let _ = yes;
         self
     }
 }
@@ -303,7 +304,7 @@ impl Searcher {
     pub fn config() -> Config
         ensures { result ≡ default_config }
     {
-        Config::new()
+        Config::default()
     }
 
     /// A builder with no pattern and the usual configuration.
