@@ -29,14 +29,12 @@ query_of (mode ∷ (first ∷ more)) = option_map (λ kind. record { kind = kind
 abbrev pub builder_for : Query → Building
 builder_for query = builder_of (record { kind = query.kind }) query.patterns
 
+-- the query that a searcher answers
+abbrev pub query_for : Searched → Query
+query_for searcher = record { kind = searcher.kind; patterns = searcher.patterns }
+
 -- the words ask for something, and no searcher can be built for its patterns
 pub record HasNoSearcher (words : List (List ℕ)) : Type 0 where
   pub query : Query
   pub asked : query_of words ≡ Some query
   pub not_buildable : ¬ IsBuildable (builder_for query)
-
--- the searcher is for what the words ask for
-pub record IsAsked (words : List (List ℕ)) (searcher : Searched) : Type 0 where
-  pub query : Query
-  pub asked : query_of words ≡ Some query
-  pub same : searcher ≡ record { kind = query.kind; patterns = query.patterns }

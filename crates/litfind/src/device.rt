@@ -3,7 +3,9 @@ ghost use Rattle.std.specs.Prelude.{◌≡◌, ℕ, ◌<◌, ◌≤◌, ◌||◌
 ghost use Rattle.std.specs.Io.KnownBytes.{Keeps, ReadConsumes, WriteAppends};
 ghost use Rattle.litfind.specs.Device.{device_of, gave_nothing};
 
-use std::io::{Read, Write};
+mod reader;
+mod writer;
+
 use std::marker::Model;
 
 /// A call of a reader or a writer failed.
@@ -113,76 +115,5 @@ impl<T> Checked<T> {
             is_flushed: _,
         } = self;
         inner
-    }
-}
-
-/// Its bytes are those of the reader, and a read fails exactly where the reader's does.
-impl<R: Read> Source for Checked<R> {
-    ghost remaining = { λ c. R.remaining c.inner };
-
-    ghost failed = { λ c. c.has_failed };
-
-    ghost ended = { λ c. c.has_ended };
-
-    fn read(&mut self, buf: &mut [u8]) -> Result<usize, Failed> {
-        match self.inner.read(buf) {
-            Ok(count) => {
-                if count == 0 && !buf.is_empty() {
-                    self.has_ended = true;
-                }
-                Ok(count)
-            }
-            Err(_) => {
-                self.has_failed = true;
-                Err(Failed)
-            }
-        }
-    }
-
-    fn has_failed(&self) -> bool {
-        self.has_failed
-    }
-
-    fn has_ended(&self) -> bool {
-        self.has_ended
-    }
-}
-
-/// Its bytes are those of the writer. A write fails where the writer's does or takes no byte of a
-/// buffer that has some, and a flush where the writer's does.
-impl<W: Write> Sink for Checked<W> {
-    ghost contents = { λ c. W.contents c.inner };
-
-    ghost failed = { λ c. c.has_failed };
-
-    ghost flushed = { λ c. c.is_flushed };
-
-    fn write(&mut self, buf: &[u8]) -> Result<usize, Failed> {
-        self.is_flushed = false;
-        match self.inner.write(buf) {
-            Ok(count) if count > 0 || buf.is_empty() => Ok(count),
-            _ => {
-                self.has_failed = true;
-                Err(Failed)
-            }
-        }
-    }
-
-    fn flush(&mut self) -> Result<(), Failed> {
-        self.is_flushed = false;
-        match self.inner.flush() {
-            Ok(()) => {
-                self.is_flushed = true;
-                Ok(())
-            }
-            Err(_) => {
-                self.has_failed = true;
-                Err(Failed)
-            }
-        }
-    }
-
-    fn has_failed(&self) -> bool {
-        self.has_failed
     }
 }

@@ -4,7 +4,7 @@ ghost use Rattle.std.specs.List.{flat_map};
 ghost use Rattle.std.specs.Io.KnownBytes.{Appends, Consumes};
 ghost use Rattle.literal_packed.specs.State.{Builds, builder_of};
 ghost use Rattle.litfind.specs.Lines.{AreMatches, line_of};
-ghost use Rattle.litfind.specs.Query.{HasNoSearcher, IsAsked, mode_kind, query_of};
+ghost use Rattle.litfind.specs.Query.{HasNoSearcher, mode_kind, query_for, query_of};
 ghost use Rattle.litfind.specs.Run.{IsFront, IsWhole, ReadSome, WroteFront, WroteLines};
 
 use crate::device::{Failed, Sink, Source};
@@ -21,6 +21,7 @@ struct Request<'w> {
     patterns: &'w [String],
 }
 
+/// Which occurrence is the match in the mode of this name.
 fn mode_kind(name: &str) -> Option<MatchKind>
     ensures { result ≡ mode_kind name.now }
 {
@@ -31,8 +32,11 @@ fn mode_kind(name: &str) -> Option<MatchKind>
     }
 }
 
+/// The mode and the patterns, where the words are these.
 fn parse(words: &[String]) -> Option<Request<'_>>
-    ensures { MatchOption result (query_of (map string_bytes words.now) ≡ None) (λ q. query_of (map string_bytes words.now) ≡ Some (record { kind = q.kind; patterns = map string_bytes q.patterns.now })) }
+    ensures { let query = query_of (map string_bytes words.now) in
+        MatchOption result (query ≡ None)
+        (λ q. query ≡ Some (record { kind = q.kind; patterns = map string_bytes q.patterns.now })) }
 {
     let (mode, patterns) = words.split_first()?;
     if patterns.is_empty() {
@@ -44,6 +48,7 @@ fn parse(words: &[String]) -> Option<Request<'_>>
     })
 }
 
+/// A searcher for the patterns, where one can be built.
 fn build(
     alloc: Global,
     kind: MatchKind,
@@ -60,10 +65,11 @@ fn build(
 
 /// A searcher for what the words ask for.
 fn searcher(alloc: Global, words: &[String]) -> Result<Searcher, Fault>
-    ensures asked { IfOk result (IsAsked (map string_bytes words.now)) }
+    ensures asked { IfOk result (λ searcher. query_of (map string_bytes words.now) ≡ Some (query_for searcher)) }
     ensures usage { IsErrOf result Fault.Usage ↔ (query_of (map string_bytes words.now) ≡ None) }
     ensures no_searcher { IsErrOf result Fault.NoSearcher → HasNoSearcher (map string_bytes words.now) }
-    ensures not_buildable { HasNoSearcher (map string_bytes words.now) → IsErrOf result Fault.NoSearcher ⊎ IsErrOf result Fault.OutOfMemory }
+    ensures not_buildable { HasNoSearcher (map string_bytes words.now)
+        → IsErrOf result Fault.NoSearcher ⊎ IsErrOf result Fault.OutOfMemory }
     ensures read { IfErr result (λ fault. fault ≢ Fault.ReadFailed) }
     ensures write { IfErr result (λ fault. fault ≢ Fault.WriteFailed) }
 {
@@ -78,7 +84,7 @@ fn searcher(alloc: Global, words: &[String]) -> Result<Searcher, Fault>
 
 /// The matches of the input that are printed, in their order.
 fn find_matches(alloc: Global, searcher: &Searcher, input: &[u8]) -> Result<Vec<Match>, AllocError>
-    ensures { IfOk result (λ all. AreMatches (record { kind = searcher.now.kind; patterns = searcher.now.patterns }) input.now all.items) }
+    ensures { IfOk result (λ all. AreMatches (query_for searcher.now) input.now all.items) }
 {
     let mut all = Vec::new(alloc);
     if let Some(found) = searcher.find(input) {
@@ -151,13 +157,16 @@ pub fn run<R: Source, W: Sink>(
     requires writable { W.failed writer.old ≡ false }
 
     // All lines of the whole input were written and sent on.
-    ensures ok { IfOk result (WroteLines (map string_bytes words.now) (R.remaining reader.old) (R.remaining reader.new) (W.contents writer.old) (W.contents writer.new)) }
+    ensures ok { IfOk result (WroteLines (map string_bytes words.now)
+        (R.remaining reader.old) (R.remaining reader.new)
+        (W.contents writer.old) (W.contents writer.new)) }
     ensures flushed { OnOk result (W.flushed writer.new ≡ true) }
 
     // The words are looked at first, before any read.
     ensures usage { IsErrOf result Fault.Usage ↔ (query_of (map string_bytes words.now) ≡ None) }
     ensures no_searcher { IsErrOf result Fault.NoSearcher → HasNoSearcher (map string_bytes words.now) }
-    ensures not_buildable { HasNoSearcher (map string_bytes words.now) → IsErrOf result Fault.NoSearcher ⊎ IsErrOf result Fault.OutOfMemory }
+    ensures not_buildable { HasNoSearcher (map string_bytes words.now)
+        → IsErrOf result Fault.NoSearcher ⊎ IsErrOf result Fault.OutOfMemory }
     ensures unread { IsErrOf result Fault.Usage ⊎ IsErrOf result Fault.NoSearcher → reader.new ≡ reader.old }
 
     // Of the reader: what was read is some input, to its end where it is searched.
@@ -169,7 +178,9 @@ pub fn run<R: Source, W: Sink>(
     // Of the writer: it is left alone, but where all is written or writing fails.
     ensures unwritten { IfErr result (λ fault. fault ≢ Fault.WriteFailed → writer.new ≡ writer.old) }
     ensures write_failed { IsErrOf result Fault.WriteFailed ↔ (W.failed writer.new ≡ true) }
-    ensures front { IsErrOf result Fault.WriteFailed → WroteFront (map string_bytes words.now) (R.remaining reader.old) (R.remaining reader.new) (W.contents writer.old) (W.contents writer.new) }
+    ensures front { IsErrOf result Fault.WriteFailed → WroteFront (map string_bytes words.now)
+        (R.remaining reader.old) (R.remaining reader.new)
+        (W.contents writer.old) (W.contents writer.new) }
 {
     let searcher = searcher(alloc, words)?;
     let input = read_to_end(alloc, reader)?;
@@ -181,3 +192,6 @@ pub fn run<R: Source, W: Sink>(
         Err(Failed) => Err(Fault::WriteFailed),
     }
 }
+
+#[cfg(test)]
+mod tests;
