@@ -1,0 +1,7 @@
+use Rattle.std.proofs.Common.{◌≡◌, map, take, string_bytes}
+use Rattle.literal_packed.specs.State.{builder_of}
+use Rattle.litfind.proofs.engine.build.Given as goal
+
+abbrev pub invariant-loop-pattern : goal.invariant-loop-pattern
+invariant-loop-pattern l =
+    l.builder ≡ builder_of (record { kind = l.fn.kind }) (map string_bytes (take l.pattern-index l.patterns))

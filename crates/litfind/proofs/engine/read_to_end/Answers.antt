@@ -1,0 +1,7 @@
+use Rattle.std.proofs.KnownBytes.{Consumes-trans}
+use Rattle.litfind.proofs.engine.read_to_end.Goals as goal
+
+-- what the last read gave was read too, though no memory was left for it
+pub returns-in_err-extend_from_slice-in-Ok-clause-some : goal.returns-in_err-extend_from_slice-in-Ok-clause-some
+returns-in_err-extend_from_slice-in-Ok-clause-some g c =
+    record { input = _; bytes = Consumes-trans _ _ _ _ _ c.loop-input.invariant.0 c.in-Ok.ensures.bytes.0 }

@@ -1,0 +1,37 @@
+use Rattle.std.proofs.Common.{string_bytes, arith}
+use Rattle.std.proofs.lemmas.Grind.{common_steps}
+use Rattle.litfind.specs.Query.{query_for}
+use Rattle.litfind.proofs.engine.run.Goals as goal
+
+pub returns-in-Ok-clause-ok : goal.returns-in-Ok-clause-ok
+returns-in-Ok-clause-ok g c =
+    record {
+      input = c.in_ok-input.input.items;
+      text = string_bytes c.in_ok-text.text;
+      read = c.in_ok-input.ensures.whole;
+      lines = record {
+        query = query_for c.in_ok-searcher.searcher;
+        asked = c.in_ok-searcher.ensures.asked;
+        matches = c.in_ok-matches.matches.items;
+        found = rw c.as_slice.ensures.value at c.in_ok-matches.ensures;
+        lines = rw c.as_slice-2.ensures.value at c.in_ok-text.ensures;
+      };
+      written = rw c.as_bytes-bytes.ensures.value at c.in-Ok.ensures.ok;
+      answer = grind (arith, common_steps, c.is_empty.ensures, c.as_bytes-bytes.ensures.value);
+    }
+
+pub returns-clause-front : goal.returns-clause-front
+returns-clause-front g c = λ _.
+    record {
+      input = c.in_ok-input.input.items;
+      text = string_bytes c.in_ok-text.text;
+      read = c.in_ok-input.ensures.whole;
+      lines = record {
+        query = query_for c.in_ok-searcher.searcher;
+        asked = c.in_ok-searcher.ensures.asked;
+        matches = c.in_ok-matches.matches.items;
+        found = rw c.as_slice.ensures.value at c.in_ok-matches.ensures;
+        lines = rw c.as_slice-2.ensures.value at c.in_ok-text.ensures;
+      };
+      written = rw c.as_bytes-bytes.ensures.value at c.in-Err.ensures.err;
+    }

@@ -1,0 +1,5 @@
+pub mod Device
+pub mod FaultText
+pub mod Lines
+pub mod Query
+pub mod Run

@@ -1,0 +1,39 @@
+-- What a run read and wrote. Of a reader a contract knows the bytes that are left, and of a writer
+-- those that it holds, each as it was before the run and after it, where it tells.
+use Rattle.std.specs.Prelude.{◌≡◌, ◌≢◌, ℕ, ◌↔◌, List, [], ◌++◌, Bool, IsTrue, Option}
+use Rattle.std.specs.Io.KnownBytes.{Appends, Consumes, IsAtEnd}
+use Rattle.litfind.specs.Lines.{AreLines}
+
+-- these bytes are what was read, up to the end
+pub record IsWhole (had has : Option (List ℕ)) (input : List ℕ) : Type 0 where
+  pub bytes : Consumes had has input
+  pub end : IsAtEnd has
+
+-- what was written is a beginning of the text
+pub record IsFront (held holds : Option (List ℕ)) (text : List ℕ) : Type 0 where
+  pub front : List ℕ
+  pub rest : List ℕ
+  pub split : text ≡ front ++ rest
+  pub written : Appends held holds front
+
+-- some bytes were read
+pub record ReadSome (had has : Option (List ℕ)) : Type 0 where
+  pub input : List ℕ
+  pub bytes : Consumes had has input
+
+-- the input was read to its end, all its lines were written, and the answer tells whether there is a line
+pub record WroteLines (words : List (List ℕ)) (had has held holds : Option (List ℕ)) (printed : Bool) : Type 0 where
+  pub input : List ℕ
+  pub text : List ℕ
+  pub read : IsWhole had has input
+  pub lines : AreLines words input text
+  pub written : Appends held holds text
+  pub answer : IsTrue printed ↔ (text ≢ [])
+
+-- the input was read to its end, and a beginning of its lines was written
+pub record WroteFront (words : List (List ℕ)) (had has held holds : Option (List ℕ)) : Type 0 where
+  pub input : List ℕ
+  pub text : List ℕ
+  pub read : IsWhole had has input
+  pub lines : AreLines words input text
+  pub written : IsFront held holds text

@@ -1,0 +1,315 @@
+//! Runs over readers and writers in memory that give or take little, fail, or refuse.
+ghost use Rattle.std.specs.Prelude.{◌≤◌, map, IfOk, string_bytes};
+ghost use Rattle.litfind.specs.Lines.{AreLines};
+
+use super::run;
+use crate::device::{Checked, Failed, Sink, Source};
+use crate::fault::Fault;
+use std::alloc::{AllocError, Global};
+use std::io;
+use std::io::{Read, Write};
+use std::test::Fail;
+
+/// A reader of bytes in memory, a few a call, whose call of this number fails.
+#[derive(Drop)]
+struct SlowReader<'a> {
+    rest: &'a [u8],
+    step: usize,
+    calls: u32,
+    failing: u32,
+}
+
+impl Read for SlowReader<'_> {
+    fn read(&mut self, buf: &mut [u8]) -> io::Result<usize> {
+        self.calls = self.calls.saturating_add(1);
+        if self.calls == self.failing {
+            return Err(io::Error::from(io::ErrorKind::Other));
+        }
+        let count = self.rest.len().min(self.step).min(buf.len());
+        let (front, after) = self.rest.split_at(count);
+        buf[..count].copy_from_slice(front);
+        self.rest = after;
+        Ok(count)
+    }
+}
+
+/// A writer into memory, a few bytes a call, whose write of one number fails and of another takes
+/// nothing, or whose flush fails. No call of it asks for memory.
+#[derive(Drop)]
+struct SlowWriter {
+    held: [u8; 64],
+    len: usize,
+    step: usize,
+    calls: u32,
+    failing: u32,
+    refusing: u32,
+    flush_fails: bool,
+    ghost in_range: { len ≤ 64 },
+}
+
+impl SlowWriter {
+    fn new(step: usize) -> SlowWriter {
+        SlowWriter {
+            held: [0; 64],
+            len: 0,
+            step,
+            calls: 0,
+            failing: 0,
+            refusing: 0,
+            flush_fails: false,
+        }
+    }
+
+    fn held(&self) -> &[u8] {
+        &self.held[..self.len]
+    }
+}
+
+impl Write for SlowWriter {
+    fn write(&mut self, buf: &[u8]) -> io::Result<usize> {
+        self.calls = self.calls.saturating_add(1);
+        if self.calls == self.failing {
+            return Err(io::Error::from(io::ErrorKind::Other));
+        }
+        if self.calls == self.refusing {
+            return Ok(0);
+        }
+        let count = buf.len().min(self.step).min(64 - self.len);
+        let end = self.len + count;
+        self.held[self.len..end].copy_from_slice(&buf[..count]);
+        self.len = end;
+        Ok(count)
+    }
+
+    fn flush(&mut self) -> io::Result<()> {
+        if self.flush_fails {
+            return Err(io::Error::from(io::ErrorKind::Other));
+        }
+        Ok(())
+    }
+}
+
+const WORDS: &str = "first apple maple Snapple";
+
+const INPUT: &[u8] = b"Nobody likes maple in their apple flavored Snapple.";
+
+const OUTPUT: &[u8] = b"1 13 18\n";
+
+/// The words between single spaces.
+fn split(alloc: Global, text: &str) -> Result<Vec<String>, AllocError> {
+    let mut words = Vec::new(alloc);
+    for word in text.split(' ') {
+        words.push(String::from_str(alloc, word)?)?;
+    }
+    Ok(words)
+}
+
+fn one_byte_a_call(rest: &[u8], failing: u32) -> SlowReader<'_> {
+    SlowReader {
+        rest,
+        step: 1,
+        calls: 0,
+        failing,
+    }
+}
+
+fn answer(
+    alloc: Global,
+    words: &str,
+    reader: SlowReader<'_>,
+    writer: &mut SlowWriter,
+) -> Result<Result<bool, Fault>, AllocError> {
+    let words = split(alloc, words)?;
+    let mut reader = Checked::new(reader);
+    let mut writer = Checked::new(writer);
+    Ok(run(alloc, words.as_slice(), &mut reader, &mut writer))
+}
+
+#[test]
+fn prints_the_leftmost_match(rt: HostRuntime) -> Result<(), Fail> {
+    for (words, input, want, output) in [
+        (WORDS, INPUT, Ok(true), OUTPUT),
+        (WORDS, b"none here", Ok(false), b""),
+        (WORDS, b"", Ok(false), b""),
+        (
+            "longest a abcdefghi hz abcdefgh",
+            b"abcdefghz",
+            Ok(true),
+            b"3 0 8\n",
+        ),
+        ("first apple  maple", INPUT, Err(Fault::NoSearcher), b""),
+        ("first", INPUT, Err(Fault::Usage), b""),
+        ("both foo", INPUT, Err(Fault::Usage), b""),
+        ("both ", INPUT, Err(Fault::Usage), b""),
+    ] {
+        let mut writer = SlowWriter::new(64);
+        let answer = answer(rt.alloc(), words, one_byte_a_call(input, 0), &mut writer)?;
+        assert_eq!(rt; answer, want, "{words}");
+        assert_eq!(rt; writer.held(), output, "{words}");
+    }
+    Ok(())
+}
+
+#[test]
+fn asks_for_a_mode_and_few_patterns(rt: HostRuntime) -> Result<(), Fail> {
+    let mut words = Vec::new(rt.alloc());
+    let no_words = answer_to(rt.alloc(), words.as_slice());
+    assert_eq!(rt; no_words, Err(Fault::Usage));
+    words.push(String::from_str(rt.alloc(), "first")?)?;
+    for _ in 0..128 {
+        words.push(String::from_str(rt.alloc(), "likes")?)?;
+    }
+    let many = answer_to(rt.alloc(), words.as_slice());
+    assert_eq!(rt; many, Ok(true));
+    words.push(String::from_str(rt.alloc(), "likes")?)?;
+    let too_many = answer_to(rt.alloc(), words.as_slice());
+    assert_eq!(rt; too_many, Err(Fault::NoSearcher));
+    Ok(())
+}
+
+fn answer_to(alloc: Global, words: &[String]) -> Result<bool, Fault> {
+    let mut reader = Checked::new(INPUT);
+    let mut writer = Checked::new(SlowWriter::new(64));
+    run(alloc, words, &mut reader, &mut writer)
+}
+
+#[test]
+fn reports_each_failed_read(rt: HostRuntime) -> Result<(), Fail> {
+    // 51 calls give a byte, and the last one finds the end.
+    for failing in 1..53 {
+        let mut writer = SlowWriter::new(64);
+        let reader = one_byte_a_call(INPUT, failing);
+        let answer = answer(rt.alloc(), WORDS, reader, &mut writer)?;
+        assert_eq!(rt; answer, Err(Fault::ReadFailed), "call {failing}");
+        assert_eq!(rt; writer.held(), b"".as_slice(), "call {failing}");
+    }
+    Ok(())
+}
+
+#[test]
+fn reports_a_failed_write(rt: HostRuntime) -> Result<(), Fail> {
+    for (step, failing, refusing, flush_fails, front) in [
+        (3, 3, 0, false, b"1 13 1".as_slice()),
+        (3, 0, 2, false, b"1 1".as_slice()),
+        (5, 1, 0, false, b"".as_slice()),
+        (64, 0, 0, true, OUTPUT),
+    ] {
+        let mut writer = SlowWriter::new(step);
+        writer.failing = failing;
+        writer.refusing = refusing;
+        writer.flush_fails = flush_fails;
+        let reader = one_byte_a_call(INPUT, 0);
+        let answer = answer(rt.alloc(), WORDS, reader, &mut writer)?;
+        assert_eq!(rt; answer, Err(Fault::WriteFailed), "{step} bytes a call");
+        assert_eq!(rt; writer.held(), front, "{step} bytes a call");
+    }
+    Ok(())
+}
+
+#[test]
+fn flushes_an_empty_text(rt: HostRuntime) -> Result<(), Fail> {
+    let mut writer = SlowWriter::new(64);
+    writer.flush_fails = true;
+    let reader = one_byte_a_call(b"none here", 0);
+    let answer = answer(rt.alloc(), WORDS, reader, &mut writer)?;
+    assert_eq!(rt; answer, Err(Fault::WriteFailed));
+    Ok(())
+}
+
+#[test]
+fn remembers_the_end_and_a_failure(rt: HostRuntime) -> Result<(), Fail> {
+    let mut buffer = [0u8; 8];
+    let mut reader = Checked::new(one_byte_a_call(b"a", 3));
+    assert_eq!(rt; reader.read(&mut buffer), Ok(1));
+    assert!(rt; !reader.has_failed());
+    assert!(rt; !reader.has_ended());
+    assert_eq!(rt; reader.read(&mut buffer), Ok(0));
+    assert!(rt; !reader.has_failed());
+    assert!(rt; reader.has_ended());
+    assert_eq!(rt; reader.read(&mut buffer), Err(Failed));
+    assert!(rt; reader.has_failed());
+    assert!(rt; reader.has_ended());
+    let mut writer = Checked::new(SlowWriter::new(5));
+    assert_eq!(rt; writer.write(b"abcdefg"), Ok(5));
+    assert!(rt; !writer.has_failed());
+    assert_eq!(rt; writer.write(b""), Ok(0));
+    assert!(rt; !writer.has_failed());
+    assert_eq!(rt; writer.flush(), Ok(()));
+    assert!(rt; !writer.has_failed());
+    let mut writer = writer.into_inner();
+    writer.refusing = 3;
+    let mut writer = Checked::new(writer);
+    assert_eq!(rt; writer.write(b"abcdefg"), Err(Failed));
+    assert!(rt; writer.has_failed());
+    Ok(())
+}
+
+#[test]
+fn says_what_is_wrong(rt: HostRuntime) -> Result<(), Fail> {
+    for (fault, text) in [
+        (Fault::Usage, "litfind: usage: litfind MODE PATTERN..."),
+        (Fault::NoSearcher, "litfind: no searcher for these patterns"),
+        (Fault::OutOfMemory, "litfind: out of memory"),
+        (Fault::ReadFailed, "litfind: read failed"),
+        (Fault::WriteFailed, "litfind: write failed"),
+    ] {
+        let line = format!(in rt.alloc(); "{fault}")?;
+        assert_eq!(rt; line.as_str(), text);
+    }
+    Ok(())
+}
+
+/// Whichever request for memory is refused, nothing is written then, and the run made again
+/// succeeds.
+#[test]
+fn refused_run(rt: HostRuntime) -> Result<(), Fail> {
+    let Ok(words) = split(rt.alloc(), WORDS) else {
+        return Ok(());
+    };
+    for _ in 0..2 {
+        let mut writer = SlowWriter::new(64);
+        let answer = run(
+            rt.alloc(),
+            words.as_slice(),
+            &mut Checked::new(INPUT),
+            &mut Checked::new(&mut writer),
+        );
+        match answer {
+            Err(Fault::OutOfMemory) => assert_eq!(rt; writer.held(), b"".as_slice()),
+            answer => {
+                assert_eq!(rt; answer, Ok(true));
+                assert_eq!(rt; writer.held(), OUTPUT);
+            }
+        }
+    }
+    Ok(())
+}
+
+/// Where no request for memory is refused, the run succeeds.
+#[test]
+fn succeeds_run(rt: HostRuntime) -> Result<(), Fail> {
+    let words = split(rt.alloc(), WORDS)?;
+    for _ in 0..2 {
+        let answer = answer_to(rt.alloc(), words.as_slice());
+        assert_eq!(rt; answer, Ok(true));
+    }
+    Ok(())
+}
+
+/// What is written for an input, over memory, where both ends tell their bytes.
+fn written(alloc: Global, words: &[String], input: &[u8]) -> Result<Vec<u8>, Fault>
+    ensures { IfOk result (λ output. AreLines (map string_bytes words.now) input.now output.items) }
+{
+    let mut reader = Checked::new(input);
+    let mut writer = Checked::new(Vec::new(alloc));
+    run(alloc, words, &mut reader, &mut writer)?;
+    Ok(writer.into_inner())
+}
+
+#[test]
+fn writes_to_memory(rt: HostRuntime) -> Result<(), Fail> {
+    let words = split(rt.alloc(), WORDS)?;
+    let output = written(rt.alloc(), words.as_slice(), INPUT)?;
+    assert_eq!(rt; output.as_slice(), OUTPUT);
+    Ok(())
+}
