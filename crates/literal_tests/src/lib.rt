@@ -2,4 +2,13 @@
 //! rely on contracts alone.
 #![tactic(auto)]
 
+#[cfg(test)]
+mod builders;
+#[cfg(test)]
+mod compared;
+#[cfg(test)]
+mod pattern_lists;
 pub mod plain;
+#[cfg(test)]
+mod rows;
+pub mod uses;

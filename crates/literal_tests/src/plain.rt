@@ -143,6 +143,18 @@ pub fn leftmost_plainly(
     None
 }
 
+/// Whether no pattern is empty.
+pub fn none_is_empty(patterns: &[&[u8]]) -> bool
+    ensures { IsTrue result ↔ All (λ (bytes : List ℕ). 0 < length bytes) (map (λ p. p.now) patterns.now) }
+{
+    for i in 0..patterns.len() {
+        if pattern(patterns, i).is_empty() {
+            return false;
+        }
+    }
+    true
+}
+
 /// All matches of the haystack that do not overlap, from the left: each is the leftmost one after
 /// the end of the one before. No pattern may be empty.
 pub fn greedy_plainly(
