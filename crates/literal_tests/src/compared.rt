@@ -1,0 +1,117 @@
+//! The searches compared with the plain one, on all short haystacks over three bytes. The bytes are
+//! `a`, `b` and the one before `a`, so that different texts of one length have equal rolling sums, as
+//! `ab` and the other two.
+use crate::plain::{greedy_plainly, leftmost_plainly, none_is_empty};
+use literal_prefilters::Span;
+use literal_prefilters::packed::{Config, MatchKind, Searcher};
+use std::process::Abort;
+use std::test::Fail;
+
+/// Up to three patterns each.
+static LISTS: [&[&[u8]]; 10] = [
+    &[b"ab"],
+    &[b"b`", b"ab"],
+    &[b"ab", b"b`", b"``"],
+    &[b"a", b"ab"],
+    &[b"ab", b"a", b"b"],
+    &[b"aa", b"aa"],
+    &[b"ab`", b"b`", b"abb"],
+    &[b"b", b"ab", b"aab"],
+    &[b"b``", b"ab`", b"`b"],
+    &[b"aba", b"bab", b"ba"],
+];
+
+/// The bytes of a haystack, told by the digits of its number.
+fn bytes_of(number: usize) -> [u8; 4] {
+    let digits = b"ab`";
+    [
+        digits[number % 3],
+        digits[number / 3 % 3],
+        digits[number / 9 % 3],
+        digits[number / 27 % 3],
+    ]
+}
+
+/// Compares on all spans of a haystack, and returns how many there are.
+fn compare_in(
+    rt: &impl Abort,
+    searcher: &Searcher,
+    patterns: &[&[u8]],
+    kind: MatchKind,
+    haystack: &[u8],
+) -> u32 {
+    assert!(rt; patterns.len() <= 3);
+    let mut spans: u32 = 0;
+    for end in 0..haystack.len() + 1 {
+        for start in 0..end + 1 {
+            let span = Span { start, end };
+            let wanted = leftmost_plainly(patterns, kind, false, haystack, span);
+            assert_eq!(rt;
+                searcher.find_in(haystack, span),
+                wanted,
+                "{patterns:?} on {haystack:?} in {span:?}"
+            );
+            spans = spans.wrapping_add(1);
+        }
+    }
+    spans
+}
+
+/// Compares on all haystacks of up to four bytes.
+fn compare(rt: &impl Abort, searcher: &Searcher, patterns: &[&[u8]], kind: MatchKind) -> u32 {
+    let mut cases: u32 = 0;
+    for (len, count) in [(0, 1), (1, 3), (2, 9), (3, 27), (4, 81)] {
+        assert!(rt; len <= 4);
+        for number in 0..count {
+            let bytes = bytes_of(number);
+            let spans = compare_in(rt, searcher, patterns, kind, &bytes[..len]);
+            cases = cases.wrapping_add(spans);
+        }
+    }
+    cases
+}
+
+#[test]
+fn finds_what_is_found_plainly(rt: HostRuntime) -> Result<(), Fail> {
+    for patterns in LISTS {
+        for kind in [MatchKind::LeftmostFirst, MatchKind::LeftmostLongest] {
+            let mut builder = Config::new().match_kind(kind).builder(rt.alloc());
+            builder.extend(patterns.iter().copied())?;
+            let searcher = builder.build()?.ok_or("there is no searcher")?;
+            assert_eq!(rt; compare(&rt, &searcher, patterns, kind), 1549);
+        }
+    }
+    Ok(())
+}
+
+/// Patterns, whether case is ignored, a haystack, and the matches in it.
+type Row = (
+    &'static [&'static [u8]],
+    bool,
+    &'static [u8],
+    &'static [(usize, usize, usize)],
+);
+
+/// With the first pattern taken at a place.
+static GREEDY: [Row; 5] = [
+    (&[b"abc"], false, b"zazabcz", &[(0, 3, 6)]),
+    (&[b"a"], false, b"aa", &[(0, 0, 1), (0, 1, 2)]),
+    (&[b"aa"], false, b"aaaaa", &[(0, 0, 2), (0, 2, 4)]),
+    (&[b"foo", b"Bar"], true, b"FoObarx", &[(0, 0, 3), (1, 3, 6)]),
+    (&[b"foo", b"Bar"], false, b"FoObarx", &[]),
+];
+
+#[test]
+fn finds_all_plainly(rt: HostRuntime) -> Result<(), Fail> {
+    for (patterns, ignore_case, haystack, wanted) in GREEDY {
+        assert!(rt; patterns.len() <= 2 && none_is_empty(patterns));
+        let kind = MatchKind::LeftmostFirst;
+        let all = greedy_plainly(rt.alloc(), patterns, kind, ignore_case, haystack)?;
+        let all = all
+            .iter()
+            .map(|it| (it.pattern().as_usize(), it.start(), it.end()))
+            .collect::<Vec<(usize, usize, usize)>>(rt.alloc())?;
+        assert_eq!(rt; all.as_slice(), wanted, "in {haystack:?}");
+    }
+    Ok(())
+}

@@ -1,0 +1,14 @@
+//! Tests of the public calls, a plain search that other searches are compared with, and callers that
+//! rely on contracts alone.
+#![tactic(auto)]
+
+#[cfg(test)]
+mod builders;
+#[cfg(test)]
+mod compared;
+#[cfg(test)]
+mod pattern_lists;
+pub mod plain;
+#[cfg(test)]
+mod rows;
+pub mod uses;

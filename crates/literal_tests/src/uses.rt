@@ -1,0 +1,156 @@
+//! Callers that rely on contracts alone.
+ghost use Rattle.std.specs.Prelude.{◌≡◌, ◌∷◌, [], length, IfOk, OnOk, IsNone, map, string_bytes};
+ghost use Rattle.std.specs.Iterator.{IsFinite};
+ghost use Rattle.literal_packed.specs.State.{Adds, Building, Builds, BuildsItems, builder_of, default_config};
+ghost use Rattle.literal_packed.specs.Lending.{HoldsAll};
+
+use literal_prefilters::PatternID;
+use literal_prefilters::packed::pattern::{Pattern, PatternIter, Patterns};
+use literal_prefilters::packed::{Builder, Config, MatchKind, Searcher};
+use std::alloc::{AllocError, Global};
+
+/// Builds for two patterns in a chain of calls.
+#[tactic(auto, using(literal_packed::proofs::Added::added_two))]
+pub fn built_of_two(alloc: Global, a: &[u8], b: &[u8]) -> Result<Option<Searcher>, AllocError>
+    ensures { IfOk result (Builds (builder_of default_config (a.now ∷ b.now ∷ []))) }
+{
+    Builder::new(alloc).add(a)?.add(b)?.build()
+}
+
+/// The same for a match kind.
+#[tactic(auto, using(literal_packed::proofs::Added::added_two))]
+pub fn built_by_kind(
+    alloc: Global,
+    kind: MatchKind,
+    a: &[u8],
+    b: &[u8],
+) -> Result<Option<Searcher>, AllocError>
+    ensures { IfOk result (Builds (builder_of (record { kind = kind }) (a.now ∷ b.now ∷ []))) }
+{
+    Config::new()
+        .match_kind(kind)
+        .only_rabin_karp(true)
+        .builder(alloc)
+        .add(a)?
+        .add(b)?
+        .build()
+}
+
+/// Builds for the bytes of words, which are added in a loop.
+pub fn built_of_words(alloc: Global, words: &[String]) -> Result<Option<Searcher>, AllocError>
+    ensures { IfOk result (Builds (builder_of default_config (map string_bytes words.now))) }
+{
+    let mut builder = Builder::new(alloc);
+    for word in words {
+        builder.add(word.as_bytes())?;
+    }
+    builder.build()
+}
+
+/// Builds for all items of an iterator, which has to end.
+pub fn built_of_items<'a, I: IntoIterator<Item = &'a [u8]>>(
+    alloc: Global,
+    patterns: I,
+) -> Result<Option<Searcher>, AllocError>
+    requires { (it : I.IntoIter) → I.into_iter_gives patterns it
+        → I.IntoIter.can_next it × IsFinite (I.IntoIter.remaining it) }
+    ensures { IfOk result (BuildsItems I.into_iter_gives I.IntoIter.next_gives patterns) }
+{
+    let mut builder = Builder::new(alloc);
+    builder.extend(patterns)?;
+    builder.build()
+}
+
+/// Adds all items of an iterator, which has to end, and one pattern more.
+pub fn extend_and_add<'a, I: IntoIterator<Item = &'a [u8]>>(
+    builder: &mut Builder,
+    patterns: I,
+    last: &[u8],
+) -> Result<(), AllocError>
+    requires { (it : I.IntoIter) → I.into_iter_gives patterns it
+        → I.IntoIter.can_next it × IsFinite (I.IntoIter.remaining it) }
+    ensures { OnOk result ((mid : Building)
+        × HoldsAll I.into_iter_gives I.IntoIter.next_gives patterns builder.old mid
+        × Adds mid (last.now ∷ []) builder.new) }
+{
+    builder.extend(patterns)?.add(last)?;
+    Ok(())
+}
+
+/// The number of items of an iteration over all patterns.
+#[tactic(auto, using(crate::proofs::InOrder::length_in_order))]
+pub fn count_of(patterns: &Patterns) -> usize
+    ensures { result ≡ length patterns.now.patterns }
+{
+    patterns.iter().count()
+}
+
+/// The identifiers in the order in which the patterns are tried.
+pub fn order_of(alloc: Global, patterns: &Patterns) -> Result<Vec<PatternID>, AllocError>
+    ensures { IfOk result (λ ids. ids.items ≡ patterns.now.order) }
+{
+    let mut ids = Vec::new(alloc);
+    for (id, _) in patterns.iter() {
+        ids.push(id)?;
+    }
+    Ok(ids)
+}
+
+/// One item more of an iteration that has ended: there is none, and it stays so.
+pub fn next_at_end<'p>(items: &mut PatternIter<'p>) -> Option<(PatternID, Pattern<'p>)>
+    requires { items.old ≡ [] }
+    ensures none { IsNone result }
+    ensures ended { items.new ≡ [] }
+{
+    items.next()
+}
+
+#[cfg(test)]
+mod tests {
+    use super::*;
+    use std::test::Fail;
+
+    #[test]
+    fn builds_as_its_callers_say(rt: HostRuntime) -> Result<(), Fail> {
+        let alloc = rt.alloc();
+        let longest = MatchKind::LeftmostLongest;
+        let words = vec![in alloc;
+            String::from_str(alloc, "ab")?,
+            String::from_str(alloc, "a")?,
+        ]?;
+        let items: [&[u8]; 2] = [b"ab", b"a"];
+        for built in [
+            built_of_two(alloc, b"ab", b"a")?,
+            built_by_kind(alloc, longest, b"a", b"ab")?,
+            built_of_words(alloc, &words)?,
+            built_of_items(alloc, items)?,
+        ] {
+            let searcher = built.ok_or("two patterns build nothing")?;
+            let found = searcher.find(b"xab").ok_or("nothing is found")?;
+            assert_eq!(rt; found.span().range(), 1..3);
+        }
+        let mut builder = Builder::new(alloc);
+        extend_and_add(&mut builder, items, b"c")?;
+        assert_eq!(rt; builder.len(), 3);
+        Ok(())
+    }
+
+    #[test]
+    fn goes_over_patterns(rt: HostRuntime) -> Result<(), Fail> {
+        let mut patterns = Patterns::new(rt.alloc());
+        patterns.add(b"a")?;
+        patterns.add(b"bc")?;
+        patterns.set_match_kind(MatchKind::LeftmostLongest)?;
+        assert_eq!(rt; count_of(&patterns), 2);
+        let order = order_of(rt.alloc(), &patterns)?;
+        assert_eq!(rt;
+            order.as_slice(),
+            [PatternID::must(1), PatternID::ZERO].as_slice()
+        );
+        let nothing = Patterns::new(rt.alloc());
+        let mut items = nothing.iter();
+        assert!(rt; next_at_end(&mut items).is_none());
+        assert!(rt; next_at_end(&mut items).is_none());
+        Ok(())
+    }
+}
