@@ -3,7 +3,7 @@
 
 mod api;
 pub mod pattern;
-mod plain;
+pub mod rabinkarp;
 
-pub use api::{Builder, Config, Searcher};
+pub use api::{Builder, Config, FindIter, Searcher};
 pub use literal_base::packed::MatchKind;
