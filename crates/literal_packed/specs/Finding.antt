@@ -66,13 +66,24 @@ FindsNext old answer new = MatchOption answer (FindsNothing old new) (λ found. 
 abbrev pub bytes_left : Finding → Count
 bytes_left f = at_most (length f.haystack - f.at)
 
+-- the counts of searches one after another: each of the rest from where the one before goes on, with these matches as their answers, and None at last
+abbrev pub counts_after_all : Counts → Searched → List ℕ → ℕ → List Found → Counts
+counts_after_all old searched haystack at [] =
+    counts_after old searched.kind searched.patterns haystack (rest_from haystack at) None
+counts_after_all old searched haystack at (found ∷ more) =
+    counts_after_all (counts_after old searched.kind searched.patterns haystack (rest_from haystack at) (Some found)) searched haystack found.end more
+
 -- the part of a haystack from a place up to another
 abbrev pub between : ℕ → ℕ → Span
 between from to = record { start = from; end = to }
 
--- matches from a place on that are non-empty, in order, and don't overlap;
+-- matches of a haystack, from a place on, that are non-empty, in order, and don't overlap;
 -- no pattern occurs whole before the first, between two neighbours, or after the last
 abbrev pub LieApart : List (List ℕ) → List ℕ → ℕ → List Found → Type 0
 LieApart patterns haystack at [] = NothingOccurs patterns false haystack (rest_from haystack at)
 LieApart patterns haystack at (found ∷ more) =
-    (at ≤ found.start) × (found.start < found.end) × NothingOccurs patterns false haystack (between at found.start) × LieApart patterns haystack found.end more
+    (at ≤ found.start)
+    × (found.start < found.end)
+    × (found.end ≤ length haystack)
+    × NothingOccurs patterns false haystack (between at found.start)
+    × LieApart patterns haystack found.end more

@@ -9,7 +9,7 @@ ghost use Rattle.literal_base.specs.Counts.{none_yet};
 ghost use Rattle.literal_packed.specs.Collected.{IsInOrder, shortest_len};
 ghost use Rattle.literal_packed.specs.State.{Adds, AddsAll, Builds, BuildsItems, IsBuildable, WouldKeep, builder_of, default_config, kept};
 ghost use Rattle.literal_packed.specs.Pairs.{counts_after};
-ghost use Rattle.literal_packed.specs.Finding.{FindsNext, SpendsWithin, bytes_left};
+ghost use Rattle.literal_packed.specs.Finding.{FindsNext, SpendsWithin, bytes_left, counts_after_all};
 ghost use Rattle.literal_packed.specs.Lending.{RestsAtErr, LentRestsAtErr, HoldsTaken, HoldsAll};
 
 use crate::pattern::Patterns;
@@ -379,6 +379,7 @@ impl Searcher {
     /// those before memory was refused too.
     pub fn find_all(&self, haystack: &[u8], tally: &mut Tally) -> Result<Vec<Match>, AllocError>
         ensures greedy { IfOk result (λ all. IsGreedy self.now.patterns self.now.kind false haystack.now 0 all.items) }
+        ensures exact { IfOk result (λ all. tally.new ≡ counts_after_all tally.old self.now haystack.now 0 all.items) }
         ensures counted { SpendsWithin self.now haystack.now tally.old tally.new }
     {
         let mut all = Vec::new(self.patterns.allocator());
