@@ -1,8 +1,12 @@
+pub mod Buckets
 pub mod BuilderInside
 pub mod Collected
+pub mod Finding
 pub mod Lending
 pub mod Longest
+pub mod Pairs
 pub mod PatternsInside
 pub mod Place
 pub mod Searched
 pub mod State
+pub mod Sum

@@ -4,12 +4,16 @@ ghost use Rattle.std.specs.Borrow.{sem};
 ghost use Rattle.std.specs.Iterator.{ExtendsWithItems, IsFinite};
 ghost use Rattle.literal_base.specs.Occurs.{IsValidSpan, whole_of};
 ghost use Rattle.literal_base.specs.Leftmost.{IsLeftmost};
+ghost use Rattle.literal_base.specs.Greedy.{IsGreedy};
+ghost use Rattle.literal_base.specs.Counts.{none_yet};
 ghost use Rattle.literal_packed.specs.Collected.{IsInOrder, shortest_len};
 ghost use Rattle.literal_packed.specs.State.{Adds, AddsAll, Builds, BuildsItems, IsBuildable, WouldKeep, builder_of, default_config, kept};
+ghost use Rattle.literal_packed.specs.Pairs.{counts_after};
+ghost use Rattle.literal_packed.specs.Finding.{FindsNext, SpendsWithin, bytes_left, counts_after_all};
 ghost use Rattle.literal_packed.specs.Lending.{RestsAtErr, LentRestsAtErr, HoldsTaken, HoldsAll};
 
 use crate::pattern::Patterns;
-use crate::plain::leftmost;
+use crate::rabinkarp::RabinKarp;
 use literal_base::count::Tally;
 use literal_base::packed::MatchKind;
 use literal_base::{Match, Span};
@@ -124,8 +128,11 @@ impl Builder {
         }
         let mut patterns = self.patterns.try_clone()?;
         patterns.set_match_kind(self.config.kind)?;
-        let _len = patterns.len();
-        Ok(Some(Searcher { patterns }))
+        let rabin_karp = RabinKarp::new(&patterns, &mut Tally::new())?;
+        Ok(Some(Searcher {
+            patterns,
+            rabin_karp,
+        }))
     }
 
     /// Adds a copy of a pattern, unless the builder is inert. An empty pattern, and one more than
@@ -271,17 +278,18 @@ fn unwrapped(lent: Result<Lent<'_>, AllocError>) -> Result<&mut Builder, AllocEr
 #[derive(Drop)]
 pub struct Searcher {
     patterns: Patterns,
+    rabin_karp: RabinKarp,
 }
 
 impl Model for Searcher {
     ghost use Rattle.literal_packed.specs.Searched.{Searched};
-    ghost use Rattle.literal_packed.specs.Collected.{IsSearchable};
+    ghost use Rattle.literal_packed.specs.Buckets.{IsMadeFor};
 
     ghost Value = { Searched };
 
     ghost view = { λ a. record { kind = a.patterns.kind; patterns = a.patterns.patterns } };
 
-    ghost invariant = { λ a. IsSearchable a.patterns };
+    ghost invariant = { λ a. IsMadeFor a.patterns a.rabin_karp };
 }
 
 impl Searcher {
@@ -347,9 +355,44 @@ impl Searcher {
         requires { IsValidSpan haystack.now span }
         ensures leftmost { IsLeftmost self.now.patterns self.now.kind false haystack.now span result }
         ensures not_empty { IfSome result (λ found. found.start < found.end) }
-        ensures counted { tally.new ≡ record tally.old { hashed = tally.new.hashed; entries = tally.new.entries; compared = tally.new.compared } }
+        ensures exact { tally.new ≡ counts_after tally.old self.now.kind self.now.patterns haystack.now span result }
     {
-        leftmost(&self.patterns, haystack, span, tally)
+        let haystack = &haystack[..span.end];
+        self.rabin_karp
+            .find_at(&self.patterns, haystack, span.start, tally)
+    }
+
+    /// All matches in the haystack, from the left, none of which overlaps another: first the leftmost
+    /// match of the haystack, and after each match the leftmost one of what is left behind it. The
+    /// iterator borrows the haystack, and ends with the first `None`.
+    pub fn find_iter<'s, 'h>(&'s self, haystack: &'h [u8]) -> FindIter<'s, 'h>
+        ensures { result ≡ record { searched = self.now; haystack = haystack.now; at = 0; counts = none_yet } }
+    {
+        FindIter {
+            searcher: self,
+            haystack,
+            at: 0,
+            tally: Tally::new(),
+        }
+    }
+
+    /// The list of what [`Searcher::find_iter`] gives, with the steps that it takes added to a tally,
+    /// those before memory was refused too.
+    pub fn find_all(&self, haystack: &[u8], tally: &mut Tally) -> Result<Vec<Match>, AllocError>
+        ensures greedy { IfOk result (λ all. IsGreedy self.now.patterns self.now.kind false haystack.now 0 all.items) }
+        ensures exact { IfOk result (λ all. tally.new ≡ counts_after_all tally.old self.now haystack.now 0 all.items) }
+        ensures counted { SpendsWithin self.now haystack.now tally.old tally.new }
+    {
+        let mut all = Vec::new(self.patterns.allocator());
+        let mut rest = Span {
+            start: 0,
+            end: haystack.len(),
+        };
+        while let Some(found) = self.find_in_counted(haystack, rest, tally) {
+            all.push(found)?;
+            rest.start = found.end();
+        }
+        Ok(all)
     }
 
     /// Which occurrence is the match.
@@ -372,6 +415,7 @@ impl Searcher {
     {
         Ok(Searcher {
             patterns: self.patterns.try_clone()?,
+            rabin_karp: self.rabin_karp.try_clone()?,
         })
     }
 }
@@ -382,5 +426,51 @@ impl fmt::Debug for Searcher {
         let kind = *self.patterns.match_kind();
         let len = self.patterns.len();
         write!(f, "Searcher {{ kind: {kind:?}, len: {len} }}")
+    }
+}
+
+/// What [`Searcher::find_iter`] goes over. Contracts see what is searched for and where, the place
+/// from which the search goes on, in bytes from the beginning of the haystack, and the steps taken so
+/// far. After its first `None` it keeps answering `None`.
+#[derive(Drop)]
+pub struct FindIter<'s, 'h> {
+    searcher: &'s Searcher,
+    haystack: &'h [u8],
+    at: usize,
+    tally: Tally,
+}
+
+impl<'s, 'h> Model for FindIter<'s, 'h> {
+    ghost use Rattle.std.specs.Prelude.{◌≤◌, length};
+    ghost use Rattle.literal_packed.specs.Finding.{Finding};
+
+    ghost Value = { Finding };
+
+    ghost view = { λ a. record { searched = a.searcher.now; haystack = a.haystack.now; at = a.at; counts = a.tally } };
+
+    ghost invariant = { λ a. a.at ≤ length a.haystack.now };
+}
+
+impl<'s, 'h> Iterator for FindIter<'s, 'h> {
+    type Item = Match;
+
+    ghost next_gives = { FindsNext };
+
+    ghost remaining = { bytes_left };
+
+    fn next(&mut self) -> Option<Match> {
+        let rest = Span {
+            start: self.at,
+            end: self.haystack.len(),
+        };
+        let Some(found) = self
+            .searcher
+            .find_in_counted(self.haystack, rest, &mut self.tally)
+        else {
+            self.at = self.haystack.len();
+            return None;
+        };
+        self.at = found.end();
+        Some(found)
     }
 }

@@ -2,8 +2,11 @@
 #![tactic(auto)]
 
 mod api;
+pub mod laws;
 pub mod pattern;
-mod plain;
+pub mod rabinkarp;
+#[cfg(test)]
+mod tests;
 
-pub use api::{Builder, Config, Searcher};
+pub use api::{Builder, Config, FindIter, Searcher};
 pub use literal_base::packed::MatchKind;

@@ -190,6 +190,11 @@ impl Patterns {
         }
     }
 
+    /// Where the patterns take their memory from.
+    pub(crate) fn allocator(&self) -> Global {
+        *self.by_id.allocator()
+    }
+
     /// A copy: the same patterns, order and kind.
     pub fn try_clone(&self) -> Result<Patterns, AllocError>
         ensures { IfOk result (λ copy. copy ≡ self.now) }

@@ -1,0 +1,119 @@
+//! Laws of the definitions that contracts cite, and of the searches. Each is the contract of a
+//! function: of one that does nothing where the law is about definitions, and else of one that makes
+//! the calls that the law is about.
+ghost use Rattle.std.specs.Prelude.{◌≡◌, ◌≤◌, ◌+◌, ◌-◌, ◌*◌, ◌^◌, ◌%◌, ◌↔◌, ℕ, List, [], ◌∷◌, length, map, sum, slice_index, codes, true, false, IsTrue, IsNone, Some, None, IfOk};
+ghost use Rattle.std.specs.List.{range_with_len};
+ghost use Rattle.literal_base.specs.declared.packed.MatchKind.{MatchKind};
+ghost use Rattle.literal_base.specs.declared.packed.MatchKind.TheVariants.{LeftmostFirst, LeftmostLongest};
+ghost use Rattle.literal_base.specs.Counts.{none_yet};
+ghost use Rattle.literal_base.specs.Found.{Found};
+ghost use Rattle.literal_base.specs.Occurs.{IsValidSpan, NothingOccurs, whole_of};
+ghost use Rattle.literal_base.specs.Leftmost.{IsBetter};
+ghost use Rattle.literal_base.specs.Greedy.{IsGreedy};
+ghost use Rattle.literal_packed.specs.Sum.{sum_of};
+ghost use Rattle.literal_packed.specs.Pairs.{is_better, counts_after};
+ghost use Rattle.literal_packed.specs.Finding.{LieApart, SpendsWithin, counts_after_all};
+
+use crate::{FindIter, Searcher};
+use literal_base::laws::leftmost_is_unique;
+use literal_base::{Match, Span};
+use std::alloc::{AllocError, Global};
+
+/// The sum of a window is that of its bytes, each times 2 to the power of how many follow it, modulo
+/// 2 to the power of 64.
+pub fn sum_is_by_index()
+    ensures { (w : List ℕ) → sum_of w ≡ sum (map (λ k. slice_index w k * 2 ^ (length w - 1 - k)) (range_with_len 0 (length w))) % 2 ^ 64 }
+{}
+
+/// The test of which pattern is better tells just that.
+pub fn better_is_tested()
+    ensures { (kind : MatchKind) (patterns : List (List ℕ)) (i j : ℕ) → (is_better kind patterns i j ≡ true) ↔ IsBetter kind patterns i j }
+{}
+
+/// The matches of a greedy list are non-empty, in order, and don't overlap, and no pattern occurs
+/// whole before the first, between two neighbours, or after the last.
+pub fn greedy_lists_lie_apart()
+    ensures { (patterns : List (List ℕ)) (kind : MatchKind) (haystack : List ℕ) (at : ℕ) (all : List Found)
+        → at ≤ length haystack
+        → IsGreedy patterns kind false haystack at all
+        → LieApart patterns haystack at all }
+{}
+
+/// A search of the whole haystack is that of the span that is all of it.
+pub fn find_is_find_in(searcher: &Searcher, haystack: &[u8]) -> (Option<Match>, Option<Match>)
+    ensures { result.0 ≡ result.1 }
+{
+    leftmost_is_unique();
+    let whole = Span {
+        start: 0,
+        end: haystack.len(),
+    };
+    (searcher.find(haystack), searcher.find_in(haystack, whole))
+}
+
+/// A search answers `None` exactly if no pattern occurs in the span.
+pub fn none_if_nothing_occurs(searcher: &Searcher, haystack: &[u8], span: Span) -> Option<Match>
+    requires { IsValidSpan haystack.now span }
+    ensures { IsNone result ↔ NothingOccurs searcher.now.patterns false haystack.now span }
+{
+    searcher.find_in(haystack, span)
+}
+
+/// The matches that an iterator gives up to its first `None` are the greedy list. They lie apart, and
+/// there are no more of them than the haystack has bytes.
+pub fn iteration_is_greedy(
+    alloc: Global,
+    searcher: &Searcher,
+    haystack: &[u8],
+) -> Result<Vec<Match>, AllocError>
+    ensures greedy { IfOk result (λ all. IsGreedy searcher.now.patterns searcher.now.kind false haystack.now 0 all.items) }
+    ensures apart { IfOk result (λ all. LieApart searcher.now.patterns haystack.now 0 all.items) }
+    ensures few { IfOk result (λ all. length all.items ≤ length haystack.now) }
+{
+    let mut all = Vec::new(alloc);
+    let mut matches = searcher.find_iter(haystack);
+    while let Some(found) = matches.next() {
+        all.push(found)?;
+    }
+    Ok(all)
+}
+
+/// Up to its first `None` an iterator hashes each byte of the haystack at most once, and reads and
+/// compares no more than the pairs of the whole haystack.
+pub fn iteration_is_bounded<'s, 'h>(searcher: &'s Searcher, haystack: &'h [u8]) -> FindIter<'s, 'h>
+    ensures { SpendsWithin searcher.now haystack.now none_yet result.counts }
+{
+    let mut matches = searcher.find_iter(haystack);
+    while let Some(_) = matches.next() {}
+    matches
+}
+
+/// Whether a `None` of an iterator is followed by nothing but `None`, in so many calls more. It is.
+pub fn none_is_for_good(matches: &mut FindIter<'_, '_>, more: usize) -> bool
+    ensures { IsTrue result }
+{
+    if matches.next().is_some() {
+        return true;
+    }
+    for _ in 0..more {
+        if matches.next().is_some() {
+            return false;
+        }
+    }
+    true
+}
+
+/// The counts of three searches, worked by hand. The pattern `ab` and the bytes `b` and grave accent
+/// have the sum 292, so the pattern is compared there in vain. Of the 7 bytes of `abababa` 6 are
+/// hashed, since the rest of one byte is shorter than the window. The bytes `!` and `a` share a
+/// bucket, and their sums differ.
+pub fn worked_counts()
+    ensures equal_sums { counts_after none_yet LeftmostFirst (codes "ab" ∷ []) (0x62 ∷ 0x60 ∷ 0x61 ∷ 0x62 ∷ []) (whole_of (0x62 ∷ 0x60 ∷ 0x61 ∷ 0x62 ∷ []))
+        (Some (record { pattern = 0; start = 2; end = 4 }))
+        ≡ record { hashed = 4; entries = 2; compared = 2; scanned = 0; tried = 0 } }
+    ensures iteration { counts_after_all none_yet (record { kind = LeftmostFirst; patterns = codes "ab" ∷ codes "ba" ∷ [] }) (codes "abababa") 0
+        (record { pattern = 0; start = 0; end = 2 } ∷ record { pattern = 0; start = 2; end = 4 } ∷ record { pattern = 0; start = 4; end = 6 } ∷ [])
+        ≡ record { hashed = 6; entries = 3; compared = 3; scanned = 0; tried = 0 } }
+    ensures shared_bucket { counts_after none_yet LeftmostLongest (codes "a" ∷ []) (codes "!!!!") (whole_of (codes "!!!!")) None
+        ≡ record { hashed = 4; entries = 4; compared = 0; scanned = 0; tried = 0 } }
+{}
