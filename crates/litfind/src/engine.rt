@@ -3,7 +3,7 @@ ghost use Rattle.std.specs.Prelude.{◌≡◌, ◌≢◌, ◌⊎◌, ◌↔◌, 
 ghost use Rattle.std.specs.List.{flat_map};
 ghost use Rattle.std.specs.Io.KnownBytes.{Appends, Consumes};
 ghost use Rattle.literal_packed.specs.State.{Builds, builder_of};
-ghost use Rattle.litfind.specs.Lines.{AreMatches, line_of};
+ghost use Rattle.litfind.specs.Lines.{line_of};
 ghost use Rattle.litfind.specs.Query.{HasNoSearcher, mode_kind, query_for, query_of};
 ghost use Rattle.litfind.specs.Run.{IsFront, IsWhole, ReadSome, WroteFront, WroteLines};
 
@@ -11,6 +11,7 @@ use crate::device::{Failed, Sink, Source};
 use crate::fault::Fault;
 use crate::line::Line;
 use literal_base::Match;
+use literal_base::count::Tally;
 use literal_packed::{Config, MatchKind, Searcher};
 use std::alloc::{AllocError, Global};
 
@@ -80,17 +81,6 @@ fn searcher(alloc: Global, words: &[String]) -> Result<Searcher, Fault>
         Some(searcher) => Ok(searcher),
         None => Err(Fault::NoSearcher),
     }
-}
-
-/// The matches of the input that are printed, in their order.
-fn find_matches(alloc: Global, searcher: &Searcher, input: &[u8]) -> Result<Vec<Match>, AllocError>
-    ensures { IfOk result (λ all. AreMatches (query_for searcher.now) input.now all.items) }
-{
-    let mut all = Vec::new(alloc);
-    if let Some(found) = searcher.find(input) {
-        all.push(found)?;
-    }
-    Ok(all)
 }
 
 /// A line for each match.
@@ -184,7 +174,8 @@ pub fn run<R: Source, W: Sink>(
 {
     let searcher = searcher(alloc, words)?;
     let input = read_to_end(alloc, reader)?;
-    let matches = find_matches(alloc, &searcher, input.as_slice())?;
+    let mut tally = Tally::new();
+    let matches = searcher.find_all(input.as_slice(), &mut tally)?;
     let text = lines(alloc, matches.as_slice())?;
     let bytes = text.as_bytes();
     match write_whole(writer, bytes) {

@@ -93,7 +93,7 @@ const WORDS: &str = "first apple maple Snapple";
 
 const INPUT: &[u8] = b"Nobody likes maple in their apple flavored Snapple.";
 
-const OUTPUT: &[u8] = b"1 13 18\n";
+const OUTPUT: &[u8] = b"1 13 18\n0 28 33\n2 43 50\n";
 
 /// The words between single spaces.
 fn split(alloc: Global, text: &str) -> Result<Vec<String>, AllocError> {
@@ -126,11 +126,17 @@ fn answer(
 }
 
 #[test]
-fn prints_the_leftmost_match(rt: HostRuntime) -> Result<(), Fail> {
+fn prints_a_line_for_each_match(rt: HostRuntime) -> Result<(), Fail> {
     for (words, input, want, output) in [
         (WORDS, INPUT, Ok(true), OUTPUT),
         (WORDS, b"none here", Ok(false), b""),
         (WORDS, b"", Ok(false), b""),
+        (
+            "first a abcdefghi hz abcdefgh",
+            b"abcdefghz",
+            Ok(true),
+            b"0 0 1\n2 7 9\n",
+        ),
         (
             "longest a abcdefghi hz abcdefgh",
             b"abcdefghz",
@@ -189,8 +195,8 @@ fn reports_each_failed_read(rt: HostRuntime) -> Result<(), Fail> {
 #[test]
 fn reports_a_failed_write(rt: HostRuntime) -> Result<(), Fail> {
     for (step, failing, refusing, flush_fails, front) in [
-        (3, 3, 0, false, b"1 13 1".as_slice()),
-        (3, 0, 2, false, b"1 1".as_slice()),
+        (5, 3, 0, false, b"1 13 18\n0 ".as_slice()),
+        (5, 0, 2, false, b"1 13 ".as_slice()),
         (5, 1, 0, false, b"".as_slice()),
         (64, 0, 0, true, OUTPUT),
     ] {

@@ -13,7 +13,7 @@ returns-in-Ok-clause-ok g c =
         query = query_for c.in_ok-searcher.searcher;
         asked = c.in_ok-searcher.ensures.asked;
         matches = c.in_ok-matches.matches.items;
-        found = rw c.as_slice.ensures.value at c.in_ok-matches.ensures;
+        found = rw c.as_slice.ensures.value at c.in_ok-matches.ensures.greedy;
         lines = rw c.as_slice-2.ensures.value at c.in_ok-text.ensures;
       };
       written = rw c.as_bytes-bytes.ensures.value at c.in-Ok.ensures.ok;
@@ -30,7 +30,7 @@ returns-clause-front g c = λ _.
         query = query_for c.in_ok-searcher.searcher;
         asked = c.in_ok-searcher.ensures.asked;
         matches = c.in_ok-matches.matches.items;
-        found = rw c.as_slice.ensures.value at c.in_ok-matches.ensures;
+        found = rw c.as_slice.ensures.value at c.in_ok-matches.ensures.greedy;
         lines = rw c.as_slice-2.ensures.value at c.in_ok-text.ensures;
       };
       written = rw c.as_bytes-bytes.ensures.value at c.in-Err.ensures.err;
