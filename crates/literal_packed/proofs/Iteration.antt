@@ -1,9 +1,9 @@
 -- A whole iteration, from its start.
-use Rattle.std.proofs.Common.{◌≡◌, ℕ, false, List, [], ◌∷◌, ◌++◌, length, Option, Some, None, refl, sym, subst, arith}
+use Rattle.std.proofs.Common.{◌≡◌, ℕ, false, List, [], ◌∷◌, ◌++◌, length, Option, Some, None, IsNone, refl, sym, subst, arith}
 use Rattle.literal_base.specs.Counts.{none_yet}
 use Rattle.literal_base.specs.Found.{Found}
 use Rattle.literal_packed.specs.Searched.{Searched}
-use Rattle.literal_packed.specs.Finding.{Finding, Finds, FindsNothing, SpendsAtMost, SpendsWithin, after_answer}
+use Rattle.literal_packed.specs.Finding.{Finding, Finds, FindsNothing, FindsNext, StandsAtEnd, SpendsAtMost, SpendsWithin, after_answer}
 use Rattle.literal_base.specs.Greedy.{IsGreedy}
 use Rattle.literal_packed.proofs.GreedyList.{IsGreedyBefore, greedy_more, greedy_all}
 use Rattle.literal_packed.proofs.Spending.{spends_both, spends_within}
@@ -62,12 +62,8 @@ gathers_all searched haystack done old new so_far nothing =
     (subst (λ h. IsGreedy old.searched.patterns old.searched.kind false h 0 done) so_far.haystack_is
     (greedy_all old.searched.patterns old.searched.kind old.haystack done old.at so_far.greedy nothing.nothing))
 
--- a search that stands at the end of the haystack
-abbrev pub IsAtEnd : Finding → Type 0
-IsAtEnd f = f.at ≡ length f.haystack
-
--- it finds nothing
-pub nothing_at_end : (old new : Finding) (found : Found) → IsAtEnd old → Finds old found new → ⊥
+-- a search that stands at the end of the haystack finds nothing
+pub nothing_at_end : (old new : Finding) (found : Found) → StandsAtEnd old → Finds old found new → ⊥
 nothing_at_end old new found ended finds =
     let some = finds.not_empty in
     let after = finds.leftmost.occurs.after_start in
@@ -76,5 +72,9 @@ nothing_at_end old new found ended finds =
     omega arith
 
 -- and after a None it stands there
-pub at_end_after : (old new : Finding) → FindsNothing old new → IsAtEnd new
-at_end_after old new nothing = subst IsAtEnd (sym nothing.goes_on) refl
+pub at_end_after : (old new : Finding) → FindsNothing old new → StandsAtEnd new
+at_end_after old new nothing = subst StandsAtEnd (sym nothing.goes_on) refl
+
+pub none_at_end : (old new : Finding) (answer : Option Found) → StandsAtEnd old → FindsNext old answer new → IsNone answer × StandsAtEnd new
+none_at_end old new None ended nothing = (refl, at_end_after old new nothing)
+none_at_end old new (Some found) ended finds = absurd (nothing_at_end old new found ended finds)

@@ -62,6 +62,10 @@ pub record FindsNothing (old new : Finding) : Type 0 where
 abbrev pub FindsNext : Finding → Option Found → Finding → Type 0
 FindsNext old answer new = MatchOption answer (FindsNothing old new) (λ found. Finds old found new)
 
+-- the search stands at the end of the haystack
+abbrev pub StandsAtEnd : Finding → Type 0
+StandsAtEnd f = f.at ≡ length f.haystack
+
 -- each match takes a byte or more of the rest
 abbrev pub bytes_left : Finding → Count
 bytes_left f = at_most (length f.haystack - f.at)

@@ -1,7 +1,7 @@
 //! Laws of the definitions that contracts cite, and of the searches. Each is the contract of a
 //! function: of one that does nothing where the law is about definitions, and else of one that makes
 //! the calls that the law is about.
-ghost use Rattle.std.specs.Prelude.{◌≡◌, ◌≤◌, ◌+◌, ◌-◌, ◌*◌, ◌^◌, ◌%◌, ◌↔◌, ℕ, List, [], ◌∷◌, length, map, sum, slice_index, codes, true, false, IsTrue, IsNone, Some, None, IfOk};
+ghost use Rattle.std.specs.Prelude.{◌≡◌, ◌≤◌, ◌+◌, ◌-◌, ◌*◌, ◌^◌, ◌%◌, ◌↔◌, ℕ, List, [], ◌∷◌, length, map, sum, slice_index, codes, true, false, IsTrue, IsNone, Option, Some, None, IfOk};
 ghost use Rattle.std.specs.List.{range_with_len};
 ghost use Rattle.literal_base.specs.declared.packed.MatchKind.{MatchKind};
 ghost use Rattle.literal_base.specs.declared.packed.MatchKind.TheVariants.{LeftmostFirst, LeftmostLongest};
@@ -12,10 +12,11 @@ ghost use Rattle.literal_base.specs.Leftmost.{IsBetter};
 ghost use Rattle.literal_base.specs.Greedy.{IsGreedy};
 ghost use Rattle.literal_packed.specs.Sum.{sum_of};
 ghost use Rattle.literal_packed.specs.Pairs.{is_better, counts_after};
-ghost use Rattle.literal_packed.specs.Finding.{LieApart, SpendsWithin, counts_after_all};
+ghost use Rattle.literal_packed.specs.Finding.{Finding, FindsNext, LieApart, SpendsWithin, StandsAtEnd, counts_after_all};
 
 use crate::{FindIter, Searcher};
-use literal_base::laws::leftmost_is_unique;
+use literal_base::count::Tally;
+use literal_base::laws::{greedy_is_unique, leftmost_is_unique};
 use literal_base::{Match, Span};
 use std::alloc::{AllocError, Global};
 
@@ -87,6 +88,31 @@ pub fn iteration_is_bounded<'s, 'h>(searcher: &'s Searcher, haystack: &'h [u8]) 
     while let Some(_) = matches.next() {}
     matches
 }
+
+/// The list of all matches is what an iterator gives up to its first `None`.
+pub fn list_is_iteration(
+    alloc: Global,
+    searcher: &Searcher,
+    haystack: &[u8],
+    tally: &mut Tally,
+) -> Result<(Vec<Match>, Vec<Match>), AllocError>
+    ensures { IfOk result (λ both. both.0.items ≡ both.1.items) }
+{
+    greedy_is_unique();
+    let listed = searcher.find_all(haystack, tally)?;
+    let iterated = iteration_is_greedy(alloc, searcher, haystack)?;
+    Ok((listed, iterated))
+}
+
+/// After a `None` an iterator stands at the end of the haystack.
+pub fn none_ends_an_iteration()
+    ensures { (old new : Finding) → FindsNext old None new → StandsAtEnd new }
+{}
+
+/// An iterator that stands at the end of the haystack answers `None`, and stays there.
+pub fn none_at_the_end()
+    ensures { (old new : Finding) (answer : Option Found) → StandsAtEnd old → FindsNext old answer new → IsNone answer × StandsAtEnd new }
+{}
 
 /// Whether a `None` of an iterator is followed by nothing but `None`, in so many calls more. It is.
 pub fn none_is_for_good(matches: &mut FindIter<'_, '_>, more: usize) -> bool

@@ -211,7 +211,9 @@ impl RabinKarp {
         self.buckets[bucket][k]
     }
 
-    /// The first in match order of the patterns that stand at a place, whose window has the sum.
+    /// The first in match order of the patterns that stand at a place, whose window has the sum. It
+    /// is called at each place, mostly in vain.
+    #[inline(always)]
     fn look_up(
         &self,
         rolling: &Rolling,

@@ -1,5 +1,5 @@
-use Rattle.literal_packed.proofs.Iteration.{IsAtEnd}
+use Rattle.literal_packed.specs.Finding.{StandsAtEnd}
 use Rattle.literal_packed.proofs.laws.none_is_for_good.Given as goal
 
 abbrev pub invariant-loop : goal.invariant-loop
-invariant-loop l = IsAtEnd l.matches
+invariant-loop l = StandsAtEnd l.matches
