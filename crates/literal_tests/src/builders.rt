@@ -5,7 +5,7 @@ use std::alloc::{AllocError, Global};
 use std::process::Abort;
 use std::test::Fail;
 
-/// A builder with so many patterns of one or two bytes each.
+/// A builder with so many patterns, of two equal bytes each.
 fn with_patterns(alloc: Global, count: u8) -> Result<Builder, AllocError> {
     let mut builder = Builder::new(alloc);
     for i in 0..count {

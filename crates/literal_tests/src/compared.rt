@@ -1,6 +1,6 @@
-//! The searches compared with the plain one, on all short haystacks over three bytes. The bytes are
-//! `a`, `b` and the one before `a`, so that different texts of one length have equal rolling sums, as
-//! `ab` and the other two.
+//! The searches compared with the plain one, on all short haystacks over three bytes: `a`, `b`, and
+//! the grave accent, which comes just before `a`. So different texts of one length have equal rolling
+//! sums: `ab`, and `b` with a grave accent.
 use crate::plain::{greedy_plainly, leftmost_plainly, none_is_empty};
 use literal_prefilters::Span;
 use literal_prefilters::packed::{Config, MatchKind, Searcher};

@@ -1,10 +1,11 @@
 //! Collections of patterns.
 ghost use Rattle.std.specs.Prelude.{◌≡◌, length, IfOk};
 
+use literal_prefilters::PatternIDError;
 use literal_prefilters::count::Tally;
 use literal_prefilters::packed::MatchKind;
 use literal_prefilters::packed::pattern::{Pattern, PatternIter, Patterns};
-use literal_prefilters::primitives::{PatternID, PatternIDError};
+use literal_prefilters::primitives::{self, PatternID};
 use std::alloc::{AllocError, Global};
 use std::process::Abort;
 use std::test::Fail;
@@ -157,8 +158,8 @@ fn tells_about_a_pattern(rt: HostRuntime) -> Result<(), Fail> {
 
 #[test]
 fn numbers_patterns(rt: HostRuntime) -> Result<(), Fail> {
-    let refused: Result<PatternID, PatternIDError> = PatternID::new(PatternID::LIMIT);
-    let error = refused.err().ok_or("there is no limit")?;
+    let refused: Result<PatternID, primitives::PatternIDError> = PatternID::new(PatternID::LIMIT);
+    let error: PatternIDError = refused.err().ok_or("there is no limit")?;
     assert_eq!(rt; error.attempted(), 2147483647);
     Ok(())
 }

@@ -71,35 +71,7 @@ fn better_of(patterns: &[&[u8]], kind: MatchKind, earlier: usize, later: usize) 
     }
 }
 
-/// The best of the patterns up to and including number `i` that occur at a place, from the best of
-/// those before it.
-fn best_with(
-    patterns: &[&[u8]],
-    kind: MatchKind,
-    ignore_case: bool,
-    haystack: &[u8],
-    span: Span,
-    at: usize,
-    i: usize,
-    best: Option<usize>,
-) -> Option<usize>
-    requires is_pattern { i < length patterns.now }
-    requires valid { IsValidSpan haystack.now span }
-    requires after_start { span.start ≤ at }
-    requires before_end { at ≤ span.end }
-    requires best { IsBestIfAny (map (λ p. p.now) patterns.now) kind ignore_case haystack.now span at i best }
-    ensures { IsBestIfAny (map (λ p. p.now) patterns.now) kind ignore_case haystack.now span at (i + 1) result }
-{
-    if !occurs(patterns, ignore_case, haystack, span, i, at) {
-        return best;
-    }
-    match best {
-        None => Some(i),
-        Some(kept) => Some(better_of(patterns, kind, kept, i)),
-    }
-}
-
-/// The best of all patterns that occur at a place.
+/// The best of the patterns that occur at a place.
 fn best_at(
     patterns: &[&[u8]],
     kind: MatchKind,
@@ -115,7 +87,12 @@ fn best_at(
 {
     let mut best = None;
     for i in 0..patterns.len() {
-        best = best_with(patterns, kind, ignore_case, haystack, span, at, i, best);
+        if occurs(patterns, ignore_case, haystack, span, i, at) {
+            best = match best {
+                None => Some(i),
+                Some(kept) => Some(better_of(patterns, kind, kept, i)),
+            };
+        }
     }
     best
 }

@@ -1,7 +1,7 @@
 //! Worked cases of searches.
 use literal_prefilters::count::Tally;
 use literal_prefilters::packed::{Config, MatchKind, Searcher};
-use literal_prefilters::{Match, Span};
+use literal_prefilters::search::{Match, Span};
 use std::alloc::Global;
 use std::test::Fail;
 
