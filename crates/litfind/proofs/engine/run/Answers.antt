@@ -1,4 +1,4 @@
-use Rattle.std.proofs.Common.{string_bytes, arith}
+use Rattle.std.proofs.Common.{string_bytes, arith, rules}
 use Rattle.std.proofs.lemmas.Grind.{common_steps}
 use Rattle.litfind.specs.Query.{query_for}
 use Rattle.litfind.proofs.engine.run.Goals as goal
@@ -16,7 +16,7 @@ returns-in-Ok-clause-ok g c =
         found = rw c.as_slice.ensures.value at c.in_ok-matches.ensures.greedy;
         lines = rw c.as_slice-2.ensures.value at c.in_ok-text.ensures;
       };
-      written = rw c.as_bytes-bytes.ensures.value at c.in-Ok.ensures.ok;
+      written = search (rules, c.in-Ok.ensures.ok, c.as_bytes-bytes.ensures.value);
       answer = grind (arith, common_steps, c.is_empty.ensures, c.as_bytes-bytes.ensures.value);
     }
 
@@ -33,5 +33,5 @@ returns-clause-front g c = λ _.
         found = rw c.as_slice.ensures.value at c.in_ok-matches.ensures.greedy;
         lines = rw c.as_slice-2.ensures.value at c.in_ok-text.ensures;
       };
-      written = rw c.as_bytes-bytes.ensures.value at c.in-Err.ensures.err;
+      written = search (rules, c.in-Err.ensures.err, c.as_bytes-bytes.ensures.value);
     }
