@@ -413,9 +413,11 @@ impl Searcher {
     pub fn try_clone(&self) -> Result<Searcher, AllocError>
         ensures { IfOk result (λ copy. copy ≡ self.now) }
     {
+        let patterns = self.patterns.try_clone()?;
+        let rabin_karp = self.rabin_karp.try_clone()?;
         Ok(Searcher {
-            patterns: self.patterns.try_clone()?,
-            rabin_karp: self.rabin_karp.try_clone()?,
+            patterns,
+            rabin_karp,
         })
     }
 }

@@ -1,35 +1,78 @@
-//! The searches compared with the plain one, on all short haystacks over three bytes: `a`, `b`, and
-//! the grave accent, which comes just before `a`. So different texts of one length have equal rolling
-//! sums: `ab`, and `b` with a grave accent.
+//! The searches compared with the plain one, on all short haystacks over a few bytes that collide in
+//! a search by sums: `a`, `b`, and the grave accent, which comes just before `a`, so that different
+//! texts of one length have equal sums, as `ab` and `b` with a grave accent; and `!` and `a`, which
+//! are 64 apart, so that all texts of one length share a bucket.
 use crate::plain::{greedy_plainly, leftmost_plainly, none_is_empty};
 use literal_prefilters::Span;
 use literal_prefilters::packed::{Config, MatchKind, Searcher};
 use std::process::Abort;
 use std::test::Fail;
 
+/// The bytes that patterns and haystacks are made of.
+#[derive(Clone, Copy)]
+enum Family {
+    /// Different texts have equal sums.
+    EqualSums,
+    /// All texts share a bucket.
+    OneBucket,
+}
+
 /// Up to three patterns each.
-static LISTS: [&[&[u8]]; 10] = [
-    &[b"ab"],
-    &[b"b`", b"ab"],
-    &[b"ab", b"b`", b"``"],
-    &[b"a", b"ab"],
-    &[b"ab", b"a", b"b"],
-    &[b"aa", b"aa"],
-    &[b"ab`", b"b`", b"abb"],
-    &[b"b", b"ab", b"aab"],
-    &[b"b``", b"ab`", b"`b"],
-    &[b"aba", b"bab", b"ba"],
+static LISTS: [(Family, &[&[u8]]); 18] = [
+    (Family::EqualSums, &[b"ab"]),
+    (Family::EqualSums, &[b"b`", b"ab"]),
+    (Family::EqualSums, &[b"ab", b"b`", b"``"]),
+    (Family::EqualSums, &[b"a", b"ab"]),
+    (Family::EqualSums, &[b"ab", b"a", b"b"]),
+    (Family::EqualSums, &[b"aa", b"aa"]),
+    (Family::EqualSums, &[b"ab`", b"b`", b"abb"]),
+    (Family::EqualSums, &[b"b", b"ab", b"aab"]),
+    (Family::EqualSums, &[b"b``", b"ab`", b"`b"]),
+    (Family::EqualSums, &[b"aba", b"bab", b"ba"]),
+    (Family::OneBucket, &[b"a"]),
+    (Family::OneBucket, &[b"!a", b"a!"]),
+    (Family::OneBucket, &[b"aa!", b"a", b"!!"]),
+    (Family::OneBucket, &[b"!", b"!a", b"!a!"]),
+    (Family::OneBucket, &[b"!a!a", b"a!a", b"!a"]),
+    (Family::OneBucket, &[b"aaaa", b"aaa", b"aaaaa"]),
+    (Family::OneBucket, &[b"a!!a!a", b"!!a", b"!!a"]),
+    (Family::OneBucket, &[b"!!!a", b"!!!", b"a!!!"]),
 ];
 
 /// The bytes of a haystack, told by the digits of its number.
-fn bytes_of(number: usize) -> [u8; 4] {
-    let digits = b"ab`";
-    [
-        digits[number % 3],
-        digits[number / 3 % 3],
-        digits[number / 9 % 3],
-        digits[number / 27 % 3],
-    ]
+fn bytes_of(family: Family, number: usize) -> [u8; 6] {
+    match family {
+        Family::EqualSums => {
+            let digits = b"ab`";
+            [
+                digits[number % 3],
+                digits[number / 3 % 3],
+                digits[number / 9 % 3],
+                digits[number / 27 % 3],
+                digits[number / 81 % 3],
+                digits[number / 243 % 3],
+            ]
+        }
+        Family::OneBucket => {
+            let digits = b"!a";
+            [
+                digits[number % 2],
+                digits[number / 2 % 2],
+                digits[number / 4 % 2],
+                digits[number / 8 % 2],
+                digits[number / 16 % 2],
+                digits[number / 32 % 2],
+            ]
+        }
+    }
+}
+
+/// The lengths of the haystacks, and how many there are of each.
+fn sizes_of(family: Family) -> &'static [(usize, usize)] {
+    match family {
+        Family::EqualSums => &[(0, 1), (1, 3), (2, 9), (3, 27), (4, 81)],
+        Family::OneBucket => &[(0, 1), (1, 2), (2, 4), (3, 8), (4, 16), (5, 32), (6, 64)],
+    }
 }
 
 /// Compares on all spans of a haystack, and returns how many there are.
@@ -57,14 +100,20 @@ fn compare_in(
     spans
 }
 
-/// Compares on all haystacks of up to four bytes.
-fn compare(rt: &impl Abort, searcher: &Searcher, patterns: &[&[u8]], kind: MatchKind) -> u32 {
+/// Compares on all haystacks of a family, and returns how many spans they have.
+fn compare(
+    rt: &impl Abort,
+    searcher: &Searcher,
+    family: Family,
+    patterns: &[&[u8]],
+    kind: MatchKind,
+) -> u32 {
     let mut cases: u32 = 0;
-    for (len, count) in [(0, 1), (1, 3), (2, 9), (3, 27), (4, 81)] {
-        assert!(rt; len <= 4);
-        for number in 0..count {
-            let bytes = bytes_of(number);
-            let spans = compare_in(rt, searcher, patterns, kind, &bytes[..len]);
+    for (len, count) in sizes_of(family) {
+        assert!(rt; *len <= 6);
+        for number in 0..*count {
+            let bytes = bytes_of(family, number);
+            let spans = compare_in(rt, searcher, patterns, kind, &bytes[..*len]);
             cases = cases.wrapping_add(spans);
         }
     }
@@ -73,12 +122,16 @@ fn compare(rt: &impl Abort, searcher: &Searcher, patterns: &[&[u8]], kind: Match
 
 #[test]
 fn finds_what_is_found_plainly(rt: HostRuntime) -> Result<(), Fail> {
-    for patterns in LISTS {
+    for (family, patterns) in LISTS {
+        let cases = match family {
+            Family::EqualSums => 1549,
+            Family::OneBucket => 2815,
+        };
         for kind in [MatchKind::LeftmostFirst, MatchKind::LeftmostLongest] {
             let mut builder = Config::new().match_kind(kind).builder(rt.alloc());
             builder.extend(patterns.iter().copied())?;
             let searcher = builder.build()?.ok_or("there is no searcher")?;
-            assert_eq!(rt; compare(&rt, &searcher, patterns, kind), 1549);
+            assert_eq!(rt; compare(&rt, &searcher, family, patterns, kind), cases);
         }
     }
     Ok(())
