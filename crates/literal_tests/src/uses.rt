@@ -1,12 +1,14 @@
 //! Callers that rely on contracts alone.
-ghost use Rattle.std.specs.Prelude.{◌≡◌, ◌∷◌, [], length, IfOk, OnOk, IsNone, map, string_bytes};
+ghost use Rattle.std.specs.Prelude.{◌≡◌, ◌∷◌, [], List, false, length, IfOk, OnOk, IsNone, map, string_bytes};
 ghost use Rattle.std.specs.Iterator.{IsFinite};
+ghost use Rattle.literal_base.specs.Found.{Found};
+ghost use Rattle.literal_base.specs.Greedy.{IsGreedy};
 ghost use Rattle.literal_packed.specs.State.{Adds, Building, Builds, BuildsItems, builder_of, default_config};
 ghost use Rattle.literal_packed.specs.Lending.{HoldsAll};
 
-use literal_prefilters::PatternID;
 use literal_prefilters::packed::pattern::{Pattern, PatternIter, Patterns};
 use literal_prefilters::packed::{Builder, Config, MatchKind, Searcher};
+use literal_prefilters::{Match, PatternID};
 use std::alloc::{AllocError, Global};
 
 /// Builds for two patterns in a chain of calls.
@@ -105,6 +107,39 @@ pub fn next_at_end<'p>(items: &mut PatternIter<'p>) -> Option<(PatternID, Patter
     items.next()
 }
 
+/// The matches that a `for` over an iteration takes.
+pub fn taken_in_turn(
+    alloc: Global,
+    searcher: &Searcher,
+    haystack: &[u8],
+) -> Result<Vec<Match>, AllocError>
+    ensures { IfOk result (λ all. IsGreedy searcher.now.patterns searcher.now.kind false haystack.now 0 all.items) }
+{
+    let mut all = Vec::new(alloc);
+    for found in searcher.find_iter(haystack) {
+        all.push(found)?;
+    }
+    Ok(all)
+}
+
+/// The matches that an iteration collects.
+pub fn collected(
+    alloc: Global,
+    searcher: &Searcher,
+    haystack: &[u8],
+) -> Result<Vec<Match>, AllocError>
+    ensures { IfOk result (λ all. IsGreedy searcher.now.patterns searcher.now.kind false haystack.now 0 all.items) }
+{
+    searcher.find_iter(haystack).collect(alloc)
+}
+
+/// The number of matches of an iteration.
+pub fn count_of_matches(searcher: &Searcher, haystack: &[u8]) -> usize
+    ensures { (all : List Found) × IsGreedy searcher.now.patterns searcher.now.kind false haystack.now 0 all × (result ≡ length all) }
+{
+    searcher.find_iter(haystack).count()
+}
+
 #[cfg(test)]
 mod tests {
     use super::*;
@@ -151,6 +186,19 @@ mod tests {
         let mut items = nothing.iter();
         assert!(rt; next_at_end(&mut items).is_none());
         assert!(rt; next_at_end(&mut items).is_none());
+        Ok(())
+    }
+
+    #[test]
+    fn goes_over_matches(rt: HostRuntime) -> Result<(), Fail> {
+        let alloc = rt.alloc();
+        let searcher = built_of_two(alloc, b"ab", b"ba")?.ok_or("two patterns build nothing")?;
+        let haystack = b"abababa";
+        let taken = taken_in_turn(alloc, &searcher, haystack)?;
+        let collected = collected(alloc, &searcher, haystack)?;
+        assert_eq!(rt; taken.as_slice(), collected.as_slice());
+        assert_eq!(rt; taken.len(), 3);
+        assert_eq!(rt; count_of_matches(&searcher, haystack), 3);
         Ok(())
     }
 }
