@@ -53,6 +53,21 @@ fn clones(rt: &impl Abort, alloc: Global) -> Result<bool, AllocError> {
     Ok(true)
 }
 
+fn lists(rt: &impl Abort, alloc: Global) -> Result<bool, AllocError> {
+    let searcher = Searcher::new(alloc, WORDS)?.expect(rt, "two patterns make nothing");
+    let haystack = b"ab bc abc";
+    if let Ok(all) = searcher.find_all(haystack, &mut Tally::new()) {
+        assert_eq!(rt; all.len(), 3);
+        return Ok(false);
+    }
+    assert_searches(rt, &searcher);
+    let all = searcher
+        .find_all(haystack, &mut Tally::new())
+        .expect(rt, "a second request was refused");
+    assert_eq!(rt; all.len(), 3);
+    Ok(true)
+}
+
 /// An inert builder takes any pattern and builds nothing.
 fn assert_inert(rt: &impl Abort, builder: &mut Builder) {
     for pattern in [b"".as_slice(), b"more", b""] {
@@ -84,6 +99,7 @@ fn takes_no_memory(rt: &impl Abort, alloc: Global) -> Result<(), AllocError> {
     assert_eq!(rt; builder.minimum_len(), 2);
     assert_inert(rt, &mut builder);
     assert_searches(rt, &searcher);
+    assert_eq!(rt; searcher.find_iter(b"ab bc abc").count(), 3);
     Ok(())
 }
 
@@ -105,6 +121,17 @@ fn refused_try_clone_of_searcher(rt: HostRuntime) {
 #[test]
 fn succeeds_try_clone_of_searcher(rt: HostRuntime) -> Result<(), AllocError> {
     assert!(rt; !clones(&rt, rt.alloc())?);
+    Ok(())
+}
+
+#[test]
+fn refused_find_all(rt: HostRuntime) {
+    let _ = lists(&rt, rt.alloc());
+}
+
+#[test]
+fn succeeds_find_all(rt: HostRuntime) -> Result<(), AllocError> {
+    assert!(rt; !lists(&rt, rt.alloc())?);
     Ok(())
 }
 
