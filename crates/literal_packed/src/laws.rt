@@ -8,7 +8,7 @@ ghost use Rattle.literal_base.specs.declared.packed.MatchKind.TheVariants.{Leftm
 ghost use Rattle.literal_base.specs.Counts.{none_yet};
 ghost use Rattle.literal_base.specs.Found.{Found};
 ghost use Rattle.literal_base.specs.Occurs.{IsValidSpan, NothingOccurs, whole_of};
-ghost use Rattle.literal_base.specs.Leftmost.{IsBetter};
+ghost use Rattle.literal_base.specs.Leftmost.{IsBetter, IsLeftmost};
 ghost use Rattle.literal_base.specs.Greedy.{IsGreedy};
 ghost use Rattle.literal_packed.specs.Sum.{sum_of};
 ghost use Rattle.literal_packed.specs.Pairs.{is_better, counts_after};
@@ -42,7 +42,8 @@ pub fn greedy_lists_lie_apart()
 
 /// A search of the whole haystack is that of the span that is all of it.
 pub fn find_is_find_in(searcher: &Searcher, haystack: &[u8]) -> (Option<Match>, Option<Match>)
-    ensures { result.0 ≡ result.1 }
+    ensures same { result.0 ≡ result.1 }
+    ensures leftmost { IsLeftmost searcher.now.patterns searcher.now.kind false haystack.now (whole_of haystack.now) result.0 }
 {
     leftmost_is_unique();
     let whole = Span {
@@ -96,7 +97,8 @@ pub fn list_is_iteration(
     haystack: &[u8],
     tally: &mut Tally,
 ) -> Result<(Vec<Match>, Vec<Match>), AllocError>
-    ensures { IfOk result (λ both. both.0.items ≡ both.1.items) }
+    ensures same { IfOk result (λ both. both.0.items ≡ both.1.items) }
+    ensures greedy { IfOk result (λ both. IsGreedy searcher.now.patterns searcher.now.kind false haystack.now 0 both.0.items) }
 {
     greedy_is_unique();
     let listed = searcher.find_all(haystack, tally)?;
