@@ -83,7 +83,10 @@ pub fn iteration_is_greedy(
 /// Up to its first `None` an iterator hashes each byte of the haystack at most once, and reads and
 /// compares no more than the pairs of the whole haystack.
 pub fn iteration_is_bounded<'s, 'h>(searcher: &'s Searcher, haystack: &'h [u8]) -> FindIter<'s, 'h>
-    ensures { SpendsWithin searcher.now haystack.now none_yet result.counts }
+    ensures bounded { SpendsWithin searcher.now haystack.now none_yet result.counts }
+    ensures searched { result.searched ≡ searcher.now }
+    ensures haystack { result.haystack ≡ haystack.now }
+    ensures ended { StandsAtEnd result }
 {
     let mut matches = searcher.find_iter(haystack);
     while let Some(_) = matches.next() {}

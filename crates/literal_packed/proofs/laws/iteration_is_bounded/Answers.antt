@@ -10,5 +10,5 @@ loop-init c = subst (IsUnderWay c.args.searcher.now c.args.haystack.now) (sym c.
 pub loop-preserved : goal.loop-preserved
 loop-preserved c = under_way_more _ _ _ _ _ c.loop.invariant c.in-Some.ensures.steps
 
-pub returns : goal.returns
-returns c = run_within _ _ _ (under_way_end _ _ _ _ c.loop.invariant c.in_default.ensures.steps)
+pub returns-clause-bounded : goal.returns-clause-bounded
+returns-clause-bounded c = run_within _ _ _ (under_way_end _ _ _ _ c.loop.invariant c.in_default.ensures.steps)
