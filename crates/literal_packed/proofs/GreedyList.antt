@@ -1,5 +1,5 @@
 -- A greedy list and its counts, match by match, and how its matches lie.
-use Rattle.std.proofs.Common.{◌≡◌, ℕ, ◌-◌, ◌<◌, ◌≤◌, false, List, [], ◌∷◌, ◌++◌, length, Some, None, append_assoc, append-nil, refl, sym, ap, ◌∙◌, subst, arith}
+use Rattle.std.proofs.Common.{◌≡◌, ℕ, ◌-◌, ◌<◌, ◌≤◌, false, List, [], ◌∷◌, ◌++◌, length, Some, None, append_assoc, append-nil, sym, ap, ◌∙◌, subst, arith}
 use Rattle.std.specs.List.{All}
 use Rattle.literal_base.specs.declared.packed.MatchKind.{MatchKind}
 use Rattle.literal_base.specs.Counts.{Counts}
@@ -16,9 +16,6 @@ use Rattle.literal_packed.proofs.Windows.{none_empty}
 pub record IsGreedyBefore (patterns : List (List ℕ)) (kind : MatchKind) (haystack : List ℕ) (done : List Found) (at : ℕ) : Type 0 where
   pub goes_on : (more : List Found) → IsGreedy patterns kind false haystack at more → IsGreedy patterns kind false haystack 0 (done ++ more)
 
-pub greedy_none : (patterns : List (List ℕ)) (kind : MatchKind) (haystack : List ℕ) → IsGreedyBefore patterns kind haystack [] 0
-greedy_none patterns kind haystack = record { goes_on = λ more greedy. greedy }
-
 pub greedy_more : (patterns : List (List ℕ)) (kind : MatchKind) (haystack : List ℕ) (done : List Found) (at : ℕ) (found : Found) → IsGreedyBefore patterns kind haystack done at
     → IsLeftmostMatch patterns kind false haystack (rest_from haystack at) found → IsGreedyBefore patterns kind haystack (done ++ found ∷ []) found.end
 greedy_more patterns kind haystack done at found before leftmost = record {
@@ -32,9 +29,6 @@ greedy_all patterns kind haystack done at before nothing = subst (IsGreedy patte
 -- the counts so far: whatever follows, they go on from them
 pub record CountsBefore (searched : Searched) (haystack : List ℕ) (old now : Counts) (done : List Found) (at : ℕ) : Type 0 where
   pub goes_on : (more : List Found) → counts_after_all now searched haystack at more ≡ counts_after_all old searched haystack 0 (done ++ more)
-
-pub counts_none_yet : (searched : Searched) (haystack : List ℕ) (old : Counts) → CountsBefore searched haystack old old [] 0
-counts_none_yet searched haystack old = record { goes_on = λ more. refl }
 
 pub counts_more : (searched : Searched) (haystack : List ℕ) (old now new : Counts) (done : List Found) (at : ℕ) (found : Found) → CountsBefore searched haystack old now done at
     → new ≡ counts_after now searched.kind searched.patterns haystack (rest_from haystack at) (Some found) → CountsBefore searched haystack old new (done ++ found ∷ []) found.end

@@ -1,11 +1,11 @@
 -- A whole iteration, from its start.
-use Rattle.std.proofs.Common.{◌≡◌, ℕ, false, List, [], ◌∷◌, ◌++◌, length, Option, Some, None, IsNone, refl, sym, subst, arith}
+use Rattle.std.proofs.Common.{◌≡◌, ℕ, false, List, length, Option, Some, None, IsNone, refl, sym, subst, arith}
 use Rattle.literal_base.specs.Counts.{none_yet}
 use Rattle.literal_base.specs.Found.{Found}
 use Rattle.literal_packed.specs.Searched.{Searched}
 use Rattle.literal_packed.specs.Finding.{Finding, Finds, FindsNothing, FindsNext, StandsAtEnd, SpendsAtMost, SpendsWithin, after_answer}
 use Rattle.literal_base.specs.Greedy.{IsGreedy}
-use Rattle.literal_packed.proofs.GreedyList.{IsGreedyBefore, greedy_more, greedy_all}
+use Rattle.literal_packed.proofs.GreedyList.{IsGreedyBefore, greedy_all}
 use Rattle.literal_packed.proofs.Spending.{spends_both, spends_within}
 
 -- a search that began at the start of the haystack, with no counts
@@ -44,16 +44,6 @@ pub record IsGathering (searched : Searched) (haystack : List ℕ) (done : List 
   pub searched_is : now.searched ≡ searched
   pub haystack_is : now.haystack ≡ haystack
   pub greedy : IsGreedyBefore now.searched.patterns now.searched.kind now.haystack done now.at
-
-pub gathers_more : (searched : Searched) (haystack : List ℕ) (done : List Found) (old new : Finding) (found : Found) → IsGathering searched haystack done old → Finds old found new
-    → IsGathering searched haystack (done ++ found ∷ []) new
-gathers_more searched haystack done old new found so_far finds =
-    let then : IsGathering searched haystack (done ++ found ∷ []) (after_answer old (Some found) found.end) = record {
-      searched_is = so_far.searched_is;
-      haystack_is = so_far.haystack_is;
-      greedy = greedy_more old.searched.patterns old.searched.kind old.haystack done old.at found so_far.greedy finds.leftmost;
-    } in
-    subst (IsGathering searched haystack (done ++ found ∷ [])) (sym finds.goes_on) then
 
 pub gathers_all : (searched : Searched) (haystack : List ℕ) (done : List Found) (old new : Finding) → IsGathering searched haystack done old → FindsNothing old new
     → IsGreedy searched.patterns searched.kind false haystack 0 done
