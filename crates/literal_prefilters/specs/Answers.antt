@@ -1,0 +1,15 @@
+-- What a prefilter answers.
+use Rattle.std.specs.Prelude.{ℕ, Option, None, Some}
+use Rattle.literal_prefilters.specs.declared.prefilter.Candidate.{Candidate}
+use Rattle.literal_prefilters.specs.declared.prefilter.Candidate.TheVariants as candidate
+
+-- where the match or the possible match begins
+abbrev pub start_of : Candidate → Option ℕ
+start_of candidate.None = None
+start_of (candidate.Match found) = Some found.start
+start_of (candidate.PossibleStartOfMatch start) = Some start
+
+-- the answer of a prefilter by single bytes: a possible start, or nothing
+abbrev pub proposed : Option ℕ → Candidate
+proposed None = candidate.None
+proposed (Some start) = candidate.PossibleStartOfMatch start

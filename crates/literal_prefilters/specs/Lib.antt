@@ -1,0 +1,7 @@
+pub mod Answers
+pub mod Case
+pub mod Sound
+pub mod Table
+pub mod TableInside
+pub mod Tables
+pub mod Variants

@@ -1,0 +1,40 @@
+-- What a prefilter promises of its answers.
+use Rattle.std.specs.Prelude.{◌≡◌, ℕ, ◌+◌, ◌-◌, ◌<◌, ◌≤◌, Bool, List}
+use Rattle.literal_base.specs.declared.packed.MatchKind.{MatchKind}
+use Rattle.literal_base.specs.declared.search.Span.{Span}
+use Rattle.literal_base.specs.Counts.{Counts}
+use Rattle.literal_base.specs.Leftmost.{IsLeftmostMatch}
+use Rattle.literal_base.specs.Occurs.{Occurs, NothingOccurs}
+use Rattle.literal_prefilters.specs.declared.prefilter.Candidate.{Candidate}
+use Rattle.literal_prefilters.specs.declared.prefilter.Candidate.TheVariants.{None, Match, PossibleStartOfMatch}
+
+-- the place is in the span, and no occurrence in the span begins before it
+pub record IsPossibleStart (patterns : List (List ℕ)) (ignore_case : Bool) (haystack : List ℕ) (span : Span) (place : ℕ) : Type 0 where
+  pub after_start : span.start ≤ place
+  pub before_end : place < span.end
+  pub none_before : (i at : ℕ) → Occurs patterns ignore_case haystack span i at → place ≤ at
+
+-- the answer passes over no occurrence: none only if nothing occurs in the span, a match only if it is the leftmost one,
+-- and a place only if it is a possible start
+abbrev pub Sound : List (List ℕ) → MatchKind → Bool → List ℕ → Span → Candidate → Type 0
+Sound patterns kind ignore_case haystack span None =
+    NothingOccurs patterns ignore_case haystack span
+Sound patterns kind ignore_case haystack span (Match found) =
+    IsLeftmostMatch patterns kind ignore_case haystack span found
+Sound patterns kind ignore_case haystack span (PossibleStartOfMatch place) =
+    IsPossibleStart patterns ignore_case haystack span place
+
+-- how many bytes an answer may scan: up to the reach past a possible start, and the span otherwise
+abbrev pub scans_at_most : ℕ → Span → Candidate → ℕ
+scans_at_most reach span None = span.end - span.start
+scans_at_most reach span (Match found) = span.end - span.start
+scans_at_most reach span (PossibleStartOfMatch place) = place + reach + 1 - span.start
+
+-- what an answer may add to the counts: nothing to the places tried, and no more scanned bytes than its reach allows
+pub record KeepsReach (reach : ℕ) (span : Span) (answer : Candidate) (old new : Counts) : Type 0 where
+  pub tried : new.tried ≡ old.tried
+  pub scanned : new.scanned ≤ old.scanned + scans_at_most reach span answer
+  pub scanned_grows : old.scanned ≤ new.scanned
+  pub hashed_grows : old.hashed ≤ new.hashed
+  pub entries_grow : old.entries ≤ new.entries
+  pub compared_grows : old.compared ≤ new.compared

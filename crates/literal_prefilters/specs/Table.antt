@@ -1,0 +1,56 @@
+-- A table of bytes: for each of the 256 bytes its distance, if it has one.
+use Rattle.std.specs.Prelude.{ℕ, ◌+◌, ◌-◌, ◌≤◌, max, unwrap_or, Bool, List, Option, None, Some, IfSome, MatchOption, is_some, option_map, position, fold, sum_by, count_by, slice_index, slice_index_or, slice_range, if◌then◌else◌}
+use Rattle.std.specs.List.{enumerate_from}
+use Rattle.literal_base.specs.Rank.{rank_of}
+use Rattle.literal_base.specs.declared.search.Span.{Span}
+use Rattle.literal_base.specs.Occurs.{Same}
+use Rattle.literal_prefilters.specs.Case.{AreBytes}
+
+abbrev pub distance_of : List (Option ℕ) → ℕ → Option ℕ
+distance_of table byte = slice_index_or table byte None
+
+-- the byte is in the table
+abbrev pub is_in : List (Option ℕ) → ℕ → Bool
+is_in table byte = is_some (distance_of table byte)
+
+-- the number of its bytes
+abbrev pub size : List (Option ℕ) → ℕ
+size table = count_by is_some table
+
+abbrev pub rank_at : (ℕ × Option ℕ) → ℕ
+rank_at e = if is_some e.1 then rank_of e.0 else 0
+
+-- the sum of the ranks of its bytes
+abbrev pub rank_sum_of : List (Option ℕ) → ℕ
+rank_sum_of table = sum_by rank_at (enumerate_from 0 table)
+
+-- each distance is at most 254
+abbrev pub AreDistances : List (Option ℕ) → Type 0
+AreDistances table = (byte : ℕ) → IfSome (distance_of table byte) (λ d. d ≤ 254)
+
+-- the largest distance
+abbrev pub reach_of : List (Option ℕ) → ℕ
+reach_of table = fold (λ most o. max most (unwrap_or o 0)) 0 table
+
+-- the least place of the span whose byte is in the table
+abbrev pub first : List (Option ℕ) → List ℕ → Span → Option ℕ
+first table haystack span =
+    option_map (λ k. span.start + k) (position (is_in table) (slice_range haystack span.start span.end))
+
+-- the greater of the start and the place less its byte's distance
+abbrev pub step_back : List (Option ℕ) → List ℕ → ℕ → ℕ → ℕ
+step_back table haystack start place = max start (place - unwrap_or (distance_of table (slice_index haystack place)) 0)
+
+-- the place that a prefilter by this table answers
+abbrev pub step : List (Option ℕ) → List ℕ → Span → Option ℕ
+step table haystack span = option_map (step_back table haystack span.start) (first table haystack span)
+
+-- the bytes that a scan of the span reads, where it found what it answers
+abbrev pub bytes_scanned : Span → Option ℕ → ℕ
+bytes_scanned span None = span.end - span.start
+bytes_scanned span (Some place) = place + 1 - span.start
+
+-- in each case variant of the pattern some byte is in the table, and the distance of the earliest one is at least its offset
+abbrev pub Covers : List (Option ℕ) → Bool → List ℕ → Type 0
+Covers table ignore_case pattern =
+    (variant : List ℕ) → AreBytes variant → Same ignore_case variant pattern → MatchOption (position (is_in table) variant) ⊥ (λ j. IfSome (distance_of table (slice_index variant j)) (λ d. j ≤ d))

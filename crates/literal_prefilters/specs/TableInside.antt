@@ -1,0 +1,11 @@
+use Rattle.std.specs.Prelude.{◌≡◌, ◌≤◌, length}
+use Rattle.literal_prefilters.specs.declared.prefilter.byte_table.ByteTable.TheInside.{Inside}
+use Rattle.literal_prefilters.specs.Table.{size, rank_sum_of, AreDistances}
+
+pub record IsTable (t : Inside) : Type 0 where
+  pub whole : length t.distances ≡ 256
+  pub counted : t.count ≡ size t.distances
+  pub not_empty : 1 ≤ size t.distances
+  pub small : size t.distances ≤ 3
+  pub ranked : t.rank_sum ≡ rank_sum_of t.distances
+  pub near : AreDistances t.distances

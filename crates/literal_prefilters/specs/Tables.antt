@@ -1,0 +1,65 @@
+-- The two tables of a list of patterns.
+use Rattle.std.specs.Prelude.{◌==◌, ℕ, ◌&&◌, ◌||◌, not, zero, suc, max, Bool, false, List, length, drop, Option, None, Some, fold, nat_lt, nat_le, slice_index, if◌then◌else◌}
+use Rattle.std.specs.List.{list_any, list_all}
+use Rattle.literal_base.specs.Bytes.{by_byte}
+use Rattle.literal_base.specs.Rank.{rank_of}
+use Rattle.literal_prefilters.specs.Case.{same_byte}
+use Rattle.literal_prefilters.specs.Table.{size}
+
+-- a table of the bytes of a set, each with its distance
+abbrev pub table_of : (ℕ → Bool) → (ℕ → ℕ) → List (Option ℕ)
+table_of in_set distance = by_byte (λ b. if in_set b then Some (distance b) else None)
+
+-- a table of one to three bytes
+abbrev pub if_small : List (Option ℕ) → Option (List (Option ℕ))
+if_small table = if nat_le 1 (size table) && nat_le (size table) 3 then Some table else None
+
+-- some pattern, in some case, begins with the byte
+abbrev pub is_start_byte : Bool → List (List ℕ) → ℕ → Bool
+is_start_byte ignore_case patterns byte = list_any (λ p. same_byte ignore_case byte (slice_index p 0)) patterns
+
+abbrev pub start_bytes : Bool → List (List ℕ) → List (Option ℕ)
+start_bytes ignore_case patterns = table_of (is_start_byte ignore_case patterns) (λ _. 0)
+
+-- the start table, if its bytes are one to three, all at most 0x7F
+abbrev pub start_table : Bool → List (List ℕ) → Option (List (Option ℕ))
+start_table ignore_case patterns =
+    let table = start_bytes ignore_case patterns in
+    if size (drop 128 table) == 0 then if_small table else None
+
+-- of two bytes the one of less rank, and of equal ranks the first
+abbrev pub rarer : ℕ → ℕ → ℕ
+rarer a b = if nat_lt (rank_of b) (rank_of a) then b else a
+
+-- the earliest byte of least rank
+abbrev pub rarest : List ℕ → ℕ
+rarest pattern = fold rarer (slice_index pattern 0) pattern
+
+-- the set after one more pattern: one that holds a byte of the set adds nothing, and another its rarest byte, in both cases where case is ignored
+abbrev pub with_rarest : Bool → (ℕ → Bool) → List ℕ → ℕ → Bool
+with_rarest ignore_case in_set pattern byte =
+    in_set byte || (not (list_any in_set pattern) && same_byte ignore_case byte (rarest pattern))
+
+-- the set of rare bytes, by the patterns in the order of their numbers
+abbrev pub is_rare_byte : Bool → List (List ℕ) → ℕ → Bool
+is_rare_byte ignore_case patterns = fold (with_rarest ignore_case) (λ _. false) patterns
+
+-- the largest offset below n at which the byte stands in the pattern, in some case
+abbrev pub offset_below : Bool → ℕ → List ℕ → ℕ → ℕ
+offset_below ignore_case byte pattern zero = 0
+offset_below ignore_case byte pattern (suc n) =
+    if same_byte ignore_case byte (slice_index pattern n) then n else offset_below ignore_case byte pattern n
+
+-- the largest offset at which the byte stands in any pattern, in some case
+abbrev pub largest_offset : Bool → List (List ℕ) → ℕ → ℕ
+largest_offset ignore_case patterns byte =
+    fold (λ most p. max most (offset_below ignore_case byte p (length p))) 0 patterns
+
+abbrev pub rare_bytes : Bool → List (List ℕ) → List (Option ℕ)
+rare_bytes ignore_case patterns = table_of (is_rare_byte ignore_case patterns) (largest_offset ignore_case patterns)
+
+-- the rare table, if there is a pattern, each has at most 255 bytes and the set at most three
+abbrev pub rare_table : Bool → List (List ℕ) → Option (List (Option ℕ))
+rare_table ignore_case patterns =
+    let table = rare_bytes ignore_case patterns in
+    if (nat_lt 0 (length patterns) && list_all (λ p. nat_le (length p) 255) patterns) && nat_le (size table) 3 then Some table else None

@@ -1,0 +1,146 @@
+//! A table of a few bytes, and the search for the first of them.
+ghost use Rattle.std.specs.Prelude.{◌≡◌, ◌+◌, ◌≤◌, ℕ, Bool, List, length, Some, IfSome, option_map, slice_index};
+ghost use Rattle.std.specs.List.{All};
+ghost use Rattle.literal_base.specs.Occurs.{IsValidSpan};
+ghost use Rattle.literal_base.specs.declared.packed.MatchKind.{MatchKind};
+ghost use Rattle.literal_prefilters.specs.Answers.{proposed};
+ghost use Rattle.literal_prefilters.specs.Sound.{Sound, KeepsReach};
+ghost use Rattle.literal_prefilters.specs.Table.{AreDistances, size, rank_sum_of, distance_of, reach_of, first, step, bytes_scanned, Covers};
+ghost use Rattle.literal_prefilters.specs.Tables.{if_small};
+
+use crate::prefilter::Candidate;
+use literal_base::byte_frequencies::freq_rank;
+use literal_base::count::Tally;
+use literal_base::search::Span;
+use std::marker::Model;
+
+/// How many bytes a table has at most.
+const MOST_BYTES: usize = 3;
+
+/// A table of one to three bytes, each with a *distance*: from a place of the byte in a haystack, how
+/// many bytes further back an occurrence with it may begin, at most 254. Contracts see the distance
+/// of each of the 256 bytes, if it is in the table.
+#[derive(Drop)]
+pub struct ByteTable {
+    distances: [Option<u8>; 256],
+    count: usize,
+    rank_sum: u16,
+}
+
+impl Model for ByteTable {
+    ghost use Rattle.std.specs.Prelude.{ℕ, List, Option};
+
+    ghost Value = { List (Option ℕ) };
+
+    ghost use Rattle.literal_prefilters.specs.TableInside.{IsTable};
+
+    ghost view = { λ t. t.distances };
+
+    ghost invariant = { IsTable };
+}
+
+/// A byte of a table in a haystack.
+#[derive(Clone, Copy, Drop)]
+struct TableByte {
+    place: usize,
+    distance: u8,
+}
+
+impl ByteTable {
+    /// The table with these distances, if it has one to three bytes.
+    pub(crate) fn if_small(distances: [Option<u8>; 256]) -> Option<ByteTable>
+        requires whole { length distances ≡ 256 }
+        requires near { AreDistances distances }
+        ensures { result ≡ if_small distances }
+    {
+        let mut count = 0;
+        let mut rank_sum = 0;
+        for (byte, distance) in distances.iter().enumerate() {
+            if distance.is_some() {
+                count += 1;
+                rank_sum += u16::from(freq_rank(byte as u8));
+            }
+        }
+        if count < 1 || count > MOST_BYTES {
+            return None;
+        }
+        Some(ByteTable {
+            distances,
+            count,
+            rank_sum,
+        })
+    }
+
+    /// The number of its bytes, 1 to 3.
+    pub fn count(&self) -> usize
+        ensures count { result ≡ size self.now }
+        ensures some { 1 ≤ result }
+        ensures few { result ≤ 3 }
+    {
+        self.count
+    }
+
+    /// The sum of the ranks of its bytes: the higher, the more common its bytes are.
+    pub fn rank_sum(&self) -> u16
+        ensures { result ≡ rank_sum_of self.now }
+    {
+        self.rank_sum
+    }
+
+    /// The distance of a byte, at most 254, and `None` where the byte is not in the table.
+    pub fn distance(&self, byte: u8) -> Option<u8>
+        ensures value { result ≡ distance_of self.now byte }
+        ensures near { IfSome result (λ d. d ≤ 254) }
+    {
+        self.distances[byte as usize]
+    }
+
+    /// The first place of the span whose byte is in the table. The span has to be a valid span of the
+    /// haystack. Each byte from the span's start up to and including that place is scanned, or the
+    /// whole span where there is none.
+    pub fn scan(&self, haystack: &[u8], span: Span, tally: &mut Tally) -> Option<usize>
+        requires { IsValidSpan haystack.now span }
+        ensures place { result ≡ first self.now haystack.now span }
+        ensures scanned { tally.new ≡ record tally.old { scanned = tally.old.scanned + bytes_scanned span result } }
+    {
+        let found = self.find(haystack, span, tally)?;
+        Some(found.place)
+    }
+
+    /// The same place, with its byte's distance.
+    fn find(&self, haystack: &[u8], span: Span, tally: &mut Tally) -> Option<TableByte>
+        requires { IsValidSpan haystack.now span }
+        ensures place { option_map (λ f. f.place) result ≡ first self.now haystack.now span }
+        ensures distance { IfSome result (λ f. distance_of self.now (slice_index haystack.now f.place) ≡ Some f.distance) }
+        ensures near { IfSome result (λ f. f.distance ≤ 254) }
+        ensures scanned { tally.new ≡ record tally.old { scanned = tally.old.scanned + bytes_scanned span (option_map (λ f. f.place) result) } }
+    {
+        for place in span.start..span.end {
+            tally.tick_scanned();
+            if let Some(distance) = self.distances[haystack[place] as usize] {
+                return Some(TableByte { place, distance });
+            }
+        }
+        None
+    }
+
+    /// A place before which nothing that the table covers begins in the span: the first place of a
+    /// byte of the table less that byte's distance, and at least the span's start.
+    pub(crate) fn candidate(&self, haystack: &[u8], span: Span, tally: &mut Tally) -> Candidate
+        requires { IsValidSpan haystack.now span }
+        ensures step { result ≡ proposed (step self.now haystack.now span) }
+        ensures sound { (patterns : List (List ℕ)) (kind : MatchKind) (ignore_case : Bool)
+            → All (Covers self.now ignore_case) patterns
+            → Sound patterns kind ignore_case haystack.now span result }
+        ensures scanned { tally.new ≡ record tally.old { scanned = tally.old.scanned + bytes_scanned span (first self.now haystack.now span) } }
+        ensures reach { KeepsReach (reach_of self.now) span result tally.old tally.new }
+    {
+        match self.find(haystack, span, tally) {
+            None => Candidate::None,
+            Some(found) => {
+                let start = found.place.saturating_sub(found.distance as usize);
+                Candidate::PossibleStartOfMatch(start.max(span.start))
+            }
+        }
+    }
+}

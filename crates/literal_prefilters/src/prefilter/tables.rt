@@ -1,0 +1,181 @@
+//! The tables of a list of patterns: by the bytes with which they begin, and by a rare byte of each.
+ghost use Rattle.std.specs.Prelude.{◌≡◌, ◌==◌, ◌||◌, ◌<◌, ◌≤◌, ◌↔◌, ℕ, max, true, length, slice_index, if◌then◌else◌, IsTrue, IfSome, nat_le};
+ghost use Rattle.std.specs.List.{All, list_any, list_all};
+ghost use Rattle.literal_base.specs.Bytes.{contains};
+ghost use Rattle.literal_prefilters.specs.Case.{same_byte};
+ghost use Rattle.literal_prefilters.specs.Table.{Covers};
+ghost use Rattle.literal_prefilters.specs.Tables.{start_table, rare_table, rarest, is_start_byte, is_rare_byte, offset_below, largest_offset, table_of, if_small};
+
+use crate::prefilter::ByteTable;
+use literal_base::alphabet::{ByteSet, opposite_ascii_case};
+use literal_base::byte_frequencies::freq_rank;
+use literal_ids::PatternID;
+use literal_packed::pattern::Patterns;
+
+/// The length of the longest pattern that a table of rare bytes may have, so that an offset fits a
+/// byte.
+const LONGEST: usize = 255;
+
+impl ByteTable {
+    /// The table of the bytes with which the patterns begin, each with the distance 0; in both cases
+    /// where ASCII case is ignored. There is one where these are one to three bytes, all at most
+    /// 0x7F.
+    pub fn start(patterns: &Patterns, ignore_case: bool) -> Option<ByteTable>
+        ensures table { result ≡ start_table ignore_case patterns.now.patterns }
+        ensures covers { IfSome result (λ t. All (Covers t ignore_case) patterns.now.patterns) }
+    {
+        let set = start_bytes(patterns, ignore_case);
+        if holds_high(&set) {
+            return None;
+        }
+        table_of(&set, &[0; 256])
+    }
+
+    /// The table of a rare byte of each pattern, in both cases where ASCII case is ignored. The
+    /// patterns are taken by rising identifier: one that holds a byte taken before adds none,
+    /// another adds its byte of least rank, the earliest of equal rank. The distance of a byte is
+    /// the largest offset at which it stands in any pattern, in either case where case is ignored.
+    /// There is one where there is a pattern, each has at most 255 bytes, and these are at most
+    /// three bytes.
+    pub fn rare(patterns: &Patterns, ignore_case: bool) -> Option<ByteTable>
+        ensures table { result ≡ rare_table ignore_case patterns.now.patterns }
+        ensures covers { IfSome result (λ t. All (Covers t ignore_case) patterns.now.patterns) }
+    {
+        if patterns.len() == 0 || !all_short(patterns) {
+            return None;
+        }
+        table_of(
+            &rare_bytes(patterns, ignore_case),
+            &largest_offsets(patterns, ignore_case),
+        )
+    }
+}
+
+/// Adds a byte, in both cases where case is ignored.
+fn mark(set: &mut ByteSet, byte: u8, ignore_case: bool)
+    ensures { (b : ℕ) → contains set.new b ≡ (contains set.old b || same_byte ignore_case b byte) }
+{
+    set.add(byte);
+    if ignore_case {
+        set.add(opposite_ascii_case(byte));
+    }
+}
+
+fn holds_any(set: &ByteSet, pattern: &[u8]) -> bool
+    ensures { result ≡ list_any (contains set.now) pattern.now }
+{
+    pattern.iter().any(|byte| set.contains(*byte))
+}
+
+/// Some byte of the set is above 0x7F.
+fn holds_high(set: &ByteSet) -> bool
+    ensures { IsTrue result ↔ ((b : ℕ) × (127 < b) × (b < 256) × (contains set.now b ≡ true)) }
+{
+    for byte in 128..256usize {
+        if set.contains(byte as u8) {
+            return true;
+        }
+    }
+    false
+}
+
+fn start_bytes(patterns: &Patterns, ignore_case: bool) -> ByteSet
+    ensures each { (b : ℕ) → contains result b ≡ is_start_byte ignore_case patterns.now.patterns b }
+    ensures not_empty { All (λ p. 0 < length p) patterns.now.patterns }
+{
+    let mut set = ByteSet::empty();
+    for id in 0..patterns.len() {
+        let pattern = patterns.get(PatternID::must(id)).bytes();
+        mark(&mut set, pattern[0], ignore_case);
+    }
+    set
+}
+
+/// The earliest byte of least rank.
+fn rarest(pattern: &[u8]) -> u8
+    requires { 0 < length pattern.now }
+    ensures { result ≡ rarest pattern.now }
+{
+    let mut best = pattern[0];
+    for byte in pattern {
+        if freq_rank(*byte) < freq_rank(best) {
+            best = *byte;
+        }
+    }
+    best
+}
+
+fn rare_bytes(patterns: &Patterns, ignore_case: bool) -> ByteSet
+    ensures each { (b : ℕ) → contains result b ≡ is_rare_byte ignore_case patterns.now.patterns b }
+    ensures some { 0 < length patterns.now.patterns → (b : ℕ) × (b < 256) × (contains result b ≡ true) }
+{
+    let mut set = ByteSet::empty();
+    for id in 0..patterns.len() {
+        let pattern = patterns.get(PatternID::must(id)).bytes();
+        if !holds_any(&set, pattern) {
+            mark(&mut set, rarest(pattern), ignore_case);
+        }
+    }
+    set
+}
+
+fn raise(offsets: &mut [u8; 256], byte: u8, offset: u8)
+    ensures { (b : ℕ) → slice_index offsets.new b ≡ (if b == byte then max (slice_index offsets.old b) offset else slice_index offsets.old b) }
+{
+    let at = byte as usize;
+    if offsets[at] < offset {
+        offsets[at] = offset;
+    }
+}
+
+/// Raises the offset of each byte of the pattern, in both cases where case is ignored, to that of
+/// its last place.
+fn raise_all(offsets: &mut [u8; 256], pattern: &[u8], ignore_case: bool)
+    requires { length pattern.now ≤ 255 }
+    ensures { (b : ℕ) → slice_index offsets.new b ≡ max (slice_index offsets.old b) (offset_below ignore_case b pattern.now (length pattern.now)) }
+{
+    for (offset, byte) in pattern.iter().enumerate() {
+        raise(offsets, *byte, offset as u8);
+        if ignore_case {
+            raise(offsets, opposite_ascii_case(*byte), offset as u8);
+        }
+    }
+}
+
+fn largest_offsets(patterns: &Patterns, ignore_case: bool) -> [u8; 256]
+    requires { All (λ p. length p ≤ 255) patterns.now.patterns }
+    ensures value { (b : ℕ) → slice_index result b ≡ largest_offset ignore_case patterns.now.patterns b }
+    ensures near { (b : ℕ) → slice_index result b ≤ 254 }
+{
+    let mut offsets = [0; 256];
+    for id in 0..patterns.len() {
+        let pattern = patterns.get(PatternID::must(id)).bytes();
+        raise_all(&mut offsets, pattern, ignore_case);
+    }
+    offsets
+}
+
+fn all_short(patterns: &Patterns) -> bool
+    ensures { result ≡ list_all (λ p. nat_le (length p) 255) patterns.now.patterns }
+{
+    for id in 0..patterns.len() {
+        if patterns.get(PatternID::must(id)).len() > LONGEST {
+            return false;
+        }
+    }
+    true
+}
+
+/// The table of the bytes of the set with these distances, if it has one to three bytes.
+fn table_of(set: &ByteSet, offsets: &[u8; 256]) -> Option<ByteTable>
+    requires { (b : ℕ) → slice_index offsets.now b ≤ 254 }
+    ensures { result ≡ if_small (table_of (contains set.now) (slice_index offsets.now)) }
+{
+    let mut distances = [None; 256];
+    for byte in 0..256usize {
+        if set.contains(byte as u8) {
+            distances[byte] = Some(offsets[byte]);
+        }
+    }
+    ByteTable::if_small(distances)
+}
