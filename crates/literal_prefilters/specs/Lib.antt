@@ -1,5 +1,6 @@
 pub mod Answers
 pub mod Case
+pub mod Kinds
 pub mod Sound
 pub mod Table
 pub mod TableInside

@@ -24,6 +24,10 @@ Sound patterns kind ignore_case haystack span (Match found) =
 Sound patterns kind ignore_case haystack span (PossibleStartOfMatch place) =
     IsPossibleStart patterns ignore_case haystack span place
 
+-- the answer is sound for all patterns that are covered, whichever they are
+pub record PassesOverNone (covers : List (List ℕ) → MatchKind → Bool → Type 0) (haystack : List ℕ) (span : Span) (answer : Candidate) : Type 0 where
+  pub sound : (patterns : List (List ℕ)) (kind : MatchKind) (ignore_case : Bool) → covers patterns kind ignore_case → Sound patterns kind ignore_case haystack span answer
+
 -- how many bytes an answer may scan: up to the reach past a possible start, and the span otherwise
 abbrev pub scans_at_most : ℕ → Span → Candidate → ℕ
 scans_at_most reach span None = span.end - span.start

@@ -4,12 +4,16 @@ ghost use Rattle.std.specs.Prelude.{◌≡◌, ℕ, Bool, List, Option};
 ghost use Rattle.literal_base.specs.Occurs.{IsValidSpan};
 ghost use Rattle.literal_base.specs.declared.packed.MatchKind.{MatchKind};
 ghost use Rattle.literal_prefilters.specs.Answers.{start_of};
-ghost use Rattle.literal_prefilters.specs.Sound.{Sound, KeepsReach};
+ghost use Rattle.literal_prefilters.specs.Sound.{PassesOverNone, KeepsReach};
 
 mod byte_table;
+mod kinds;
 mod tables;
 
 pub use byte_table::ByteTable;
+pub use kinds::{
+    RareBytesOne, RareBytesThree, RareBytesTwo, StartBytesOne, StartBytesThree, StartBytesTwo,
+};
 
 use literal_base::count::Tally;
 use literal_base::search::{Match, Span};
@@ -55,8 +59,6 @@ pub trait PrefilterI {
     /// inside the span and with no occurrence before it.
     fn find_in(&self, haystack: &[u8], span: Span, tally: &mut Tally) -> Candidate
         requires { IsValidSpan haystack.now span }
-        ensures sound { (patterns : List (List ℕ)) (kind : MatchKind) (ignore_case : Bool)
-            → covers self.now patterns kind ignore_case
-            → Sound patterns kind ignore_case haystack.now span result }
+        ensures sound { PassesOverNone (covers self.now) haystack.now span result }
         ensures reach { KeepsReach (reach self.now) span result tally.old tally.new };
 }

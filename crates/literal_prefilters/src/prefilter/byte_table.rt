@@ -1,11 +1,9 @@
 //! A table of a few bytes, and the search for the first of them.
-ghost use Rattle.std.specs.Prelude.{◌≡◌, ◌+◌, ◌≤◌, ℕ, Bool, List, length, Some, IfSome, option_map, slice_index};
-ghost use Rattle.std.specs.List.{All};
+ghost use Rattle.std.specs.Prelude.{◌≡◌, ◌+◌, ◌≤◌, length, Some, IfSome, option_map, slice_index};
 ghost use Rattle.literal_base.specs.Occurs.{IsValidSpan};
-ghost use Rattle.literal_base.specs.declared.packed.MatchKind.{MatchKind};
-ghost use Rattle.literal_prefilters.specs.Answers.{proposed};
-ghost use Rattle.literal_prefilters.specs.Sound.{Sound, KeepsReach};
-ghost use Rattle.literal_prefilters.specs.Table.{AreDistances, size, rank_sum_of, distance_of, reach_of, first, step, bytes_scanned, Covers};
+ghost use Rattle.literal_prefilters.specs.Kinds.{CoversAll, IsStep};
+ghost use Rattle.literal_prefilters.specs.Sound.{PassesOverNone, KeepsReach};
+ghost use Rattle.literal_prefilters.specs.Table.{AreDistances, size, rank_sum_of, distance_of, reach_of, first, bytes_scanned};
 ghost use Rattle.literal_prefilters.specs.Tables.{if_small};
 
 use crate::prefilter::Candidate;
@@ -128,11 +126,8 @@ impl ByteTable {
     /// byte of the table less that byte's distance, and at least the span's start.
     pub(crate) fn candidate(&self, haystack: &[u8], span: Span, tally: &mut Tally) -> Candidate
         requires { IsValidSpan haystack.now span }
-        ensures step { result ≡ proposed (step self.now haystack.now span) }
-        ensures sound { (patterns : List (List ℕ)) (kind : MatchKind) (ignore_case : Bool)
-            → All (Covers self.now ignore_case) patterns
-            → Sound patterns kind ignore_case haystack.now span result }
-        ensures scanned { tally.new ≡ record tally.old { scanned = tally.old.scanned + bytes_scanned span (first self.now haystack.now span) } }
+        ensures sound { PassesOverNone (CoversAll self.now) haystack.now span result }
+        ensures step { IsStep self.now haystack.now span result tally.old tally.new }
         ensures reach { KeepsReach (reach_of self.now) span result tally.old tally.new }
     {
         match self.find(haystack, span, tally) {

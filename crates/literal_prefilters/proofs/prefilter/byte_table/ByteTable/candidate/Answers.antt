@@ -10,19 +10,23 @@ pub returns-in-None-clause-step : goal.returns-in-None-clause-step
 returns-in-None-clause-step c = search rules
 
 pub returns-in-None-clause-sound : goal.returns-in-None-clause-sound
-returns-in-None-clause-sound c = λ patterns kind ignore_case covers.
-    let h = c.args.haystack.now in
-    let P : Candidate → Type 0 = Sound patterns kind ignore_case h c.args.span in
-    subst P (sym (returns-in-None-clause-step c)) (step-sound c.args.self.now patterns ignore_case covers h (are_bytes h (λ k. omega (arith, c.type_inv.haystack k))) c.args.span c.requires kind)
+returns-in-None-clause-sound c = record {
+  sound = λ patterns kind ignore_case covers.
+      let h = c.args.haystack.now in
+      let P : Candidate → Type 0 = Sound patterns kind ignore_case h c.args.span in
+      subst P (sym (returns-in-None-clause-step c).step) (step-sound c.args.self.now patterns ignore_case covers h (are_bytes h (λ k. omega (arith, c.type_inv.haystack k))) c.args.span c.requires kind);
+}
 
 pub returns-in-Some-clause-step : goal.returns-in-Some-clause-step
 returns-in-Some-clause-step c = search rules
 
 pub returns-in-Some-clause-sound : goal.returns-in-Some-clause-sound
-returns-in-Some-clause-sound c = λ patterns kind ignore_case covers.
-    let h = c.args.haystack.now in
-    let P : Candidate → Type 0 = Sound patterns kind ignore_case h c.args.span in
-    subst P (sym (returns-in-Some-clause-step c)) (step-sound c.args.self.now patterns ignore_case covers h (are_bytes h (λ k. omega (arith, c.type_inv.haystack k))) c.args.span c.requires kind)
+returns-in-Some-clause-sound c = record {
+  sound = λ patterns kind ignore_case covers.
+      let h = c.args.haystack.now in
+      let P : Candidate → Type 0 = Sound patterns kind ignore_case h c.args.span in
+      subst P (sym (returns-in-Some-clause-step c).step) (step-sound c.args.self.now patterns ignore_case covers h (are_bytes h (λ k. omega (arith, c.type_inv.haystack k))) c.args.span c.requires kind);
+}
 
 pub returns-in-Some-clause-reach : goal.returns-in-Some-clause-reach
 returns-in-Some-clause-reach c =
