@@ -7,10 +7,11 @@ use Rattle.std.proofs.lemmas.Option.{cond_some}
 use Rattle.std.proofs.lemmas.List.Folds.{list_any_at}
 use Rattle.std.proofs.lemmas.List.Quantifiers.{position-Some}
 use Rattle.literal_prefilters.specs.Case.{same_byte}
-use Rattle.literal_prefilters.specs.Table.{distance_of, is_in, size, Covers}
+use Rattle.literal_prefilters.specs.Table.{distance_of, is_in, reach_of, size, Covers}
 use Rattle.literal_prefilters.specs.Tables.{if_small, is_start_byte, start_bytes, start_table, is_rare_byte, largest_offset, rare_bytes, rare_table}
 use Rattle.literal_prefilters.proofs.First.{position_is, position-None}
 use Rattle.literal_prefilters.proofs.Offsets.{offset-le-offset_below}
+use Rattle.literal_prefilters.proofs.Reach.{reach_of-start_bytes}
 use Rattle.literal_prefilters.proofs.RareSet.{rare_closed, rare_reached, offset-le-largest_offset}
 use Rattle.literal_prefilters.proofs.TableOf.{distance_of-table_of, is_in-table_of}
 use Rattle.literal_prefilters.proofs.Variants.{same_length, same_byte_at, same_byte_turned}
@@ -90,3 +91,13 @@ rare_table-covers c ps some = from (rare_table c ps) refl
         let P : List (Option ℕ) → Type 0 = λ t. Covers t c (get_or ps i d) in
         let Q : List ℕ → Type 0 = λ p. Covers (rare_bytes c ps) c p in
         subst P (rare_table_of c ps t e) (subst Q (get_or_default ps i [] d below) (rare_bytes-covers c ps i below (some i [] below)))
+
+-- a start table proposes the place of its byte
+pub start_table-none_back : (c : Bool) (ps : List (List ℕ)) → IfSome (start_table c ps) (λ t. reach_of t ≡ 0)
+start_table-none_back c ps = from (start_table c ps) refl
+  where
+    from : (o : Option (List (Option ℕ))) → start_table c ps ≡ o → IfSome o (λ t. reach_of t ≡ 0)
+    from None e = tt
+    from (Some t) e =
+        let P : List (Option ℕ) → Type 0 = λ t. reach_of t ≡ 0 in
+        subst P (start_table_is c ps t e) (reach_of-start_bytes c ps)

@@ -1,15 +1,15 @@
 -- Prefilters by the bytes of a table.
-use Rattle.std.specs.Prelude.{◌≡◌, ℕ, ◌+◌, Bool, List, Option}
+use Rattle.std.specs.Prelude.{◌≡◌, ℕ, ◌+◌, List, Option}
 use Rattle.std.specs.List.{All}
-use Rattle.literal_base.specs.declared.packed.MatchKind.{MatchKind}
 use Rattle.literal_base.specs.declared.search.Span.{Span}
 use Rattle.literal_base.specs.Counts.{Counts}
 use Rattle.literal_prefilters.specs.declared.prefilter.Candidate.{Candidate}
 use Rattle.literal_prefilters.specs.Answers.{proposed}
+use Rattle.literal_prefilters.specs.Sound.{Coverage}
 use Rattle.literal_prefilters.specs.Table.{size, reach_of, first, step, bytes_scanned, Covers}
 
 -- the table covers each pattern; for which match kind makes no difference
-abbrev pub CoversAll : List (Option ℕ) → List (List ℕ) → MatchKind → Bool → Type 0
+abbrev pub CoversAll : List (Option ℕ) → Coverage
 CoversAll table patterns kind ignore_case = All (Covers table ignore_case) patterns
 
 -- the answer is the step of the table, and the bytes up to the first of the table are scanned and nothing else is counted

@@ -1,6 +1,8 @@
 pub mod Answers
 pub mod Case
+pub mod Choice
 pub mod Kinds
+pub mod PrefilterInside
 pub mod Sound
 pub mod Table
 pub mod TableInside

@@ -24,8 +24,12 @@ Sound patterns kind ignore_case haystack span (Match found) =
 Sound patterns kind ignore_case haystack span (PossibleStartOfMatch place) =
     IsPossibleStart patterns ignore_case haystack span place
 
+-- which patterns are covered, for which kind of match, and with ASCII case ignored or not
+abbrev pub Coverage : Type 1
+Coverage = List (List ℕ) → MatchKind → Bool → Type 0
+
 -- the answer is sound for all patterns that are covered, whichever they are
-pub record PassesOverNone (covers : List (List ℕ) → MatchKind → Bool → Type 0) (haystack : List ℕ) (span : Span) (answer : Candidate) : Type 0 where
+pub record PassesOverNone (covers : Coverage) (haystack : List ℕ) (span : Span) (answer : Candidate) : Type 0 where
   pub sound : (patterns : List (List ℕ)) (kind : MatchKind) (ignore_case : Bool) → covers patterns kind ignore_case → Sound patterns kind ignore_case haystack span answer
 
 -- how many bytes an answer may scan: up to the reach past a possible start, and the span otherwise

@@ -1,4 +1,4 @@
-use Rattle.std.specs.Prelude.{◌≡◌, ◌≤◌, length}
+use Rattle.std.specs.Prelude.{◌≡◌, ◌*◌, ◌≤◌, length}
 use Rattle.literal_prefilters.specs.declared.prefilter.byte_table.ByteTable.TheInside.{Inside}
 use Rattle.literal_prefilters.specs.Table.{size, rank_sum_of, AreDistances}
 
@@ -8,4 +8,5 @@ pub record IsTable (t : Inside) : Type 0 where
   pub not_empty : 1 ≤ size t.distances
   pub small : size t.distances ≤ 3
   pub ranked : t.rank_sum ≡ rank_sum_of t.distances
+  pub low : t.rank_sum ≤ 255 * t.count
   pub near : AreDistances t.distances

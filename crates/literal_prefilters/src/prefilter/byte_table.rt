@@ -78,9 +78,10 @@ impl ByteTable {
         self.count
     }
 
-    /// The sum of the ranks of its bytes: the higher, the more common its bytes are.
+    /// The sum of the ranks of its bytes, at most 765: the higher, the more common its bytes are.
     pub fn rank_sum(&self) -> u16
-        ensures { result ≡ rank_sum_of self.now }
+        ensures rank_sum { result ≡ rank_sum_of self.now }
+        ensures low { result ≤ 765 }
     {
         self.rank_sum
     }
@@ -110,7 +111,7 @@ impl ByteTable {
         requires { IsValidSpan haystack.now span }
         ensures place { option_map (λ f. f.place) result ≡ first self.now haystack.now span }
         ensures distance { IfSome result (λ f. distance_of self.now (slice_index haystack.now f.place) ≡ Some f.distance) }
-        ensures near { IfSome result (λ f. f.distance ≤ 254) }
+        ensures reach { reach_of self.now ≤ 254 }
         ensures scanned { tally.new ≡ record tally.old { scanned = tally.old.scanned + bytes_scanned span (option_map (λ f. f.place) result) } }
     {
         for place in span.start..span.end {
@@ -128,6 +129,7 @@ impl ByteTable {
         requires { IsValidSpan haystack.now span }
         ensures sound { PassesOverNone (CoversAll self.now) haystack.now span result }
         ensures step { IsStep self.now haystack.now span result tally.old tally.new }
+        ensures near { reach_of self.now ≤ 254 }
         ensures reach { KeepsReach (reach_of self.now) span result tally.old tally.new }
     {
         match self.find(haystack, span, tally) {

@@ -1,5 +1,6 @@
 //! The kinds of prefilter that look for single bytes: for one to three bytes with which the patterns
 //! begin, or for one to three rare bytes, of which each pattern holds one.
+ghost use Rattle.std.specs.Prelude.{◌≤◌};
 ghost use Rattle.literal_base.specs.Occurs.{IsValidSpan};
 ghost use Rattle.literal_prefilters.specs.Sound.{PassesOverNone, KeepsReach};
 ghost use Rattle.literal_prefilters.specs.Table.{reach_of};
@@ -34,6 +35,7 @@ impl PrefilterI for StartBytesOne {
         requires { IsValidSpan haystack.now span }
         ensures sound { PassesOverNone (CoversAll self.now) haystack.now span result }
         ensures reach { KeepsReach (reach_of self.now) span result tally.old tally.new }
+        ensures near { reach_of self.now ≤ 254 }
         ensures step { IsStep self.now haystack.now span result tally.old tally.new }
     {
         self.0.candidate(haystack, span, tally)
@@ -64,6 +66,7 @@ impl PrefilterI for StartBytesTwo {
         requires { IsValidSpan haystack.now span }
         ensures sound { PassesOverNone (CoversAll self.now) haystack.now span result }
         ensures reach { KeepsReach (reach_of self.now) span result tally.old tally.new }
+        ensures near { reach_of self.now ≤ 254 }
         ensures step { IsStep self.now haystack.now span result tally.old tally.new }
     {
         self.0.candidate(haystack, span, tally)
@@ -94,6 +97,7 @@ impl PrefilterI for StartBytesThree {
         requires { IsValidSpan haystack.now span }
         ensures sound { PassesOverNone (CoversAll self.now) haystack.now span result }
         ensures reach { KeepsReach (reach_of self.now) span result tally.old tally.new }
+        ensures near { reach_of self.now ≤ 254 }
         ensures step { IsStep self.now haystack.now span result tally.old tally.new }
     {
         self.0.candidate(haystack, span, tally)
@@ -125,6 +129,7 @@ impl PrefilterI for RareBytesOne {
         requires { IsValidSpan haystack.now span }
         ensures sound { PassesOverNone (CoversAll self.now) haystack.now span result }
         ensures reach { KeepsReach (reach_of self.now) span result tally.old tally.new }
+        ensures near { reach_of self.now ≤ 254 }
         ensures step { IsStep self.now haystack.now span result tally.old tally.new }
     {
         self.0.candidate(haystack, span, tally)
@@ -156,6 +161,7 @@ impl PrefilterI for RareBytesTwo {
         requires { IsValidSpan haystack.now span }
         ensures sound { PassesOverNone (CoversAll self.now) haystack.now span result }
         ensures reach { KeepsReach (reach_of self.now) span result tally.old tally.new }
+        ensures near { reach_of self.now ≤ 254 }
         ensures step { IsStep self.now haystack.now span result tally.old tally.new }
     {
         self.0.candidate(haystack, span, tally)
@@ -187,6 +193,7 @@ impl PrefilterI for RareBytesThree {
         requires { IsValidSpan haystack.now span }
         ensures sound { PassesOverNone (CoversAll self.now) haystack.now span result }
         ensures reach { KeepsReach (reach_of self.now) span result tally.old tally.new }
+        ensures near { reach_of self.now ≤ 254 }
         ensures step { IsStep self.now haystack.now span result tally.old tally.new }
     {
         self.0.candidate(haystack, span, tally)

@@ -3,7 +3,7 @@ ghost use Rattle.std.specs.Prelude.{◌≡◌, ◌==◌, ◌||◌, ◌<◌, ◌�
 ghost use Rattle.std.specs.List.{All, list_any, list_all};
 ghost use Rattle.literal_base.specs.Bytes.{contains};
 ghost use Rattle.literal_prefilters.specs.Case.{same_byte};
-ghost use Rattle.literal_prefilters.specs.Table.{Covers};
+ghost use Rattle.literal_prefilters.specs.Table.{reach_of, Covers};
 ghost use Rattle.literal_prefilters.specs.Tables.{start_table, rare_table, rarest, is_start_byte, is_rare_byte, offset_below, largest_offset, table_of, if_small};
 
 use crate::prefilter::ByteTable;
@@ -22,6 +22,7 @@ impl ByteTable {
     /// 0x7F.
     pub fn start(patterns: &Patterns, ignore_case: bool) -> Option<ByteTable>
         ensures table { result ≡ start_table ignore_case patterns.now.patterns }
+        ensures none_back { IfSome result (λ t. reach_of t ≡ 0) }
         ensures covers { IfSome result (λ t. All (Covers t ignore_case) patterns.now.patterns) }
     {
         let set = start_bytes(patterns, ignore_case);

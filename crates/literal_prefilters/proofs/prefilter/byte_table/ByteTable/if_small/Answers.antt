@@ -52,4 +52,5 @@ invariant_of-result c =
       not_empty = omega arith;
       small = omega arith;
       ranked = ranked;
+      low = c.loop-byte.invariant.low;
     }

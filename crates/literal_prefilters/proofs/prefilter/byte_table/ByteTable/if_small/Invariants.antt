@@ -8,5 +8,5 @@ invariant-loop-byte l = record {
   counted : l.count ≡ count_by is_some (take l.byte l.fn.distances);
   few : l.count ≤ l.byte;
   ranked : l.rank_sum ≡ sum_by rank_at (take l.byte (enumerate_from 0 l.fn.distances));
-  low : l.rank_sum ≤ 255 * l.byte;
+  low : l.rank_sum ≤ 255 * l.count;
 }

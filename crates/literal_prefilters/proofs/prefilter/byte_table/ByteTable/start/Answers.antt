@@ -3,7 +3,7 @@ use Rattle.std.proofs.lemmas.Bool.{false_from_ne_true}
 use Rattle.literal_base.specs.Bytes.{contains}
 use Rattle.literal_base.proofs.ByByte.{get_or-replicate_same}
 use Rattle.literal_prefilters.specs.Tables.{is_start_byte, if_small}
-use Rattle.literal_prefilters.proofs.Covers.{start_table-covers}
+use Rattle.literal_prefilters.proofs.Covers.{start_table-covers, start_table-none_back}
 use Rattle.literal_prefilters.proofs.TableOf.{table_of_agree, start_table_none, start_table_some}
 use Rattle.literal_prefilters.proofs.prefilter.byte_table.ByteTable.start.Goals as goal
 
@@ -24,3 +24,6 @@ returns-clause-covers c = rw (returns-clause-table c) (start_table-covers c.args
 
 pub table_of-requires : goal.table_of-requires
 table_of-requires c = λ b. omega (arith, get_or-replicate_same {X = ℕ} 256 0 b)
+
+pub returns-clause-none_back : goal.returns-clause-none_back
+returns-clause-none_back c = rw (returns-clause-table c) (start_table-none_back c.args.ignore_case c.args.patterns.now.patterns)
