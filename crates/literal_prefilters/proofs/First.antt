@@ -1,5 +1,5 @@
 -- The first place of a span whose byte is in a table, by what is at each place.
-use Rattle.std.proofs.Common.{◌≡◌, ℕ, ◌+◌, ◌-◌, ◌<◌, ◌≤◌, Bool, true, false, cond, List, length, get_or, Option, Some, None, option_map, position, slice_range, slice_index, ltb, refl, sym, ap, ◌∙◌, ⊎_elim, arith}
+use Rattle.std.proofs.Common.{◌≡◌, ◌↔◌, ℕ, ◌+◌, ◌-◌, ◌<◌, ◌≤◌, Bool, true, false, cond, List, length, get_or, Option, Some, None, option_map, position, slice_range, slice_index, ltb, refl, sym, ap, ◌∙◌, ⊎_elim, arith}
 use Rattle.std.specs.List.{position_or_len}
 use Rattle.std.proofs.lemmas.Bool.{cond-true, cond-false, lt-ltb, le-ltb, cases_lt}
 use Rattle.std.proofs.lemmas.List.Edits.{length-between, get_or-between}
@@ -7,7 +7,7 @@ use Rattle.std.proofs.lemmas.List.Quantifiers.{position-Some}
 use Rattle.std.proofs.lemmas.List.Sums.{position_or_len_is, fails_before_first}
 use Rattle.literal_base.specs.declared.search.Span.{Span}
 use Rattle.literal_base.specs.Occurs.{IsValidSpan}
-use Rattle.literal_prefilters.specs.Table.{is_in, first}
+use Rattle.literal_prefilters.specs.Table.{is_in, first, step, step_back}
 
 pub position_is : (p : ℕ → Bool) (xs : List ℕ) (i : ℕ) → i < length xs → p (get_or xs i 0) ≡ true → ((k : ℕ) → k < i → p (get_or xs k 0) ≡ false) → position p xs ≡ Some i
 position_is p xs i below here before =
@@ -86,3 +86,14 @@ module _ (table : List (Option ℕ)) (haystack : List ℕ) (span : Span) (valid 
             here = ap (λ y. is_in table (slice_index haystack y)) (sym same) ∙ (sym (ap (is_in table) (get_or-part x inside)) ∙ at.1);
             none_before = λ k after below. sym (at_part k after (omega arith)) ∙ at.2 (k - span.start) (omega arith);
           }
+
+-- a step proposes nothing exactly if the span is free
+pub none-is-free : (table : List (Option ℕ)) (haystack : List ℕ) (span : Span) → IsValidSpan haystack span → (step table haystack span ≡ None) ↔ ((place : ℕ) → span.start ≤ place → place < span.end → is_in table (slice_index haystack place) ≡ false)
+none-is-free table haystack span valid = (
+  λ e. (free_from_first table haystack span valid (stepped_none (first table haystack span) e)).none,
+  λ free. ap (option_map (step_back table haystack span.start)) (first_none table haystack span valid (record { none = free })),
+)
+  where
+    stepped_none : (o : Option ℕ) → option_map (step_back table haystack span.start) o ≡ None → o ≡ None
+    stepped_none None h = refl
+    stepped_none (Some x) h = cc

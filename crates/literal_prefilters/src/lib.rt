@@ -2,6 +2,7 @@
 //! prefilters that pass over parts of a haystack in which nothing can occur.
 #![tactic(auto)]
 
+pub mod laws;
 pub mod prefilter;
 
 pub use literal_base::{Match, MatchKind, Span, alphabet, byte_frequencies, count, search};

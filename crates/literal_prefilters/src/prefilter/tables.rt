@@ -2,6 +2,7 @@
 ghost use Rattle.std.specs.Prelude.{◌≡◌, ◌==◌, ◌||◌, ◌<◌, ◌≤◌, ◌↔◌, ℕ, max, true, length, slice_index, if◌then◌else◌, IsTrue, IfSome, nat_le};
 ghost use Rattle.std.specs.List.{All, list_any, list_all};
 ghost use Rattle.literal_base.specs.Bytes.{contains};
+ghost use Rattle.literal_base.specs.Occurs.{pattern_at};
 ghost use Rattle.literal_prefilters.specs.Case.{same_byte};
 ghost use Rattle.literal_prefilters.specs.Table.{reach_of, Covers};
 ghost use Rattle.literal_prefilters.specs.Tables.{start_table, rare_table, rarest, is_start_byte, is_rare_byte, offset_below, largest_offset, table_of, if_small};
@@ -52,6 +53,17 @@ impl ByteTable {
     }
 }
 
+/// The pattern of an identifier: the tables take the patterns by rising identifier, in whatever order
+/// they are tried at a place.
+fn bytes_of(patterns: &Patterns, id: usize) -> &[u8]
+    requires { id < length patterns.now.patterns }
+    ensures bytes { result.now ≡ pattern_at patterns.now.patterns id }
+    ensures some { 0 < length result.now }
+{
+    let _ = patterns.len(); // says that each has an identifier, and none is empty
+    patterns.get(PatternID::must(id)).bytes()
+}
+
 /// Adds a byte, in both cases where case is ignored.
 fn mark(set: &mut ByteSet, byte: u8, ignore_case: bool)
     ensures { (b : ℕ) → contains set.new b ≡ (contains set.old b || same_byte ignore_case b byte) }
@@ -86,8 +98,7 @@ fn start_bytes(patterns: &Patterns, ignore_case: bool) -> ByteSet
 {
     let mut set = ByteSet::empty();
     for id in 0..patterns.len() {
-        let pattern = patterns.get(PatternID::must(id)).bytes();
-        mark(&mut set, pattern[0], ignore_case);
+        mark(&mut set, bytes_of(patterns, id)[0], ignore_case);
     }
     set
 }
@@ -112,7 +123,7 @@ fn rare_bytes(patterns: &Patterns, ignore_case: bool) -> ByteSet
 {
     let mut set = ByteSet::empty();
     for id in 0..patterns.len() {
-        let pattern = patterns.get(PatternID::must(id)).bytes();
+        let pattern = bytes_of(patterns, id);
         if !holds_any(&set, pattern) {
             mark(&mut set, rarest(pattern), ignore_case);
         }
@@ -150,8 +161,7 @@ fn largest_offsets(patterns: &Patterns, ignore_case: bool) -> [u8; 256]
 {
     let mut offsets = [0; 256];
     for id in 0..patterns.len() {
-        let pattern = patterns.get(PatternID::must(id)).bytes();
-        raise_all(&mut offsets, pattern, ignore_case);
+        raise_all(&mut offsets, bytes_of(patterns, id), ignore_case);
     }
     offsets
 }
@@ -160,7 +170,7 @@ fn all_short(patterns: &Patterns) -> bool
     ensures { result ≡ list_all (λ p. nat_le (length p) 255) patterns.now.patterns }
 {
     for id in 0..patterns.len() {
-        if patterns.get(PatternID::must(id)).len() > LONGEST {
+        if bytes_of(patterns, id).len() > LONGEST {
             return false;
         }
     }

@@ -2,7 +2,6 @@ use Rattle.std.proofs.Common.{◌||◌, ◌<◌, length, sym, ap, ◌∙◌, ari
 use Rattle.std.specs.List.{list_any}
 use Rattle.literal_prefilters.specs.Tables.{rarest}
 use Rattle.std.proofs.lemmas.Bool.{or_right}
-use Rattle.literal_base.specs.Occurs.{pattern_at}
 use Rattle.literal_base.specs.Bytes.{contains}
 use Rattle.literal_prefilters.specs.Case.{same_byte}
 use Rattle.literal_prefilters.proofs.Rare.{rare_more-kept, rare_more-added, same_byte_refl, some_before}
@@ -16,7 +15,7 @@ loop-id-preserved c =
     let below : i < length ps = omega arith in
     let f = contains c.loop-id.set in
     let ic = c.args.ignore_case in
-    let is = c.bytes-pattern.ensures ∙ (c.get.ensures ∙ ap (pattern_at ps) c.must.ensures) in
+    let is = c.bytes_of-pattern.ensures.bytes in
     elim c.if-not-holds_any.branch [
       | then-not-holds_any w ↦
           let r = w.rarest.result in record {

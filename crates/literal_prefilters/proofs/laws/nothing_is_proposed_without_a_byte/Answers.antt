@@ -1,0 +1,5 @@
+use Rattle.literal_prefilters.proofs.First.{none-is-free}
+use Rattle.literal_prefilters.proofs.laws.nothing_is_proposed_without_a_byte.Goals as goal
+
+pub returns : goal.returns
+returns c = none-is-free
