@@ -1,12 +1,13 @@
 //! Spans of a haystack, matches in it, and what a search is asked for. All offsets are in bytes, from
 //! the beginning of the whole haystack.
-ghost use Rattle.std.specs.Prelude.{◌≡◌, ◌≤◌, ◌<◌, ◌+◌, ◌-◌, ◌^◌, ◌++◌, ◌↔◌, ◌⊎◌, IsTrue, IsCharBoundary, Some, codes, false, length, slice_range};
+ghost use Rattle.std.specs.Prelude.{◌≡◌, ◌≤◌, ◌<◌, ◌+◌, ◌-◌, ◌^◌, ◌++◌, ◌↔◌, ◌⊎◌, IsTrue, IsCharBoundary, ⊤, Some, codes, false, length, slice_range};
 ghost use Rattle.std.specs.Borrow.{u8};
 ghost use Rattle.std.specs.Fmt.{decimal};
 ghost use Rattle.std.specs.Ptr.{as_mut_ptr, ptr_add};
 
 use crate::packed;
 use literal_ids::PatternID;
+use std::alloc::AllocError;
 use std::fmt;
 use std::marker::Model;
 use std::ops::Range;
@@ -17,10 +18,10 @@ use std::ops::Range;
 /// The end is never beyond the haystack's length, and the start never more than one beyond the end.
 /// The bounds are a valid span of the haystack, except where the start is one beyond the end: there
 /// no search is left, as [`Input::is_done`] tells.
-#[derive(Clone, Debug, Drop)]
+#[derive(Debug, Drop)]
 pub struct Input<'h> {
     haystack: &'h [u8],
-    span: Span,
+    bounds: Span,
     anchored: Anchored,
     earliest: bool,
 }
@@ -30,9 +31,9 @@ impl<'h> Model for Input<'h> {
 
     ghost Value = { Requested };
 
-    ghost view = { λ i. record { haystack = i.haystack.now; start = i.span.start; end = i.span.end; anchored = i.anchored; earliest = i.earliest } };
+    ghost view = { λ i. record { haystack = i.haystack.now; start = i.bounds.start; end = i.bounds.end; anchored = i.anchored; earliest = i.earliest } };
 
-    ghost invariant = { λ i. AreBounds i.haystack.now i.span.start i.span.end };
+    ghost invariant = { λ i. AreBounds i.haystack.now i.bounds.start i.bounds.end };
 }
 
 impl<'h> Input<'h> {
@@ -44,7 +45,7 @@ impl<'h> Input<'h> {
     {
         Input {
             haystack,
-            span: Span {
+            bounds: Span {
                 start: 0,
                 end: haystack.len(),
             },
@@ -105,7 +106,7 @@ impl<'h> Input<'h> {
         requires { AreBounds self.old.haystack span.start span.end }
         ensures { self.new ≡ record self.old { start = span.start; end = span.end } }
     {
-        self.span = span;
+        self.bounds = span;
     }
 
     /// Sets both bounds to those of the range. Its end has to be at most the haystack's length, and
@@ -136,7 +137,7 @@ impl<'h> Input<'h> {
         requires { start ≤ self.old.end + 1 }
         ensures { self.new ≡ record self.old { start = start } }
     {
-        self.span.start = start;
+        self.bounds.start = start;
     }
 
     /// Sets the end alone, which has to be at most the haystack's length. The start has to be at most
@@ -145,7 +146,7 @@ impl<'h> Input<'h> {
         requires { AreBounds self.old.haystack self.old.start end }
         ensures { self.new ≡ record self.old { end = end } }
     {
-        self.span.end = end;
+        self.bounds.end = end;
     }
 
     /// Sets whether the search is anchored.
@@ -175,7 +176,7 @@ impl<'h> Input<'h> {
         ensures start { result ≡ self.now.start }
         ensures bounds { AreBounds self.now.haystack self.now.start self.now.end }
     {
-        self.span.start
+        self.get_span().start
     }
 
     /// The offset before which the search ends.
@@ -183,7 +184,7 @@ impl<'h> Input<'h> {
         ensures end { result ≡ self.now.end }
         ensures bounds { AreBounds self.now.haystack self.now.start self.now.end }
     {
-        self.span.end
+        self.get_span().end
     }
 
     /// Both bounds as a span, which is no valid one where the search is done.
@@ -191,7 +192,7 @@ impl<'h> Input<'h> {
         ensures span { result ≡ record { start = self.now.start; end = self.now.end } }
         ensures bounds { AreBounds self.now.haystack self.now.start self.now.end }
     {
-        self.span
+        self.bounds
     }
 
     /// Both bounds as a range.
@@ -199,7 +200,7 @@ impl<'h> Input<'h> {
         ensures range { result ≡ record { start = self.now.start; end = self.now.end } }
         ensures bounds { AreBounds self.now.haystack self.now.start self.now.end }
     {
-        self.span.range()
+        self.get_span().range()
     }
 
     /// Whether the search is anchored, as a mode.
@@ -222,7 +223,23 @@ impl<'h> Input<'h> {
         ensures done { IsTrue result ↔ (self.now.end < self.now.start) }
         ensures bounds { AreBounds self.now.haystack self.now.start self.now.end }
     {
-        self.span.start > self.span.end
+        self.start() > self.end()
+    }
+}
+
+/// The same search of the same haystack. A clone takes no memory, and always succeeds.
+impl Clone for Input<'_> {
+    ghost is_clone = { λ input copy. copy ≡ input };
+
+    ghost is_infallible = { λ _. ⊤ };
+
+    fn clone(&self) -> Result<Self, AllocError> {
+        Ok(Input {
+            haystack: self.haystack,
+            bounds: self.bounds,
+            anchored: self.anchored,
+            earliest: self.earliest,
+        })
     }
 }
 
