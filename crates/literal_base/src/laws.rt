@@ -1,6 +1,6 @@
 //! Laws of the definitions that contracts cite. Each function does nothing, and its contract is the
 //! law.
-ghost use Rattle.std.specs.Prelude.{◌≡◌, ◌<◌, ◌≤◌, List, ℕ, Bool, Option, length};
+ghost use Rattle.std.specs.Prelude.{◌≡◌, ◌<◌, ◌≤◌, List, ℕ, Bool, Option, IsTrue, length};
 ghost use Rattle.std.specs.List.{All};
 ghost use Rattle.literal_base.specs.declared.packed.MatchKind.{MatchKind};
 ghost use Rattle.literal_base.specs.declared.packed.MatchKind.TheVariants.{LeftmostFirst, LeftmostLongest};
@@ -9,6 +9,9 @@ ghost use Rattle.literal_base.specs.Found.{Found};
 ghost use Rattle.literal_base.specs.Leftmost.{IsLeftmost, IsLeftmostMatch};
 ghost use Rattle.literal_base.specs.Occurs.{Occurs, pattern_at};
 ghost use Rattle.literal_base.specs.Greedy.{IsGreedy};
+
+use crate::search::{Match, Span};
+use std::hash::Hash;
 
 /// Every search has a leftmost answer.
 pub fn leftmost_exists()
@@ -56,4 +59,14 @@ pub fn first_answers_the_first_added()
         → IsLeftmostMatch patterns LeftmostFirst ignore_case haystack span found
         → Occurs patterns ignore_case haystack span j found.start
         → found.pattern ≤ j }
+{}
+
+/// Equal spans hash alike: they make the same writes to every hasher.
+pub fn equal_spans_hash_alike()
+    ensures { (a b : Span) → IsTrue (⟦<Span as PartialEq>⟧.eq a b) → ⟦<Span as Hash>⟧.hash_input a ≡ ⟦<Span as Hash>⟧.hash_input b }
+{}
+
+/// Equal matches hash alike: they make the same writes to every hasher.
+pub fn equal_matches_hash_alike()
+    ensures { (a b : Found) → IsTrue (⟦<Match as PartialEq>⟧.eq a b) → ⟦<Match as Hash>⟧.hash_input a ≡ ⟦<Match as Hash>⟧.hash_input b }
 {}

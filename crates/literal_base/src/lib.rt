@@ -1,4 +1,5 @@
-//! Spans, matches, counts of steps, and the definitions of what a search has to answer.
+//! Spans, matches, what a search is asked for, counts of steps, and the definitions of what a search
+//! has to answer.
 #![tactic(auto)]
 
 pub mod count;
@@ -6,4 +7,4 @@ pub mod laws;
 pub mod packed;
 pub mod search;
 
-pub use search::{Match, Span};
+pub use search::{Anchored, Input, Match, MatchKind, Span, StartKind};

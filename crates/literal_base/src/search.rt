@@ -1,12 +1,247 @@
-//! Spans of a haystack, and matches in it. All offsets are in bytes, from the beginning of the whole
-//! haystack.
-ghost use Rattle.std.specs.Prelude.{◌≡◌, ◌≤◌, ◌-◌, ◌++◌, ◌↔◌, IsTrue, Some, codes};
+//! Spans of a haystack, matches in it, and what a search is asked for. All offsets are in bytes, from
+//! the beginning of the whole haystack.
+ghost use Rattle.std.specs.Prelude.{◌≡◌, ◌≤◌, ◌<◌, ◌+◌, ◌-◌, ◌^◌, ◌++◌, ◌↔◌, ◌⊎◌, IsTrue, IsCharBoundary, ⊤, Some, codes, false, length, slice_range};
+ghost use Rattle.std.specs.Borrow.{u8};
 ghost use Rattle.std.specs.Fmt.{decimal};
+ghost use Rattle.std.specs.Ptr.{as_mut_ptr, ptr_add};
 
+use crate::packed;
 use literal_ids::PatternID;
+use std::alloc::AllocError;
 use std::fmt;
 use std::marker::Model;
 use std::ops::Range;
+
+/// What a search is asked for: a haystack, the bounds between which it is searched, whether it is
+/// anchored, and whether it is to end early. Contracts see these five.
+///
+/// The end is never beyond the haystack's length, and the start never more than one beyond the end.
+/// The bounds are a valid span of the haystack, except where the start is one beyond the end: there
+/// no search is left, as [`Input::is_done`] tells.
+#[derive(Debug, Drop)]
+pub struct Input<'h> {
+    haystack: &'h [u8],
+    bounds: Span,
+    anchored: Anchored,
+    earliest: bool,
+}
+
+impl<'h> Model for Input<'h> {
+    ghost use Rattle.literal_base.specs.Requested.{Requested, AreBounds};
+
+    ghost Value = { Requested };
+
+    ghost view = { λ i. record { haystack = i.haystack.now; start = i.bounds.start; end = i.bounds.end; anchored = i.anchored; earliest = i.earliest } };
+
+    ghost invariant = { λ i. AreBounds i.haystack.now i.bounds.start i.bounds.end };
+}
+
+impl<'h> Input<'h> {
+    ghost use Rattle.literal_base.specs.Requested.{AreBounds};
+
+    /// A search of the whole haystack that is neither anchored nor to end early.
+    pub fn new(haystack: &'h [u8]) -> Input<'h>
+        ensures { result ≡ record { haystack = haystack.now; start = 0; end = length haystack.now; anchored = Anchored.No; earliest = false } }
+    {
+        Input {
+            haystack,
+            bounds: Span {
+                start: 0,
+                end: haystack.len(),
+            },
+            anchored: Anchored::No,
+            earliest: false,
+        }
+    }
+
+    /// The same search between the bounds of the span. Its end has to be at most the haystack's
+    /// length, and its start at most one beyond its end.
+    pub fn span(mut self, span: Span) -> Input<'h>
+        requires { AreBounds self.haystack span.start span.end }
+        ensures { result ≡ record self.entry { start = span.start; end = span.end } }
+    {
+        self.set_span(span);
+        self
+    }
+
+    /// The same search between the bounds of the range. Its end has to be at most the haystack's
+    /// length, and its start at most one beyond its end.
+    pub fn range(mut self, range: Range<usize>) -> Input<'h>
+        requires { AreBounds self.haystack range.start range.end }
+        ensures { result ≡ record self.entry { start = range.start; end = range.end } }
+    {
+        self.set_range(range);
+        self
+    }
+
+    /// The same search from the byte at `first` up to and including that at `last`, both of them
+    /// offsets. `last` has to lie below the haystack's length, and `first` at most two beyond `last`.
+    pub fn range_inclusive(mut self, first: usize, last: usize) -> Input<'h>
+        requires { AreBounds self.haystack first (last + 1) }
+        ensures { result ≡ record self.entry { start = first; end = last + 1 } }
+    {
+        self.set_range_inclusive(first, last);
+        self
+    }
+
+    /// The same search, anchored or not.
+    pub fn anchored(mut self, mode: Anchored) -> Input<'h>
+        ensures { result ≡ record self.entry { anchored = mode } }
+    {
+        self.set_anchored(mode);
+        self
+    }
+
+    /// The same search, which is to end as soon as any match is known where `yes` is true.
+    pub fn earliest(mut self, yes: bool) -> Input<'h>
+        ensures { result ≡ record self.entry { earliest = yes } }
+    {
+        self.set_earliest(yes);
+        self
+    }
+
+    /// Sets both bounds to those of the span. Its end has to be at most the haystack's length, and
+    /// its start at most one beyond its end.
+    pub fn set_span(&mut self, span: Span)
+        requires { AreBounds self.old.haystack span.start span.end }
+        ensures { self.new ≡ record self.old { start = span.start; end = span.end } }
+    {
+        self.bounds = span;
+    }
+
+    /// Sets both bounds to those of the range. Its end has to be at most the haystack's length, and
+    /// its start at most one beyond its end.
+    pub fn set_range(&mut self, range: Range<usize>)
+        requires { AreBounds self.old.haystack range.start range.end }
+        ensures { self.new ≡ record self.old { start = range.start; end = range.end } }
+    {
+        self.set_span(Span::from(range));
+    }
+
+    /// Sets the bounds so that the bytes from the one at `first` up to and including that at `last`
+    /// are searched, both of them offsets. `last` has to lie below the haystack's length, and `first`
+    /// at most two beyond `last`.
+    pub fn set_range_inclusive(&mut self, first: usize, last: usize)
+        requires { AreBounds self.old.haystack first (last + 1) }
+        ensures { self.new ≡ record self.old { start = first; end = last + 1 } }
+    {
+        prove!(last < self.haystack.len());
+        self.set_span(Span {
+            start: first,
+            end: last + 1,
+        });
+    }
+
+    /// Sets the start alone, which has to be at most one beyond the end.
+    pub fn set_start(&mut self, start: usize)
+        requires { start ≤ self.old.end + 1 }
+        ensures { self.new ≡ record self.old { start = start } }
+    {
+        self.bounds.start = start;
+    }
+
+    /// Sets the end alone, which has to be at most the haystack's length. The start has to be at most
+    /// one beyond it.
+    pub fn set_end(&mut self, end: usize)
+        requires { AreBounds self.old.haystack self.old.start end }
+        ensures { self.new ≡ record self.old { end = end } }
+    {
+        self.bounds.end = end;
+    }
+
+    /// Sets whether the search is anchored.
+    pub fn set_anchored(&mut self, mode: Anchored)
+        ensures { self.new ≡ record self.old { anchored = mode } }
+    {
+        self.anchored = mode;
+    }
+
+    /// Sets whether the search is to end as soon as any match is known.
+    pub fn set_earliest(&mut self, yes: bool)
+        ensures { self.new ≡ record self.old { earliest = yes } }
+    {
+        self.earliest = yes;
+    }
+
+    /// The whole haystack, borrowed as it was given.
+    pub fn haystack(&self) -> &'h [u8]
+        ensures haystack { result.now ≡ self.now.haystack }
+        ensures bounds { AreBounds self.now.haystack self.now.start self.now.end }
+    {
+        self.haystack
+    }
+
+    /// The offset at which the search starts.
+    pub fn start(&self) -> usize
+        ensures start { result ≡ self.now.start }
+        ensures bounds { AreBounds self.now.haystack self.now.start self.now.end }
+    {
+        self.get_span().start
+    }
+
+    /// The offset before which the search ends.
+    pub fn end(&self) -> usize
+        ensures end { result ≡ self.now.end }
+        ensures bounds { AreBounds self.now.haystack self.now.start self.now.end }
+    {
+        self.get_span().end
+    }
+
+    /// Both bounds as a span, which is no valid one where the search is done.
+    pub fn get_span(&self) -> Span
+        ensures span { result ≡ record { start = self.now.start; end = self.now.end } }
+        ensures bounds { AreBounds self.now.haystack self.now.start self.now.end }
+    {
+        self.bounds
+    }
+
+    /// Both bounds as a range.
+    pub fn get_range(&self) -> Range<usize>
+        ensures range { result ≡ record { start = self.now.start; end = self.now.end } }
+        ensures bounds { AreBounds self.now.haystack self.now.start self.now.end }
+    {
+        self.get_span().range()
+    }
+
+    /// Whether the search is anchored, as a mode.
+    pub fn get_anchored(&self) -> Anchored
+        ensures { result ≡ self.now.anchored }
+    {
+        self.anchored
+    }
+
+    /// Whether the search is to end as soon as any match is known.
+    pub fn get_earliest(&self) -> bool
+        ensures { result ≡ self.now.earliest }
+    {
+        self.earliest
+    }
+
+    /// Whether the start is beyond the end, so that nothing is left to search. Where it is not, the
+    /// bounds are a valid span of the haystack.
+    pub fn is_done(&self) -> bool
+        ensures done { IsTrue result ↔ (self.now.end < self.now.start) }
+        ensures bounds { AreBounds self.now.haystack self.now.start self.now.end }
+    {
+        self.start() > self.end()
+    }
+}
+
+/// The same search of the same haystack. A clone takes no memory, and always succeeds.
+impl Clone for Input<'_> {
+    ghost is_clone = { λ input copy. copy ≡ input };
+
+    ghost is_infallible = { λ _. ⊤ };
+
+    fn clone(&self) -> Result<Self, AllocError> {
+        Ok(Input {
+            haystack: self.haystack,
+            bounds: self.bounds,
+            anchored: self.anchored,
+            earliest: self.earliest,
+        })
+    }
+}
 
 /// A part of a haystack, in bytes: from `start` up to and not including `end`. A span may be written
 /// down whatever its numbers are; it is a valid span of a haystack where `start` is at most `end`
@@ -20,6 +255,8 @@ pub struct Span {
 }
 
 impl Span {
+    ghost use Rattle.literal_base.specs.Occurs.{IsValidSpan};
+
     /// The same bounds as a range.
     pub fn range(&self) -> Range<usize>
         ensures { result ≡ record { start = self.now.start; end = self.now.end } }
@@ -40,6 +277,61 @@ impl Span {
     {
         self.end.saturating_sub(self.start)
     }
+
+    /// Whether the byte at this offset lies in the span. That at `end` does not.
+    pub fn contains(&self, offset: usize) -> bool
+        ensures { IsTrue result ↔ ((self.now.start ≤ offset) × (offset < self.now.end)) }
+    {
+        self.start <= offset && offset < self.end
+    }
+
+    /// The span this many bytes further on. Neither sum may overflow.
+    pub fn offset(&self, offset: usize) -> Span
+        requires start { self.now.start + offset < 2 ^ 64 }
+        requires end { self.now.end + offset < 2 ^ 64 }
+        ensures { result ≡ record { start = self.now.start + offset; end = self.now.end + offset } }
+    {
+        Span {
+            start: self.start + offset,
+            end: self.end + offset,
+        }
+    }
+
+    /// Whether the range has the same bounds.
+    pub fn eq_range(&self, range: &Range<usize>) -> bool
+        ensures { IsTrue result ↔ ((self.now.start ≡ range.now.start) × (self.now.end ≡ range.now.end)) }
+    {
+        self.start == range.start && self.end == range.end
+    }
+
+    /// The bytes of the span. It has to be a valid span of the slice.
+    pub fn of<'a>(&self, bytes: &'a [u8]) -> &'a [u8]
+        requires { IsValidSpan bytes.now self.now }
+        ensures { result.now ≡ slice_range bytes.now self.now.start self.now.end }
+    {
+        &bytes[self.start..self.end]
+    }
+
+    /// The bytes of the span, to be written to: what is written there is written in the slice, whose
+    /// other bytes stay. It has to be a valid span of the slice.
+    pub fn of_mut<'a>(&self, bytes: &'a mut [u8]) -> &'a mut [u8]
+        requires { IsValidSpan bytes.old self.now }
+        ensures part { result.now ≡ slice_range bytes.old self.now.start self.now.end }
+        ensures in_place { as_mut_ptr result ≡ ptr_add u8 self.now.start (as_mut_ptr bytes.entry) }
+    {
+        &mut bytes[self.start..self.end]
+    }
+
+    /// The text of the span, whose offsets are in bytes. It has to be a valid span of the text, and
+    /// both ends have to lie between characters.
+    pub fn of_str<'a>(&self, text: &'a str) -> &'a str
+        requires valid { IsValidSpan text.now self.now }
+        requires start { IsCharBoundary text.now self.now.start }
+        requires end { IsCharBoundary text.now self.now.end }
+        ensures { result.now ≡ slice_range text.now self.now.start self.now.end }
+    {
+        &text[self.start..self.end]
+    }
 }
 
 /// As `3..9`.
@@ -50,6 +342,45 @@ impl fmt::Debug for Span {
         let start = self.start;
         let end = self.end;
         write!(f, "{start}..{end}")
+    }
+}
+
+/// The same bounds.
+impl From<Range<usize>> for Span {
+    ghost from_gives = { λ range span. span ≡ record { start = range.start; end = range.end } };
+
+    fn from(range: Range<usize>) -> Span {
+        Span {
+            start: range.start,
+            end: range.end,
+        }
+    }
+}
+
+/// The same bounds.
+impl From<Span> for Range<usize> {
+    ghost from_gives = { λ span range. range ≡ record { start = span.start; end = span.end } };
+
+    fn from(span: Span) -> Range<usize> {
+        span.range()
+    }
+}
+
+/// Whether a match has to begin at the start of the search.
+#[derive(Clone, Copy, Debug, PartialEq, Eq)]
+pub enum Anchored {
+    /// It may begin anywhere.
+    No,
+    /// It has to begin there.
+    Yes,
+}
+
+impl Anchored {
+    /// Whether a match has to begin at the start of the search.
+    pub fn is_anchored(&self) -> bool
+        ensures { IsTrue result ↔ (self.now ≡ Anchored.Yes) }
+    {
+        matches!(*self, Anchored::Yes)
     }
 }
 
@@ -83,6 +414,16 @@ impl Match {
         Match { pattern, span }
     }
 
+    /// The same of the pattern with this number, which has to be at most that of
+    /// [`PatternID::MAX`].
+    pub fn must(pattern: usize, span: Span) -> Match
+        requires pattern { pattern < PatternID.LIMIT }
+        requires span { span.start ≤ span.end }
+        ensures { result ≡ record { pattern = pattern; start = span.start; end = span.end } }
+    {
+        Match::new(PatternID::must(pattern), span)
+    }
+
     /// The identifier of the pattern.
     pub fn pattern(&self) -> PatternID
         ensures { result ≡ self.now.pattern }
@@ -106,6 +447,14 @@ impl Match {
         self.span.end
     }
 
+    /// The two offsets as a range.
+    pub fn range(&self) -> Range<usize>
+        ensures range { result ≡ record { start = self.now.start; end = self.now.end } }
+        ensures ordered { self.now.start ≤ self.now.end }
+    {
+        self.span.range()
+    }
+
     /// The span that the occurrence takes.
     pub fn span(&self) -> Span
         ensures span { result ≡ record { start = self.now.start; end = self.now.end } }
@@ -113,37 +462,115 @@ impl Match {
     {
         self.span
     }
+
+    /// Whether the occurrence takes no byte.
+    pub fn is_empty(&self) -> bool
+        ensures { IsTrue result ↔ (self.now.start ≡ self.now.end) }
+    {
+        self.span.is_empty()
+    }
+
+    /// The number of bytes that the occurrence takes.
+    pub fn len(&self) -> usize
+        ensures len { self.now.start + result ≡ self.now.end }
+    {
+        self.span.len()
+    }
+
+    /// The same pattern this many bytes further on. Neither sum may overflow, which is so where that
+    /// with the end does not.
+    pub fn offset(&self, offset: usize) -> Match
+        requires { self.now.end + offset < 2 ^ 64 }
+        ensures { result ≡ record self.now { start = self.now.start + offset; end = self.now.end + offset } }
+    {
+        Match {
+            pattern: self.pattern,
+            span: self.span.offset(offset),
+        }
+    }
+}
+
+/// Which occurrences a search for several patterns answers.
+#[derive(Clone, Copy, Debug, PartialEq, Eq)]
+pub enum MatchKind {
+    /// Each as soon as it is seen, whatever else begins at its place or before it.
+    Standard,
+    /// Of the occurrences that begin earliest, that of the pattern that was added first.
+    LeftmostFirst,
+    /// Of the occurrences that begin earliest the longest, and among equal lengths that of the
+    /// pattern that was added first.
+    LeftmostLongest,
+}
+
+/// [`MatchKind::Standard`].
+impl Default for MatchKind {
+    ghost use Rattle.literal_base.specs.declared.search.MatchKind.TheVariants.{Standard};
+
+    ghost is_default = { λ kind. kind ≡ Standard };
+
+    fn default() -> MatchKind {
+        MatchKind::Standard
+    }
+}
+
+impl MatchKind {
+    ghost use Rattle.literal_base.specs.Kinds.{packed_kind_of};
+
+    /// Whether it is [`MatchKind::Standard`].
+    pub fn is_standard(&self) -> bool
+        ensures { IsTrue result ↔ (self.now ≡ MatchKind.Standard) }
+    {
+        matches!(*self, MatchKind::Standard)
+    }
+
+    /// Whether it is one of the two leftmost kinds.
+    pub fn is_leftmost(&self) -> bool
+        ensures { IsTrue result ↔ ((self.now ≡ MatchKind.LeftmostFirst) ⊎ (self.now ≡ MatchKind.LeftmostLongest)) }
+    {
+        matches!(*self, MatchKind::LeftmostFirst | MatchKind::LeftmostLongest)
+    }
+
+    /// Whether it is [`MatchKind::LeftmostFirst`].
+    pub fn is_leftmost_first(&self) -> bool
+        ensures { IsTrue result ↔ (self.now ≡ MatchKind.LeftmostFirst) }
+    {
+        matches!(*self, MatchKind::LeftmostFirst)
+    }
+
+    /// The match kind of a packed search that means the same. A packed search has none that means
+    /// [`MatchKind::Standard`].
+    pub fn as_packed(&self) -> Option<packed::MatchKind>
+        ensures { result ≡ packed_kind_of self.now }
+    {
+        match *self {
+            MatchKind::Standard => None,
+            MatchKind::LeftmostFirst => Some(packed::MatchKind::LeftmostFirst),
+            MatchKind::LeftmostLongest => Some(packed::MatchKind::LeftmostLongest),
+        }
+    }
+}
+
+/// Which searches a searcher is to be made for, by whether they are anchored.
+#[derive(Clone, Copy, Debug, PartialEq, Eq)]
+pub enum StartKind {
+    /// Those that are anchored and those that are not.
+    Both,
+    /// Only those that are not anchored.
+    Unanchored,
+    /// Only those that are anchored.
+    Anchored,
+}
+
+/// [`StartKind::Unanchored`].
+impl Default for StartKind {
+    ghost use Rattle.literal_base.specs.declared.search.StartKind.TheVariants.{Unanchored};
+
+    ghost is_default = { λ kind. kind ≡ Unanchored };
+
+    fn default() -> StartKind {
+        StartKind::Unanchored
+    }
 }
 
 #[cfg(test)]
-mod tests {
-    use super::*;
-    use std::test::Fail;
-
-    #[test]
-    fn spans_tell_their_bounds(rt: HostRuntime) -> Result<(), Fail> {
-        for (start, end, len) in [(2, 5, 3), (4, 4, 0), (3, 1, 0)] {
-            let span = Span { start, end };
-            assert_eq!(rt; span.range(), start..end);
-            assert_eq!(rt; span.len(), len);
-            assert_eq!(rt; span.is_empty(), len == 0);
-        }
-        let text = format!(in rt.alloc(); "{:?}", Span { start: 3, end: 1 })?;
-        assert_eq!(rt; text.as_str(), "3..1");
-        Ok(())
-    }
-
-    #[test]
-    fn matches_tell_their_parts(rt: HostRuntime) -> Result<(), Fail> {
-        let span = Span { start: 3, end: 9 };
-        let found = Match::new(PatternID::must(1), span);
-        assert_eq!(rt; found.pattern(), PatternID::must(1));
-        assert_eq!(rt; found.start(), 3);
-        assert_eq!(rt; found.end(), 9);
-        assert_eq!(rt; found.span(), span);
-        assert_eq!(rt; found, Match::new(PatternID::must(1), span));
-        assert!(rt; found != Match::new(PatternID::ZERO, span));
-        assert!(rt; format!(in rt.alloc(); "{found:?}")?.len() > 0);
-        Ok(())
-    }
-}
+mod tests;

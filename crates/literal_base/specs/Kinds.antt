@@ -1,0 +1,12 @@
+-- The match kinds of a packed search among all match kinds.
+use Rattle.std.specs.Prelude.{Option, Some, None}
+use Rattle.literal_base.specs.declared.packed.MatchKind as packed
+use Rattle.literal_base.specs.declared.packed.MatchKind.TheVariants as packed_kind
+use Rattle.literal_base.specs.declared.search.MatchKind.{MatchKind}
+use Rattle.literal_base.specs.declared.search.MatchKind.TheVariants.{Standard, LeftmostFirst, LeftmostLongest}
+
+-- the kind of the same name, and None where a packed search has none
+abbrev pub packed_kind_of : MatchKind → Option packed.MatchKind
+packed_kind_of Standard = None
+packed_kind_of LeftmostFirst = Some packed_kind.LeftmostFirst
+packed_kind_of LeftmostLongest = Some packed_kind.LeftmostLongest
