@@ -1,3 +1,4 @@
+pub mod ByByte
 pub mod Exists
 pub mod Ties
 pub mod Unique
