@@ -6,6 +6,10 @@ use Rattle.std.specs.List.{range_with_len}
 unfoldable pub by_byte : {X : Type 0} → (ℕ → X) → List X
 by_byte f = map f (range_with_len 0 256)
 
+-- each byte, in rising order
+unfoldable pub all_bytes : List ℕ
+all_bytes = range_with_len 0 256
+
 -- whether a byte is in a set, which is a list with a test for each byte; what is no byte is in none
 abbrev pub contains : List Bool → ℕ → Bool
 contains set byte = slice_index_or set byte false

@@ -1,4 +1,6 @@
 pub mod Bytes
+pub mod Classes
+pub mod ClassesInside
 pub mod Counts
 pub mod Found
 pub mod Greedy
