@@ -1,7 +1,11 @@
+pub mod Bytes
+pub mod Classes
+pub mod ClassesInside
 pub mod Counts
 pub mod Found
 pub mod Greedy
 pub mod Kinds
 pub mod Leftmost
 pub mod Occurs
+pub mod Rank
 pub mod Requested

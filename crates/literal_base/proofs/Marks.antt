@@ -1,0 +1,51 @@
+-- The marks of ranges of bytes.
+use Rattle.std.proofs.Common.{◌≡◌, ◌==◌, ℕ, ◌+◌, ◌-◌, ◌<◌, ◌≤◌, ◌||◌, Bool, true, false, List, [], ◌∷◌, ◌++◌, length, sym, refl, ap, ⊎_elim, ◌∙◌, arith}
+use Rattle.std.proofs.lemmas.Bool.{eq-eqb, ne_eqb, cases_eq}
+use Rattle.std.proofs.lemmas.Bool.Decides.{nat_tests}
+use Rattle.std.specs.List.{list_any}
+use Rattle.std.proofs.lemmas.List.Folds.{list_any-append}
+use Rattle.literal_base.specs.Bytes.{contains}
+use Rattle.literal_base.specs.Classes.{holds, is_marked_by, with_range_marked, marks_of}
+use Rattle.literal_base.proofs.ByByte.{by_byte_is, by_byte_agree, get_or-by_byte}
+
+or_exchanged : (a b c : Bool) → ((a || b) || c) ≡ (a || (c || b))
+or_exchanged true b c = refl
+or_exchanged false true true = refl
+or_exchanged false true false = refl
+or_exchanged false false true = refl
+or_exchanged false false false = refl
+
+or_nothing : (a b : Bool) → b ≡ false → a ≡ (a || b)
+or_nothing true b none = refl
+or_nothing false true none = sym none
+or_nothing false false none = refl
+
+-- first the byte before the start, then the end
+pub with_range_marked_is : (old mid new : List Bool) (start end : ℕ) → length new ≡ 256 → ((b : ℕ) → contains mid b ≡ (contains old b || b + 1 == start)) → ((b : ℕ) → contains new b ≡ (contains mid b || b == end)) → new ≡ with_range_marked old start end
+with_range_marked_is old mid new start end whole before at_end =
+    by_byte_is (λ b. contains old b || is_marked_by (start, end) b) new false whole (λ b below.
+    at_end b ∙ (ap (λ t. t || b == end) (before b) ∙ or_exchanged (contains old b) (b + 1 == start) (b == end)))
+
+pub before_start : (start b : ℕ) → 0 < start → (b == start - 1) ≡ (b + 1 == start)
+before_start start b some =
+    ⊎_elim
+    (λ same. eq-eqb b (start - 1) same ∙ sym (eq-eqb (b + 1) start (omega arith)))
+    (λ other. ne_eqb b (start - 1) other ∙ sym (ne_eqb (b + 1) start (λ e. other (omega arith))))
+    (cases_eq b (start - 1))
+
+-- no byte stands before byte 0
+pub before_zero : (set : List Bool) (start b : ℕ) → start ≡ 0 → contains set b ≡ (contains set b || b + 1 == start)
+before_zero set start b first = or_nothing (contains set b) (b + 1 == start) (ne_eqb (b + 1) start (λ e. omega arith))
+
+-- one range more
+pub marks_of-push : (ranges : List (ℕ × ℕ)) (start end : ℕ) → marks_of (ranges ++ (start, end) ∷ []) ≡ with_range_marked (marks_of ranges) start end
+marks_of-push ranges start end = by_byte_agree _ _ (λ b below.
+    list_any-append (λ range. is_marked_by range b) ranges ((start, end) ∷ [])
+    ∙ (ap (λ t. list_any (λ range. is_marked_by range b) ranges || t) (sym (or_nothing (is_marked_by (start, end) b) false refl))
+    ∙ ap (λ t. t || is_marked_by (start, end) b) (sym (get_or-by_byte (λ b. list_any (λ range. is_marked_by range b) ranges) b false below))))
+
+marked_parts : (first last b : ℕ) → first ≤ last → is_marked_by (first, last) b ≡ false → holds (first, last) b ≡ holds (first, last) (b + 1)
+marked_parts first last b ordered unmarked = grind (arith, nat_tests)
+
+parts_marked : (first last b : ℕ) → first ≤ last → holds (first, last) b ≡ holds (first, last) (b + 1) → is_marked_by (first, last) b ≡ false
+parts_marked first last b ordered same = grind (arith, nat_tests)

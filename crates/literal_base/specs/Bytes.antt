@@ -1,0 +1,24 @@
+-- Sets of bytes, and the other case of a letter.
+use Rattle.std.specs.Prelude.{ℕ, ◌+◌, ◌-◌, Bool, false, if◌then◌else◌, List, map, nat_lt, slice_index_or}
+use Rattle.std.specs.List.{range_with_len}
+
+-- a list with a value for each byte, from byte 0 up
+unfoldable pub by_byte : {X : Type 0} → (ℕ → X) → List X
+by_byte f = map f (range_with_len 0 256)
+
+-- each byte, in rising order
+unfoldable pub all_bytes : List ℕ
+all_bytes = range_with_len 0 256
+
+-- whether a byte is in a set, which is a list with a test for each byte; what is no byte is in none
+abbrev pub contains : List Bool → ℕ → Bool
+contains set byte = slice_index_or set byte false
+
+-- no byte
+abbrev pub no_bytes : List Bool
+no_bytes = by_byte (λ _. false)
+
+-- the same letter in the other case: A to Z, 65 to 90, against a to z, 97 to 122. Each other byte itself
+abbrev pub opposite_case : ℕ → ℕ
+opposite_case b =
+    if nat_lt b 65 then b else (if nat_lt b 91 then b + 32 else (if nat_lt b 97 then b else (if nat_lt b 123 then b - 32 else b)))

@@ -1,0 +1,52 @@
+-- Classes of bytes: a list with a number for each of the 256 bytes, its class.
+use Rattle.std.specs.Prelude.{◌≡◌, ℕ, ◌+◌, ◌-◌, ◌^◌, ◌<◌, ◌≤◌, ◌==◌, ◌&&◌, ◌||◌, Bool, List, filter, take, count_by, nat_le, slice_index}
+use Rattle.std.specs.List.{All, AllPairs, flat_map, list_any, range_with_len}
+use Rattle.literal_base.specs.Bytes.{all_bytes, by_byte, contains}
+
+-- whether a range of bytes, given by its first and its last, holds a byte
+abbrev pub holds : ℕ × ℕ → ℕ → Bool
+holds range b = nat_le range.0 b && nat_le b range.1
+
+-- no range holds just one of a byte and the next
+abbrev pub NonePart : List (ℕ × ℕ) → ℕ → Type 0
+NonePart ranges b = All (λ range. holds range b ≡ holds range (b + 1)) ranges
+
+-- whether a range marks a byte: its last one, and the one before its first
+abbrev pub is_marked_by : ℕ × ℕ → ℕ → Bool
+is_marked_by range b = b == range.1 || b + 1 == range.0
+
+-- the set with the bytes that a range marks
+abbrev pub with_range_marked : List Bool → ℕ → ℕ → List Bool
+with_range_marked marked start end = by_byte (λ b. contains marked b || is_marked_by (start, end) b)
+
+-- the bytes that one of the ranges marks
+abbrev pub marks_of : List (ℕ × ℕ) → List Bool
+marks_of ranges = by_byte (λ b. list_any (λ range. is_marked_by range b) ranges)
+
+-- the class of a byte: how many bytes below it are marked
+abbrev pub class_of : List Bool → ℕ → ℕ
+class_of marked b = count_by (λ m. m) (take b marked)
+
+-- the class of the last byte, and one
+abbrev pub alphabet_len_of : List ℕ → ℕ
+alphabet_len_of classes = slice_index classes 255 + 1
+
+-- k is the least number whose power of two has room for the classes
+pub record IsStride2 (classes : List ℕ) (k : ℕ) : Type 0 where
+  pub enough : alphabet_len_of classes ≤ 2 ^ k
+  pub least : (j : ℕ) → alphabet_len_of classes ≤ 2 ^ j → k ≤ j
+
+-- the bytes of a class, in rising order
+abbrev pub elements_of : List ℕ → ℕ → List ℕ
+elements_of classes class = filter (λ b. slice_index classes b == class) all_bytes
+
+-- the bytes of a range, given by its first and its last
+abbrev pub bytes_in : ℕ × ℕ → List ℕ
+bytes_in range = range_with_len range.0 (range.1 + 1 - range.0)
+
+-- the maximal runs of the bytes of a list: none is empty, a byte lies between each and every later one, and one after another
+-- they hold exactly the bytes of the list, in its order
+pub record AreRuns (bytes : List ℕ) (runs : List (ℕ × ℕ)) : Type 0 where
+  pub some : All (λ run. run.0 ≤ run.1) runs
+  pub apart : AllPairs (λ run later. run.1 + 1 < later.0) runs
+  pub whole : flat_map bytes_in runs ≡ bytes
