@@ -6,9 +6,18 @@
 mod builders;
 #[cfg(test)]
 mod compared;
+pub mod copies;
 #[cfg(test)]
 mod pattern_lists;
+#[cfg(test)]
+mod paths;
 pub mod plain;
 #[cfg(test)]
+mod prefilters;
+#[cfg(test)]
 mod rows;
+pub mod steps;
+#[cfg(test)]
+mod tables;
 pub mod uses;
+pub mod uses_of_prefilters;

@@ -1,0 +1,127 @@
+//! The step of a table found plainly, place by place, and prefilters compared with it.
+ghost use Rattle.std.specs.Prelude.{◌≡◌};
+ghost use Rattle.literal_base.specs.Occurs.{IsValidSpan};
+ghost use Rattle.literal_prefilters.specs.Table.{step};
+
+use literal_prefilters::Span;
+use literal_prefilters::prefilter::ByteTable;
+
+/// The first place of the span whose byte is in the table, less that byte's distance, and at least
+/// the span's start.
+pub fn step_plainly(table: &ByteTable, haystack: &[u8], span: Span) -> Option<usize>
+    requires { IsValidSpan haystack.now span }
+    ensures { result ≡ step table.now haystack.now span }
+{
+    for place in span.start..span.end {
+        if let Some(distance) = table.distance(haystack[place]) {
+            return Some(place.saturating_sub(distance as usize).max(span.start));
+        }
+    }
+    None
+}
+
+#[cfg(test)]
+mod tests {
+    use super::step_plainly;
+    use crate::plain::leftmost_plainly;
+    use literal_prefilters::packed;
+    use literal_prefilters::packed::pattern::Patterns;
+    use literal_prefilters::prefilter::{Builder, ByteTable, Candidate, Prefilter};
+    use literal_prefilters::{MatchKind, Span};
+    use std::process::Abort;
+    use std::test::Fail;
+
+    /// Up to three patterns each, whether case is ignored, and whether it is the start table that is
+    /// looked for.
+    static LISTS: [(&[&[u8]], bool, bool); 13] = [
+        (&[b"ab"], false, true),
+        (&[b"ab", b"aab"], false, true),
+        (&[b"a", b"bb"], false, true),
+        (&[b"ba", b"ab"], false, false),
+        (&[b"ca", b"bbc"], false, false),
+        (&[b"a", b"b", b"c"], false, true),
+        (&[b"aKb", b"bbK"], false, false),
+        (&[b"bK", b"aaK", b"cK"], false, false),
+        (&[b"aaQ", b"bK", b"cbQ"], false, false),
+        (&[b"aaQ", b"bK", b"cZ"], false, false),
+        (&[b"ab"], true, false),
+        (&[b"aK", b"bck"], true, false),
+        (&[b"Kab", b"cck", b"K"], true, false),
+    ];
+
+    /// The bytes of a haystack, told by the digits of its number.
+    fn bytes_of(number: usize) -> [u8; 5] {
+        let digits = b"abcKQ";
+        [
+            digits[number % 5],
+            digits[number / 5 % 5],
+            digits[number / 25 % 5],
+            digits[number / 125 % 5],
+            digits[number / 625 % 5],
+        ]
+    }
+
+    /// Compares in a span: the step, and that no occurrence begins before it.
+    fn compare_in(
+        pre: &Prefilter,
+        table: &ByteTable,
+        list: (&[&[u8]], bool),
+        haystack: &[u8],
+        span: Span,
+    ) -> bool {
+        if list.0.len() > 3 || span.start > span.end || span.end > haystack.len() {
+            return false;
+        }
+        let first = packed::MatchKind::LeftmostFirst;
+        let found = leftmost_plainly(list.0, first, list.1, haystack, span);
+        match (pre.find_in(haystack, span), step_plainly(table, haystack, span)) {
+            (Candidate::None, None) => found.is_none(),
+            (Candidate::PossibleStartOfMatch(start), Some(wanted)) => {
+                start == wanted && found.is_none_or(|it| start <= it.start())
+            }
+            _ => false,
+        }
+    }
+
+    /// Compares on all haystacks of five bytes and some of their spans, and returns how many there are.
+    fn compare(
+        rt: &impl Abort,
+        pre: &Prefilter,
+        table: &ByteTable,
+        list: (&[&[u8]], bool),
+    ) -> u32 {
+        let mut spans: u32 = 0;
+        for number in 0..3125 {
+            let haystack = bytes_of(number);
+            for (start, end) in [(0, 5), (1, 5), (0, 4), (2, 4), (3, 3)] {
+                let span = Span { start, end };
+                assert!(rt; compare_in(pre, table, list, &haystack, span), "{list:?}: {haystack:?} in {span:?}");
+                spans = spans.wrapping_add(1);
+            }
+        }
+        spans
+    }
+
+    #[test]
+    fn steps_as_is_found_plainly(rt: HostRuntime) -> Result<(), Fail> {
+        for (list, ignore_case, is_start) in LISTS {
+            let mut patterns = Patterns::new(rt.alloc());
+            let mut builder = Builder::new(rt.alloc(), MatchKind::Standard)
+                .ascii_case_insensitive(ignore_case);
+            for bytes in list {
+                assert!(rt; !bytes.is_empty() && patterns.len() < 3);
+                patterns.add(bytes)?;
+                builder.add(bytes)?;
+            }
+            let table = if is_start {
+                ByteTable::start(&patterns, ignore_case)
+            } else {
+                ByteTable::rare(&patterns, ignore_case)
+            };
+            let table = table.ok_or("there is no table")?;
+            let pre = builder.build()?.ok_or("there is no prefilter")?;
+            assert_eq!(rt; compare(&rt, &pre, &table, (list, ignore_case)), 15625);
+        }
+        Ok(())
+    }
+}

@@ -1,0 +1,74 @@
+//! Callers of prefilters that rely on contracts alone.
+ghost use Rattle.std.specs.Prelude.{◌≡◌, ◌≤◌, ℕ, Bool, List, MatchOption, IfOk, IfSome};
+ghost use Rattle.literal_base.specs.declared.packed.MatchKind.{MatchKind};
+ghost use Rattle.literal_base.specs.Occurs.{IsValidSpan, Occurs, NothingOccurs};
+ghost use Rattle.literal_prefilters.specs.Choice.{Serves, kept};
+ghost use Rattle.literal_prefilters.specs.Sound.{Sound, KeepsReach};
+
+use literal_prefilters::Span;
+use literal_prefilters::count::Tally;
+use literal_prefilters::prefilter::{Builder, Candidate, PrefilterI};
+use std::alloc::AllocError;
+
+/// From where on the span has to be searched, by a prefilter of any kind: no occurrence of what it
+/// covers begins before that place, and none at all where there is no such place.
+pub fn search_from<P: PrefilterI>(
+    pre: &P,
+    haystack: &[u8],
+    span: Span,
+    tally: &mut Tally,
+) -> Option<usize>
+    requires { IsValidSpan haystack.now span }
+    ensures { (patterns : List (List ℕ)) (kind : MatchKind) (ignore_case : Bool)
+        → P.covers pre.now patterns kind ignore_case
+        → MatchOption result
+            (NothingOccurs patterns ignore_case haystack.now span)
+            (λ start. (i at : ℕ) → Occurs patterns ignore_case haystack.now span i at → start ≤ at) }
+{
+    pre.find_in(haystack, span, tally).into_option()
+}
+
+/// What the prefilter of a builder says of a span: it passes over no occurrence of the builder's
+/// patterns, for each kind of match that it serves.
+pub fn candidate_of(
+    builder: &Builder,
+    haystack: &[u8],
+    span: Span,
+) -> Result<Option<Candidate>, AllocError>
+    requires { IsValidSpan haystack.now span }
+    ensures { IfOk result (λ answer. IfSome answer (λ candidate. (kind : MatchKind)
+        → Serves builder.now.kind kind
+        → Sound (kept builder.now) kind builder.now.ignore_case haystack.now span candidate)) }
+{
+    match builder.build()? {
+        Some(pre) => Ok(Some(pre.find_in(haystack, span))),
+        None => Ok(None),
+    }
+}
+
+#[cfg(test)]
+mod tests {
+    use super::{candidate_of, search_from};
+    use literal_prefilters::count::Tally;
+    use literal_prefilters::prefilter::Builder;
+    use literal_prefilters::{MatchKind, Span};
+    use std::test::Fail;
+
+    #[test]
+    fn searches_from_the_first_candidate(rt: HostRuntime) -> Result<(), Fail> {
+        let mut builder = Builder::new(rt.alloc(), MatchKind::LeftmostLongest);
+        builder.add(b"Sherlock")?;
+        builder.add(b"lockjaw")?;
+        let pre = builder.build()?.ok_or("there is no prefilter")?;
+        let mut tally = Tally::new();
+        for (start, end, wanted) in [(0, 12, Some(1)), (3, 12, Some(3)), (9, 12, None)] {
+            let span = Span { start, end };
+            let from = search_from(&pre, b"I am lockjaw", span, &mut tally);
+            assert_eq!(rt; from, wanted, "in {span:?}");
+            let candidate = candidate_of(&builder, b"I am lockjaw", span)?;
+            let candidate = candidate.ok_or("there is no prefilter")?;
+            assert_eq!(rt; candidate.into_option(), wanted, "in {span:?}, built");
+        }
+        Ok(())
+    }
+}
