@@ -38,7 +38,8 @@ impl PrefilterI for StartBytesOne {
         ensures near { reach_of self.now ≤ 254 }
         ensures step { IsStep self.now haystack.now span result tally.old tally.new }
     {
-        self.0.candidate(haystack, span, tally)
+        let StartBytesOne(table) = self;
+        table.candidate(haystack, span, tally)
     }
 }
 
@@ -69,7 +70,8 @@ impl PrefilterI for StartBytesTwo {
         ensures near { reach_of self.now ≤ 254 }
         ensures step { IsStep self.now haystack.now span result tally.old tally.new }
     {
-        self.0.candidate(haystack, span, tally)
+        let StartBytesTwo(table) = self;
+        table.candidate(haystack, span, tally)
     }
 }
 
@@ -100,7 +102,8 @@ impl PrefilterI for StartBytesThree {
         ensures near { reach_of self.now ≤ 254 }
         ensures step { IsStep self.now haystack.now span result tally.old tally.new }
     {
-        self.0.candidate(haystack, span, tally)
+        let StartBytesThree(table) = self;
+        table.candidate(haystack, span, tally)
     }
 }
 
@@ -132,7 +135,8 @@ impl PrefilterI for RareBytesOne {
         ensures near { reach_of self.now ≤ 254 }
         ensures step { IsStep self.now haystack.now span result tally.old tally.new }
     {
-        self.0.candidate(haystack, span, tally)
+        let RareBytesOne(table) = self;
+        table.candidate(haystack, span, tally)
     }
 }
 
@@ -164,7 +168,8 @@ impl PrefilterI for RareBytesTwo {
         ensures near { reach_of self.now ≤ 254 }
         ensures step { IsStep self.now haystack.now span result tally.old tally.new }
     {
-        self.0.candidate(haystack, span, tally)
+        let RareBytesTwo(table) = self;
+        table.candidate(haystack, span, tally)
     }
 }
 
@@ -196,6 +201,7 @@ impl PrefilterI for RareBytesThree {
         ensures near { reach_of self.now ≤ 254 }
         ensures step { IsStep self.now haystack.now span result tally.old tally.new }
     {
-        self.0.candidate(haystack, span, tally)
+        let RareBytesThree(table) = self;
+        table.candidate(haystack, span, tally)
     }
 }
