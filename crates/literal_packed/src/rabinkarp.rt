@@ -160,7 +160,8 @@ impl Model for RabinKarp {
 
 impl RabinKarp {
     /// Made for these patterns, of which there has to be one, and which have to be in order. The
-    /// bytes of the patterns that are hashed are added to the tally.
+    /// bytes of the patterns that are hashed are added to the tally; where memory is refused, those
+    /// that were hashed by then.
     pub fn new(patterns: &Patterns, tally: &mut Tally) -> Result<RabinKarp, AllocError>
         requires some { 0 < length patterns.now.patterns }
         requires in_order { IsInOrder patterns.now }
@@ -169,6 +170,7 @@ impl RabinKarp {
           hashed = tally.old.hashed + length patterns.now.patterns * shortest_len patterns.now.patterns;
         }) }
         ensures others { tally.new ≡ record tally.old { hashed = tally.new.hashed } }
+        ensures grows { tally.old.hashed ≤ tally.new.hashed }
     {
         let window = patterns.minimum_len();
         let mut buckets = empty_buckets(patterns.allocator())?;

@@ -6,6 +6,7 @@ use Rattle.literal_base.specs.declared.search.Span.{Span}
 use Rattle.literal_base.specs.Occurs.{Same}
 use Rattle.literal_prefilters.specs.Case.{AreBytes}
 
+-- the distance of a byte, and None where it is not in the table
 abbrev pub distance_of : List (Option ℕ) → ℕ → Option ℕ
 distance_of table byte = slice_index_or table byte None
 
@@ -17,6 +18,7 @@ is_in table byte = is_some (distance_of table byte)
 abbrev pub size : List (Option ℕ) → ℕ
 size table = count_by is_some table
 
+-- the rank of a byte with its entry, where it is in the table
 abbrev pub rank_at : (ℕ × Option ℕ) → ℕ
 rank_at e = if is_some e.1 then rank_of e.0 else 0
 

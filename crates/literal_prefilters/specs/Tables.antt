@@ -18,6 +18,7 @@ if_small table = if nat_le 1 (size table) && nat_le (size table) 3 then Some tab
 abbrev pub is_start_byte : Bool → List (List ℕ) → ℕ → Bool
 is_start_byte ignore_case patterns byte = list_any (λ p. same_byte ignore_case byte (slice_index p 0)) patterns
 
+-- the bytes with which the patterns begin, each with the distance 0
 abbrev pub start_bytes : Bool → List (List ℕ) → List (Option ℕ)
 start_bytes ignore_case patterns = table_of (is_start_byte ignore_case patterns) (λ _. 0)
 
@@ -55,6 +56,7 @@ abbrev pub largest_offset : Bool → List (List ℕ) → ℕ → ℕ
 largest_offset ignore_case patterns byte =
     fold (λ most p. max most (offset_below ignore_case byte p (length p))) 0 patterns
 
+-- the rare bytes, each with its largest offset as its distance
 abbrev pub rare_bytes : Bool → List (List ℕ) → List (Option ℕ)
 rare_bytes ignore_case patterns = table_of (is_rare_byte ignore_case patterns) (largest_offset ignore_case patterns)
 
