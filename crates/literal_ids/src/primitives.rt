@@ -1,142 +1,15 @@
 //! Identifiers: numbers that fit 32 bits, signed ones too, so that one can be stored small and any
 //! count of them fits a `usize`.
-ghost use Rattle.std.specs.Prelude.{◌≡◌, ◌++◌, ◌<◌, ◌↔◌, IsOk, IfOk, IfErr, Some, codes};
-ghost use Rattle.std.specs.Fmt.{decimal};
 
-use std::fmt;
-use std::marker::Model;
+mod pattern_id;
+mod small_index;
+mod state_id;
 
-/// The identifier of a pattern: its place in the order in which the patterns were added, the first
-/// being 0. It is at most [`PatternID::MAX`]. Contracts see the number.
-#[derive(Clone, Copy, PartialEq, Eq, PartialOrd, Ord, Hash)]
-pub struct PatternID {
-    value: u32,
-}
-
-impl Model for PatternID {
-    ghost use Rattle.std.specs.Prelude.{ℕ, ◌≤◌};
-
-    ghost Value = { ℕ };
-
-    ghost view = { λ id. id.value };
-
-    ghost invariant = { λ id. id.value ≤ 2147483646 };
-
-    ghost inverse = { λ n. record { value = n } };
-}
-
-impl PatternID {
-    /// The greatest identifier, 2147483646: two below 2^31, so that one more than the greatest, and
-    /// the count of all identifiers, fit an `i32`.
-    pub const MAX: PatternID = PatternID { value: 2147483646 };
-
-    /// How many identifiers there are, 2147483647.
-    pub const LIMIT: usize = 2147483647;
-
-    /// The least identifier, that of the first pattern.
-    pub const ZERO: PatternID = PatternID { value: 0 };
-
-    /// The identifier of this number. Any number above that of [`PatternID::MAX`] is refused, and
-    /// the error keeps it.
-    pub fn new(value: usize) -> Result<PatternID, PatternIDError>
-        ensures when { IsOk result ↔ (value < PatternID.LIMIT) }
-        ensures id { IfOk result (λ id. id ≡ value) }
-        ensures refused { IfErr result (λ error. error ≡ value) }
-    {
-        if value < PatternID::LIMIT {
-            Ok(PatternID::must(value))
-        } else {
-            Err(PatternIDError {
-                attempted: value as u64,
-            })
-        }
-    }
-
-    /// The identifier of this number, which has to be at most that of [`PatternID::MAX`].
-    pub fn must(value: usize) -> PatternID
-        requires { value < PatternID.LIMIT }
-        ensures { result ≡ value }
-    {
-        PatternID {
-            value: value as u32,
-        }
-    }
-
-    /// The number.
-    pub fn as_usize(&self) -> usize
-        ensures value { result ≡ self.now }
-        ensures limit { self.now < PatternID.LIMIT }
-    {
-        self.value as usize
-    }
-
-    /// The number.
-    pub fn as_u64(&self) -> u64
-        ensures value { result ≡ self.now }
-        ensures limit { self.now < PatternID.LIMIT }
-    {
-        u64::from(self.value)
-    }
-}
-
-/// The least identifier.
-impl Default for PatternID {
-    ghost is_default = { λ id. id ≡ 0 };
-
-    fn default() -> PatternID {
-        PatternID::ZERO
-    }
-}
-
-/// As `PatternID(5)`.
-impl fmt::Debug for PatternID {
-    ghost debug_output = { λ id. Some (codes "PatternID(" ++ decimal id ++ codes ")") };
-
-    fn fmt<W: fmt::Write>(&self, f: &mut fmt::Formatter<W>) -> fmt::Result {
-        let value = self.value;
-        write!(f, "PatternID({value})")
-    }
-}
-
-/// A number above that of the greatest [`PatternID`]. Contracts see the number that was refused.
-#[derive(Clone, Copy, Debug, PartialEq, Eq)]
-pub struct PatternIDError {
-    attempted: u64,
-}
-
-impl Model for PatternIDError {
-    ghost use Rattle.std.specs.Prelude.{ℕ};
-
-    ghost Value = { ℕ };
-
-    ghost view = { λ error. error.attempted };
-
-    ghost inverse = { λ n. record { attempted = n } };
-}
-
-impl PatternIDError {
-    /// The number that was refused.
-    pub fn attempted(&self) -> u64
-        ensures { result ≡ self.now }
-    {
-        self.attempted
-    }
-}
-
-/// As `failed to create PatternID from 2147483647, which exceeds PatternID(2147483646)`.
-impl fmt::Display for PatternIDError {
-    ghost output = { λ error. Some (codes "failed to create PatternID from " ++ decimal error ++ codes ", which exceeds PatternID(2147483646)") };
-
-    fn fmt<W: fmt::Write>(&self, f: &mut fmt::Formatter<W>) -> fmt::Result {
-        let attempted = self.attempted;
-        write!(
-            f,
-            "failed to create PatternID from {attempted}, which exceeds PatternID(2147483646)"
-        )
-    }
-}
-
-impl std::error::Error for PatternIDError {}
+pub use pattern_id::{
+    PatternID, PatternIDError, PatternIDIter, WithPatternIDIter, with_pattern_ids,
+};
+pub use small_index::{SmallIndex, SmallIndexError, SmallIndexIter};
+pub use state_id::{StateID, StateIDError, StateIDIter, WithStateIDIter, with_state_ids};
 
 #[cfg(test)]
 mod tests {
@@ -144,31 +17,139 @@ mod tests {
     use std::test::Fail;
 
     #[test]
-    fn has_a_greatest_number(rt: HostRuntime) -> Result<(), Fail> {
-        let greatest = PatternID::new(2147483646)?;
-        assert_eq!(rt; greatest, PatternID::MAX);
-        assert_eq!(rt; greatest.as_usize() + 1, PatternID::LIMIT);
-        assert_eq!(rt; greatest.as_u64(), 2147483646);
-        assert_eq!(rt; PatternID::must(2147483646), PatternID::MAX);
-        let error = PatternID::new(2147483647)
-            .err()
-            .ok_or("there is a greater one")?;
+    fn has_ends(rt: HostRuntime) -> Result<(), Fail> {
+        let greatest = 2147483646;
+        let index = SmallIndex::new(greatest)?;
+        assert_eq!(rt; index, SmallIndex::MAX);
+        assert_eq!(rt;
+            (index.as_usize(), index.as_u64()),
+            (2147483646, 2147483646)
+        );
+        assert_eq!(rt; (index.as_u32(), index.as_i32()), (2147483646, 2147483646));
+        assert_eq!(rt; index.one_more(), SmallIndex::LIMIT);
+        let pattern = PatternID::new(greatest)?;
+        assert_eq!(rt; pattern, PatternID::MAX);
+        assert_eq!(rt;
+            (pattern.as_usize(), pattern.as_u64()),
+            (2147483646, 2147483646)
+        );
+        assert_eq!(rt;
+            (pattern.as_u32(), pattern.as_i32()),
+            (2147483646, 2147483646)
+        );
+        assert_eq!(rt; pattern.one_more(), PatternID::LIMIT);
+        let state = StateID::new(greatest)?;
+        assert_eq!(rt; state, StateID::MAX);
+        assert_eq!(rt;
+            (state.as_usize(), state.as_u64()),
+            (2147483646, 2147483646)
+        );
+        assert_eq!(rt; (state.as_u32(), state.as_i32()), (2147483646, 2147483646));
+        assert_eq!(rt; state.one_more(), StateID::LIMIT);
+        assert_eq!(rt;
+            (SmallIndex::SIZE, PatternID::SIZE, StateID::SIZE),
+            (4, 4, 4)
+        );
+        assert!(rt;
+            SmallIndex::default() == SmallIndex::ZERO && SmallIndex::ZERO < SmallIndex::MAX
+        );
+        assert!(rt; PatternID::default() == PatternID::ZERO && PatternID::ZERO < PatternID::MAX);
+        assert!(rt; StateID::default() == StateID::ZERO && StateID::ZERO < StateID::MAX);
+        Ok(())
+    }
+
+    #[test]
+    fn prints(rt: HostRuntime) -> Result<(), Fail> {
+        let alloc = rt.alloc();
+        let (index, pattern, state) = (SmallIndex::must(0), PatternID::must(5), StateID::must(12));
+        let text = format!(in alloc; "{index:?} {pattern:?} {state:?}")?;
+        assert_eq!(rt; text.as_str(), "SmallIndex(0) PatternID(5) StateID(12)");
+        let error = SmallIndex::try_from(u64::MAX).err().ok_or("all fit")?;
+        assert_eq!(rt; error.attempted(), u64::MAX);
+        let text = format!(in alloc; "{error}")?;
+        assert_eq!(rt;
+            text.as_str(),
+            "failed to create small index from 18446744073709551615, which exceeds SmallIndex(2147483646)"
+        );
+        let error = PatternID::new(2147483647).err().ok_or("all fit")?;
         assert_eq!(rt; error.attempted(), 2147483647);
-        let text = format!(in rt.alloc(); "{error}")?;
+        let text = format!(in alloc; "{error}")?;
         assert_eq!(rt;
             text.as_str(),
             "failed to create PatternID from 2147483647, which exceeds PatternID(2147483646)"
+        );
+        let error = StateID::new(2147483648).err().ok_or("all fit")?;
+        assert_eq!(rt; error.attempted(), 2147483648);
+        let text = format!(in alloc; "{error}")?;
+        assert_eq!(rt;
+            text.as_str(),
+            "failed to create StateID from 2147483648, which exceeds StateID(2147483646)"
         );
         Ok(())
     }
 
     #[test]
-    fn has_a_least_number(rt: HostRuntime) -> Result<(), Fail> {
-        assert_eq!(rt; PatternID::default(), PatternID::ZERO);
-        assert_eq!(rt; PatternID::ZERO.as_usize(), 0);
-        assert!(rt; PatternID::ZERO < PatternID::MAX);
-        let text = format!(in rt.alloc(); "{:?}", PatternID::must(5))?;
-        assert_eq!(rt; text.as_str(), "PatternID(5)");
+    fn converts(rt: HostRuntime) -> Result<(), Fail> {
+        let index = SmallIndex::from(255u8);
+        let pattern = PatternID::from(index);
+        let state = StateID::from(SmallIndex::from(pattern));
+        assert_eq!(rt; SmallIndex::from(state).as_u32(), 255);
+        assert_eq!(rt;
+            (PatternID::from(255u8), StateID::from(255u8)),
+            (pattern, state)
+        );
+        assert_eq!(rt; SmallIndex::try_from(65535u16)?, SmallIndex::must(65535));
+        assert_eq!(rt; PatternID::try_from(65535u16)?, PatternID::must(65535));
+        assert_eq!(rt; StateID::try_from(65535u16)?, StateID::must(65535));
+        for (number, fits) in [(0u32, true), (2147483646, true), (2147483647, false)] {
+            let wide = u64::from(number);
+            let size = number as usize;
+            assert_eq!(rt; SmallIndex::try_from(number).is_ok(), fits, "{number}");
+            assert_eq!(rt; SmallIndex::try_from(wide).is_ok(), fits, "{number}");
+            assert_eq!(rt; SmallIndex::try_from(size).is_ok(), fits, "{number}");
+            assert_eq!(rt; PatternID::try_from(number).is_ok(), fits, "{number}");
+            assert_eq!(rt; PatternID::try_from(wide).is_ok(), fits, "{number}");
+            assert_eq!(rt; PatternID::try_from(size).is_ok(), fits, "{number}");
+            assert_eq!(rt; StateID::try_from(number).is_ok(), fits, "{number}");
+            assert_eq!(rt; StateID::try_from(wide).is_ok(), fits, "{number}");
+            assert_eq!(rt; StateID::try_from(size).is_ok(), fits, "{number}");
+        }
+        Ok(())
+    }
+
+    #[test]
+    fn counts_up(rt: HostRuntime) -> Result<(), Fail> {
+        let mut patterns = PatternID::iter(3);
+        let mut states = StateID::iter(3);
+        for (n, index) in SmallIndexIter::new(3).enumerate() {
+            assert_eq!(rt; index.as_usize(), n);
+            assert_eq!(rt; patterns.next(), Some(PatternID::must(n)));
+            assert_eq!(rt; states.next(), Some(StateID::must(n)));
+        }
+        for _ in 0..2 {
+            assert_eq!(rt; patterns.next(), None);
+            assert_eq!(rt; states.next(), None);
+        }
+        assert_eq!(rt; SmallIndexIter::new(0).next(), None);
+        assert_eq!(rt;
+            PatternID::iter(PatternID::LIMIT).next(),
+            Some(PatternID::ZERO)
+        );
+        Ok(())
+    }
+
+    #[test]
+    fn counts_elements(rt: HostRuntime) -> Result<(), Fail> {
+        let items = [10, 20];
+        let mut pairs = with_state_ids(&items);
+        assert_eq!(rt; pairs.next(), Some((StateID::ZERO, &10)));
+        assert_eq!(rt; pairs.next(), Some((StateID::must(1), &20)));
+        assert_eq!(rt; pairs.next(), None);
+        assert_eq!(rt; pairs.next(), None);
+        let mut pairs = with_pattern_ids(&items);
+        assert_eq!(rt; pairs.next(), Some((PatternID::ZERO, &10)));
+        assert_eq!(rt; pairs.next(), Some((PatternID::must(1), &20)));
+        assert_eq!(rt; pairs.next(), None);
         Ok(())
     }
 }
