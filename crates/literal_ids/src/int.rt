@@ -303,67 +303,59 @@ impl Usize for usize {
 #[cfg(test)]
 mod tests {
     use super::*;
-    use std::test::Fail;
 
     #[test]
-    fn keeps_numbers(rt: HostRuntime) -> Result<(), Fail> {
-        for n in [0, 255] {
-            assert_eq!(rt; n.as_u8().as_usize(), n);
-            assert_eq!(rt; n.as_u16().as_usize(), n);
-            assert_eq!(rt; n.as_u32().as_usize(), n);
-            assert_eq!(rt; n.as_u64().as_usize(), n);
-        }
-        assert_eq!(rt; 65535.as_u16().as_usize(), 65535);
-        assert_eq!(rt; 4294967295.as_u32().as_usize(), 4294967295);
+    fn keeps_numbers(rt: HostRuntime) {
+        let shortest = [0.as_u8().as_usize(), 255.as_u8().as_usize()];
+        assert_eq!(rt; shortest, [0, 255]);
+        let longer = [65535.as_u16().as_usize(), 4294967295.as_u32().as_usize()];
+        assert_eq!(rt; longer, [65535, 4294967295]);
         assert_eq!(rt; usize::MAX.as_u64().as_usize(), usize::MAX);
-        assert_eq!(rt; 127i8.as_usize(), 127);
-        assert_eq!(rt; 2147483647i32.as_usize(), 2147483647);
-        assert_eq!(rt; 9223372036854775807i64.as_usize(), 9223372036854775807);
-        assert_eq!(rt; 0i64.as_usize(), 0);
-        Ok(())
-    }
-
-    #[test]
-    fn takes_parts(rt: HostRuntime) -> Result<(), Fail> {
-        assert_eq!(rt; (0x1234u16.high_u8(), 0x1234u16.low_u8()), (0x12, 0x34));
-        let n = 0x12345678u32;
-        assert_eq!(rt;
-            (n.high_u16(), n.low_u16(), n.low_u8()),
-            (0x1234, 0x5678, 0x78)
-        );
-        let n = 0x0123456789abcdefu64;
-        assert_eq!(rt; (n.high_u32(), n.low_u32()), (0x01234567, 0x89abcdef));
-        assert_eq!(rt; (n.low_u16(), n.low_u8()), (0xcdef, 0xef));
-        assert_eq!(rt;
-            (u64::MAX.high_u32(), u64::MAX.low_u32()),
-            (u32::MAX, u32::MAX)
-        );
-        Ok(())
-    }
-
-    #[test]
-    fn takes_bits(rt: HostRuntime) -> Result<(), Fail> {
-        for (n, bits) in [(0, 0), (127, 127), (-128, 128), (-1, 255)] {
-            assert_eq!(rt; I8::to_bits(n), bits, "of {n}");
-            assert_eq!(rt; i8::from_bits(bits), n, "of {bits}");
-        }
-        let ends = [
-            (2147483647, 2147483647),
-            (-2147483648, 2147483648),
-            (-1, 0xffffffff),
+        let signed = [
+            127i8.as_usize(),
+            2147483647i32.as_usize(),
+            i64::MAX.as_usize(),
         ];
-        for (n, bits) in ends {
-            assert_eq!(rt; I32::to_bits(n), bits, "of {n}");
-            assert_eq!(rt; i32::from_bits(bits), n, "of {bits}");
-        }
-        for (n, bits) in [
-            (i64::MAX, 9223372036854775807),
-            (i64::MIN, 9223372036854775808),
-            (-1, u64::MAX),
-        ] {
-            assert_eq!(rt; n.to_bits(), bits, "of {n}");
-            assert_eq!(rt; i64::from_bits(bits), n, "of {bits}");
-        }
-        Ok(())
+        assert_eq!(rt; signed, [127, 2147483647, 9223372036854775807]);
+    }
+
+    #[test]
+    fn takes_parts(rt: HostRuntime) {
+        assert_eq!(rt; [0x1234u16.high_u8(), 0x1234u16.low_u8()], [0x12, 0x34]);
+        let (n, long) = (0x12345678u32, 0x0123456789abcdefu64);
+        assert_eq!(rt;
+            [n.high_u16(), n.low_u16(), long.low_u16()],
+            [0x1234, 0x5678, 0xcdef]
+        );
+        assert_eq!(rt; [n.low_u8(), long.low_u8()], [0x78, 0xef]);
+        assert_eq!(rt; [long.high_u32(), long.low_u32()], [0x01234567, 0x89abcdef]);
+    }
+
+    #[test]
+    fn takes_bits(rt: HostRuntime) {
+        assert_eq!(rt;
+            [I8::to_bits(127), I8::to_bits(-128), I8::to_bits(-1)],
+            [127, 128, 255]
+        );
+        assert_eq!(rt;
+            [i8::from_bits(127), i8::from_bits(128), i8::from_bits(255)],
+            [127, -128, -1]
+        );
+        assert_eq!(rt;
+            [I32::to_bits(-2147483648), I32::to_bits(-1)],
+            [2147483648, 0xffffffff]
+        );
+        assert_eq!(rt;
+            [i32::from_bits(2147483648), i32::from_bits(0xffffffff)],
+            [-2147483648, -1]
+        );
+        assert_eq!(rt;
+            [I64::to_bits(i64::MIN), I64::to_bits(-1)],
+            [1 << 63, u64::MAX]
+        );
+        assert_eq!(rt;
+            [i64::from_bits(1 << 63), i64::from_bits(u64::MAX)],
+            [i64::MIN, -1]
+        );
     }
 }
