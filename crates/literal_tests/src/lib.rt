@@ -12,3 +12,4 @@ pub mod plain;
 #[cfg(test)]
 mod rows;
 pub mod uses;
+pub mod uses_of_ids;
