@@ -1,142 +1,15 @@
 //! Identifiers: numbers that fit 32 bits, signed ones too, so that one can be stored small and any
 //! count of them fits a `usize`.
-ghost use Rattle.std.specs.Prelude.{◌≡◌, ◌++◌, ◌<◌, ◌↔◌, IsOk, IfOk, IfErr, Some, codes};
-ghost use Rattle.std.specs.Fmt.{decimal};
 
-use std::fmt;
-use std::marker::Model;
+mod pattern_id;
+mod small_index;
+mod state_id;
 
-/// The identifier of a pattern: its place in the order in which the patterns were added, the first
-/// being 0. It is at most [`PatternID::MAX`]. Contracts see the number.
-#[derive(Clone, Copy, PartialEq, Eq, PartialOrd, Ord, Hash)]
-pub struct PatternID {
-    value: u32,
-}
-
-impl Model for PatternID {
-    ghost use Rattle.std.specs.Prelude.{ℕ, ◌≤◌};
-
-    ghost Value = { ℕ };
-
-    ghost view = { λ id. id.value };
-
-    ghost invariant = { λ id. id.value ≤ 2147483646 };
-
-    ghost inverse = { λ n. record { value = n } };
-}
-
-impl PatternID {
-    /// The greatest identifier, 2147483646: two below 2^31, so that one more than the greatest, and
-    /// the count of all identifiers, fit an `i32`.
-    pub const MAX: PatternID = PatternID { value: 2147483646 };
-
-    /// How many identifiers there are, 2147483647.
-    pub const LIMIT: usize = 2147483647;
-
-    /// The least identifier, that of the first pattern.
-    pub const ZERO: PatternID = PatternID { value: 0 };
-
-    /// The identifier of this number. Any number above that of [`PatternID::MAX`] is refused, and
-    /// the error keeps it.
-    pub fn new(value: usize) -> Result<PatternID, PatternIDError>
-        ensures when { IsOk result ↔ (value < PatternID.LIMIT) }
-        ensures id { IfOk result (λ id. id ≡ value) }
-        ensures refused { IfErr result (λ error. error ≡ value) }
-    {
-        if value < PatternID::LIMIT {
-            Ok(PatternID::must(value))
-        } else {
-            Err(PatternIDError {
-                attempted: value as u64,
-            })
-        }
-    }
-
-    /// The identifier of this number, which has to be at most that of [`PatternID::MAX`].
-    pub fn must(value: usize) -> PatternID
-        requires { value < PatternID.LIMIT }
-        ensures { result ≡ value }
-    {
-        PatternID {
-            value: value as u32,
-        }
-    }
-
-    /// The number.
-    pub fn as_usize(&self) -> usize
-        ensures value { result ≡ self.now }
-        ensures limit { self.now < PatternID.LIMIT }
-    {
-        self.value as usize
-    }
-
-    /// The number.
-    pub fn as_u64(&self) -> u64
-        ensures value { result ≡ self.now }
-        ensures limit { self.now < PatternID.LIMIT }
-    {
-        u64::from(self.value)
-    }
-}
-
-/// The least identifier.
-impl Default for PatternID {
-    ghost is_default = { λ id. id ≡ 0 };
-
-    fn default() -> PatternID {
-        PatternID::ZERO
-    }
-}
-
-/// As `PatternID(5)`.
-impl fmt::Debug for PatternID {
-    ghost debug_output = { λ id. Some (codes "PatternID(" ++ decimal id ++ codes ")") };
-
-    fn fmt<W: fmt::Write>(&self, f: &mut fmt::Formatter<W>) -> fmt::Result {
-        let value = self.value;
-        write!(f, "PatternID({value})")
-    }
-}
-
-/// A number above that of the greatest [`PatternID`]. Contracts see the number that was refused.
-#[derive(Clone, Copy, Debug, PartialEq, Eq)]
-pub struct PatternIDError {
-    attempted: u64,
-}
-
-impl Model for PatternIDError {
-    ghost use Rattle.std.specs.Prelude.{ℕ};
-
-    ghost Value = { ℕ };
-
-    ghost view = { λ error. error.attempted };
-
-    ghost inverse = { λ n. record { attempted = n } };
-}
-
-impl PatternIDError {
-    /// The number that was refused.
-    pub fn attempted(&self) -> u64
-        ensures { result ≡ self.now }
-    {
-        self.attempted
-    }
-}
-
-/// As `failed to create PatternID from 2147483647, which exceeds PatternID(2147483646)`.
-impl fmt::Display for PatternIDError {
-    ghost output = { λ error. Some (codes "failed to create PatternID from " ++ decimal error ++ codes ", which exceeds PatternID(2147483646)") };
-
-    fn fmt<W: fmt::Write>(&self, f: &mut fmt::Formatter<W>) -> fmt::Result {
-        let attempted = self.attempted;
-        write!(
-            f,
-            "failed to create PatternID from {attempted}, which exceeds PatternID(2147483646)"
-        )
-    }
-}
-
-impl std::error::Error for PatternIDError {}
+pub use pattern_id::{
+    PatternID, PatternIDError, PatternIDIter, WithPatternIDIter, with_pattern_ids,
+};
+pub use small_index::{SmallIndex, SmallIndexError, SmallIndexIter};
+pub use state_id::{StateID, StateIDError, StateIDIter, WithStateIDIter, with_state_ids};
 
 #[cfg(test)]
 mod tests {
@@ -144,31 +17,164 @@ mod tests {
     use std::test::Fail;
 
     #[test]
-    fn has_a_greatest_number(rt: HostRuntime) -> Result<(), Fail> {
-        let greatest = PatternID::new(2147483646)?;
-        assert_eq!(rt; greatest, PatternID::MAX);
-        assert_eq!(rt; greatest.as_usize() + 1, PatternID::LIMIT);
-        assert_eq!(rt; greatest.as_u64(), 2147483646);
-        assert_eq!(rt; PatternID::must(2147483646), PatternID::MAX);
-        let error = PatternID::new(2147483647)
-            .err()
-            .ok_or("there is a greater one")?;
-        assert_eq!(rt; error.attempted(), 2147483647);
-        let text = format!(in rt.alloc(); "{error}")?;
+    fn has_a_greatest_index(rt: HostRuntime) -> Result<(), Fail> {
+        let index = SmallIndex::new(2147483646)?;
+        assert_eq!(rt;
+            [index.as_usize(), index.one_more()],
+            [2147483646, SmallIndex::LIMIT]
+        );
+        assert_eq!(rt;
+            (index.as_u64(), index.as_u32(), index.as_i32()),
+            (2147483646, 2147483646, 2147483646)
+        );
+        let ends = [SmallIndex::default(), SmallIndex::must(2147483646)];
+        assert_eq!(rt; ends, [SmallIndex::ZERO, SmallIndex::MAX]);
+        Ok(())
+    }
+
+    #[test]
+    fn has_a_greatest_pattern(rt: HostRuntime) -> Result<(), Fail> {
+        let id = PatternID::new(2147483646)?;
+        assert_eq!(rt;
+            [id.as_usize(), id.one_more()],
+            [2147483646, PatternID::LIMIT]
+        );
+        assert_eq!(rt;
+            (id.as_u64(), id.as_u32(), id.as_i32()),
+            (2147483646, 2147483646, 2147483646)
+        );
+        let ends = [PatternID::default(), PatternID::must(2147483646)];
+        assert_eq!(rt; ends, [PatternID::ZERO, PatternID::MAX]);
+        Ok(())
+    }
+
+    #[test]
+    fn has_a_greatest_state(rt: HostRuntime) -> Result<(), Fail> {
+        let id = StateID::new(2147483646)?;
+        assert_eq!(rt;
+            [id.as_usize(), id.one_more()],
+            [2147483646, StateID::LIMIT]
+        );
+        assert_eq!(rt;
+            (id.as_u64(), id.as_u32(), id.as_i32()),
+            (2147483646, 2147483646, 2147483646)
+        );
+        let ends = [StateID::default(), StateID::must(2147483646)];
+        assert_eq!(rt; ends, [StateID::ZERO, StateID::MAX]);
+        Ok(())
+    }
+
+    #[test]
+    fn prints_numbers(rt: HostRuntime) -> Result<(), Fail> {
+        let (index, pattern, state) = (SmallIndex::must(0), PatternID::must(5), StateID::must(12));
+        let text = format!(in rt.alloc(); "{index:?} {pattern:?} {state:?}")?;
+        assert_eq!(rt; text.as_str(), "SmallIndex(0) PatternID(5) StateID(12)");
+        Ok(())
+    }
+
+    #[test]
+    fn prints_refusals(rt: HostRuntime) -> Result<(), Fail> {
+        let index = SmallIndex::try_from(u64::MAX).err().ok_or("it fits")?;
+        let pattern = PatternID::new(2147483647).err().ok_or("it fits")?;
+        let state = StateID::new(2147483648).err().ok_or("it fits")?;
+        let attempted = [index.attempted(), pattern.attempted(), state.attempted()];
+        assert_eq!(rt; attempted, [u64::MAX, 2147483647, 2147483648]);
+        let text = format!(in rt.alloc(); "{index}\n{pattern}\n{state}")?;
         assert_eq!(rt;
             text.as_str(),
-            "failed to create PatternID from 2147483647, which exceeds PatternID(2147483646)"
+            "failed to create small index from 18446744073709551615, which exceeds SmallIndex(2147483646)\nfailed to create PatternID from 2147483647, which exceeds PatternID(2147483646)\nfailed to create StateID from 2147483648, which exceeds StateID(2147483646)"
         );
         Ok(())
     }
 
     #[test]
-    fn has_a_least_number(rt: HostRuntime) -> Result<(), Fail> {
-        assert_eq!(rt; PatternID::default(), PatternID::ZERO);
-        assert_eq!(rt; PatternID::ZERO.as_usize(), 0);
-        assert!(rt; PatternID::ZERO < PatternID::MAX);
-        let text = format!(in rt.alloc(); "{:?}", PatternID::must(5))?;
-        assert_eq!(rt; text.as_str(), "PatternID(5)");
+    fn converts_to_indices(rt: HostRuntime) -> Result<(), Fail> {
+        let made = [
+            SmallIndex::try_from(2147483646u32)?,
+            SmallIndex::try_from(2147483646u64)?,
+            SmallIndex::try_from(2147483646usize)?,
+        ];
+        assert_eq!(rt; made, [SmallIndex::MAX, SmallIndex::MAX, SmallIndex::MAX]);
+        let short = [SmallIndex::try_from(65535u16)?, SmallIndex::from(255u8)];
+        assert_eq!(rt; short, [SmallIndex::must(65535), SmallIndex::must(255)]);
+        let refused = [
+            SmallIndex::try_from(2147483647u32).is_err(),
+            SmallIndex::try_from(2147483647u64).is_err(),
+            SmallIndex::try_from(2147483647usize).is_err(),
+        ];
+        assert_eq!(rt; refused, [true, true, true]);
         Ok(())
+    }
+
+    #[test]
+    fn converts_to_patterns(rt: HostRuntime) -> Result<(), Fail> {
+        let made = [
+            PatternID::try_from(2147483646u32)?,
+            PatternID::try_from(2147483646u64)?,
+            PatternID::try_from(2147483646usize)?,
+        ];
+        assert_eq!(rt; made, [PatternID::MAX, PatternID::MAX, PatternID::MAX]);
+        let short = [PatternID::try_from(65535u16)?, PatternID::from(255u8)];
+        assert_eq!(rt; short, [PatternID::must(65535), PatternID::must(255)]);
+        let refused = [
+            PatternID::try_from(2147483647u32).is_err(),
+            PatternID::try_from(2147483647u64).is_err(),
+            PatternID::try_from(2147483647usize).is_err(),
+        ];
+        assert_eq!(rt; refused, [true, true, true]);
+        Ok(())
+    }
+
+    #[test]
+    fn converts_to_states(rt: HostRuntime) -> Result<(), Fail> {
+        let made = [
+            StateID::try_from(2147483646u32)?,
+            StateID::try_from(2147483646u64)?,
+            StateID::try_from(2147483646usize)?,
+        ];
+        assert_eq!(rt; made, [StateID::MAX, StateID::MAX, StateID::MAX]);
+        let short = [StateID::try_from(65535u16)?, StateID::from(255u8)];
+        assert_eq!(rt; short, [StateID::must(65535), StateID::must(255)]);
+        let refused = [
+            StateID::try_from(2147483647u32).is_err(),
+            StateID::try_from(2147483647u64).is_err(),
+            StateID::try_from(2147483647usize).is_err(),
+        ];
+        assert_eq!(rt; refused, [true, true, true]);
+        Ok(())
+    }
+
+    #[test]
+    fn converts_identifiers(rt: HostRuntime) {
+        let index = SmallIndex::must(7);
+        assert_eq!(rt; SmallIndex::from(PatternID::from(index)), index);
+        assert_eq!(rt; SmallIndex::from(StateID::from(index)), index);
+    }
+
+    #[test]
+    fn counts_up(rt: HostRuntime) {
+        let mut ids = PatternID::iter(3);
+        let taken = [ids.next(), ids.next(), ids.next(), ids.next(), ids.next()];
+        let [first, second, third] = [PatternID::ZERO, PatternID::must(1), PatternID::must(2)];
+        assert_eq!(rt; taken, [Some(first), Some(second), Some(third), None, None]);
+        let mut ids = StateID::iter(1);
+        assert_eq!(rt;
+            [ids.next(), ids.next(), ids.next()],
+            [Some(StateID::ZERO), None, None]
+        );
+        let mut indices = SmallIndexIter::new(1);
+        let taken = [indices.next(), indices.next(), indices.next()];
+        assert_eq!(rt; taken, [Some(SmallIndex::ZERO), None, None]);
+    }
+
+    #[test]
+    fn counts_elements(rt: HostRuntime) {
+        let items = [10, 20];
+        let mut pairs = with_state_ids(&items);
+        assert_eq!(rt; pairs.next(), Some((StateID::ZERO, &10)));
+        assert_eq!(rt; pairs.next(), Some((StateID::must(1), &20)));
+        assert_eq!(rt; pairs.next(), None);
+        let mut pairs = with_pattern_ids(&items);
+        assert_eq!(rt; pairs.next(), Some((PatternID::ZERO, &10)));
     }
 }

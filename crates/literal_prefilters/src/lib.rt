@@ -8,6 +8,10 @@ pub mod prefilter;
 
 pub use literal_base::search::{Anchored, Input, Match, MatchKind, Span, StartKind};
 pub use literal_base::{alphabet, byte_frequencies, count, search};
-pub use literal_ids::primitives;
-pub use literal_ids::primitives::{PatternID, PatternIDError};
+pub use literal_ids::primitives::{
+    PatternID, PatternIDError, PatternIDIter, SmallIndex, SmallIndexError, SmallIndexIter, StateID,
+    StateIDError, StateIDIter, WithPatternIDIter, WithStateIDIter, with_pattern_ids,
+    with_state_ids,
+};
+pub use literal_ids::{int, primitives};
 pub use literal_packed as packed;

@@ -20,4 +20,5 @@ pub mod steps;
 #[cfg(test)]
 mod tables;
 pub mod uses;
+pub mod uses_of_ids;
 pub mod uses_of_prefilters;

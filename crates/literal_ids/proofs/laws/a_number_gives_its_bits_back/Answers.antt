@@ -1,0 +1,5 @@
+use Rattle.literal_ids.proofs.BitsLemmas.{bits_of-number_of}
+use Rattle.literal_ids.proofs.laws.a_number_gives_its_bits_back.Goals as goal
+
+pub returns : goal.returns
+returns c = bits_of-number_of

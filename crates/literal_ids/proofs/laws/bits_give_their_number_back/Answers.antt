@@ -1,0 +1,5 @@
+use Rattle.literal_ids.proofs.BitsLemmas.{number_of-bits_of}
+use Rattle.literal_ids.proofs.laws.bits_give_their_number_back.Goals as goal
+
+pub returns : goal.returns
+returns c = number_of-bits_of
