@@ -7,6 +7,8 @@ mod builders;
 #[cfg(test)]
 mod compared;
 #[cfg(test)]
+mod paths;
+#[cfg(test)]
 mod pattern_lists;
 pub mod plain;
 #[cfg(test)]
