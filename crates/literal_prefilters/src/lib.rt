@@ -4,6 +4,6 @@
 
 pub use literal_base::search::{Anchored, Input, Match, MatchKind, Span, StartKind};
 pub use literal_base::{count, search};
-pub use literal_ids::primitives::{PatternID, PatternIDError};
 pub use literal_ids::primitives;
+pub use literal_ids::primitives::{PatternID, PatternIDError};
 pub use literal_packed as packed;

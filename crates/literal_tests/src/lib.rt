@@ -6,6 +6,7 @@
 mod builders;
 #[cfg(test)]
 mod compared;
+pub mod inputs;
 #[cfg(test)]
 mod paths;
 #[cfg(test)]
