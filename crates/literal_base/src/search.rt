@@ -312,8 +312,9 @@ impl Span {
         &bytes[self.start..self.end]
     }
 
-    /// The bytes of the span, to be written to: what is written there is written in the slice, whose
-    /// other bytes stay. It has to be a valid span of the slice.
+    /// The bytes of the span, lent in place to be written to: they lie in the slice's own memory,
+    /// `start` bytes after its beginning. It has to be a valid span of the slice. What the slice ends
+    /// as is not said; a caller whose proof needs it writes `&mut bytes[span.start..span.end]`.
     pub fn of_mut<'a>(&self, bytes: &'a mut [u8]) -> &'a mut [u8]
         requires { IsValidSpan bytes.old self.now }
         ensures part { result.now ≡ slice_range bytes.old self.now.start self.now.end }

@@ -7,6 +7,7 @@ mod builders;
 #[cfg(test)]
 mod compared;
 pub mod copies;
+pub mod inputs;
 #[cfg(test)]
 mod pattern_lists;
 #[cfg(test)]

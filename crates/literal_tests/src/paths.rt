@@ -1,38 +1,134 @@
-//! Each public path, named once.
+//! Each public path, named once: every item at the path of its module, and the items of `primitives`
+//! and `search` at the root too, where they are the same types.
 use literal_prefilters::packed::pattern::{Pattern, PatternIter, Patterns};
 use literal_prefilters::packed::rabinkarp::{RabinKarp, Rolling};
-use literal_prefilters::packed::{Builder, Config, FindIter, Searcher};
-use literal_prefilters::{count, packed, primitives, search};
+use literal_prefilters::packed::{self, Builder, Config, FindIter, Searcher};
+use literal_prefilters::prefilter::{
+    self, PrefilterI, RareBytesOne, RareBytesThree, RareBytesTwo, StartBytesOne, StartBytesThree,
+    StartBytesTwo,
+};
+use literal_prefilters::{alphabet, byte_frequencies, count, int, primitives, search};
 use std::test::Fail;
 
-/// The types that are not made below.
-type Others<'a> = (
-    count::Tally,
-    (Builder, Config, FindIter<'a, 'a>, Searcher),
-    (Pattern<'a>, PatternIter<'a>, Patterns),
-    (RabinKarp, Rolling),
-);
-
-/// The same types at the paths of their modules.
-type InModules<'a> = (
-    (primitives::PatternID, primitives::PatternIDError),
-    (search::Anchored, search::Input<'a>, search::Match),
-    (search::MatchKind, search::Span, search::StartKind),
-);
-
-/// The same types at the root.
-type AtRoot<'a> = (
-    (literal_prefilters::PatternID, literal_prefilters::PatternIDError),
-    (literal_prefilters::Anchored, literal_prefilters::Input<'a>, literal_prefilters::Match),
-    (literal_prefilters::MatchKind, literal_prefilters::Span, literal_prefilters::StartKind),
-);
-
-/// It is one type at both paths.
-fn at_root(items: InModules<'_>) -> AtRoot<'_> {
-    items
+#[test]
+fn patterns_stand_at_the_root(rt: HostRuntime) {
+    let id: literal_prefilters::PatternID = primitives::PatternID::MAX;
+    let refused: Option<primitives::PatternIDError> =
+        literal_prefilters::PatternID::new(usize::MAX).err();
+    let error: Option<literal_prefilters::PatternIDError> = refused;
+    assert_eq!(rt; id.one_more(), 2147483647);
+    assert_eq!(rt; error.map(|error| error.attempted()), Some(u64::MAX));
+    let mut ids: literal_prefilters::PatternIDIter = primitives::PatternID::iter(1);
+    assert_eq!(rt; ids.next(), Some(primitives::PatternID::ZERO));
+    let items = [b'a'];
+    let pairs: literal_prefilters::WithPatternIDIter<'_, u8> = primitives::with_pattern_ids(&items);
+    let again: primitives::WithPatternIDIter<'_, u8> = literal_prefilters::with_pattern_ids(&items);
+    assert_eq!(rt; pairs.count(), again.count());
 }
 
-/// The bytes of a value.
-fn size_of_one<T>(_: &T) -> usize {
-    size_of::<T>()
+#[test]
+fn states_stand_at_the_root(rt: HostRuntime) {
+    let id: literal_prefilters::StateID = primitives::StateID::MAX;
+    let refused: Option<primitives::StateIDError> =
+        literal_prefilters::StateID::new(usize::MAX).err();
+    let error: Option<literal_prefilters::StateIDError> = refused;
+    assert_eq!(rt; id.one_more(), 2147483647);
+    assert_eq!(rt; error.map(|error| error.attempted()), Some(u64::MAX));
+    let mut ids: literal_prefilters::StateIDIter = primitives::StateID::iter(1);
+    assert_eq!(rt; ids.next(), Some(primitives::StateID::ZERO));
+    let items = [b'a'];
+    let pairs: literal_prefilters::WithStateIDIter<'_, u8> = primitives::with_state_ids(&items);
+    let again: primitives::WithStateIDIter<'_, u8> = literal_prefilters::with_state_ids(&items);
+    assert_eq!(rt; pairs.count(), again.count());
 }
+
+#[test]
+fn small_indices_stand_at_the_root(rt: HostRuntime) {
+    let index: literal_prefilters::SmallIndex = primitives::SmallIndex::MAX;
+    let refused: Option<primitives::SmallIndexError> =
+        literal_prefilters::SmallIndex::new(usize::MAX).err();
+    let error: Option<literal_prefilters::SmallIndexError> = refused;
+    assert_eq!(rt; index.one_more(), 2147483647);
+    assert_eq!(rt; error.map(|error| error.attempted()), Some(u64::MAX));
+    let mut indices: literal_prefilters::SmallIndexIter = primitives::SmallIndexIter::new(1);
+    assert_eq!(rt; indices.next(), Some(primitives::SmallIndex::ZERO));
+}
+
+#[test]
+fn conversions_stand_in_their_module(rt: HostRuntime) {
+    assert_eq!(rt; int::U8::as_usize(7u8), 7);
+    assert_eq!(rt; int::U16::low_u8(0x1234u16), 0x34);
+    assert_eq!(rt; int::U32::high_u16(0x12345678u32), 0x1234);
+    assert_eq!(rt; int::U64::low_u32(7u64), 7);
+    assert_eq!(rt; int::I8::to_bits(-1i8), 255);
+    assert_eq!(rt; int::I32::to_bits(-1i32), u32::MAX);
+    assert_eq!(rt; int::I64::to_bits(-1i64), u64::MAX);
+    assert_eq!(rt; int::Usize::as_u8(7usize), 7);
+}
+
+#[test]
+fn bytes_stand_in_their_modules(rt: HostRuntime) {
+    let set: alphabet::ByteSet = alphabet::ByteSet::empty();
+    assert!(rt; !set.contains(alphabet::opposite_ascii_case(b'a')));
+    let marked: alphabet::ByteClassSet = alphabet::ByteClassSet::empty();
+    let classes: alphabet::ByteClasses = marked.byte_classes();
+    let mut all: alphabet::ByteClassIter<'_> = classes.iter();
+    let mut bytes: alphabet::ByteClassElements<'_> = classes.elements(0);
+    let mut ranges: alphabet::ByteClassElementRanges<'_> = classes.element_ranges(0);
+    assert_eq!(rt; (all.next(), bytes.next(), ranges.next()), (Some(0), Some(0), Some((0, 255))));
+    let rank = byte_frequencies::freq_rank(b'a');
+    assert_eq!(rt; rank, byte_frequencies::BYTE_FREQUENCIES[97]);
+}
+
+#[test]
+fn prefilters_stand_in_their_module(rt: HostRuntime) -> Result<(), Fail> {
+    let mut builder: prefilter::Builder = prefilter::Builder::new(rt.alloc(), search::MatchKind::Standard);
+    builder.add(b"ob")?;
+    let pre: prefilter::Prefilter = builder.build()?.ok_or("there is no prefilter")?;
+    let span = search::Span { start: 0, end: 6 };
+    let candidate: prefilter::Candidate = pre.find_in(b"foobar", span);
+    assert!(rt; candidate.into_option().is_some());
+    let mut patterns: Patterns = Patterns::new(rt.alloc());
+    patterns.add(b"ob")?;
+    let table: Option<prefilter::ByteTable> = prefilter::ByteTable::start(&patterns, false);
+    assert!(rt; table.is_some());
+    Ok(())
+}
+
+#[test]
+fn search_stands_at_the_root(rt: HostRuntime) {
+    let span: literal_prefilters::Span = search::Span { start: 2, end: 4 };
+    let found: literal_prefilters::Match = search::Match::must(7, span);
+    let input: literal_prefilters::Input<'_> = search::Input::new(b"foobar").span(span);
+    let mode: literal_prefilters::Anchored = search::Anchored::Yes;
+    let kind: literal_prefilters::MatchKind = search::MatchKind::LeftmostLongest;
+    let start_kind: literal_prefilters::StartKind = search::StartKind::default();
+    assert_eq!(rt; found.span(), input.get_span());
+    assert!(rt; input.get_anchored() != mode);
+    assert_eq!(rt; kind.as_packed(), Some(packed::MatchKind::LeftmostLongest));
+    assert_eq!(rt; start_kind, literal_prefilters::StartKind::Unanchored);
+}
+
+#[test]
+fn packed_stands_at_its_path(rt: HostRuntime) -> Result<(), Fail> {
+    let mut tally = count::Tally::new();
+    let mut patterns: Patterns = Patterns::new(rt.alloc());
+    patterns.add(b"ob")?;
+    let items: PatternIter<'_> = patterns.iter();
+    let (id, pattern): (primitives::PatternID, Pattern<'_>) = items.last().ok_or("no pattern")?;
+    let found = RabinKarp::new(&patterns, &mut tally)?.find_at(&patterns, b"foobar", 0, &mut tally);
+    assert_eq!(rt;
+        found,
+        Some(search::Match::new(id, search::Span { start: 2, end: 4 }))
+    );
+    let mut rolling = Rolling::new(pattern.len());
+    rolling.push(b'o', &mut tally);
+    assert_eq!(rt; rolling.value(), 111);
+    let mut builder: Builder = Config::new().builder(rt.alloc());
+    builder.add(pattern.bytes())?;
+    let searcher: Searcher = builder.build()?.ok_or("no searcher")?;
+    let mut matches: FindIter<'_, '_> = searcher.find_iter(b"foobar");
+    assert_eq!(rt; matches.next(), found);
+    Ok(())
+}
+
