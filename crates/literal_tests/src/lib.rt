@@ -9,9 +9,9 @@ mod compared;
 pub mod copies;
 pub mod inputs;
 #[cfg(test)]
-mod pattern_lists;
-#[cfg(test)]
 mod paths;
+#[cfg(test)]
+mod pattern_lists;
 pub mod plain;
 #[cfg(test)]
 mod prefilters;

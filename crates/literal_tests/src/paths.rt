@@ -13,8 +13,9 @@ use std::test::Fail;
 #[test]
 fn patterns_stand_at_the_root(rt: HostRuntime) {
     let id: literal_prefilters::PatternID = primitives::PatternID::MAX;
-    let refused: Option<primitives::PatternIDError> =
-        literal_prefilters::PatternID::new(usize::MAX).err();
+    let refused: Option<primitives::PatternIDError> = literal_prefilters::PatternID::new(
+        usize::MAX,
+    ).err();
     let error: Option<literal_prefilters::PatternIDError> = refused;
     assert_eq!(rt; id.one_more(), 2147483647);
     assert_eq!(rt; error.map(|error| error.attempted()), Some(u64::MAX));
@@ -29,8 +30,9 @@ fn patterns_stand_at_the_root(rt: HostRuntime) {
 #[test]
 fn states_stand_at_the_root(rt: HostRuntime) {
     let id: literal_prefilters::StateID = primitives::StateID::MAX;
-    let refused: Option<primitives::StateIDError> =
-        literal_prefilters::StateID::new(usize::MAX).err();
+    let refused: Option<primitives::StateIDError> = literal_prefilters::StateID::new(
+        usize::MAX,
+    ).err();
     let error: Option<literal_prefilters::StateIDError> = refused;
     assert_eq!(rt; id.one_more(), 2147483647);
     assert_eq!(rt; error.map(|error| error.attempted()), Some(u64::MAX));
@@ -45,8 +47,9 @@ fn states_stand_at_the_root(rt: HostRuntime) {
 #[test]
 fn small_indices_stand_at_the_root(rt: HostRuntime) {
     let index: literal_prefilters::SmallIndex = primitives::SmallIndex::MAX;
-    let refused: Option<primitives::SmallIndexError> =
-        literal_prefilters::SmallIndex::new(usize::MAX).err();
+    let refused: Option<primitives::SmallIndexError> = literal_prefilters::SmallIndex::new(
+        usize::MAX,
+    ).err();
     let error: Option<literal_prefilters::SmallIndexError> = refused;
     assert_eq!(rt; index.one_more(), 2147483647);
     assert_eq!(rt; error.map(|error| error.attempted()), Some(u64::MAX));
@@ -75,14 +78,20 @@ fn bytes_stand_in_their_modules(rt: HostRuntime) {
     let mut all: alphabet::ByteClassIter<'_> = classes.iter();
     let mut bytes: alphabet::ByteClassElements<'_> = classes.elements(0);
     let mut ranges: alphabet::ByteClassElementRanges<'_> = classes.element_ranges(0);
-    assert_eq!(rt; (all.next(), bytes.next(), ranges.next()), (Some(0), Some(0), Some((0, 255))));
+    assert_eq!(rt;
+        (all.next(), bytes.next(), ranges.next()),
+        (Some(0), Some(0), Some((0, 255)))
+    );
     let rank = byte_frequencies::freq_rank(b'a');
     assert_eq!(rt; rank, byte_frequencies::BYTE_FREQUENCIES[97]);
 }
 
 #[test]
 fn prefilters_stand_in_their_module(rt: HostRuntime) -> Result<(), Fail> {
-    let mut builder: prefilter::Builder = prefilter::Builder::new(rt.alloc(), search::MatchKind::Standard);
+    let mut builder: prefilter::Builder = prefilter::Builder::new(
+        rt.alloc(),
+        search::MatchKind::Standard,
+    );
     builder.add(b"ob")?;
     let pre: prefilter::Prefilter = builder.build()?.ok_or("there is no prefilter")?;
     let span = search::Span { start: 0, end: 6 };
@@ -92,6 +101,20 @@ fn prefilters_stand_in_their_module(rt: HostRuntime) -> Result<(), Fail> {
     patterns.add(b"ob")?;
     let table: Option<prefilter::ByteTable> = prefilter::ByteTable::start(&patterns, false);
     assert!(rt; table.is_some());
+    // the builder alone makes these
+    let starts: (
+        Option<StartBytesOne>,
+        Option<StartBytesTwo>,
+        Option<StartBytesThree>,
+    ) = (None, None, None);
+    let rares: (
+        Option<RareBytesOne>,
+        Option<RareBytesTwo>,
+        Option<RareBytesThree>,
+    ) = (None, None, None);
+    assert!(rt; starts.0.is_none() && rares.0.is_none());
+    let by_trait = PrefilterI::find_in(&pre, b"foobar", span, &mut count::Tally::new());
+    assert!(rt; by_trait.into_option().is_some());
     Ok(())
 }
 
@@ -131,4 +154,3 @@ fn packed_stands_at_its_path(rt: HostRuntime) -> Result<(), Fail> {
     assert_eq!(rt; matches.next(), found);
     Ok(())
 }
-

@@ -1,9 +1,8 @@
 //! Worked cases of prefilters.
-use literal_prefilters::MatchKind;
 use literal_prefilters::count::Tally;
 use literal_prefilters::prefilter::{Builder, Candidate, Prefilter, PrefilterI};
 use literal_prefilters::search::{Match, Span};
-use literal_prefilters::PatternID;
+use literal_prefilters::{MatchKind, PatternID};
 use std::alloc::Global;
 use std::test::Fail;
 
@@ -18,19 +17,49 @@ type Row = (
 );
 
 static ROWS: [Row; 18] = [
-    (&[b"Sherlock", b"lockjaw"], false, b"I am lockjaw", 0, Some(1)),
-    (&[b"Sherlock", b"lockjaw"], false, b"I am lockjaw", 3, Some(3)),
+    (
+        &[b"Sherlock", b"lockjaw"],
+        false,
+        b"I am lockjaw",
+        0,
+        Some(1),
+    ),
+    (
+        &[b"Sherlock", b"lockjaw"],
+        false,
+        b"I am lockjaw",
+        3,
+        Some(3),
+    ),
     (&[b"Sherlock", b"lockjaw"], false, b"I am lockjaw", 9, None),
     (&[b"Sherlock", b"lockjaw"], true, b"ShLOCKJAW", 0, Some(0)),
-    (&[b"lockjaw", b"Sherlock"], false, b"I am lockjaw", 0, Some(1)),
+    (
+        &[b"lockjaw", b"Sherlock"],
+        false,
+        b"I am lockjaw",
+        0,
+        Some(1),
+    ),
     (&[b"lockjaw", b"Sherlock"], false, b"I am a jaw", 0, Some(3)),
     (&[b"foo", b"bar"], false, b"xxbafoo", 0, Some(2)),
     (&[b"foo", b"fab"], false, b"xxbafoo", 0, Some(4)),
     (&[b"foo"], true, b"xxFOO", 0, Some(2)),
     (&[b"foo"], true, b"", 0, None),
     (&[b"ax", b"by", b"cz"], false, b"qqby", 0, Some(2)),
-    (&[b"apple", b"maple", b"Snapple"], false, b"in an apple", 0, Some(3)),
-    (&[b"apple", b"maple", b"Snapple"], false, b"in an apple", 9, None),
+    (
+        &[b"apple", b"maple", b"Snapple"],
+        false,
+        b"in an apple",
+        0,
+        Some(3),
+    ),
+    (
+        &[b"apple", b"maple", b"Snapple"],
+        false,
+        b"in an apple",
+        9,
+        None,
+    ),
     (&[b"aa"], false, b"baa", 0, Some(1)),
     (&[b"sherlock"], true, b"xxSHERLOCK", 0, Some(2)),
     (&[b"["], true, b"`{@[", 0, Some(3)),
@@ -83,8 +112,9 @@ fn proposes_places(rt: HostRuntime) -> Result<(), Fail> {
             end: haystack.len(),
         };
         for kind in kinds {
-            let pre = prefilter(rt.alloc(), kind, ignore_case, patterns)?
-                .ok_or("there is no prefilter")?;
+            let pre = prefilter(rt.alloc(), kind, ignore_case, patterns)?.ok_or(
+                "there is no prefilter",
+            )?;
             assert_eq!(rt; place(pre.find_in(haystack, span))?, wanted, "{patterns:?}");
             let counted = pre.find_in_counted(haystack, span, &mut Tally::new());
             assert_eq!(rt; place(counted)?, wanted, "{patterns:?}, counted");
@@ -104,8 +134,9 @@ fn goes_back_254_bytes_at_most(rt: HostRuntime) -> Result<(), Fail> {
     long[255] = b'Q';
     let span = Span { start: 0, end: 255 };
     let of_255: &[u8] = &long[..255];
-    let pre = prefilter(rt.alloc(), MatchKind::Standard, false, &[of_255, b"\xC0Q"])?
-        .ok_or("there is no prefilter")?;
+    let pre = prefilter(rt.alloc(), MatchKind::Standard, false, &[of_255, b"\xC0Q"])?.ok_or(
+        "there is no prefilter",
+    )?;
     assert_eq!(rt; place(pre.find_in(of_255, span))?, Some(0));
     let of_256: &[u8] = &long;
     let none = prefilter(rt.alloc(), MatchKind::Standard, false, &[of_256, b"\xC0Q"])?;

@@ -24,10 +24,9 @@ pub fn step_plainly(table: &ByteTable, haystack: &[u8], span: Span) -> Option<us
 mod tests {
     use super::step_plainly;
     use crate::plain::leftmost_plainly;
-    use literal_prefilters::packed;
     use literal_prefilters::packed::pattern::Patterns;
     use literal_prefilters::prefilter::{Builder, ByteTable, Candidate, Prefilter};
-    use literal_prefilters::{MatchKind, Span};
+    use literal_prefilters::{MatchKind, Span, packed};
     use std::process::Abort;
     use std::test::Fail;
 
@@ -74,7 +73,10 @@ mod tests {
         }
         let first = packed::MatchKind::LeftmostFirst;
         let found = leftmost_plainly(list.0, first, list.1, haystack, span);
-        match (pre.find_in(haystack, span), step_plainly(table, haystack, span)) {
+        match (
+            pre.find_in(haystack, span),
+            step_plainly(table, haystack, span),
+        ) {
             (Candidate::None, None) => found.is_none(),
             (Candidate::PossibleStartOfMatch(start), Some(wanted)) => {
                 start == wanted && found.is_none_or(|it| start <= it.start())
@@ -84,18 +86,16 @@ mod tests {
     }
 
     /// Compares on all haystacks of five bytes and some of their spans, and returns how many there are.
-    fn compare(
-        rt: &impl Abort,
-        pre: &Prefilter,
-        table: &ByteTable,
-        list: (&[&[u8]], bool),
-    ) -> u32 {
+    fn compare(rt: &impl Abort, pre: &Prefilter, table: &ByteTable, list: (&[&[u8]], bool)) -> u32 {
         let mut spans: u32 = 0;
         for number in 0..3125 {
             let haystack = bytes_of(number);
             for (start, end) in [(0, 5), (1, 5), (0, 4), (2, 4), (3, 3)] {
                 let span = Span { start, end };
-                assert!(rt; compare_in(pre, table, list, &haystack, span), "{list:?}: {haystack:?} in {span:?}");
+                assert!(rt;
+                    compare_in(pre, table, list, &haystack, span),
+                    "{list:?}: {haystack:?} in {span:?}"
+                );
                 spans = spans.wrapping_add(1);
             }
         }
@@ -106,8 +106,9 @@ mod tests {
     fn steps_as_is_found_plainly(rt: HostRuntime) -> Result<(), Fail> {
         for (list, ignore_case, is_start) in LISTS {
             let mut patterns = Patterns::new(rt.alloc());
-            let mut builder = Builder::new(rt.alloc(), MatchKind::Standard)
-                .ascii_case_insensitive(ignore_case);
+            let mut builder = Builder::new(rt.alloc(), MatchKind::Standard).ascii_case_insensitive(
+                ignore_case,
+            );
             for bytes in list {
                 assert!(rt; !bytes.is_empty() && patterns.len() < 3);
                 patterns.add(bytes)?;

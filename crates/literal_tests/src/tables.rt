@@ -102,7 +102,12 @@ static ROWS: [Row; 20] = [
         None,
         Some((437, &[(b'@', 0), (b'K', 1), (b'k', 1)])),
     ),
-    (&[b"\x7F"], false, Some((27, &[(0x7F, 0)])), Some((27, &[(0x7F, 0)]))),
+    (
+        &[b"\x7F"],
+        false,
+        Some((27, &[(0x7F, 0)])),
+        Some((27, &[(0x7F, 0)])),
+    ),
     (
         &[b"ab", b"ABC"],
         true,
@@ -142,8 +147,14 @@ fn tables_are_as_worked(rt: HostRuntime) -> Result<(), Fail> {
         let mut patterns = patterns_of(rt.alloc(), list)?;
         for kind in [MatchKind::LeftmostFirst, MatchKind::LeftmostLongest] {
             patterns.set_match_kind(kind)?;
-            assert!(rt; is_table(ByteTable::start(&patterns, ignore_case), start), "{list:?}");
-            assert!(rt; is_table(ByteTable::rare(&patterns, ignore_case), rare), "{list:?}");
+            assert!(rt;
+                is_table(ByteTable::start(&patterns, ignore_case), start),
+                "{list:?}"
+            );
+            assert!(rt;
+                is_table(ByteTable::rare(&patterns, ignore_case), rare),
+                "{list:?}"
+            );
         }
     }
     Ok(())
@@ -155,9 +166,19 @@ fn scans_to_the_first_byte(rt: HostRuntime) -> Result<(), Fail> {
     let table = ByteTable::rare(&patterns, false).ok_or("there is no rare table")?;
     let haystack = b"I am lockjaw";
     let mut tally = Tally::new();
-    for (start, end, wanted) in [(0, 12, Some(8)), (8, 12, Some(8)), (9, 12, None), (0, 8, None), (12, 12, None)] {
+    for (start, end, wanted) in [
+        (0, 12, Some(8)),
+        (8, 12, Some(8)),
+        (9, 12, None),
+        (0, 8, None),
+        (12, 12, None),
+    ] {
         let span = Span { start, end };
-        assert_eq!(rt; table.scan(haystack, span, &mut tally), wanted, "in {span:?}");
+        assert_eq!(rt;
+            table.scan(haystack, span, &mut tally),
+            wanted,
+            "in {span:?}"
+        );
     }
     Ok(())
 }

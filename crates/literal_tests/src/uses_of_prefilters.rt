@@ -22,8 +22,8 @@ pub fn search_from<P: PrefilterI>(
     ensures { (patterns : List (List ℕ)) (kind : MatchKind) (ignore_case : Bool)
         → P.covers pre.now patterns kind ignore_case
         → MatchOption result
-            (NothingOccurs patterns ignore_case haystack.now span)
-            (λ start. (i at : ℕ) → Occurs patterns ignore_case haystack.now span i at → start ≤ at) }
+        (NothingOccurs patterns ignore_case haystack.now span)
+        (λ start. (i at : ℕ) → Occurs patterns ignore_case haystack.now span i at → start ≤ at) }
 {
     pre.find_in(haystack, span, tally).into_option()
 }
