@@ -14,6 +14,7 @@ pub use state_id::{StateID, StateIDError, StateIDIter, WithStateIDIter, with_sta
 #[cfg(test)]
 mod tests {
     use super::*;
+    use crate::laws;
     use std::test::Fail;
 
     #[test]
@@ -27,8 +28,9 @@ mod tests {
             (index.as_u64(), index.as_u32(), index.as_i32()),
             (2147483646, 2147483646, 2147483646)
         );
-        let ends = [SmallIndex::default(), SmallIndex::must(2147483646)];
-        assert_eq!(rt; ends, [SmallIndex::ZERO, SmallIndex::MAX]);
+        let ends = (SmallIndex::default(), SmallIndex::must(2147483646));
+        assert_eq!(rt; ends, (SmallIndex::ZERO, SmallIndex::MAX));
+        assert_eq!(rt; ends, laws::ends_of_small_indices());
         Ok(())
     }
 
@@ -43,8 +45,9 @@ mod tests {
             (id.as_u64(), id.as_u32(), id.as_i32()),
             (2147483646, 2147483646, 2147483646)
         );
-        let ends = [PatternID::default(), PatternID::must(2147483646)];
-        assert_eq!(rt; ends, [PatternID::ZERO, PatternID::MAX]);
+        let ends = (PatternID::default(), PatternID::must(2147483646));
+        assert_eq!(rt; ends, (PatternID::ZERO, PatternID::MAX));
+        assert_eq!(rt; ends, laws::ends_of_pattern_ids());
         Ok(())
     }
 
@@ -59,8 +62,9 @@ mod tests {
             (id.as_u64(), id.as_u32(), id.as_i32()),
             (2147483646, 2147483646, 2147483646)
         );
-        let ends = [StateID::default(), StateID::must(2147483646)];
-        assert_eq!(rt; ends, [StateID::ZERO, StateID::MAX]);
+        let ends = (StateID::default(), StateID::must(2147483646));
+        assert_eq!(rt; ends, (StateID::ZERO, StateID::MAX));
+        assert_eq!(rt; ends, laws::ends_of_state_ids());
         Ok(())
     }
 
