@@ -4,6 +4,7 @@
 
 #[cfg(test)]
 mod builders;
+pub mod classes;
 #[cfg(test)]
 mod compared;
 #[cfg(test)]
