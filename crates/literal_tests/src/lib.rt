@@ -11,5 +11,7 @@ mod compared;
 mod pattern_lists;
 pub mod plain;
 #[cfg(test)]
+mod ranks;
+#[cfg(test)]
 mod rows;
 pub mod uses;
