@@ -1,12 +1,13 @@
 -- The marks of ranges of bytes.
-use Rattle.std.proofs.Common.{◌≡◌, ◌==◌, ℕ, ◌+◌, ◌-◌, ◌<◌, ◌≤◌, ◌||◌, Bool, true, false, List, [], ◌∷◌, ◌++◌, length, sym, refl, ap, ⊎_elim, ◌∙◌, arith}
-use Rattle.std.proofs.lemmas.Bool.{eq-eqb, ne_eqb, cases_eq}
+use Rattle.std.proofs.Common.{◌≡◌, ◌==◌, ℕ, ◌+◌, ◌-◌, ◌<◌, ◌≤◌, ◌||◌, ◌↔◌, Bool, true, false, List, [], ◌∷◌, ◌++◌, length, get_or, sym, refl, ap, ⊎_elim, ◌∙◌, arith}
+use Rattle.std.proofs.lemmas.Bool.{eq-eqb, ne_eqb, cases_eq, cases_Bool, both_ways}
 use Rattle.std.proofs.lemmas.Bool.Decides.{nat_tests}
-use Rattle.std.specs.List.{list_any}
-use Rattle.std.proofs.lemmas.List.Folds.{list_any-append}
+use Rattle.std.specs.List.{All, list_any}
+use Rattle.std.proofs.lemmas.List.Folds.{list_any-append, list_any_at, list_any_none}
+use Rattle.std.proofs.lemmas.List.Sums.{count_by_more_no, count_by_more_yes}
 use Rattle.literal_base.specs.Bytes.{contains}
-use Rattle.literal_base.specs.Classes.{holds, is_marked_by, with_range_marked, marks_of}
-use Rattle.literal_base.proofs.ByByte.{by_byte_is, by_byte_agree, get_or-by_byte}
+use Rattle.literal_base.specs.Classes.{holds, is_marked_by, with_range_marked, marks_of, class_of, NonePart}
+use Rattle.literal_base.proofs.ByByte.{by_byte_is, by_byte_agree, get_or-by_byte, length-by_byte}
 
 or_exchanged : (a b c : Bool) → ((a || b) || c) ≡ (a || (c || b))
 or_exchanged true b c = refl
@@ -49,3 +50,35 @@ marked_parts first last b ordered unmarked = grind (arith, nat_tests)
 
 parts_marked : (first last b : ℕ) → first ≤ last → holds (first, last) b ≡ holds (first, last) (b + 1) → is_marked_by (first, last) b ≡ false
 parts_marked first last b ordered same = grind (arith, nat_tests)
+
+-- a byte tells itself from the next exactly if it is marked
+class_of-more : (marked : List Bool) (b : ℕ) → length marked ≡ 256 → b < 256 → (class_of marked b ≡ class_of marked (b + 1)) ↔ (contains marked b ≡ false)
+class_of-more marked b whole below = (
+  λ same. ⊎_elim
+      (λ here. let more = count_by_more_yes (λ m. m) marked b false (omega arith) here in absurd (omega arith))
+      (λ none. none)
+      (cases_Bool (contains marked b)),
+  λ none. sym (count_by_more_no (λ m. m) marked b false (omega arith) none),
+)
+
+none_marks : (ranges : List (ℕ × ℕ)) (b : ℕ) → All (λ range. range.0 ≤ range.1) ranges → list_any (λ range. is_marked_by range b) ranges ≡ false → NonePart ranges b
+none_marks ranges b ordered none k d below =
+    let range = get_or ranges k d in
+    marked_parts range.0 range.1 b (ordered k d below) (⊎_elim
+    (λ one. absurd (both_ways (list_any (λ range. is_marked_by range b) ranges) none (list_any_at (λ range. is_marked_by range b) ranges k d below one)))
+    (λ not. not)
+    (cases_Bool (is_marked_by range b)))
+
+none_part : (ranges : List (ℕ × ℕ)) (b : ℕ) → All (λ range. range.0 ≤ range.1) ranges → NonePart ranges b → list_any (λ range. is_marked_by range b) ranges ≡ false
+none_part ranges b ordered none =
+    list_any_none (λ range. is_marked_by range b) ranges (λ k d below.
+    let range = get_or ranges k d in
+    parts_marked range.0 range.1 b (ordered k d below) (none k d below))
+
+pub share_a_class : (ranges : List (ℕ × ℕ)) (b : ℕ) → All (λ range. range.0 ≤ range.1) ranges → b < 255 → (class_of (marks_of ranges) b ≡ class_of (marks_of ranges) (b + 1)) ↔ NonePart ranges b
+share_a_class ranges b ordered below =
+    let is : contains (marks_of ranges) b ≡ list_any (λ range. is_marked_by range b) ranges = get_or-by_byte (λ b. list_any (λ range. is_marked_by range b) ranges) b false (omega arith) in
+    let told = class_of-more (marks_of ranges) b (length-by_byte (λ b. list_any (λ range. is_marked_by range b) ranges)) (omega arith) in (
+      λ same. none_marks ranges b ordered (sym is ∙ told.0 same),
+      λ none. told.1 (is ∙ none_part ranges b ordered none),
+    )

@@ -1,8 +1,9 @@
 -- The runs of bytes in rising order.
-use Rattle.std.proofs.Common.{◌≡◌, ◌==◌, ℕ, zero, suc, ◌+◌, ◌-◌, ◌<◌, ◌≤◌, Bool, true, false, cond, List, [], ◌∷◌, ◌++◌, length, sym, refl, ap, ap₂, ◌∙◌, subst, ⊎_elim, arith}
-use Rattle.std.specs.List.{All, AllPairs, flat_map, range_with_len}
-use Rattle.std.proofs.lemmas.Bool.{cond-true, cond-false, eq-eqb, ne_eqb, cases_eq}
-use Rattle.std.proofs.lemmas.List.Elements.{All-nil, All-cons, All-head, All-tail, All-same, All-weaker}
+use Rattle.std.proofs.Common.{◌≡◌, ◌==◌, ℕ, zero, suc, ◌+◌, ◌-◌, ◌<◌, ◌≤◌, Bool, true, false, cond, List, [], ◌∷◌, ◌++◌, length, get_or, ◌≢◌, sym, refl, ap, ap₂, ◌∙◌, subst, ⊎_elim, arith}
+use Rattle.std.specs.List.{All, AllPairs, Contains, flat_map, range_with_len}
+use Rattle.std.proofs.lemmas.Bool.{cond-true, cond-false, eq-eqb, ne_eqb, cases_eq, cases_order}
+use Rattle.std.proofs.lemmas.List.Elements.{All-nil, All-cons, All-head, All-tail, All-same, All-weaker, Contains-append_cases}
+use Rattle.std.proofs.lemmas.List.FromFn.{length-range_with_len, get_or-range_with_len}
 use Rattle.std.proofs.lemmas.List.Kept.{AllPairs-cons}
 use Rattle.literal_base.specs.Classes.{bytes_in, AreRuns}
 use Rattle.literal_base.specs.ClassesInside.{joined, runs_of}
@@ -128,3 +129,42 @@ length-joined-le run (next ∷ more) = grind arith
 pub length-runs_of-le : (bytes : List ℕ) → length (runs_of bytes) ≤ length bytes
 length-runs_of-le [] = omega arith
 length-runs_of-le (b ∷ bytes) = omega (arith, length-joined-le (b, b) (runs_of bytes), length-runs_of-le bytes)
+
+in_range : (range : ℕ × ℕ) (x : ℕ) → Contains (bytes_in range) x → (range.0 ≤ x) × (x ≤ range.1)
+in_range range x (k, below, is) =
+    let n = range.1 + 1 - range.0 in
+    let here : k < n = omega (arith, length-range_with_len range.0 n) in
+    let place : x ≡ range.0 + k = sym is ∙ get_or-range_with_len range.0 n k x here in
+    (omega arith, omega arith)
+
+-- each byte lies in a run
+in_a_run : (runs : List (ℕ × ℕ)) (x : ℕ) (d : ℕ × ℕ) → Contains (flat_map bytes_in runs) x → (j : ℕ) × (j < length runs) × ((get_or runs j d).0 ≤ x) × (x ≤ (get_or runs j d).1)
+in_a_run [] x d (k, below, is) = absurd (omega arith)
+in_a_run (run ∷ runs) x d has =
+    ⊎_elim
+    (λ here. let within = in_range run x here in (0, omega arith, within.0, within.1))
+    (λ later. let found = in_a_run runs x d later in (suc found.0, omega arith, found.2, found.3))
+    (Contains-append_cases (bytes_in run) (flat_map bytes_in runs) x has)
+
+not_beside : (bytes : List ℕ) (runs : List (ℕ × ℕ)) → AreRuns bytes runs → (k : ℕ) (d : ℕ × ℕ) → k < length runs → (x : ℕ) → Contains bytes x → (x ≢ (get_or runs k d).1 + 1) × (x + 1 ≢ (get_or runs k d).0)
+not_beside bytes runs are k d below x has =
+    let found = in_a_run runs x d (subst (λ xs. Contains xs x) (sym are.whole) has) in
+    let ordered : (get_or runs k d).0 ≤ (get_or runs k d).1 = are.some k d below in
+    let low : (get_or runs found.0 d).0 ≤ x = found.2 in
+    let high : x ≤ (get_or runs found.0 d).1 = found.3 in
+    ⊎_elim
+    (λ same.
+    let low : (get_or runs k d).0 ≤ x = subst (λ j. (get_or runs j d).0 ≤ x) same low in
+    let high : x ≤ (get_or runs k d).1 = subst (λ j. x ≤ (get_or runs j d).1) same high in
+    (λ e. omega arith, λ e. omega arith))
+    (λ other. ⊎_elim
+    (λ before. let apart : (get_or runs found.0 d).1 + 1 < (get_or runs k d).0 = are.apart found.0 k d before below in (λ e. omega arith, λ e. omega arith))
+    (λ after. let apart : (get_or runs k d).1 + 1 < (get_or runs found.0 d).0 = are.apart k found.0 d after found.1 in (λ e. omega arith, λ e. omega arith))
+    other)
+    (cases_order found.0 k)
+
+pub runs_maximal : (bytes : List ℕ) (runs : List (ℕ × ℕ)) → AreRuns bytes runs → All (λ run. ¬ Contains bytes (run.1 + 1) × (0 < run.0 → ¬ Contains bytes (run.0 - 1))) runs
+runs_maximal bytes runs are k d below = (
+  λ has. (not_beside bytes runs are k d below _ has).0 refl,
+  λ some has. (not_beside bytes runs are k d below _ has).1 (omega arith),
+)

@@ -1,7 +1,9 @@
 //! Laws of the definitions that contracts cite. Each function does nothing, and its contract is the
 //! law.
-ghost use Rattle.std.specs.Prelude.{◌≡◌, ◌<◌, ◌≤◌, List, ℕ, Bool, Option, IsTrue, length};
-ghost use Rattle.std.specs.List.{All};
+ghost use Rattle.std.specs.Prelude.{◌≡◌, ◌+◌, ◌-◌, ◌<◌, ◌≤◌, ◌↔◌, [], ◌∷◌, ◌++◌, List, ℕ, Bool, Option, IsTrue, length};
+ghost use Rattle.std.specs.List.{All, Contains};
+ghost use Rattle.literal_base.specs.Bytes.{no_bytes, opposite_case};
+ghost use Rattle.literal_base.specs.Classes.{AreRuns, NonePart, class_of, marks_of, with_range_marked};
 ghost use Rattle.literal_base.specs.declared.packed.MatchKind.{MatchKind};
 ghost use Rattle.literal_base.specs.declared.packed.MatchKind.TheVariants.{LeftmostFirst, LeftmostLongest};
 ghost use Rattle.literal_base.specs.declared.search.Span.{Span};
@@ -69,4 +71,36 @@ pub fn equal_spans_hash_alike()
 /// Equal matches hash alike: they make the same writes to every hasher.
 pub fn equal_matches_hash_alike()
     ensures { (a b : Found) → IsTrue (⟦<Match as PartialEq>⟧.eq a b) → ⟦<Match as Hash>⟧.hash_input a ≡ ⟦<Match as Hash>⟧.hash_input b }
+{}
+
+/// Neighbouring bytes are of one class exactly if no range that was marked holds just one of them.
+pub fn neighbours_share_a_class()
+    ensures { (ranges : List (ℕ × ℕ)) (b : ℕ)
+        → All (λ range. range.0 ≤ range.1) ranges
+        → b < 255
+        → (class_of (marks_of ranges) b ≡ class_of (marks_of ranges) (b + 1)) ↔ NonePart ranges b }
+{}
+
+/// The marks of a list of ranges come from no mark by marking one range after another.
+pub fn marks_come_range_by_range()
+    ensures none { marks_of [] ≡ no_bytes }
+    ensures one_more { (ranges : List (ℕ × ℕ)) (start end : ℕ)
+        → marks_of (ranges ++ (start, end) ∷ []) ≡ with_range_marked (marks_of ranges) start end }
+{}
+
+/// No bytes have two lists of maximal runs.
+pub fn runs_are_unique()
+    ensures { (bytes : List ℕ) (a b : List (ℕ × ℕ)) → AreRuns bytes a → AreRuns bytes b → a ≡ b }
+{}
+
+/// Neither the byte before a maximal run nor the byte after it is among the bytes.
+pub fn runs_are_maximal()
+    ensures { (bytes : List ℕ) (runs : List (ℕ × ℕ))
+        → AreRuns bytes runs
+        → All (λ run. ¬ Contains bytes (run.1 + 1) × (0 < run.0 → ¬ Contains bytes (run.0 - 1))) runs }
+{}
+
+/// The other case of the other case is the byte itself.
+pub fn opposite_case_is_its_own_inverse()
+    ensures { (b : ℕ) → opposite_case (opposite_case b) ≡ b }
 {}

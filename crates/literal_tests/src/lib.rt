@@ -4,6 +4,7 @@
 
 #[cfg(test)]
 mod builders;
+pub mod classes;
 #[cfg(test)]
 mod compared;
 pub mod copies;
@@ -15,6 +16,8 @@ mod pattern_lists;
 pub mod plain;
 #[cfg(test)]
 mod prefilters;
+#[cfg(test)]
+mod ranks;
 #[cfg(test)]
 mod rows;
 pub mod steps;

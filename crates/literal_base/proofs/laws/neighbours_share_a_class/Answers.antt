@@ -1,0 +1,5 @@
+use Rattle.literal_base.proofs.Marks.{share_a_class}
+use Rattle.literal_base.proofs.laws.neighbours_share_a_class.Goals as goal
+
+pub returns : goal.returns
+returns c = share_a_class

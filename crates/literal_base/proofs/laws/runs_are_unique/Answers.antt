@@ -1,0 +1,5 @@
+use Rattle.literal_base.proofs.Runs.{AreRuns_once}
+use Rattle.literal_base.proofs.laws.runs_are_unique.Goals as goal
+
+pub returns : goal.returns
+returns c = AreRuns_once

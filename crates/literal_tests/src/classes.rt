@@ -1,0 +1,241 @@
+//! Sets, classes and ranks of bytes: callers that rely on contracts alone, and worked cases.
+ghost use Rattle.std.specs.Prelude.{◌≡◌, ◌<◌, ◌≤◌, ◌+◌, ◌↔◌, ℕ, [], Ok, IfOk, IsNone, length, slice_index};
+ghost use Rattle.std.specs.List.{All};
+ghost use Rattle.literal_base.specs.Bytes.{by_byte};
+ghost use Rattle.literal_base.specs.Classes.{AreRuns, NonePart, alphabet_len_of, class_of, elements_of, marks_of};
+
+use literal_base::alphabet::{ByteClassElements, ByteClassSet, ByteClasses};
+use std::alloc::{AllocError, Global};
+
+/// Classes that tell the bytes of each range from all others.
+pub fn classes_of(ranges: &[(u8, u8)]) -> ByteClasses
+    requires { All (λ range. range.0 ≤ range.1) ranges.now }
+    ensures classes { result ≡ by_byte (class_of (marks_of ranges.now)) }
+    ensures shared { (b : ℕ) → b < 255
+        → (slice_index result b ≡ slice_index result (b + 1)) ↔ NonePart ranges.now b }
+{
+    let mut set = ByteClassSet::empty();
+    for (start, end) in ranges {
+        set.set_range(*start, *end);
+    }
+    set.byte_classes()
+}
+
+/// A copy of a set of marked bytes, which is never refused.
+pub fn copied(set: &ByteClassSet) -> Result<ByteClassSet, AllocError>
+    ensures { result ≡ Ok set.now }
+{
+    set.clone()
+}
+
+/// The number of items of an iteration over all classes.
+pub fn count_of_classes(classes: &ByteClasses) -> usize
+    ensures { result ≡ alphabet_len_of classes.now }
+{
+    classes.iter().count()
+}
+
+/// The number of bytes of a class.
+pub fn count_of_elements(classes: &ByteClasses, class: u8) -> usize
+    ensures { result ≡ length (elements_of classes.now class) }
+{
+    classes.elements(class).count()
+}
+
+/// The bytes of a class, which are taken one after another.
+pub fn elements_taken(
+    alloc: Global,
+    classes: &ByteClasses,
+    class: u8,
+) -> Result<Vec<u8>, AllocError>
+    ensures { IfOk result (λ bytes. bytes.items ≡ elements_of classes.now class) }
+{
+    let mut bytes = Vec::new(alloc);
+    for byte in classes.elements(class) {
+        bytes.push(byte)?;
+    }
+    Ok(bytes)
+}
+
+/// The runs of a class's bytes, which are collected.
+pub fn runs_collected(
+    alloc: Global,
+    classes: &ByteClasses,
+    class: u8,
+) -> Result<Vec<(u8, u8)>, AllocError>
+    ensures { IfOk result (λ runs. AreRuns (elements_of classes.now class) runs.items) }
+{
+    classes.element_ranges(class).collect(alloc)
+}
+
+/// The item after all that are left of an iteration: there is none, and it stays so.
+pub fn next_after_all(bytes: &mut ByteClassElements<'_>) -> Option<u8>
+    ensures none { IsNone result }
+    ensures ended { bytes.new ≡ [] }
+{
+    while bytes.next().is_some() {}
+    bytes.next()
+}
+
+#[cfg(test)]
+mod tests {
+    use super::*;
+    use literal_base::alphabet::{ByteSet, opposite_ascii_case};
+    use std::test::Fail;
+
+    /// Ranges, the length of the alphabet, the stride and its exponent, and the classes of some bytes.
+    type Row = (
+        &'static [(u8, u8)],
+        (usize, usize, usize),
+        &'static [(u8, u8)],
+    );
+
+    static ROWS: [Row; 5] = [
+        (&[], (1, 1, 0), &[(0, 0), (255, 0)]),
+        (&[(0, 255)], (1, 1, 0), &[(0, 0), (255, 0)]),
+        (
+            &[(b'b', b'd'), (b'g', b'm'), (b'z', b'z')],
+            (7, 8, 3),
+            &[(b'a', 0), (b'd', 1), (b'e', 2), (b'f', 2), (b'z', 5)],
+        ),
+        (
+            &[(0, 2), (4, 6)],
+            (4, 4, 2),
+            &[(0, 0), (2, 0), (3, 1), (4, 2), (6, 2), (7, 3), (255, 3)],
+        ),
+        (
+            &[(b'a', b'z')],
+            (3, 4, 2),
+            &[(0x60, 0), (b'a', 1), (b'z', 1), (0x7B, 2)],
+        ),
+    ];
+
+    #[test]
+    fn tells_ranges_apart(rt: HostRuntime) -> Result<(), Fail> {
+        for (ranges, (len, stride, stride2), bytes) in &ROWS {
+            let mut set = ByteClassSet::default();
+            for (first, last) in *ranges {
+                if first <= last {
+                    set.set_range(*first, *last);
+                }
+            }
+            let classes = copied(&set)?.byte_classes();
+            assert_eq!(rt; classes.alphabet_len(), *len);
+            assert_eq!(rt; classes.stride(), *stride);
+            assert_eq!(rt; classes.stride2(), *stride2);
+            for (byte, class) in *bytes {
+                assert_eq!(rt; classes.get(*byte), *class);
+            }
+        }
+        Ok(())
+    }
+
+    #[test]
+    fn gives_each_byte_a_class(rt: HostRuntime) -> Result<(), Fail> {
+        let mut set = ByteClassSet::empty();
+        for byte in 0..=255 {
+            set.set_range(byte, byte);
+        }
+        for classes in [ByteClasses::singletons(), set.byte_classes()] {
+            assert_eq!(rt; classes.alphabet_len(), 256);
+            assert_eq!(rt; classes.stride2(), 8);
+            assert_eq!(rt; classes.stride(), 256);
+            assert!(rt; classes.is_singleton());
+            assert_eq!(rt; classes.get(b'a'), b'a');
+            let bytes = elements_taken(rt.alloc(), &classes, b'a')?;
+            assert_eq!(rt; bytes.as_slice(), b"a".as_slice());
+        }
+        Ok(())
+    }
+
+    #[test]
+    fn lists_classes_and_bytes(rt: HostRuntime) -> Result<(), Fail> {
+        let classes = classes_of(&[(b'b', b'd'), (b'g', b'm'), (b'z', b'z')]);
+        assert_eq!(rt; count_of_classes(&classes), 7);
+        assert_eq!(rt; count_of_elements(&classes, 0), 98);
+        assert_eq!(rt; count_of_elements(&classes, 6), 133);
+        let bytes = elements_taken(rt.alloc(), &classes, 2)?;
+        assert_eq!(rt; bytes.as_slice(), b"ef".as_slice());
+        let mut fifth = classes.elements(5);
+        assert_eq!(rt; fifth.next(), Some(b'z'));
+        assert_eq!(rt; next_after_all(&mut fifth), None);
+        assert_eq!(rt; fifth.next(), None);
+        let mut all = classes.iter();
+        for class in 0..7 {
+            assert_eq!(rt; all.next(), Some(class));
+        }
+        assert_eq!(rt; all.next(), None);
+        assert_eq!(rt; all.next(), None);
+        Ok(())
+    }
+
+    #[test]
+    fn sets_single_classes(rt: HostRuntime) -> Result<(), Fail> {
+        let alloc = rt.alloc();
+        let empty = ByteClasses::empty();
+        assert_eq!(rt; empty.alphabet_len(), 1);
+        assert!(rt; !empty.is_singleton());
+        assert_eq!(rt; count_of_elements(&empty, 0), 256);
+        let whole = runs_collected(alloc, &empty, 0)?;
+        assert_eq!(rt; whole.as_slice(), [(0, 255)].as_slice());
+        let mut classes = empty;
+        classes.set(5, 1);
+        assert_eq!(rt; classes.alphabet_len(), 1);
+        let bytes = elements_taken(alloc, &classes, 1)?;
+        assert_eq!(rt; bytes.as_slice(), [5].as_slice());
+        let mut runs = classes.element_ranges(0);
+        assert_eq!(rt; runs.next(), Some((0, 4)));
+        assert_eq!(rt; runs.next(), Some((6, 255)));
+        assert_eq!(rt; runs.next(), None);
+        assert_eq!(rt; runs.next(), None);
+        classes = empty;
+        classes.set(255, 9);
+        assert_eq!(rt; classes.alphabet_len(), 10);
+        assert_eq!(rt; classes.stride(), 16);
+        Ok(())
+    }
+
+    #[test]
+    fn holds_bytes(rt: HostRuntime) -> Result<(), Fail> {
+        let alloc = rt.alloc();
+        let mut set = ByteSet::empty();
+        assert_eq!(rt; set, ByteSet::default());
+        set.add(0);
+        set.add(b'a');
+        let copy = set;
+        set.add(255);
+        set.add(255);
+        for (byte, is_in) in [
+            (0, true),
+            (1, false),
+            (b'a', true),
+            (b'A', false),
+            (255, true),
+        ] {
+            assert_eq!(rt; set.contains(byte), is_in);
+        }
+        assert!(rt; !copy.contains(255));
+        assert!(rt; copy != set);
+        assert!(rt; format!(in alloc; "{set:?}")?.len() > 0);
+        assert!(rt; format!(in alloc; "{:?}", ByteClassSet::empty())?.len() > 0);
+        assert!(rt; format!(in alloc; "{:?}", ByteClasses::empty())?.len() > 0);
+        Ok(())
+    }
+
+    #[test]
+    fn exchanges_cases(rt: HostRuntime) {
+        for (byte, other) in [
+            (b'@', b'@'),
+            (b'A', b'a'),
+            (b'Z', b'z'),
+            (b'[', b'['),
+            (b'`', b'`'),
+            (b'a', b'A'),
+            (b'z', b'Z'),
+            (b'{', b'{'),
+            (0xE9, 0xE9),
+        ] {
+            assert_eq!(rt; opposite_ascii_case(byte), other);
+        }
+    }
+}
