@@ -2,7 +2,6 @@
 ghost use Rattle.std.specs.Prelude.{◌≡◌, IsOk, IfOk};
 
 use literal_prefilters::Input;
-use literal_prefilters::alphabet::ByteClassSet;
 use literal_prefilters::packed::Config;
 use literal_prefilters::packed::pattern::Pattern;
 use literal_prefilters::prefilter::Candidate;
@@ -22,14 +21,6 @@ pub fn copy_of_input<'h>(input: &Input<'h>) -> Result<Input<'h>, AllocError>
     ensures same { IfOk result (λ copy. copy ≡ input.now) }
 {
     input.clone()
-}
-
-/// The same marks.
-pub fn copy_of_marks(marked: &ByteClassSet) -> Result<ByteClassSet, AllocError>
-    ensures succeeds { IsOk result }
-    ensures same { IfOk result (λ copy. copy ≡ marked.now) }
-{
-    marked.clone()
 }
 
 /// The same pattern.
@@ -62,9 +53,6 @@ mod tests {
         assert_eq!(rt; copy.into_option(), Some(3));
         let copy = copy_of_input(&Input::new(b"foobar").span(Span { start: 1, end: 4 }))?;
         assert_eq!(rt; copy.get_span(), Span { start: 1, end: 4 });
-        let mut marked = ByteClassSet::empty();
-        marked.set_range(b'a', b'z');
-        assert_eq!(rt; copy_of_marks(&marked)?.byte_classes().alphabet_len(), 3);
         let mut patterns = Patterns::new(rt.alloc());
         patterns.add(b"foo")?;
         let copy = copy_of_pattern(&patterns.get(PatternID::ZERO))?;
