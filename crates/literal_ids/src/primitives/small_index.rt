@@ -259,6 +259,7 @@ impl Iterator for SmallIndexIter {
 
     ghost remaining = { item_count (λ left. left) };
 
+    #[tactic(auto, using(crate::proofs::Numbers::range_moved, crate::proofs::Numbers::first_of_left))]
     fn next(&mut self) -> Option<SmallIndex> {
         let index = self.range.next()?;
         Some(SmallIndex::must(index))
