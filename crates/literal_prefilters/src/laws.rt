@@ -25,7 +25,7 @@ pub fn nothing_is_proposed_without_a_byte()
     ensures { (table : List (Option ℕ)) (haystack : List ℕ) (span : Span)
         → IsValidSpan haystack span
         → (step table haystack span ≡ None)
-            ↔ ((place : ℕ) → span.start ≤ place → place < span.end → is_in table (slice_index haystack place) ≡ false) }
+        ↔ ((place : ℕ) → span.start ≤ place → place < span.end → is_in table (slice_index haystack place) ≡ false) }
 {}
 
 /// The bytes of a start table are those with which the case variants of the patterns begin, none of

@@ -17,7 +17,6 @@ pub use byte_table::ByteTable;
 pub use kinds::{
     RareBytesOne, RareBytesThree, RareBytesTwo, StartBytesOne, StartBytesThree, StartBytesTwo,
 };
-
 use literal_base::count::Tally;
 use literal_base::search::{Match, MatchKind, Span};
 use literal_ids::PatternID;
