@@ -12,4 +12,6 @@ mod builders;
 #[cfg(test)]
 mod pattern_lists;
 #[cfg(test)]
+mod prefilters;
+#[cfg(test)]
 mod searchers;
