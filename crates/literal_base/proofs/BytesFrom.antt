@@ -1,5 +1,5 @@
 -- The bytes of a class, from a byte up.
-use Rattle.std.proofs.Common.{◌≡◌, ◌==◌, ℕ, ◌+◌, ◌-◌, ◌<◌, ◌≤◌, suc, cond, filter, List, [], ◌∷◌, length, slice_index, ap, ◌∙◌, arith}
+use Rattle.std.proofs.Common.{◌≡◌, ◌==◌, ℕ, ◌+◌, ◌-◌, ◌<◌, ◌≤◌, suc, cond, filter, List, ◌∷◌, length, slice_index, ap, ◌∙◌, arith}
 use Rattle.std.proofs.lemmas.Bool.{cond-true, cond-false, eq-eqb, ne_eqb}
 use Rattle.std.specs.List.{range_with_len}
 use Rattle.std.proofs.lemmas.List.FromFn.{length-range_with_len}
@@ -21,11 +21,6 @@ bytes_from-more classes class byte below =
     let e : length classes - byte ≡ suc (length classes - (byte + 1)) = omega arith in
     ap (λ n. filter (λ b. slice_index classes b == class) (range_with_len byte n)) e
 
-pub bytes_from-all : (classes : List ℕ) (class byte : ℕ) → length classes ≤ byte → bytes_from classes class byte ≡ []
-bytes_from-all classes class byte past =
-    let e : length classes - byte ≡ 0 = omega arith in
-    ap (λ n. filter (λ b. slice_index classes b == class) (range_with_len byte n)) e
-
 pub bytes_from-taken : (classes : List ℕ) (class byte : ℕ) → byte < length classes → slice_index classes byte ≡ class → bytes_from classes class byte ≡ byte ∷ bytes_from classes class (byte + 1)
 bytes_from-taken classes class byte below here =
     bytes_from-more classes class byte below ∙ cond-true _ _ _ (eq-eqb _ _ here)
@@ -33,12 +28,6 @@ bytes_from-taken classes class byte below here =
 pub bytes_from-passed : (classes : List ℕ) (class byte : ℕ) → byte < length classes → (slice_index classes byte ≡ class → ⊥) → bytes_from classes class byte ≡ bytes_from classes class (byte + 1)
 bytes_from-passed classes class byte below other =
     bytes_from-more classes class byte below ∙ cond-false _ _ _ (ne_eqb _ _ other)
-
-pub length-bytes_from-le : (classes : List ℕ) (class byte : ℕ) → length (bytes_from classes class byte) ≤ length classes - byte
-length-bytes_from-le classes class byte =
-    let p = λ (b : ℕ). slice_index classes b == class in
-    let range = range_with_len byte (length classes - byte) in
-    omega (arith, length-filter p range, count_by-le-length p range, length-range_with_len byte (length classes - byte))
 
 -- from byte 0 up these are all bytes of the class
 pub elements-bytes_from : (classes : List ℕ) (class : ℕ) → length classes ≡ 256 → bytes_from classes class 0 ≡ elements_of classes class

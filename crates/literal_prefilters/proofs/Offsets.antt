@@ -1,5 +1,5 @@
 -- The largest offset of a byte in a pattern, one offset more.
-use Rattle.std.proofs.Common.{◌≡◌, ℕ, ◌+◌, ◌-◌, ◌<◌, ◌≤◌, ◌||◌, zero, suc, max, cond, Bool, true, false, List, [], ◌∷◌, length, get_or, fold, Some, None, IfSome, slice_index, add-one, ap, ◌∙◌, ⊎_elim, arith}
+use Rattle.std.proofs.Common.{◌≡◌, ℕ, ◌+◌, ◌-◌, ◌<◌, ◌≤◌, ◌||◌, zero, suc, max, cond, Bool, true, false, List, [], ◌∷◌, length, get_or, fold, slice_index, add-one, ap, ◌∙◌, ⊎_elim, arith}
 use Rattle.std.proofs.lemmas.Bool.{cases_Bool, cases_eq, cond-true, cond-false}
 use Rattle.literal_prefilters.specs.Case.{same_byte}
 use Rattle.std.specs.List.{All}
@@ -63,7 +63,3 @@ most_below f m (p ∷ ps) a low each =
 pub largest_offset-near : (c : Bool) (ps : List (List ℕ)) (b : ℕ) → All (λ p. length p ≤ 255) ps → largest_offset c ps b ≤ 254
 largest_offset-near c ps b short =
     most_below (λ p. offset_below c b p (length p)) 254 ps 0 (omega arith) (λ k d below. omega (arith, short k d below, offset_below-lt c b (get_or ps k d) (length (get_or ps k d))))
-
-pub if_some_near : (t : Bool) (d : ℕ) → d ≤ 254 → IfSome (cond t (Some d) None) (λ d. d ≤ 254)
-if_some_near true d near = near
-if_some_near false d near = tt

@@ -1,5 +1,5 @@
 -- Texts that are the same, byte by byte.
-use Rattle.std.proofs.Common.{◌≡◌, ℕ, ◌<◌, Bool, true, false, cond, List, map, length, get_or, slice_index, sym, ap, ◌∙◌, subst, arith}
+use Rattle.std.proofs.Common.{◌≡◌, ℕ, ◌<◌, Bool, true, false, List, map, length, get_or, slice_index, sym, ap, ◌∙◌, subst, arith}
 use Rattle.std.specs.Char.{to_ascii_lowercase}
 use Rattle.std.proofs.lemmas.Bool.{eq-eqb, eqb-true}
 use Rattle.std.proofs.lemmas.List.{length-map, get_or-map, get_or_default, ext_get_or}
@@ -34,7 +34,3 @@ same_from_bytes true a b long each =
     let inside : k < length a = omega (arith, length-map a to_ascii_lowercase) in
     get_or-map to_ascii_lowercase a k 0 0 inside ∙ (eqb-true _ _ (each k inside) ∙ sym (get_or-map to_ascii_lowercase b k 0 0 (omega arith))))
 same_from_bytes false a b long each = ext_get_or 0 a b long (λ k below. eqb-true _ _ (each k below))
-
-pub same_folded : (c : Bool) (x y : ℕ) → same_byte c x y ≡ true → cond c (to_ascii_lowercase x) x ≡ cond c (to_ascii_lowercase y) y
-same_folded true x y e = eqb-true _ _ e
-same_folded false x y e = eqb-true _ _ e
