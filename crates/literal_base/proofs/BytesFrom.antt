@@ -9,7 +9,7 @@ use Rattle.std.proofs.lemmas.List.Kept.{IsStrictlyIncreasing-filter}
 use Rattle.std.proofs.lemmas.List.FromFn.{get_or-range_with_len}
 use Rattle.literal_base.specs.Bytes.{all_bytes}
 use Rattle.literal_base.specs.Classes.{alphabet_len_of, elements_of}
-use Rattle.literal_base.specs.ClassesInside.{bytes_from, classes_from}
+use Rattle.literal_base.specs.Inside.Classes.{bytes_from, classes_from}
 
 range_rises : (a n : ℕ) → IsStrictlyIncreasing (range_with_len a n)
 range_rises a n k below =

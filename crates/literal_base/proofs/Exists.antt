@@ -8,7 +8,8 @@ use Rattle.std.proofs.lemmas.Slice.Eq.{bytes_eq-Decides}
 use Rattle.literal_base.specs.declared.packed.MatchKind.{MatchKind}
 use Rattle.literal_base.specs.declared.packed.MatchKind.TheVariants.{LeftmostFirst, LeftmostLongest}
 use Rattle.literal_base.specs.declared.search.Span.{Span}
-use Rattle.literal_base.specs.Found.{Found}
+use Rattle.literal_base.specs.MatchValue.{MatchValue}
+use Rattle.literal_base.specs.Query.{Query}
 use Rattle.literal_base.specs.Occurs.{case_folded, pattern_at, Occurs, rest_from}
 use Rattle.literal_base.specs.Leftmost.{IsBetter, IsLeftmostMatch, IsLeftmost}
 use Rattle.literal_base.specs.Greedy.{IsGreedy}
@@ -40,13 +41,13 @@ better-transitive LeftmostLongest patterns i j k a b =
       | inr same ↦ elim b [ inl more ↦ inl (omega arith) | inr again ↦ inr (omega arith, omega arith) ]
     ]
 
-module _ (patterns : List (List ℕ)) (kind : MatchKind) (ignore_case : Bool) (haystack : List ℕ) (span : Span) where
+module _ (query : Query) (ignore_case : Bool) (haystack : List ℕ) (span : Span) where
   abbrev OccursAt : ℕ → ℕ → Type 0
-  OccursAt i at = Occurs patterns ignore_case haystack span i at
+  OccursAt i at = Occurs query.patterns ignore_case haystack span i at
 
-  occurs_or_not : (i at : ℕ) → i < length patterns → OccursAt i at ⊎ ¬ OccursAt i at
+  occurs_or_not : (i at : ℕ) → i < length query.patterns → OccursAt i at ⊎ ¬ OccursAt i at
   occurs_or_not i at is_pattern =
-      let bytes = pattern_at patterns i in
+      let bytes = pattern_at query.patterns i in
       let there = slice_range haystack at (at + length bytes) in
       elim (at_most_or_not span.start at) [
         | inr before ↦ inr (λ o. before o.after_start)
@@ -59,11 +60,11 @@ module _ (patterns : List (List ℕ)) (kind : MatchKind) (ignore_case : Bool) (h
         ]
       ]
 
-  -- of the first n patterns b is the best that occurs at a place
+  -- of the first n query.patterns b is the best that occurs at a place
   record IsBestOf (n at b : ℕ) : Type 0 where
     pub below : b < n
     pub occurs : OccursAt b at
-    pub best : (i : ℕ) → i < n → IsBetter kind patterns i b → ¬ OccursAt i at
+    pub best : (i : ℕ) → i < n → IsBetter query.kind query.patterns i b → ¬ OccursAt i at
 
   one_more : {P : ℕ → Type 0} → (n : ℕ) → ((i : ℕ) → i < n → P i) → P n → (i : ℕ) → i < suc n → P i
   one_more {P} n below here i h =
@@ -75,13 +76,13 @@ module _ (patterns : List (List ℕ)) (kind : MatchKind) (ignore_case : Bool) (h
   -- pattern n occurs too, and b is the best of those before it
   better_of : (n at b : ℕ) → IsBestOf n at b → OccursAt n at → (a : ℕ) × IsBestOf (suc n) at a
   better_of n at b h occurs =
-      elim (better_one kind patterns b n h.below) [
+      elim (better_one query.kind query.patterns b n h.below) [
         | inl kept ↦ (
           b,
           record {
             below = omega arith;
             occurs = h.occurs;
-            best = one_more {P = λ i. IsBetter kind patterns i b → ¬ OccursAt i at} n h.best (λ better. absurd (better-irreflexive kind patterns n (better-transitive kind patterns n b n better kept)));
+            best = one_more {P = λ i. IsBetter query.kind query.patterns i b → ¬ OccursAt i at} n h.best (λ better. absurd (better-irreflexive query.kind query.patterns n (better-transitive query.kind query.patterns n b n better kept)));
           },
         )
         | inr taken ↦ (
@@ -89,12 +90,12 @@ module _ (patterns : List (List ℕ)) (kind : MatchKind) (ignore_case : Bool) (h
           record {
             below = omega arith;
             occurs = occurs;
-            best = one_more {P = λ i. IsBetter kind patterns i n → ¬ OccursAt i at} n (λ i below better. h.best i below (better-transitive kind patterns i n b better taken)) (λ better. absurd (better-irreflexive kind patterns n better));
+            best = one_more {P = λ i. IsBetter query.kind query.patterns i n → ¬ OccursAt i at} n (λ i below better. h.best i below (better-transitive query.kind query.patterns i n b better taken)) (λ better. absurd (better-irreflexive query.kind query.patterns n better));
           },
         )
       ]
 
-  best_of : (n at : ℕ) → n ≤ length patterns → ((i : ℕ) → i < n → ¬ OccursAt i at) ⊎ ((b : ℕ) × IsBestOf n at b)
+  best_of : (n at : ℕ) → n ≤ length query.patterns → ((i : ℕ) → i < n → ¬ OccursAt i at) ⊎ ((b : ℕ) × IsBestOf n at b)
   best_of zero at h = inl (λ i below. absurd (omega arith))
   best_of (suc n) at h =
       elim (best_of n at (omega arith)) [
@@ -105,7 +106,7 @@ module _ (patterns : List (List ℕ)) (kind : MatchKind) (ignore_case : Bool) (h
             record {
               below = omega arith;
               occurs = occurs;
-              best = one_more {P = λ i. IsBetter kind patterns i n → ¬ OccursAt i at} n (λ i below better. none i below) (λ better. absurd (better-irreflexive kind patterns n better));
+              best = one_more {P = λ i. IsBetter query.kind query.patterns i n → ¬ OccursAt i at} n (λ i below better. none i below) (λ better. absurd (better-irreflexive query.kind query.patterns n better));
             },
           )
         ]
@@ -116,22 +117,22 @@ module _ (patterns : List (List ℕ)) (kind : MatchKind) (ignore_case : Bool) (h
             record {
               below = omega (arith, found.1.below);
               occurs = found.1.occurs;
-              best = one_more {P = λ i. IsBetter kind patterns i found.0 → ¬ OccursAt i at} n found.1.best (λ better. not);
+              best = one_more {P = λ i. IsBetter query.kind query.patterns i found.0 → ¬ OccursAt i at} n found.1.best (λ better. not);
             },
           )
         ]
       ]
 
   -- the leftmost match among those that begin before a place
-  leftmost_before : (m : ℕ) → ((i at : ℕ) → at < m → ¬ OccursAt i at) ⊎ ((found : Found) × IsLeftmostMatch patterns kind ignore_case haystack span found)
+  leftmost_before : (m : ℕ) → ((i at : ℕ) → at < m → ¬ OccursAt i at) ⊎ ((found : MatchValue) × IsLeftmostMatch query ignore_case haystack span found)
   leftmost_before zero = inl (λ i at before. absurd (omega arith))
   leftmost_before (suc m) =
       elim (leftmost_before m) [
         | inr found ↦ inr found
-        | inl none ↦ elim (best_of (length patterns) m (omega arith)) [
+        | inl none ↦ elim (best_of (length query.patterns) m (omega arith)) [
           | inl nothing ↦ inl (λ i. one_more {P = λ at. ¬ OccursAt i at} m (none i) (λ o. nothing i o.is_pattern o))
           | inr found ↦ inr (
-            record { pattern = found.0; start = m; end = m + length (pattern_at patterns found.0) },
+            record { pattern = found.0; start = m; end = m + length (pattern_at query.patterns found.0) },
             record {
               occurs = found.1.occurs;
               whole = refl;
@@ -142,22 +143,22 @@ module _ (patterns : List (List ℕ)) (kind : MatchKind) (ignore_case : Bool) (h
         ]
       ]
 
-  pub leftmost_exists_lem : (answer : Option Found) × IsLeftmost patterns kind ignore_case haystack span answer
+  pub leftmost_exists_lem : (answer : Option MatchValue) × IsLeftmost query ignore_case haystack span answer
   leftmost_exists_lem =
       elim (leftmost_before (span.end + 1)) [
         | inr found ↦ (Some found.0, found.1)
         | inl none ↦ (None, λ i at o. none i at (omega (arith, o.before_end)) o)
       ]
 
-module _ (patterns : List (List ℕ)) (kind : MatchKind) (ignore_case : Bool) (haystack : List ℕ) (not_empty : All (λ (bytes : List ℕ). 0 < length bytes) patterns) where
+module _ (query : Query) (ignore_case : Bool) (haystack : List ℕ) (not_empty : All (λ (bytes : List ℕ). 0 < length bytes) query.patterns) where
   abbrev GreedyFrom : ℕ → Type 0
-  GreedyFrom at = (all : List Found) × IsGreedy patterns kind ignore_case haystack at all
+  GreedyFrom at = (all : List MatchValue) × IsGreedy query ignore_case haystack at all
 
   -- the list follows from the leftmost match, if there is one, and the list from its end on
-  greedy_from : (at : ℕ) → ((e : ℕ) → at < e → GreedyFrom e) → (answer : Option Found) → IsLeftmost patterns kind ignore_case haystack (rest_from haystack at) answer → GreedyFrom at
+  greedy_from : (at : ℕ) → ((e : ℕ) → at < e → GreedyFrom e) → (answer : Option MatchValue) → IsLeftmost query ignore_case haystack (rest_from haystack at) answer → GreedyFrom at
   greedy_from at later None nothing = ([], nothing)
   greedy_from at later (Some found) leftmost =
-      let some : 0 < length (pattern_at patterns found.pattern) = not_empty found.pattern [] leftmost.occurs.is_pattern in
+      let some : 0 < length (pattern_at query.patterns found.pattern) = not_empty found.pattern [] leftmost.occurs.is_pattern in
       let more = later found.end (omega (arith, leftmost.whole, leftmost.occurs.after_start)) in
       (found ∷ more.0, (leftmost, more.1))
 
@@ -166,13 +167,13 @@ module _ (patterns : List (List ℕ)) (kind : MatchKind) (ignore_case : Bool) (h
   greedy_within zero at h = (
     [],
     λ i s o.
-        let some : 0 < length (pattern_at patterns i) = not_empty i [] o.is_pattern in
+        let some : 0 < length (pattern_at query.patterns i) = not_empty i [] o.is_pattern in
         omega (arith, o.before_end, o.after_start),
   )
   greedy_within (suc most) at h =
-      let answer = leftmost_exists_lem patterns kind ignore_case haystack (rest_from haystack at) in
+      let answer = leftmost_exists_lem query ignore_case haystack (rest_from haystack at) in
       greedy_from at (λ e after. greedy_within most e (omega arith)) answer.0 answer.1
 
-pub greedy_exists_lem : (patterns : List (List ℕ)) (kind : MatchKind) (ignore_case : Bool) (haystack : List ℕ) (at : ℕ) → All (λ (bytes : List ℕ). 0 < length bytes) patterns → (all : List Found) × IsGreedy patterns kind ignore_case haystack at all
-greedy_exists_lem patterns kind ignore_case haystack at not_empty =
-    greedy_within patterns kind ignore_case haystack not_empty (length haystack) at (omega arith)
+pub greedy_exists_lem : (query : Query) (ignore_case : Bool) (haystack : List ℕ) (at : ℕ) → All (λ (bytes : List ℕ). 0 < length bytes) query.patterns → (all : List MatchValue) × IsGreedy query ignore_case haystack at all
+greedy_exists_lem query ignore_case haystack at not_empty =
+    greedy_within query ignore_case haystack not_empty (length haystack) at (omega arith)

@@ -6,7 +6,7 @@ use Rattle.std.proofs.lemmas.List.Elements.{All-nil, All-cons, All-head, All-tai
 use Rattle.std.proofs.lemmas.List.FromFn.{length-range_with_len, get_or-range_with_len}
 use Rattle.std.proofs.lemmas.List.Kept.{AllPairs-cons}
 use Rattle.literal_base.specs.Classes.{bytes_in, AreRuns}
-use Rattle.literal_base.specs.ClassesInside.{joined, runs_of}
+use Rattle.literal_base.specs.Inside.Classes.{joined, runs_of}
 
 abbrev Ordered : ℕ × ℕ → Type 0
 Ordered run = run.0 ≤ run.1
@@ -59,23 +59,23 @@ bytes_in-one b =
 -- a byte put before bytes above it
 joined-AreRuns : (b : ℕ) (bytes : List ℕ) (runs : List (ℕ × ℕ)) → All (λ x. b < x) bytes → AreRuns bytes runs → AreRuns (b ∷ bytes) (joined (b, b) runs)
 joined-AreRuns b bytes [] above are = record {
-  some = All-cons Ordered (b, b) [] (omega arith) (All-nil Ordered);
+  none_empty = All-cons Ordered (b, b) [] (omega arith) (All-nil Ordered);
   apart = AllPairs-cons Apart (b, b) [] (All-nil (Apart (b, b))) (no_pairs Apart);
   whole = ap (λ xs. xs ++ []) (bytes_in-one b) ∙ ap (λ xs. b ∷ xs) are.whole;
 }
 joined-AreRuns b bytes ((first, last) ∷ more) above are =
     let rest = flat_map bytes_in more in
-    let ordered : first ≤ last = All-head Ordered (first, last) more are.some in
+    let ordered : first ≤ last = All-head Ordered (first, last) more are.none_empty in
     let begins : first ∷ (bytes_in (first + 1, last) ++ rest) ≡ bytes = sym (ap (λ xs. xs ++ rest) (bytes_in-more first last ordered)) ∙ are.whole in
     let below : b < first = All-head (λ x. b < x) first _ (All-same (λ x. b < x) _ bytes begins above) in
     ⊎_elim
     (λ touches. subst (AreRuns (b ∷ bytes)) (sym (cond-true _ _ _ (eq-eqb first (b + 1) touches))) (record {
-      some = All-cons Ordered (b, last) more (omega arith) (All-tail Ordered (first, last) more are.some);
+      none_empty = All-cons Ordered (b, last) more (omega arith) (All-tail Ordered (first, last) more are.none_empty);
       apart = AllPairs-cons Apart (b, last) more (pairs_of_first Apart (first, last) more are.apart) (later_pairs Apart (first, last) more are.apart);
       whole = ap (λ xs. xs ++ rest) (bytes_in-more b last (omega arith)) ∙ ap (λ xs. b ∷ xs) (ap (λ n. bytes_in (n, last) ++ rest) (sym touches) ∙ are.whole);
     }))
     (λ alone. subst (AreRuns (b ∷ bytes)) (sym (cond-false _ _ _ (ne_eqb first (b + 1) alone))) (record {
-      some = All-cons Ordered (b, b) ((first, last) ∷ more) (omega arith) are.some;
+      none_empty = All-cons Ordered (b, b) ((first, last) ∷ more) (omega arith) are.none_empty;
       apart = AllPairs-cons Apart (b, b) ((first, last) ∷ more)
           (All-cons (Apart (b, b)) (first, last) more (omega arith)
           (All-weaker (Apart (first, last)) (Apart (b, b)) (λ later far. omega arith) more (pairs_of_first Apart (first, last) more are.apart)))
@@ -85,7 +85,7 @@ joined-AreRuns b bytes ((first, last) ∷ more) above are =
     (cases_eq first (b + 1))
 
 pub runs_of-AreRuns : (bytes : List ℕ) → AllPairs (λ x y. x < y) bytes → AreRuns bytes (runs_of bytes)
-runs_of-AreRuns [] rise = record { some = All-nil Ordered; apart = no_pairs Apart; whole = refl }
+runs_of-AreRuns [] rise = record { none_empty = All-nil Ordered; apart = no_pairs Apart; whole = refl }
 runs_of-AreRuns (b ∷ bytes) rise =
     joined-AreRuns b bytes (runs_of bytes) (pairs_of_first (λ x y. x < y) b bytes rise) (runs_of-AreRuns bytes (later_pairs (λ x y. x < y) b bytes rise))
 
@@ -117,7 +117,7 @@ runs_of-flat_map ((first, last) ∷ more) some apart =
 
 -- what is the runs of bytes is those that the recursion computes
 AreRuns-runs_of : (bytes : List ℕ) (runs : List (ℕ × ℕ)) → AreRuns bytes runs → runs_of bytes ≡ runs
-AreRuns-runs_of bytes runs are = ap runs_of (sym are.whole) ∙ runs_of-flat_map runs are.some are.apart
+AreRuns-runs_of bytes runs are = ap runs_of (sym are.whole) ∙ runs_of-flat_map runs are.none_empty are.apart
 
 pub AreRuns_once : (bytes : List ℕ) (a b : List (ℕ × ℕ)) → AreRuns bytes a → AreRuns bytes b → a ≡ b
 AreRuns_once bytes a b one two = sym (AreRuns-runs_of bytes a one) ∙ AreRuns-runs_of bytes b two
@@ -149,7 +149,7 @@ in_a_run (run ∷ runs) x d has =
 not_beside : (bytes : List ℕ) (runs : List (ℕ × ℕ)) → AreRuns bytes runs → (k : ℕ) (d : ℕ × ℕ) → k < length runs → (x : ℕ) → Contains bytes x → (x ≢ (get_or runs k d).1 + 1) × (x + 1 ≢ (get_or runs k d).0)
 not_beside bytes runs are k d below x has =
     let found = in_a_run runs x d (subst (λ xs. Contains xs x) (sym are.whole) has) in
-    let ordered : (get_or runs k d).0 ≤ (get_or runs k d).1 = are.some k d below in
+    let ordered : (get_or runs k d).0 ≤ (get_or runs k d).1 = are.none_empty k d below in
     let low : (get_or runs found.0 d).0 ≤ x = found.2 in
     let high : x ≤ (get_or runs found.0 d).1 = found.3 in
     ⊎_elim

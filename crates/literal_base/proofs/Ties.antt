@@ -3,7 +3,8 @@ use Rattle.std.proofs.Common.{◌≡◌, ℕ, ◌+◌, ◌<◌, ◌≤◌, inl, 
 use Rattle.std.proofs.lemmas.Bool.{cases_order}
 use Rattle.literal_base.specs.declared.packed.MatchKind.TheVariants.{LeftmostFirst, LeftmostLongest}
 use Rattle.literal_base.specs.declared.search.Span.{Span}
-use Rattle.literal_base.specs.Found.{Found}
+use Rattle.literal_base.specs.MatchValue.{MatchValue}
+use Rattle.literal_base.specs.Query.{Query}
 use Rattle.literal_base.specs.Occurs.{pattern_at, Occurs, Same}
 use Rattle.literal_base.specs.Leftmost.{IsLeftmostMatch}
 
@@ -16,19 +17,19 @@ occurs-equal patterns ignore_case haystack span i j at is_pattern same o = recor
   same = subst (λ (p : List ℕ). Same ignore_case (slice_range haystack at (at + length p)) p) (sym same) o.same;
 }
 
-pub longest_first_of_equal : (patterns : List (List ℕ)) (ignore_case : Bool) (haystack : List ℕ) (span : Span) (found : Found) (j : ℕ) → IsLeftmostMatch patterns LeftmostLongest ignore_case haystack span found → j < length patterns → pattern_at patterns j ≡ pattern_at patterns found.pattern → found.pattern ≤ j
-longest_first_of_equal patterns ignore_case haystack span found j leftmost is_pattern same =
+pub longest_first_of_equal : (query : Query) (ignore_case : Bool) (haystack : List ℕ) (span : Span) (found : MatchValue) (j : ℕ) → query.kind ≡ LeftmostLongest → IsLeftmostMatch query ignore_case haystack span found → j < length query.patterns → pattern_at query.patterns j ≡ pattern_at query.patterns found.pattern → found.pattern ≤ j
+longest_first_of_equal query ignore_case haystack span found j is_longest leftmost is_pattern same =
     elim (cases_order found.pattern j) [
       | inl equal ↦ omega arith
       | inr apart ↦ elim apart [
         | inl below ↦ omega arith
-        | inr above ↦ absurd (leftmost.best j (inr (ap length same, above)) (occurs-equal patterns ignore_case haystack span found.pattern j found.start is_pattern same leftmost.occurs))
+        | inr above ↦ absurd (leftmost.best j (rw is_longest (inr (ap length same, above))) (occurs-equal query.patterns ignore_case haystack span found.pattern j found.start is_pattern same leftmost.occurs))
       ]
     ]
 
-pub first_added : (patterns : List (List ℕ)) (ignore_case : Bool) (haystack : List ℕ) (span : Span) (found : Found) (j : ℕ) → IsLeftmostMatch patterns LeftmostFirst ignore_case haystack span found → Occurs patterns ignore_case haystack span j found.start → found.pattern ≤ j
-first_added patterns ignore_case haystack span found j leftmost occurs =
+pub first_added : (query : Query) (ignore_case : Bool) (haystack : List ℕ) (span : Span) (found : MatchValue) (j : ℕ) → query.kind ≡ LeftmostFirst → IsLeftmostMatch query ignore_case haystack span found → Occurs query.patterns ignore_case haystack span j found.start → found.pattern ≤ j
+first_added query ignore_case haystack span found j is_first leftmost occurs =
     elim (cases_order found.pattern j) [
       | inl equal ↦ omega arith
-      | inr apart ↦ elim apart [ inl below ↦ omega arith | inr above ↦ absurd (leftmost.best j above occurs) ]
+      | inr apart ↦ elim apart [ inl below ↦ omega arith | inr above ↦ absurd (leftmost.best j (rw is_first above) occurs) ]
     ]

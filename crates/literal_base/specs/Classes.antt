@@ -44,9 +44,9 @@ elements_of classes class = filter (λ b. slice_index classes b == class) all_by
 abbrev pub bytes_in : ℕ × ℕ → List ℕ
 bytes_in range = range_with_len range.0 (range.1 + 1 - range.0)
 
--- the maximal runs of the bytes of a list: none is empty, a byte lies between each and every later one, and one after another
--- they hold exactly the bytes of the list, in its order
+-- the maximal runs of the bytes of a list: none is empty, a byte lies between each and every later one,
+-- and one after another they hold exactly the bytes of the list, in its order
 pub record AreRuns (bytes : List ℕ) (runs : List (ℕ × ℕ)) : Type 0 where
-  pub some : All (λ run. run.0 ≤ run.1) runs
+  pub none_empty : All (λ run. run.0 ≤ run.1) runs
   pub apart : AllPairs (λ run later. run.1 + 1 < later.0) runs
   pub whole : flat_map bytes_in runs ≡ bytes

@@ -1,14 +1,14 @@
 -- All matches of a haystack that do not overlap, taken from the left.
 use Rattle.std.specs.Prelude.{ℕ, Bool, List, [], ◌∷◌}
-use Rattle.literal_base.specs.declared.packed.MatchKind.{MatchKind}
-use Rattle.literal_base.specs.Found.{Found}
+use Rattle.literal_base.specs.MatchValue.{MatchValue}
+use Rattle.literal_base.specs.Query.{Query}
 use Rattle.literal_base.specs.Occurs.{NothingOccurs, rest_from}
 use Rattle.literal_base.specs.Leftmost.{IsLeftmostMatch}
 
 -- the list from a place on: the leftmost match of the rest of the haystack, followed by the list from that match's end on.
 -- It is empty exactly if no pattern occurs in the rest
-abbrev pub IsGreedy : List (List ℕ) → MatchKind → Bool → List ℕ → ℕ → List Found → Type 0
-IsGreedy patterns kind ignore_case haystack at [] =
-    NothingOccurs patterns ignore_case haystack (rest_from haystack at)
-IsGreedy patterns kind ignore_case haystack at (found ∷ more) =
-    IsLeftmostMatch patterns kind ignore_case haystack (rest_from haystack at) found × IsGreedy patterns kind ignore_case haystack found.end more
+abbrev pub IsGreedy : Query → Bool → List ℕ → ℕ → List MatchValue → Type 0
+IsGreedy query ignore_case haystack at [] =
+    NothingOccurs query.patterns ignore_case haystack (rest_from haystack at)
+IsGreedy query ignore_case haystack at (found ∷ more) =
+    IsLeftmostMatch query ignore_case haystack (rest_from haystack at) found × IsGreedy query ignore_case haystack found.end more

@@ -1,26 +1,37 @@
 -- What a search in a span answers.
-use Rattle.std.specs.Prelude.{◌≡◌, ℕ, ◌+◌, ◌<◌, ◌⊎◌, Bool, List, length, Option, MatchOption}
+use Rattle.std.specs.Prelude.{◌≡◌, ℕ, ◌+◌, ◌<◌, ◌⊎◌, ◌==◌, ◌&&◌, ◌||◌, Bool, List, length, nat_lt, Option, MatchOption}
 use Rattle.literal_base.specs.declared.packed.MatchKind.{MatchKind}
 use Rattle.literal_base.specs.declared.packed.MatchKind.TheVariants.{LeftmostFirst, LeftmostLongest}
 use Rattle.literal_base.specs.declared.search.Span.{Span}
-use Rattle.literal_base.specs.Found.{Found}
+use Rattle.literal_base.specs.MatchValue.{MatchValue}
+use Rattle.literal_base.specs.Query.{Query}
 use Rattle.literal_base.specs.Occurs.{pattern_at, Occurs, NothingOccurs}
 
 -- the tie rule: of two patterns that occur at one place, i is taken rather than j.
--- That is the one with the smaller number; with LeftmostLongest the longer one, and of two equally long ones that with the smaller number
+-- That is the one with the smaller number; with LeftmostLongest the longer one,
+-- and of two equally long ones the one with the smaller number
 abbrev pub IsBetter : MatchKind → List (List ℕ) → ℕ → ℕ → Type 0
 IsBetter LeftmostFirst patterns i j = i < j
 IsBetter LeftmostLongest patterns i j =
-    (length (pattern_at patterns j) < length (pattern_at patterns i)) ⊎ ((length (pattern_at patterns i) ≡ length (pattern_at patterns j)) × (i < j))
+    (length (pattern_at patterns j) < length (pattern_at patterns i))
+    ⊎ ((length (pattern_at patterns i) ≡ length (pattern_at patterns j)) × (i < j))
+
+-- the tie rule, as a test
+abbrev pub is_better : MatchKind → List (List ℕ) → ℕ → ℕ → Bool
+is_better LeftmostFirst patterns i j = nat_lt i j
+is_better LeftmostLongest patterns i j =
+    nat_lt (length (pattern_at patterns j)) (length (pattern_at patterns i))
+    || (length (pattern_at patterns i) == length (pattern_at patterns j) && nat_lt i j)
 
 -- the match is an occurrence in the span, whole; no pattern occurs there before it, and no better one at its place
-pub record IsLeftmostMatch (patterns : List (List ℕ)) (kind : MatchKind) (ignore_case : Bool) (haystack : List ℕ) (span : Span) (found : Found) : Type 0 where
-  pub occurs : Occurs patterns ignore_case haystack span found.pattern found.start
-  pub whole : found.end ≡ found.start + length (pattern_at patterns found.pattern)
-  pub earliest : (i at : ℕ) → at < found.start → ¬ Occurs patterns ignore_case haystack span i at
-  pub best : (i : ℕ) → IsBetter kind patterns i found.pattern → ¬ Occurs patterns ignore_case haystack span i found.start
+pub record IsLeftmostMatch (query : Query) (ignore_case : Bool) (haystack : List ℕ) (span : Span) (found : MatchValue)
+    : Type 0 where
+  pub occurs : Occurs query.patterns ignore_case haystack span found.pattern found.start
+  pub whole : found.end ≡ found.start + length (pattern_at query.patterns found.pattern)
+  pub earliest : (i at : ℕ) → at < found.start → ¬ Occurs query.patterns ignore_case haystack span i at
+  pub best : (i : ℕ) → IsBetter query.kind query.patterns i found.pattern → ¬ Occurs query.patterns ignore_case haystack span i found.start
 
 -- the leftmost match in the span, and None exactly if no pattern occurs in it
-abbrev pub IsLeftmost : List (List ℕ) → MatchKind → Bool → List ℕ → Span → Option Found → Type 0
-IsLeftmost patterns kind ignore_case haystack span answer =
-    MatchOption answer (NothingOccurs patterns ignore_case haystack span) (IsLeftmostMatch patterns kind ignore_case haystack span)
+abbrev pub IsLeftmost : Query → Bool → List ℕ → Span → Option MatchValue → Type 0
+IsLeftmost query ignore_case haystack span answer =
+    MatchOption answer (NothingOccurs query.patterns ignore_case haystack span) (IsLeftmostMatch query ignore_case haystack span)

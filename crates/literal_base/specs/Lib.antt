@@ -1,11 +1,13 @@
+pub mod Apart
 pub mod Bytes
 pub mod Classes
-pub mod ClassesInside
 pub mod Counts
-pub mod Found
 pub mod Greedy
+pub mod InputValue
+pub mod Inside
 pub mod Kinds
 pub mod Leftmost
+pub mod MatchValue
 pub mod Occurs
+pub mod Query
 pub mod Rank
-pub mod Requested

@@ -1,7 +1,7 @@
 -- Where patterns stand in a haystack.
 -- A pattern and a haystack are lists of bytes. The patterns are numbered from 0, in the order of a list.
 -- A place is an offset in the whole haystack.
-use Rattle.std.specs.Prelude.{◌≡◌, ℕ, ◌+◌, ◌<◌, ◌≤◌, Bool, if◌then◌else◌, List, [], length, map, slice_range, slice_index_or}
+use Rattle.std.specs.Prelude.{◌≡◌, ◌==◌, ℕ, ◌+◌, ◌<◌, ◌≤◌, Bool, if◌then◌else◌, List, [], length, map, slice_range, slice_index_or}
 use Rattle.std.specs.Char.{to_ascii_lowercase}
 use Rattle.literal_base.specs.declared.search.Span.{Span}
 
@@ -12,6 +12,10 @@ case_folded ignore_case bytes = if ignore_case then map to_ascii_lowercase bytes
 -- a and b have one length and equal bytes, once each of A to Z is replaced where case is ignored
 abbrev pub Same : Bool → List ℕ → List ℕ → Type 0
 Same ignore_case a b = case_folded ignore_case a ≡ case_folded ignore_case b
+
+-- a and b are one byte; where case is ignored, once each of A to Z is replaced by its small letter
+abbrev pub same_byte : Bool → ℕ → ℕ → Bool
+same_byte ignore_case a b = if ignore_case then to_ascii_lowercase a == to_ascii_lowercase b else a == b
 
 -- the pattern of a number, and the empty list where there is none
 abbrev pub pattern_at : List (List ℕ) → ℕ → List ℕ
@@ -30,6 +34,10 @@ pub record IsValidSpan (haystack : List ℕ) (span : Span) : Type 0 where
 -- the whole haystack
 abbrev pub whole_of : List ℕ → Span
 whole_of haystack = record { start = 0; end = length haystack }
+
+-- the part of a haystack from a place up to another
+abbrev pub between : ℕ → ℕ → Span
+between from to = record { start = from; end = to }
 
 -- the part of the haystack from a place to its end
 abbrev pub rest_from : List ℕ → ℕ → Span

@@ -137,7 +137,7 @@ pub struct ByteClassIter<'a> {
 
 impl<'a> Model for ByteClassIter<'a> {
     ghost use Rattle.std.specs.Prelude.{◌≡◌, ℕ, List, length};
-    ghost use Rattle.literal_base.specs.ClassesInside.{classes_from};
+    ghost use Rattle.literal_base.specs.Inside.Classes.{classes_from};
 
     ghost Value = { List ℕ };
 
@@ -171,7 +171,7 @@ pub struct ByteClassElements<'a> {
 
 impl<'a> Model for ByteClassElements<'a> {
     ghost use Rattle.std.specs.Prelude.{◌≡◌, ◌≤◌, ℕ, List, length};
-    ghost use Rattle.literal_base.specs.ClassesInside.{bytes_from};
+    ghost use Rattle.literal_base.specs.Inside.Classes.{bytes_from};
 
     ghost Value = { List ℕ };
 
@@ -209,7 +209,7 @@ pub struct ByteClassElementRanges<'a> {
 
 impl<'a> Model for ByteClassElementRanges<'a> {
     ghost use Rattle.std.specs.Prelude.{ℕ, List};
-    ghost use Rattle.literal_base.specs.ClassesInside.{runs_after};
+    ghost use Rattle.literal_base.specs.Inside.Classes.{runs_after};
 
     ghost Value = { List (ℕ × ℕ) };
 

@@ -27,9 +27,9 @@ pub struct Input<'h> {
 }
 
 impl<'h> Model for Input<'h> {
-    ghost use Rattle.literal_base.specs.Requested.{Requested, AreBounds};
+    ghost use Rattle.literal_base.specs.InputValue.{InputValue, AreBounds};
 
-    ghost Value = { Requested };
+    ghost Value = { InputValue };
 
     ghost view = { λ i. record { haystack = i.haystack.now; start = i.bounds.start; end = i.bounds.end; anchored = i.anchored; earliest = i.earliest } };
 
@@ -37,7 +37,7 @@ impl<'h> Model for Input<'h> {
 }
 
 impl<'h> Input<'h> {
-    ghost use Rattle.literal_base.specs.Requested.{AreBounds};
+    ghost use Rattle.literal_base.specs.InputValue.{AreBounds};
 
     /// A search of the whole haystack that is neither anchored nor to end early.
     pub fn new(haystack: &'h [u8]) -> Input<'h>
@@ -395,9 +395,9 @@ pub struct Match {
 
 impl Model for Match {
     ghost use Rattle.std.specs.Prelude.{◌≤◌};
-    ghost use Rattle.literal_base.specs.Found.{Found};
+    ghost use Rattle.literal_base.specs.MatchValue.{MatchValue};
 
-    ghost Value = { Found };
+    ghost Value = { MatchValue };
 
     ghost view = { λ m. record { pattern = m.pattern; start = m.span.start; end = m.span.end } };
 

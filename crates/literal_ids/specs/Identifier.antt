@@ -4,8 +4,8 @@ use Rattle.std.specs.Ordering.{nat_cmp}
 use Rattle.std.specs.declared.cmp.Ordering.{Ordering}
 
 -- what a number gives: up to 2147483646 the identifier with that number; above, an error that keeps the number
-abbrev pub IsIdentifierOf : ℕ → Result ℕ ℕ → Type 0
-IsIdentifierOf number answer =
+abbrev pub IsCheckedNumber : ℕ → Result ℕ ℕ → Type 0
+IsCheckedNumber number answer =
     MatchResult answer (λ id. (number ≤ 2147483646) × (id ≡ number)) (λ refused. (2147483646 < number) × (refused ≡ number))
 
 -- identifiers are equal, and come before one another, as their numbers do; equal ones write the same to a hasher

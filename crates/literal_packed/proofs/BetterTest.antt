@@ -6,8 +6,7 @@ use Rattle.std.proofs.lemmas.Bool.Decides.{Decides-ltb, Decides-eqb, Decides-and
 use Rattle.literal_base.specs.declared.packed.MatchKind.{MatchKind}
 use Rattle.literal_base.specs.declared.packed.MatchKind.TheVariants.{LeftmostFirst, LeftmostLongest}
 use Rattle.literal_base.specs.Occurs.{pattern_at}
-use Rattle.literal_base.specs.Leftmost.{IsBetter}
-use Rattle.literal_packed.specs.Pairs.{is_better}
+use Rattle.literal_base.specs.Leftmost.{IsBetter, is_better}
 
 -- no two patterns are better than each other
 pub better_asymmetric : (kind : MatchKind) (patterns : List (List ℕ)) (i j : ℕ) → IsBetter kind patterns i j → IsBetter kind patterns j i → ⊥

@@ -10,14 +10,15 @@ use Rattle.std.proofs.Common.{[], ◌∷◌}
 use Rattle.literal_base.specs.declared.packed.MatchKind.{MatchKind}
 use Rattle.literal_base.specs.declared.search.Span.{Span}
 use Rattle.literal_base.specs.Counts.{Counts}
-use Rattle.literal_base.specs.Found.{Found}
+use Rattle.literal_base.specs.Query.{Query}
+use Rattle.literal_base.specs.MatchValue.{MatchValue}
 use Rattle.literal_base.specs.Occurs.{pattern_at, Occurs, rest_from}
 use Rattle.literal_base.specs.Leftmost.{IsLeftmost}
-use Rattle.literal_packed.specs.Collected.{shortest_len}
+use Rattle.literal_packed.specs.PatternsValue.{minimum_len_of}
 use Rattle.literal_packed.specs.Sum.{sum_of}
 use Rattle.literal_packed.specs.Pairs.{key_of, window_sum, pairs_between, pairs_up_to, counts_after}
 use Rattle.literal_packed.proofs.BetterTest.{is_up_to}
-use Rattle.literal_packed.proofs.Shortest.{shortest_len-le}
+use Rattle.literal_packed.proofs.Shortest.{minimum_len_of-le}
 use Rattle.literal_packed.proofs.PlaceCounts.{same_all}
 
 cut_range : (h : List ℕ) (e a b : ℕ) → b ≤ e → slice_range (take e h) a b ≡ slice_range h a b
@@ -40,7 +41,7 @@ pairs_same t w v n from to same =
     let s = get_or (range_with_len from (to - from)) k d in
     ap (λ u. count_by (λ i. t u i) (range_with_len 0 n)) (same s (omega arith)))
 
-module _ (patterns : List (List ℕ)) (kind : MatchKind) (h : List ℕ) (span : Span) (inside : span.end ≤ length h) where
+module _ (query : Query) (h : List ℕ) (span : Span) (inside : span.end ≤ length h) where
   abbrev cut : List ℕ
   cut = take span.end h
 
@@ -50,23 +51,23 @@ module _ (patterns : List (List ℕ)) (kind : MatchKind) (h : List ℕ) (span : 
       ap to (length-take-le span.end h inside)
 
   -- what occurs in the one occurs in the other
-  uncut : (i at : ℕ) → Occurs patterns false cut span i at → Occurs patterns false h span i at
+  uncut : (i at : ℕ) → Occurs query.patterns false cut span i at → Occurs query.patterns false h span i at
   uncut i at o = record {
     is_pattern = o.is_pattern;
     after_start = o.after_start;
     before_end = o.before_end;
-    same = sym (cut_range h span.end at (at + length (pattern_at patterns i)) o.before_end) ∙ o.same;
+    same = sym (cut_range h span.end at (at + length (pattern_at query.patterns i)) o.before_end) ∙ o.same;
   }
 
-  recut : (i at : ℕ) → Occurs patterns false h span i at → Occurs patterns false cut span i at
+  recut : (i at : ℕ) → Occurs query.patterns false h span i at → Occurs query.patterns false cut span i at
   recut i at o = record {
     is_pattern = o.is_pattern;
     after_start = o.after_start;
     before_end = o.before_end;
-    same = cut_range h span.end at (at + length (pattern_at patterns i)) o.before_end ∙ o.same;
+    same = cut_range h span.end at (at + length (pattern_at query.patterns i)) o.before_end ∙ o.same;
   }
 
-  leftmost_cut : (answer : Option Found) → IsLeftmost patterns kind false cut span answer → IsLeftmost patterns kind false h span answer
+  leftmost_cut : (answer : Option MatchValue) → IsLeftmost query false cut span answer → IsLeftmost query false h span answer
   leftmost_cut None nothing = λ i at o. nothing i at (recut i at o)
   leftmost_cut (Some found) l = record {
     occurs = uncut found.pattern found.start l.occurs;
@@ -76,33 +77,33 @@ module _ (patterns : List (List ℕ)) (kind : MatchKind) (h : List ℕ) (span : 
   }
 
   abbrev m : ℕ
-  m = shortest_len patterns
+  m = minimum_len_of query.patterns
 
-  same_sum : (s : ℕ) → s + m ≤ span.end → window_sum patterns cut s ≡ window_sum patterns h s
+  same_sum : (s : ℕ) → s + m ≤ span.end → window_sum query.patterns cut s ≡ window_sum query.patterns h s
   same_sum s within = ap sum_of (cut_range h span.end s (s + m) within)
 
   -- the pairs up to the answer are the same, for a test of the place's sum
-  pairs_cut : (t : ℕ → ℕ → Bool) (answer : Option Found) → IsLeftmost patterns kind false cut span answer
-      → pairs_up_to (λ s i. t (window_sum patterns cut s) i) kind patterns span answer ≡ pairs_up_to (λ s i. t (window_sum patterns h s) i) kind patterns span answer
-  pairs_cut t None nothing = pairs_same t (window_sum patterns cut) (window_sum patterns h) (length patterns) span.start (span.end + 1 - m) (λ s before. same_sum s (omega arith))
+  pairs_cut : (t : ℕ → ℕ → Bool) (answer : Option MatchValue) → IsLeftmost query false cut span answer
+      → pairs_up_to (λ s i. t (window_sum query.patterns cut s) i) query span answer ≡ pairs_up_to (λ s i. t (window_sum query.patterns h s) i) query span answer
+  pairs_cut t None nothing = pairs_same t (window_sum query.patterns cut) (window_sum query.patterns h) (length query.patterns) span.start (span.end + 1 - m) (λ s before. same_sum s (omega arith))
   pairs_cut t (Some found) l =
       let fits = l.occurs.before_end in
-      let long = shortest_len-le patterns found.pattern l.occurs.is_pattern in
+      let long = minimum_len_of-le query.patterns found.pattern l.occurs.is_pattern in
       let room : found.start + m ≤ span.end = omega arith in
-      let before : pairs_between (λ s i. t (window_sum patterns cut s) i) (length patterns) span.start found.start ≡ pairs_between (λ s i. t (window_sum patterns h s) i) (length patterns) span.start found.start =
-      pairs_same t (window_sum patterns cut) (window_sum patterns h) (length patterns) span.start found.start (λ s before. same_sum s (omega arith)) in
-      let at : (v : ℕ) → ℕ = λ v. count_by (λ i. t v i && is_up_to kind patterns found.pattern i) (range_with_len 0 (length patterns)) in
-      ap (λ k. k + at (window_sum patterns cut found.start)) before
-      ∙ ap (λ v. pairs_between (λ s i. t (window_sum patterns h s) i) (length patterns) span.start found.start + at v) (same_sum found.start room)
+      let before : pairs_between (λ s i. t (window_sum query.patterns cut s) i) (length query.patterns) span.start found.start ≡ pairs_between (λ s i. t (window_sum query.patterns h s) i) (length query.patterns) span.start found.start =
+      pairs_same t (window_sum query.patterns cut) (window_sum query.patterns h) (length query.patterns) span.start found.start (λ s before. same_sum s (omega arith)) in
+      let at : (v : ℕ) → ℕ = λ v. count_by (λ i. t v i && is_up_to query.kind query.patterns found.pattern i) (range_with_len 0 (length query.patterns)) in
+      ap (λ k. k + at (window_sum query.patterns cut found.start)) before
+      ∙ ap (λ v. pairs_between (λ s i. t (window_sum query.patterns h s) i) (length query.patterns) span.start found.start + at v) (same_sum found.start room)
 
-  pub leftmost_uncut : (answer : Option Found) → IsLeftmost patterns kind false cut (rest_from cut span.start) answer → IsLeftmost patterns kind false h span answer
-  leftmost_uncut answer l = leftmost_cut answer (subst (λ (s : Span). IsLeftmost patterns kind false cut s answer) span_is l)
+  pub leftmost_uncut : (answer : Option MatchValue) → IsLeftmost query false cut (rest_from cut span.start) answer → IsLeftmost query false h span answer
+  leftmost_uncut answer l = leftmost_cut answer (subst (λ (s : Span). IsLeftmost query false cut s answer) span_is l)
 
-  pub counts_uncut : (old : Counts) (answer : Option Found) → IsLeftmost patterns kind false cut (rest_from cut span.start) answer
-      → counts_after old kind patterns cut (rest_from cut span.start) answer ≡ counts_after old kind patterns h span answer
+  pub counts_uncut : (old : Counts) (answer : Option MatchValue) → IsLeftmost query false cut (rest_from cut span.start) answer
+      → counts_after old query cut (rest_from cut span.start) answer ≡ counts_after old query h span answer
   counts_uncut old answer l =
-      let l_span = subst (λ (s : Span). IsLeftmost patterns kind false cut s answer) span_is l in
-      ap (λ (s : Span). counts_after old kind patterns cut s answer) span_is
+      let l_span = subst (λ (s : Span). IsLeftmost query false cut s answer) span_is l in
+      ap (λ (s : Span). counts_after old query cut s answer) span_is
       ∙ same_all old _ _ _ _ _ _ refl
-      (pairs_cut (λ v i. eqb (key_of patterns i % 64) (v % 64)) answer l_span)
-      (pairs_cut (λ v i. eqb (key_of patterns i) v) answer l_span)
+      (pairs_cut (λ v i. eqb (key_of query.patterns i % 64) (v % 64)) answer l_span)
+      (pairs_cut (λ v i. eqb (key_of query.patterns i) v) answer l_span)

@@ -10,26 +10,26 @@ use Rattle.std.proofs.lemmas.List.{length_push, length-map, get_or_at, length-ap
 use Rattle.std.proofs.lemmas.List.Elements.{All-map, filter-append}
 use Rattle.literal_base.specs.Counts.{Counts}
 use Rattle.literal_base.specs.Occurs.{pattern_at}
-use Rattle.literal_packed.specs.Collected.{Collected, IsWellFormed, in_order}
+use Rattle.literal_packed.specs.PatternsValue.{PatternsValue, IsWellFormed, in_order}
 use Rattle.literal_packed.specs.Pairs.{key_of}
-use Rattle.literal_packed.specs.Buckets.{entries_of}
+use Rattle.literal_packed.specs.RabinKarpValue.{entries_of}
 
 -- the pattern of the one that is next in order
-pub pattern_of_head : (c : Collected) (done left : List (ℕ × List ℕ)) (x : ℕ × List ℕ) → done ++ x ∷ left ≡ in_order c → x.1 ≡ pattern_at c.patterns x.0
+pub pattern_of_head : (c : PatternsValue) (done left : List (ℕ × List ℕ)) (x : ℕ × List ℕ) → done ++ x ∷ left ≡ in_order c → x.1 ≡ pattern_at c.patterns x.0
 pattern_of_head c done left x split =
     let IsPair : ℕ × List ℕ → Type 0 = λ p. p.1 ≡ pattern_at c.patterns p.0 in
     let all : All IsPair (done ++ x ∷ left) = subst (All IsPair) (sym split) (All-map IsPair (λ (i : ℕ). (i, pattern_at c.patterns i)) c.order (λ i d h. refl)) in
     let here : get_or (done ++ x ∷ left) (length done) x ≡ x = get_or_at done x left x (length done) refl in
     subst IsPair here (all (length done) x (omega (arith, length-append done (x ∷ left))))
 
-abbrev pub entry_of : Collected → ℕ × List ℕ → ℕ × ℕ
+abbrev pub entry_of : PatternsValue → ℕ × List ℕ → ℕ × ℕ
 entry_of c p = (key_of c.patterns p.0, p.0)
 
-entries_of_pairs : (c : Collected) (xs : List ℕ) → map (entry_of c) (map (λ (i : ℕ). (i, pattern_at c.patterns i)) xs) ≡ map (λ (i : ℕ). (key_of c.patterns i, i)) xs
+entries_of_pairs : (c : PatternsValue) (xs : List ℕ) → map (entry_of c) (map (λ (i : ℕ). (i, pattern_at c.patterns i)) xs) ≡ map (λ (i : ℕ). (key_of c.patterns i, i)) xs
 entries_of_pairs c [] = refl
 entries_of_pairs c (x ∷ xs) = ap (λ ys. (key_of c.patterns x, x) ∷ ys) (entries_of_pairs c xs)
 
-pub entries_all : (c : Collected) (done : List (ℕ × List ℕ)) (entries : List (ℕ × ℕ)) → done ++ [] ≡ in_order c → entries ≡ map (entry_of c) done → entries ≡ entries_of c
+pub entries_all : (c : PatternsValue) (done : List (ℕ × List ℕ)) (entries : List (ℕ × ℕ)) → done ++ [] ≡ in_order c → entries ≡ map (entry_of c) done → entries ≡ entries_of c
 entries_all c done entries all is =
     is ∙ (ap (map (entry_of c)) (sym (append-nil done) ∙ all) ∙ entries_of_pairs c c.order)
 
@@ -50,7 +50,7 @@ hashed_more old now new done x window is next =
     next ∙ (ap step is ∙ (ap f sum ∙ ap (λ n. hashed_of old n window) (sym long)))
 
 -- each pattern was taken once
-pub length_all : (c : Collected) (done : List (ℕ × List ℕ)) → IsWellFormed c → done ≡ in_order c → length done ≡ length c.patterns
+pub length_all : (c : PatternsValue) (done : List (ℕ × List ℕ)) → IsWellFormed c → done ≡ in_order c → length done ≡ length c.patterns
 length_all c done w all =
     ap length all
     ∙ (length-map c.order (λ (i : ℕ). (i, pattern_at c.patterns i))
@@ -95,7 +95,7 @@ dealt_more buckets entries e new dealt is =
     }
 
 -- the same for the pattern that is next in order
-pub dealt_next : (c : Collected) (buckets : List (List (ℕ × ℕ))) (done : List (ℕ × List ℕ)) (x : ℕ × List ℕ) (sum : ℕ) (new : List (ℕ × ℕ)) → IsDealt buckets (map (entry_of c) done)
+pub dealt_next : (c : PatternsValue) (buckets : List (List (ℕ × ℕ))) (done : List (ℕ × List ℕ)) (x : ℕ × List ℕ) (sum : ℕ) (new : List (ℕ × ℕ)) → IsDealt buckets (map (entry_of c) done)
     → new ≡ get_or buckets (sum % 64) [] ++ (sum, x.0) ∷ [] → sum ≡ key_of c.patterns x.0 → IsDealt (set buckets (sum % 64) new) (map (entry_of c) (done ++ x ∷ []))
 dealt_next c buckets done x sum new dealt is is_key =
     let all : map (entry_of c) done ++ (sum, x.0) ∷ [] ≡ map (entry_of c) (done ++ x ∷ []) =

@@ -10,11 +10,11 @@ use Rattle.std.proofs.lemmas.List.Sorted.{Contains-permutation, sum_by-IsPermuta
 use Rattle.std.proofs.lemmas.List.Sums.{length-filter}
 use Rattle.literal_base.specs.Occurs.{pattern_at, StandsAt}
 use Rattle.literal_base.specs.Leftmost.{IsBetter}
-use Rattle.literal_packed.specs.Collected.{Collected, IsWellFormed, IsInOrder}
-use Rattle.literal_packed.specs.Place.{IsBestAt, NoneStandsAt}
+use Rattle.literal_packed.specs.PatternsValue.{query_of, PatternsValue, IsWellFormed, IsInOrder}
+use Rattle.literal_packed.specs.Inside.Place.{IsBestAt, NoneStandsAt}
 use Rattle.literal_packed.proofs.InOrder.{order-below}
 use Rattle.literal_packed.specs.Pairs.{key_of, window_sum, has_equal_sum, has_equal_bucket, pairs_at, pairs_at_up_to}
-use Rattle.literal_packed.specs.Buckets.{entries_of, bucket_of}
+use Rattle.literal_packed.specs.RabinKarpValue.{entries_of, bucket_of}
 use Rattle.literal_packed.proofs.Counting.{count_by-cons, count_by-append, count_by-same, count_by-none, count_by-all, count_by-map, count_by-filter}
 use Rattle.literal_packed.proofs.BetterTest.{better_asymmetric, is_up_to, up_to_better, up_to_self, up_to_worse}
 use Rattle.literal_packed.proofs.Shortest.{stands_key}
@@ -65,7 +65,7 @@ and_left_part : (x y : Bool) → (x && y) ≡ true → x ≡ true
 and_left_part true y is = refl
 and_left_part false y is = is
 
-module _ (c : Collected) where
+module _ (c : PatternsValue) where
   abbrev key : ℕ → ℕ
   key i = key_of c.patterns i
 
@@ -171,7 +171,7 @@ module _ (c : Collected) where
         let found = where_stands j h stands in
         none found.0 (entry j) found.1 (subst Stands (sym found.2) stands)
 
-    pub best_stands : (k : ℕ) (x : ℕ × ℕ) → k < length bucket → get_or bucket k x ≡ x → All (λ e. ¬ Stands e) (take k bucket) → Stands x → IsBestAt c.patterns c.kind false haystack at x.1
+    pub best_stands : (k : ℕ) (x : ℕ × ℕ) → k < length bucket → get_or bucket k x ≡ x → All (λ e. ¬ Stands e) (take k bucket) → Stands x → IsBestAt (query_of c) false haystack at x.1
     best_stands k x within is none stands = record {
       is_pattern = subst (λ (e : ℕ × ℕ). e.1 < n) is (bucket_entries w (sum % 64) k x within).1;
       stands = stands;
@@ -213,7 +213,7 @@ module _ (c : Collected) where
         ∙ ap (λ v. count_by (λ i. eqb (key i) v) (range_with_len 0 n)) is_sum)
 
     -- and of one that finds an entry
-    pub entries_some : (k : ℕ) (x : ℕ × ℕ) → k < length bucket → get_or bucket k x ≡ x → k + 1 ≡ pairs_at_up_to (has_equal_bucket c.patterns haystack) c.kind c.patterns at x.1
+    pub entries_some : (k : ℕ) (x : ℕ × ℕ) → k < length bucket → get_or bucket k x ≡ x → k + 1 ≡ pairs_at_up_to (has_equal_bucket c.patterns haystack) (query_of c) at x.1
     entries_some k x within is =
         let every : count_by (λ (e : ℕ × ℕ). true) (take k bucket) ≡ length (take k bucket) = count_by-all (λ (e : ℕ × ℕ). true) (take k bucket) (λ i d h. refl) in
         let long : length (take k bucket) ≡ k = length-take-le k bucket (omega arith) in
@@ -222,7 +222,7 @@ module _ (c : Collected) where
         ∙ (count_bucket w (sum % 64) (λ e. true && is_up_to c.kind c.patterns x.1 e.1)
         ∙ ap (λ v. count_by (λ i. eqb (key i % 64) (v % 64) && is_up_to c.kind c.patterns x.1 i) (range_with_len 0 n)) is_sum))
 
-    pub compared_some : (k : ℕ) (x : ℕ × ℕ) → k < length bucket → get_or bucket k x ≡ x → x.0 ≡ sum → count_by has_sum (take k bucket) + 1 ≡ pairs_at_up_to (has_equal_sum c.patterns haystack) c.kind c.patterns at x.1
+    pub compared_some : (k : ℕ) (x : ℕ × ℕ) → k < length bucket → get_or bucket k x ≡ x → x.0 ≡ sum → count_by has_sum (take k bucket) + 1 ≡ pairs_at_up_to (has_equal_sum c.patterns haystack) (query_of c) at x.1
     compared_some k x within is equal =
         let here : ◌≡◌ {A = ℕ} 1 (cond (has_sum x) 1 0) = ap (λ b. cond b 1 0) (sym (eq-eqb _ _ equal)) in
         ap (λ m. count_by has_sum (take k bucket) + m) here

@@ -10,8 +10,8 @@ use Rattle.std.proofs.lemmas.List.Quantifiers.{all_pairs_push}
 use Rattle.literal_base.specs.declared.packed.MatchKind.TheVariants.{LeftmostFirst}
 use Rattle.literal_base.specs.Occurs.{pattern_at}
 use Rattle.literal_packed.specs.declared.pattern.Patterns.TheInside.{Inside}
-use Rattle.literal_packed.specs.Collected.{Collected, IsWellFormed, IsInOrder, with_pattern, in_order, shortest_len, total_len}
-use Rattle.literal_packed.specs.PatternsInside.{collected, IsConsistent}
+use Rattle.literal_packed.specs.PatternsValue.{PatternsValue, IsWellFormed, IsInOrder, with_pattern, in_order, minimum_len_of, total_len}
+use Rattle.literal_packed.specs.Inside.Patterns.{patterns_value, IsConsistent}
 
 -- each of the first n numbers is below n
 All-range : (n : ℕ) → All (λ i. i < n) (range_with_len 0 n)
@@ -20,16 +20,16 @@ All-range n k d h =
     omega (arith, get_or-range_with_len 0 n k d in_range)
 
 -- each number in the order is that of a pattern
-pub order-below : (c : Collected) → IsWellFormed c → All (λ i. i < length c.patterns) c.order
+pub order-below : (c : PatternsValue) → IsWellFormed c → All (λ i. i < length c.patterns) c.order
 order-below c w =
     All-permutation (λ i. i < length c.patterns) (range_with_len 0 (length c.patterns)) c.order w.once (All-range (length c.patterns))
 
 -- the number at a place of the order is that of a pattern
-pub order_below_at : (c : Collected) (i id : ℕ) → IsWellFormed c → i < length c.order → id ≡ get_or c.order i id → id < length c.patterns
+pub order_below_at : (c : PatternsValue) (i id : ℕ) → IsWellFormed c → i < length c.order → id ≡ get_or c.order i id → id < length c.patterns
 order_below_at c i id w in_range is = rw is (order-below c w i id in_range)
 
 -- what comes at a place of the order, and what comes after it
-pub in_order-drop : (c : Collected) (i id : ℕ) → i < length c.order → id ≡ get_or c.order i id → drop i (in_order c) ≡ (id, pattern_at c.patterns id) ∷ drop (i + 1) (in_order c)
+pub in_order-drop : (c : PatternsValue) (i id : ℕ) → i < length c.order → id ≡ get_or c.order i id → drop i (in_order c) ≡ (id, pattern_at c.patterns id) ∷ drop (i + 1) (in_order c)
 in_order-drop c i id in_range is =
     let pair : ℕ → ℕ × List ℕ = λ i. (i, pattern_at c.patterns i) in
     let fits : i < length (in_order c) = omega (arith, length-map c.order pair) in
@@ -42,7 +42,7 @@ range-push n =
     sym (map-id (range_with_len 0 (n + 1)))
     ∙ (map-range_with_len_more (λ i. i) 0 n n (omega arith) ∙ ap (λ is. is ++ n ∷ []) (map-id (range_with_len 0 n)))
 
-pub IsWellFormed-with_pattern : (c : Collected) (bytes : List ℕ) → IsWellFormed c → 0 < length bytes → length c.patterns < 2147483647 → IsWellFormed (with_pattern c bytes)
+pub IsWellFormed-with_pattern : (c : PatternsValue) (bytes : List ℕ) → IsWellFormed c → 0 < length bytes → length c.patterns < 2147483647 → IsWellFormed (with_pattern c bytes)
 IsWellFormed-with_pattern c bytes w some room =
     let n = length c.patterns in
     let longer : length (c.patterns ++ bytes ∷ []) ≡ n + 1 = length_push c.patterns bytes in
@@ -53,48 +53,48 @@ IsWellFormed-with_pattern c bytes w some room =
     }
 
 -- fields that hold one pattern more are consistent
-pub IsConsistent-add : (a b : Inside) (bytes : List ℕ) → IsConsistent a → 0 < length bytes → length (collected a).patterns < 2147483647 → collected b ≡ with_pattern (collected a) bytes → b.minimum_len ≡ min a.minimum_len (length bytes) → b.total_pattern_bytes ≡ a.total_pattern_bytes + length bytes → length bytes < 2 ^ 64 → IsConsistent b
+pub IsConsistent-add : (a b : Inside) (bytes : List ℕ) → IsConsistent a → 0 < length bytes → length (patterns_value a).patterns < 2147483647 → patterns_value b ≡ with_pattern (patterns_value a) bytes → b.minimum_len ≡ min a.minimum_len (length bytes) → b.total_pattern_bytes ≡ a.total_pattern_bytes + length bytes → length bytes < 2 ^ 64 → IsConsistent b
 IsConsistent-add a b bytes h some room same shorter more fits = record {
-  well_formed = rw same (IsWellFormed-with_pattern (collected a) bytes h.well_formed some room);
+  well_formed = rw same (IsWellFormed-with_pattern (patterns_value a) bytes h.well_formed some room);
   shortest =
       shorter
       ∙ (ap (λ n. min n (length bytes)) h.shortest
-      ∙ (sym (fold_push (λ n (p : List ℕ). min n (length p)) (2 ^ 64 - 1) (collected a).patterns bytes) ∙ ap (λ (c : Collected). shortest_len c.patterns) (sym same)));
-  total = more ∙ ap (λ n. n + length bytes) h.total ∙ sym (sum_by_push length (collected a).patterns bytes) ∙ ap (λ (c : Collected). total_len c.patterns) (sym same);
-  bound = subst (λ (c : Collected). b.total_pattern_bytes ≤ length c.patterns * 2 ^ 64) (sym same) (omega (arith, h.bound, length_push (collected a).patterns bytes));
+      ∙ (sym (fold_push (λ n (p : List ℕ). min n (length p)) (2 ^ 64 - 1) (patterns_value a).patterns bytes) ∙ ap (λ (c : PatternsValue). minimum_len_of c.patterns) (sym same)));
+  total = more ∙ ap (λ n. n + length bytes) h.total ∙ sym (sum_by_push length (patterns_value a).patterns bytes) ∙ ap (λ (c : PatternsValue). total_len c.patterns) (sym same);
+  bound = subst (λ (c : PatternsValue). b.total_pattern_bytes ≤ length c.patterns * 2 ^ 64) (sym same) (omega (arith, h.bound, length_push (patterns_value a).patterns bytes));
 }
 
 -- the same at fields that a caller sees as c
-pub order_below_inside : (a : Inside) (c : Collected) (i id : ℕ) → collected a ≡ c → IsConsistent a → i < length a.order.items → id ≡ get_or a.order.items i id → id < length c.patterns
+pub order_below_inside : (a : Inside) (c : PatternsValue) (i id : ℕ) → patterns_value a ≡ c → IsConsistent a → i < length a.order.items → id ≡ get_or a.order.items i id → id < length c.patterns
 order_below_inside a c i id is_view h in_range is =
-    subst (λ (c : Collected). id < length c.patterns) is_view (order_below_at (collected a) i id h.well_formed in_range is)
+    subst (λ (c : PatternsValue). id < length c.patterns) is_view (order_below_at (patterns_value a) i id h.well_formed in_range is)
 
-pub in_order_drop_inside : (a : Inside) (c : Collected) (i id : ℕ) → collected a ≡ c → i < length a.order.items → id ≡ get_or a.order.items i id → drop i (in_order c) ≡ (id, pattern_at c.patterns id) ∷ drop (i + 1) (in_order c)
+pub in_order_drop_inside : (a : Inside) (c : PatternsValue) (i id : ℕ) → patterns_value a ≡ c → i < length a.order.items → id ≡ get_or a.order.items i id → drop i (in_order c) ≡ (id, pattern_at c.patterns id) ∷ drop (i + 1) (in_order c)
 in_order_drop_inside a c i id is_view in_range is =
-    subst (λ (c : Collected). drop i (in_order c) ≡ (id, pattern_at c.patterns id) ∷ drop (i + 1) (in_order c)) is_view (in_order-drop (collected a) i id in_range is)
+    subst (λ (c : PatternsValue). drop i (in_order c) ≡ (id, pattern_at c.patterns id) ∷ drop (i + 1) (in_order c)) is_view (in_order-drop (patterns_value a) i id in_range is)
 
 -- the numbers in the order are those of the patterns
 pub order_once : (a : Inside) (n : ℕ) → IsConsistent a → n ≡ length a.by_id.items → IsPermutation (range_with_len 0 n) a.order.items
 order_once a n h is =
-    let same : length (collected a).patterns ≡ n = length-map a.by_id.items (λ v. v.items) ∙ sym is in
+    let same : length (patterns_value a).patterns ≡ n = length-map a.by_id.items (λ v. v.items) ∙ sym is in
     subst (λ n. IsPermutation (range_with_len 0 n) a.order.items) same h.well_formed.once
 
 -- fields with the same patterns in another order are consistent
 pub IsConsistent-reorder : (a b : Inside) → IsConsistent a → b.by_id ≡ a.by_id → b.minimum_len ≡ a.minimum_len → b.total_pattern_bytes ≡ a.total_pattern_bytes → IsPermutation a.order.items b.order.items → IsConsistent b
 IsConsistent-reorder a b h same shortest total moved =
-    let patterns : (collected b).patterns ≡ (collected a).patterns = rw same refl in record {
+    let patterns : (patterns_value b).patterns ≡ (patterns_value a).patterns = rw same refl in record {
       well_formed = record {
-        once = rw patterns (IsPermutation-trans (range_with_len 0 (length (collected a).patterns)) a.order.items b.order.items h.well_formed.once moved);
+        once = rw patterns (IsPermutation-trans (range_with_len 0 (length (patterns_value a).patterns)) a.order.items b.order.items h.well_formed.once moved);
         not_empty = rw patterns h.well_formed.not_empty;
         numbered = rw patterns h.well_formed.numbered;
       };
-      shortest = shortest ∙ (h.shortest ∙ ap shortest_len (sym patterns));
+      shortest = shortest ∙ (h.shortest ∙ ap minimum_len_of (sym patterns));
       total = total ∙ (h.total ∙ ap total_len (sym patterns));
       bound = rw patterns (rw total h.bound);
     }
 
 -- a pattern that is added last keeps the order of adding
-pub IsInOrder-with_pattern : (c : Collected) (bytes : List ℕ) → IsWellFormed c → c.kind ≡ LeftmostFirst → IsInOrder c → IsInOrder (with_pattern c bytes)
+pub IsInOrder-with_pattern : (c : PatternsValue) (bytes : List ℕ) → IsWellFormed c → c.kind ≡ LeftmostFirst → IsInOrder c → IsInOrder (with_pattern c bytes)
 IsInOrder-with_pattern c bytes w first ordered i j d before in_range =
     let n = length c.patterns in
     let rising : AllPairs ◌<◌ c.order = λ i j d before in_range. rw first at (ordered i j d before in_range) in
@@ -103,7 +103,7 @@ IsInOrder-with_pattern c bytes w first ordered i j d before in_range =
     rw first (more i j d before in_range)
 
 -- the same of fields that hold one pattern more
-pub IsInOrder-add : (a b : Inside) (c : Collected) (bytes : List ℕ) → IsConsistent a → collected a ≡ c → collected b ≡ with_pattern (collected a) bytes → c.kind ≡ LeftmostFirst → IsInOrder c → IsInOrder (collected b)
+pub IsInOrder-add : (a b : Inside) (c : PatternsValue) (bytes : List ℕ) → IsConsistent a → patterns_value a ≡ c → patterns_value b ≡ with_pattern (patterns_value a) bytes → c.kind ≡ LeftmostFirst → IsInOrder c → IsInOrder (patterns_value b)
 IsInOrder-add a b c bytes h view_is same first ordered =
     subst IsInOrder (sym same)
-    (IsInOrder-with_pattern (collected a) bytes h.well_formed (ap (λ (c : Collected). c.kind) view_is ∙ first) (subst IsInOrder (sym view_is) ordered))
+    (IsInOrder-with_pattern (patterns_value a) bytes h.well_formed (ap (λ (c : PatternsValue). c.kind) view_is ∙ first) (subst IsInOrder (sym view_is) ordered))

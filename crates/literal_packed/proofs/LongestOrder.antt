@@ -12,7 +12,7 @@ use Rattle.std.proofs.lemmas.Map.Made.{AllPairs-from_IsDistinct}
 use Rattle.literal_base.specs.declared.packed.MatchKind.TheVariants.{LeftmostFirst, LeftmostLongest}
 use Rattle.literal_base.specs.Occurs.{pattern_at}
 use Rattle.literal_base.specs.Leftmost.{IsBetter}
-use Rattle.literal_packed.specs.Longest.{longest_cmp}
+use Rattle.literal_packed.specs.Inside.Longest.{longest_cmp}
 
 pub longest_total : (patterns : List (List ℕ)) → IsTotalOrder (longest_cmp patterns)
 longest_total patterns =

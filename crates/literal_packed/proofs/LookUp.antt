@@ -9,10 +9,10 @@ use Rattle.std.proofs.lemmas.Nat.{mod_below}
 use Rattle.std.proofs.lemmas.Option.{get_or_from_slice_get}
 use Rattle.literal_base.specs.Counts.{Counts}
 use Rattle.literal_base.specs.Occurs.{pattern_at, StandsAt}
-use Rattle.literal_packed.specs.Collected.{Collected, IsSearchable}
-use Rattle.literal_packed.specs.Place.{IsBestAt, NoneStandsAt}
+use Rattle.literal_packed.specs.PatternsValue.{query_of, PatternsValue, IsSearchable}
+use Rattle.literal_packed.specs.Inside.Place.{IsBestAt, NoneStandsAt}
 use Rattle.literal_packed.specs.Pairs.{window_sum, has_equal_sum, has_equal_bucket, pairs_at, pairs_at_up_to}
-use Rattle.literal_packed.specs.Buckets.{Bucketed, IsMadeFor, bucket_at, bucket_of}
+use Rattle.literal_packed.specs.RabinKarpValue.{RabinKarpValue, IsMadeFor, bucket_at, bucket_of}
 use Rattle.literal_packed.proofs.InBucket.{IsEntry, bucket_entries, other_sum, none_stands, best_stands, entries_none, compared_none, entries_some, compared_some}
 
 -- the counts after m more entries and n more comparisons
@@ -39,7 +39,7 @@ counts_compared old now compared m n is next =
     next ∙ (ap step is ∙ ap f e)
 
 -- a look-up of the sum of the window at a place: the entries of its bucket stand between two places of a list
-pub record IsLookUp (c : Collected) (haystack : List ℕ) (at sum : ℕ) (entries : List (ℕ × ℕ)) (from to : ℕ) : Type 0 where
+pub record IsLookUp (c : PatternsValue) (haystack : List ℕ) (at sum : ℕ) (entries : List (ℕ × ℕ)) (from to : ℕ) : Type 0 where
   pub searchable : IsSearchable c
   pub sum_is : sum ≡ window_sum c.patterns haystack at
   pub ordered : from ≤ to
@@ -52,7 +52,7 @@ pub record IsRead (entries : List (ℕ × ℕ)) (from to k : ℕ) (x : ℕ × �
   pub before : k < to
   pub is : slice_get entries k ≡ Some x
 
-module _ {c : Collected} {haystack : List ℕ} {at sum : ℕ} {entries : List (ℕ × ℕ)} {from to : ℕ} (here : IsLookUp c haystack at sum entries from to) where
+module _ {c : PatternsValue} {haystack : List ℕ} {at sum : ℕ} {entries : List (ℕ × ℕ)} {from to : ℕ} (here : IsLookUp c haystack at sum entries from to) where
   abbrev bucket : List (ℕ × ℕ)
   bucket = bucket_of c (sum % 64)
 
@@ -136,7 +136,7 @@ module _ {c : Collected} {haystack : List ℕ} {at sum : ℕ} {entries : List (�
   -- and those of an entry that stands there
   pub counts_found : (k : ℕ) (x : ℕ × ℕ) (old now ticked compared : Counts) → IsRead entries from to k x → x.0 ≡ sum
       → now ≡ counted old (k - from) (count_by has_sum (done k)) → ticked ≡ record now { entries = now.entries + 1 } → compared ≡ record ticked { compared = ticked.compared + 1 }
-      → compared ≡ counted old (pairs_at_up_to (has_equal_bucket c.patterns haystack) c.kind c.patterns at x.1) (pairs_at_up_to (has_equal_sum c.patterns haystack) c.kind c.patterns at x.1)
+      → compared ≡ counted old (pairs_at_up_to (has_equal_bucket c.patterns haystack) (query_of c) at x.1) (pairs_at_up_to (has_equal_sum c.patterns haystack) (query_of c) at x.1)
   counts_found k x old now ticked compared read equal was next then =
       let within = entry_within k read.after read.before in
       let in_place = entry_is k x read in
@@ -145,7 +145,7 @@ module _ {c : Collected} {haystack : List ℕ} {at sum : ℕ} {entries : List (�
       (entries_some c here.searchable.well_formed here.searchable.in_order haystack at sum here.sum_is (k - from) x within in_place)
       (compared_some c here.searchable.well_formed here.searchable.in_order haystack at sum here.sum_is (k - from) x within in_place equal)
 
-  pub best_found : (k : ℕ) (x : ℕ × ℕ) → IsRead entries from to k x → NoneOf (done k) → Stands x → IsBestAt c.patterns c.kind false haystack at x.1
+  pub best_found : (k : ℕ) (x : ℕ × ℕ) → IsRead entries from to k x → NoneOf (done k) → Stands x → IsBestAt (query_of c) false haystack at x.1
   best_found k x read none stands =
       best_stands c here.searchable.well_formed here.searchable.in_order haystack at sum here.sum_is (k - from) x (entry_within k read.after read.before) (entry_is k x read) none stands
 
@@ -166,7 +166,7 @@ module _ {c : Collected} {haystack : List ℕ} {at sum : ℕ} {entries : List (�
       (ap (count_by has_sum) (all_done k after ended) ∙ compared_none c here.searchable.well_formed here.searchable.in_order haystack at sum here.sum_is)
 
 -- the look-up in a list of its own for each bucket
-pub look_up_in : (c : Collected) (b : Bucketed) (haystack : List ℕ) (at sum : ℕ) → IsMadeFor c b → sum ≡ window_sum c.patterns haystack at
+pub look_up_in : (c : PatternsValue) (b : RabinKarpValue) (haystack : List ℕ) (at sum : ℕ) → IsMadeFor c b → sum ≡ window_sum c.patterns haystack at
     → IsLookUp c haystack at sum (bucket_at b (sum % 64)) 0 (length (bucket_at b (sum % 64)))
 look_up_in c b haystack at sum made sum_is =
     let entries = bucket_at b (sum % 64) in

@@ -4,9 +4,9 @@ use Rattle.std.specs.List.{range_with_len, sum_by}
 use Rattle.std.proofs.lemmas.Bool.{le-ltb}
 use Rattle.std.proofs.lemmas.List.Sums.{sum_by_push}
 use Rattle.literal_base.specs.Counts.{Counts}
-use Rattle.literal_base.specs.Found.{Found}
+use Rattle.literal_base.specs.MatchValue.{MatchValue}
 use Rattle.literal_base.specs.Occurs.{rest_from}
-use Rattle.literal_packed.specs.Collected.{Collected, shortest_len}
+use Rattle.literal_packed.specs.PatternsValue.{query_of, PatternsValue, minimum_len_of}
 use Rattle.literal_packed.specs.Pairs.{pairs_at, pairs_between, pairs_at_up_to, pairs_up_to, hashed_up_to, has_equal_bucket, has_equal_sum}
 use Rattle.literal_packed.proofs.Counting.{range-more}
 
@@ -51,12 +51,12 @@ counts_hashed old now hashed h e c is next =
     let x : old.hashed + h + 1 ≡ old.hashed + (h + 1) = omega arith in
     next ∙ (ap step is ∙ ap f x)
 
-module _ (c : Collected) (haystack : List ℕ) (from : ℕ) where
+module _ (c : PatternsValue) (haystack : List ℕ) (from : ℕ) where
   abbrev n : ℕ
   n = length c.patterns
 
   abbrev m : ℕ
-  m = shortest_len c.patterns
+  m = minimum_len_of c.patterns
 
   abbrev by_bucket : ℕ → ℕ → Bool
   by_bucket = has_equal_bucket c.patterns haystack
@@ -78,12 +78,12 @@ module _ (c : Collected) (haystack : List ℕ) (from : ℕ) where
       ∙ same_all old _ _ _ _ _ _ place_next (sym (pairs_between-more by_bucket n from place le)) (sym (pairs_between-more by_sum n from place le))
 
   -- a match was found at the place
-  pub counts_some : (old now looked : Counts) (place j : ℕ) (found : Found) → found.start ≡ place → found.pattern ≡ j → now ≡ before old place
-      → looked ≡ record now { entries = now.entries + pairs_at_up_to by_bucket c.kind c.patterns place j; compared = now.compared + pairs_at_up_to by_sum c.kind c.patterns place j }
+  pub counts_some : (old now looked : Counts) (place j : ℕ) (found : MatchValue) → found.start ≡ place → found.pattern ≡ j → now ≡ before old place
+      → looked ≡ record now { entries = now.entries + pairs_at_up_to by_bucket (query_of c) place j; compared = now.compared + pairs_at_up_to by_sum (query_of c) place j }
       → looked ≡ counted_all old (hashed_up_to c.patterns (rest_from haystack from) (Some found))
-      (pairs_up_to by_bucket c.kind c.patterns (rest_from haystack from) (Some found)) (pairs_up_to by_sum c.kind c.patterns (rest_from haystack from) (Some found))
+      (pairs_up_to by_bucket (query_of c) (rest_from haystack from) (Some found)) (pairs_up_to by_sum (query_of c) (rest_from haystack from) (Some found))
   counts_some old now looked place j found at is_j was next =
-      let total : (ℕ → ℕ → Bool) → ℕ → ℕ → ℕ = λ test s i. pairs_between test n from s + pairs_at_up_to test c.kind c.patterns s i in
+      let total : (ℕ → ℕ → Bool) → ℕ → ℕ → ℕ = λ test s i. pairs_between test n from s + pairs_at_up_to test (query_of c) s i in
       counts_looked old now looked _ _ _ _ _ was next
       ∙ same_all old _ _ _ _ _ _ (ap (λ s. s + m - from) (sym at))
       (ap (λ s. total by_bucket s j) (sym at) ∙ ap (λ i. total by_bucket found.start i) (sym is_j))
@@ -93,7 +93,7 @@ module _ (c : Collected) (haystack : List ℕ) (from : ℕ) where
   pub counts_end : (old now looked : Counts) (last : ℕ) → from ≤ last → last + m ≡ length haystack → now ≡ before old last
       → looked ≡ record now { entries = now.entries + pairs_at by_bucket n last; compared = now.compared + pairs_at by_sum n last }
       → looked ≡ counted_all old (hashed_up_to c.patterns (rest_from haystack from) None)
-      (pairs_up_to by_bucket c.kind c.patterns (rest_from haystack from) None) (pairs_up_to by_sum c.kind c.patterns (rest_from haystack from) None)
+      (pairs_up_to by_bucket (query_of c) (rest_from haystack from) None) (pairs_up_to by_sum (query_of c) (rest_from haystack from) None)
   counts_end old now looked last le whole was next =
       let fits : ltb (length haystack - from) m ≡ false = le-ltb _ _ (omega arith) in
       let hashed : last + m - from ≡ cond (ltb (length haystack - from) m) 0 (length haystack - from) =

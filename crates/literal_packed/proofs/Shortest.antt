@@ -4,7 +4,7 @@ use Rattle.std.specs.List.{All, fold, slice_range}
 use Rattle.std.proofs.lemmas.List.{take-take}
 use Rattle.std.proofs.lemmas.List.Elements.{All-head, All-tail}
 use Rattle.literal_base.specs.Occurs.{pattern_at, StandsAt}
-use Rattle.literal_packed.specs.Collected.{shortest_len}
+use Rattle.literal_packed.specs.PatternsValue.{minimum_len_of}
 use Rattle.literal_packed.specs.Sum.{sum_of}
 use Rattle.literal_packed.specs.Pairs.{key_of, window_sum}
 
@@ -27,11 +27,11 @@ least_some a (p ∷ ps) h all =
     least_some (min a (length p)) ps (omega arith) (All-tail (λ (b : List ℕ). 0 < length b) p ps all)
 
 -- no pattern is shorter than the shortest
-pub shortest_len-le : (patterns : List (List ℕ)) (i : ℕ) → i < length patterns → shortest_len patterns ≤ length (pattern_at patterns i)
-shortest_len-le patterns i h = least_at (2 ^ 64 - 1) patterns i h
+pub minimum_len_of-le : (patterns : List (List ℕ)) (i : ℕ) → i < length patterns → minimum_len_of patterns ≤ length (pattern_at patterns i)
+minimum_len_of-le patterns i h = least_at (2 ^ 64 - 1) patterns i h
 
-pub shortest_len_some : (patterns : List (List ℕ)) → All (λ (b : List ℕ). 0 < length b) patterns → 1 ≤ shortest_len patterns
-shortest_len_some patterns all = least_some (2 ^ 64 - 1) patterns (omega arith) all
+pub minimum_len_of_some : (patterns : List (List ℕ)) → All (λ (b : List ℕ). 0 < length b) patterns → 1 ≤ minimum_len_of patterns
+minimum_len_of_some patterns all = least_some (2 ^ 64 - 1) patterns (omega arith) all
 
 -- a front of a part
 front_of : (h : List ℕ) (at m n : ℕ) → m ≤ n → take m (slice_range h at (at + n)) ≡ slice_range h at (at + m)
@@ -43,8 +43,8 @@ front_of h at m n le =
 -- where a pattern stands, the sums are equal
 pub stands_key : (patterns : List (List ℕ)) (haystack : List ℕ) (at i : ℕ) → i < length patterns → StandsAt false (pattern_at patterns i) haystack at → key_of patterns i ≡ window_sum patterns haystack at
 stands_key patterns haystack at i is_pattern stands =
-    let m = shortest_len patterns in
+    let m = minimum_len_of patterns in
     let n = length (pattern_at patterns i) in
     let front : take m (pattern_at patterns i) ≡ slice_range haystack at (at + m) =
-    ap (λ xs. take m xs) (sym stands.same) ∙ front_of haystack at m n (shortest_len-le patterns i is_pattern) in
+    ap (λ xs. take m xs) (sym stands.same) ∙ front_of haystack at m n (minimum_len_of-le patterns i is_pattern) in
     ap sum_of front

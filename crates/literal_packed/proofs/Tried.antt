@@ -2,11 +2,11 @@
 use Rattle.std.proofs.Common.{◌≡◌, ℕ, ◌+◌, ◌<◌, List, [], ◌∷◌, ◌++◌, append_assoc, length, get_or, refl, sym, ap, ◌∙◌, arith}
 use Rattle.std.proofs.lemmas.List.{get_or-map, get_or_at, length-map, length-append}
 use Rattle.literal_base.specs.Occurs.{pattern_at}
-use Rattle.literal_packed.specs.Collected.{Collected, IsWellFormed, in_order}
+use Rattle.literal_packed.specs.PatternsValue.{PatternsValue, IsWellFormed, in_order}
 use Rattle.literal_packed.proofs.InOrder.{order_below_at}
 
 -- the patterns tried so far, and those left, are all of them in order
-module _ (c : Collected) where
+module _ (c : PatternsValue) where
   pair : ℕ → ℕ × List ℕ
   pair i = (i, pattern_at c.patterns i)
 

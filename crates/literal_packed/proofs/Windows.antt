@@ -5,10 +5,10 @@ use Rattle.std.proofs.lemmas.List.{drop_more, get_or_default, nil_from_length}
 use Rattle.std.proofs.lemmas.Bool.{cases_lt}
 use Rattle.std.proofs.lemmas.List.Edits.{between_more, length-between}
 use Rattle.literal_base.specs.Occurs.{pattern_at, StandsAt, Occurs, NothingOccurs, rest_from}
-use Rattle.literal_packed.specs.Place.{NoneStandsAt}
-use Rattle.literal_packed.specs.Collected.{shortest_len}
+use Rattle.literal_packed.specs.Inside.Place.{NoneStandsAt}
+use Rattle.literal_packed.specs.PatternsValue.{minimum_len_of}
 use Rattle.literal_packed.specs.Sum.{sum_of}
-use Rattle.literal_packed.proofs.Shortest.{shortest_len-le}
+use Rattle.literal_packed.proofs.Shortest.{minimum_len_of-le}
 
 -- the window at a place is its first byte and the rest
 window_first : (h : List ℕ) (at m : ℕ) → 0 < m → at < length h → slice_range h at (at + m) ≡ get_or h at 0 ∷ slice_range h (at + 1) (at + m)
@@ -50,17 +50,17 @@ sum-push h at k old new after within pushes is =
 occurs_stands : (patterns : List (List ℕ)) (h : List ℕ) (at i s : ℕ) → Occurs patterns false h (rest_from h at) i s → StandsAt false (pattern_at patterns i) h s
 occurs_stands patterns h at i s occurs = record { fits = occurs.before_end; same = occurs.same }
 
-pub nothing_short : (patterns : List (List ℕ)) (h : List ℕ) (at : ℕ) → length h - at < shortest_len patterns → NothingOccurs patterns false h (rest_from h at)
+pub nothing_short : (patterns : List (List ℕ)) (h : List ℕ) (at : ℕ) → length h - at < minimum_len_of patterns → NothingOccurs patterns false h (rest_from h at)
 nothing_short patterns h at short i s occurs =
     let after = occurs.after_start in
     let fits = occurs.before_end in
-    omega (arith, shortest_len-le patterns i occurs.is_pattern)
+    omega (arith, minimum_len_of-le patterns i occurs.is_pattern)
 
-pub nothing_after : (patterns : List (List ℕ)) (h : List ℕ) (at last : ℕ) → last + shortest_len patterns ≡ length h
+pub nothing_after : (patterns : List (List ℕ)) (h : List ℕ) (at last : ℕ) → last + minimum_len_of patterns ≡ length h
     → ((s : ℕ) → at ≤ s → s < last + 1 → NoneStandsAt patterns false h s) → NothingOccurs patterns false h (rest_from h at)
 nothing_after patterns h at last is none i s occurs =
     let fits = occurs.before_end in
-    let room : s < last + 1 = omega (arith, shortest_len-le patterns i occurs.is_pattern) in
+    let room : s < last + 1 = omega (arith, minimum_len_of-le patterns i occurs.is_pattern) in
     none s occurs.after_start room i occurs.is_pattern (occurs_stands patterns h at i s occurs)
 
 -- where nothing occurs in a rest, no pattern is empty: an empty one would occur at its beginning

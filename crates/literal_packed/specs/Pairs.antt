@@ -2,22 +2,22 @@
 -- The window of a place has as many bytes as the shortest pattern.
 use Rattle.std.specs.Prelude.{ℕ, ◌+◌, ◌-◌, ◌%◌, Bool, ◌&&◌, ◌||◌, ◌==◌, nat_lt, if◌then◌else◌, List, length, take, Option, Some, None, count_by, sum_by, slice_range}
 use Rattle.std.specs.List.{range_with_len}
-use Rattle.literal_base.specs.declared.packed.MatchKind.{MatchKind}
-use Rattle.literal_base.specs.declared.packed.MatchKind.TheVariants.{LeftmostFirst, LeftmostLongest}
 use Rattle.literal_base.specs.declared.search.Span.{Span}
 use Rattle.literal_base.specs.Counts.{Counts}
-use Rattle.literal_base.specs.Found.{Found}
+use Rattle.literal_base.specs.MatchValue.{MatchValue}
+use Rattle.literal_base.specs.Leftmost.{is_better}
 use Rattle.literal_base.specs.Occurs.{pattern_at}
-use Rattle.literal_packed.specs.Collected.{shortest_len}
+use Rattle.literal_base.specs.Query.{Query}
+use Rattle.literal_packed.specs.PatternsValue.{minimum_len_of}
 use Rattle.literal_packed.specs.Sum.{sum_of}
 
 -- the sum of the first bytes of a pattern, as many as the window has
 abbrev pub key_of : List (List ℕ) → ℕ → ℕ
-key_of patterns i = sum_of (take (shortest_len patterns) (pattern_at patterns i))
+key_of patterns i = sum_of (take (minimum_len_of patterns) (pattern_at patterns i))
 
 -- the sum of the window of a place
 abbrev pub window_sum : List (List ℕ) → List ℕ → ℕ → ℕ
-window_sum patterns haystack at = sum_of (slice_range haystack at (at + shortest_len patterns))
+window_sum patterns haystack at = sum_of (slice_range haystack at (at + minimum_len_of patterns))
 
 -- the window of the place and the first bytes of pattern i have equal sums
 abbrev pub has_equal_sum : List (List ℕ) → List ℕ → ℕ → ℕ → Bool
@@ -27,26 +27,19 @@ has_equal_sum patterns haystack at i = key_of patterns i == window_sum patterns 
 abbrev pub has_equal_bucket : List (List ℕ) → List ℕ → ℕ → ℕ → Bool
 has_equal_bucket patterns haystack at i = key_of patterns i % 64 == window_sum patterns haystack at % 64
 
--- the tie rule, as a test: of two patterns that occur at one place, i is taken rather than j
-abbrev pub is_better : MatchKind → List (List ℕ) → ℕ → ℕ → Bool
-is_better LeftmostFirst patterns i j = nat_lt i j
-is_better LeftmostLongest patterns i j =
-    nat_lt (length (pattern_at patterns j)) (length (pattern_at patterns i))
-    || (length (pattern_at patterns i) == length (pattern_at patterns j) && nat_lt i j)
-
 -- how many of n patterns pass a test at a place
 abbrev pub pairs_at : (ℕ → ℕ → Bool) → ℕ → ℕ → ℕ
 pairs_at test n at = count_by (test at) (range_with_len 0 n)
 
 -- how many of the patterns pass a test at a place and are pattern j or better than it
-abbrev pub pairs_at_up_to : (ℕ → ℕ → Bool) → MatchKind → List (List ℕ) → ℕ → ℕ → ℕ
-pairs_at_up_to test kind patterns at j =
-    count_by (λ i. test at i && (i == j || is_better kind patterns i j)) (range_with_len 0 (length patterns))
+abbrev pub pairs_at_up_to : (ℕ → ℕ → Bool) → Query → ℕ → ℕ → ℕ
+pairs_at_up_to test query at j =
+    count_by (λ i. test at i && (i == j || is_better query.kind query.patterns i j)) (range_with_len 0 (length query.patterns))
 
 -- how many of the patterns pass a test at a place: up to the pattern that is the answer there, if there is one
-abbrev pub pairs_answered : (ℕ → ℕ → Bool) → MatchKind → List (List ℕ) → ℕ → Option ℕ → ℕ
-pairs_answered test kind patterns at None = pairs_at test (length patterns) at
-pairs_answered test kind patterns at (Some j) = pairs_at_up_to test kind patterns at j
+abbrev pub pairs_answered : (ℕ → ℕ → Bool) → Query → ℕ → Option ℕ → ℕ
+pairs_answered test query at None = pairs_at test (length query.patterns) at
+pairs_answered test query at (Some j) = pairs_at_up_to test query at j
 
 -- how many pairs of a place, from `from` on and before `to`, and one of n patterns pass a test
 abbrev pub pairs_between : (ℕ → ℕ → Bool) → ℕ → ℕ → ℕ → ℕ
@@ -55,7 +48,7 @@ pairs_between test n from to = sum_by (pairs_at test n) (range_with_len from (to
 -- the pairs of a place, whose window lies in the span, and a pattern that pass a test
 abbrev pub pairs_in : (ℕ → ℕ → Bool) → List (List ℕ) → Span → ℕ
 pairs_in test patterns span =
-    pairs_between test (length patterns) span.start (span.end + 1 - shortest_len patterns)
+    pairs_between test (length patterns) span.start (span.end + 1 - minimum_len_of patterns)
 
 -- EqualPairs: those with equal sums
 abbrev pub equal_pairs : List (List ℕ) → List ℕ → Span → ℕ
@@ -66,22 +59,22 @@ abbrev pub bucket_pairs : List (List ℕ) → List ℕ → Span → ℕ
 bucket_pairs patterns haystack span = pairs_in (has_equal_bucket patterns haystack) patterns span
 
 -- the pairs up to an answer: all where there is none. With a match (j, t, e) those of a place before t, and those of t with j or a better pattern
-abbrev pub pairs_up_to : (ℕ → ℕ → Bool) → MatchKind → List (List ℕ) → Span → Option Found → ℕ
-pairs_up_to test kind patterns span None = pairs_in test patterns span
-pairs_up_to test kind patterns span (Some found) =
-    pairs_between test (length patterns) span.start found.start + pairs_at_up_to test kind patterns found.start found.pattern
+abbrev pub pairs_up_to : (ℕ → ℕ → Bool) → Query → Span → Option MatchValue → ℕ
+pairs_up_to test query span None = pairs_in test query.patterns span
+pairs_up_to test query span (Some found) =
+    pairs_between test (length query.patterns) span.start found.start + pairs_at_up_to test query found.start found.pattern
 
 -- how many bytes of the span go into the sums, up to an answer: each up to the end of the last window.
 -- With no answer that is each byte, and none where the span is shorter than the window
-abbrev pub hashed_up_to : List (List ℕ) → Span → Option Found → ℕ
+abbrev pub hashed_up_to : List (List ℕ) → Span → Option MatchValue → ℕ
 hashed_up_to patterns span None =
-    if nat_lt (span.end - span.start) (shortest_len patterns) then 0 else span.end - span.start
-hashed_up_to patterns span (Some found) = found.start + shortest_len patterns - span.start
+    if nat_lt (span.end - span.start) (minimum_len_of patterns) then 0 else span.end - span.start
+hashed_up_to patterns span (Some found) = found.start + minimum_len_of patterns - span.start
 
 -- the counts after a search in a span that gives an answer: the bytes hashed, the pairs whose entries were read, and those that were compared
-abbrev pub counts_after : Counts → MatchKind → List (List ℕ) → List ℕ → Span → Option Found → Counts
-counts_after old kind patterns haystack span answer = record old {
-  hashed = old.hashed + hashed_up_to patterns span answer;
-  entries = old.entries + pairs_up_to (has_equal_bucket patterns haystack) kind patterns span answer;
-  compared = old.compared + pairs_up_to (has_equal_sum patterns haystack) kind patterns span answer;
+abbrev pub counts_after : Counts → Query → List ℕ → Span → Option MatchValue → Counts
+counts_after old query haystack span answer = record old {
+  hashed = old.hashed + hashed_up_to query.patterns span answer;
+  entries = old.entries + pairs_up_to (has_equal_bucket query.patterns haystack) query span answer;
+  compared = old.compared + pairs_up_to (has_equal_sum query.patterns haystack) query span answer;
 }

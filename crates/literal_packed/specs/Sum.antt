@@ -13,8 +13,3 @@ sum_of w = weighted w % 2 ^ 64
 -- what the first byte of a window of this length is multiplied by, which is 0 from 65 bytes on
 abbrev pub power_of : ℕ → ℕ
 power_of window = 2 ^ (window - 1) % 2 ^ 64
-
--- how many bytes a rolling window is to have, and the sum of the bytes in it
-pub record Rolled : Type 0 where
-  pub window : ℕ
-  pub sum : ℕ

@@ -6,10 +6,13 @@ ghost use Rattle.literal_base.specs.Occurs.{IsValidSpan, whole_of};
 ghost use Rattle.literal_base.specs.Leftmost.{IsLeftmost};
 ghost use Rattle.literal_base.specs.Greedy.{IsGreedy};
 ghost use Rattle.literal_base.specs.Counts.{none_yet};
-ghost use Rattle.literal_packed.specs.Collected.{IsInOrder, shortest_len};
-ghost use Rattle.literal_packed.specs.State.{Adds, AddsAll, Builds, BuildsItems, IsBuildable, WouldKeep, builder_of, default_config, kept};
+ghost use Rattle.literal_packed.specs.PatternsValue.{IsInOrder, minimum_len_of};
+ghost use Rattle.literal_packed.specs.BuilderValue.{AddsAll, BuildsItems, IsBuildable, builder_of, pattern_limit, searcher_of, with_added};
+ghost use Rattle.literal_packed.specs.ConfigValue.{default_config};
+ghost use Rattle.literal_packed.specs.State.{WouldKeep, kept_of};
 ghost use Rattle.literal_packed.specs.Pairs.{counts_after};
-ghost use Rattle.literal_packed.specs.Finding.{FindsNext, SpendsWithin, bytes_left, counts_after_all};
+ghost use Rattle.literal_packed.specs.FindIterValue.{FindsNext, bytes_left};
+ghost use Rattle.literal_packed.specs.Spending.{SpendsWithin, counts_after_all};
 ghost use Rattle.literal_packed.specs.Lending.{RestsAtErr, LentRestsAtErr, HoldsTaken, HoldsAll};
 
 use crate::pattern::Patterns;
@@ -31,9 +34,9 @@ pub struct Config {
 }
 
 impl Model for Config {
-    ghost use Rattle.literal_packed.specs.State.{Configured};
+    ghost use Rattle.literal_packed.specs.ConfigValue.{ConfigValue};
 
-    ghost Value = { Configured };
+    ghost Value = { ConfigValue };
 
     ghost view = { λ config. record { kind = config.kind } };
 }
@@ -98,13 +101,13 @@ pub struct Builder {
 }
 
 impl Model for Builder {
-    ghost use Rattle.literal_packed.specs.State.{Building};
+    ghost use Rattle.literal_packed.specs.BuilderValue.{BuilderValue};
 
-    ghost Value = { Building };
+    ghost Value = { BuilderValue };
 
-    ghost use Rattle.literal_packed.specs.BuilderInside.{building, IsSound};
+    ghost use Rattle.literal_packed.specs.Inside.Builder.{builder_value, IsSound};
 
-    ghost view = { building };
+    ghost view = { builder_value };
 
     ghost invariant = { IsSound };
 }
@@ -120,7 +123,7 @@ impl Builder {
     /// A searcher for the patterns, or `None` where there are none or the builder is inert. The
     /// builder stays as it is.
     pub fn build(&self) -> Result<Option<Searcher>, AllocError>
-        ensures ok { IfOk result (Builds self.now) }
+        ensures ok { IfOk result (λ built. built ≡ searcher_of self.now) }
         ensures no_memory { IsOk result ⊎ IsBuildable self.now }
     {
         if self.patterns.is_empty() {
@@ -141,8 +144,8 @@ impl Builder {
     pub fn add(&mut self, bytes: &[u8]) -> Result<&mut Builder, AllocError>
         ensures* err { sem 𝓛 (RestsAtErr (λ b. b ≡ self.old) self.entry result) }
         ensures same { IfOk result (λ b. b.ghost_name ≡ self.entry.ghost_name) }
-        ensures ok { IfOk result (λ b. Adds self.old (bytes.now ∷ []) b.now) }
-        ensures no_memory { OnErr result (WouldKeep self.old bytes.now) }
+        ensures ok { IfOk result (λ b. b.now ≡ with_added self.old (bytes.now ∷ [])) }
+        ensures no_memory { OnErr result (WouldKeep pattern_limit self.old.state bytes.now) }
     {
         unwrapped(self.try_add(bytes))
     }
@@ -150,16 +153,16 @@ impl Builder {
     fn try_add(&mut self, bytes: &[u8]) -> Result<Lent<'_>, AllocError>
         ensures* err { sem 𝓛 (LentRestsAtErr (λ b. b ≡ self.old) self.entry result) }
         ensures same { IfOk result (λ l. l.builder.ghost_name ≡ self.entry.ghost_name) }
-        ensures ok { IfOk result (λ l. Adds self.old (bytes.now ∷ []) l.builder.now) }
-        ensures no_memory { OnErr result (WouldKeep self.old bytes.now) }
+        ensures ok { IfOk result (λ l. l.builder.now ≡ with_added self.old (bytes.now ∷ [])) }
+        ensures no_memory { OnErr result (WouldKeep pattern_limit self.old.state bytes.now) }
     {
         self.put(bytes)?;
         Ok(Lent { builder: self })
     }
 
     fn put(&mut self, bytes: &[u8]) -> Result<(), AllocError>
-        ensures ok { OnOk result (Adds self.old (bytes.now ∷ []) self.new) }
-        ensures no_memory { OnErr result (WouldKeep self.old bytes.now) }
+        ensures ok { OnOk result (self.new ≡ with_added self.old (bytes.now ∷ [])) }
+        ensures no_memory { OnErr result (WouldKeep pattern_limit self.old.state bytes.now) }
         ensures err { OnErr result (self.new ≡ self.old) }
     {
         if self.inert {
@@ -219,7 +222,7 @@ impl Builder {
 
     /// The number of patterns that are kept, 0 where the builder is inert.
     pub fn len(&self) -> usize
-        ensures { result ≡ length (kept self.now) }
+        ensures { result ≡ length (kept_of self.now.state) }
     {
         self.patterns.len()
     }
@@ -227,7 +230,7 @@ impl Builder {
     /// The length of the shortest pattern that is kept, in bytes, and `usize::MAX` where there is
     /// none.
     pub fn minimum_len(&self) -> usize
-        ensures { result ≡ shortest_len (kept self.now) }
+        ensures { result ≡ minimum_len_of (kept_of self.now.state) }
     {
         self.patterns.minimum_len()
     }
@@ -282,10 +285,10 @@ pub struct Searcher {
 }
 
 impl Model for Searcher {
-    ghost use Rattle.literal_packed.specs.Searched.{Searched};
-    ghost use Rattle.literal_packed.specs.Buckets.{IsMadeFor};
+    ghost use Rattle.literal_base.specs.Query.{Query};
+    ghost use Rattle.literal_packed.specs.RabinKarpValue.{IsMadeFor};
 
-    ghost Value = { Searched };
+    ghost Value = { Query };
 
     ghost view = { λ a. record { kind = a.patterns.kind; patterns = a.patterns.patterns } };
 
@@ -324,7 +327,7 @@ impl Searcher {
 
     /// The leftmost match in the haystack: [`Searcher::find_in`] of all of it.
     pub fn find(&self, haystack: &[u8]) -> Option<Match>
-        ensures leftmost { IsLeftmost self.now.patterns self.now.kind false haystack.now (whole_of haystack.now) result }
+        ensures leftmost { IsLeftmost self.now false haystack.now (whole_of haystack.now) result }
         ensures not_empty { IfSome result (λ found. found.start < found.end) }
     {
         self.find_in(
@@ -342,7 +345,7 @@ impl Searcher {
     /// valid: its `start` at most its `end`, and that at most the haystack's length.
     pub fn find_in(&self, haystack: &[u8], span: Span) -> Option<Match>
         requires { IsValidSpan haystack.now span }
-        ensures leftmost { IsLeftmost self.now.patterns self.now.kind false haystack.now span result }
+        ensures leftmost { IsLeftmost self.now false haystack.now span result }
         ensures not_empty { IfSome result (λ found. found.start < found.end) }
     {
         let mut tally = Tally::new();
@@ -353,9 +356,9 @@ impl Searcher {
     /// tried.
     pub fn find_in_counted(&self, haystack: &[u8], span: Span, tally: &mut Tally) -> Option<Match>
         requires { IsValidSpan haystack.now span }
-        ensures leftmost { IsLeftmost self.now.patterns self.now.kind false haystack.now span result }
+        ensures leftmost { IsLeftmost self.now false haystack.now span result }
         ensures not_empty { IfSome result (λ found. found.start < found.end) }
-        ensures exact { tally.new ≡ counts_after tally.old self.now.kind self.now.patterns haystack.now span result }
+        ensures exact { tally.new ≡ counts_after tally.old self.now haystack.now span result }
     {
         let haystack = &haystack[..span.end];
         self.rabin_karp
@@ -366,7 +369,7 @@ impl Searcher {
     /// match of the haystack, and after each match the leftmost one of what is left behind it. The
     /// iterator borrows the haystack, and ends with the first `None`.
     pub fn find_iter<'s, 'h>(&'s self, haystack: &'h [u8]) -> FindIter<'s, 'h>
-        ensures { result ≡ record { searched = self.now; haystack = haystack.now; at = 0; counts = none_yet } }
+        ensures { result ≡ record { query = self.now; haystack = haystack.now; at = 0; counts = none_yet } }
     {
         FindIter {
             searcher: self,
@@ -379,7 +382,7 @@ impl Searcher {
     /// The list of what [`Searcher::find_iter`] gives, with the steps that it takes added to a tally,
     /// those before memory was refused too.
     pub fn find_all(&self, haystack: &[u8], tally: &mut Tally) -> Result<Vec<Match>, AllocError>
-        ensures greedy { IfOk result (λ all. IsGreedy self.now.patterns self.now.kind false haystack.now 0 all.items) }
+        ensures greedy { IfOk result (λ all. IsGreedy self.now false haystack.now 0 all.items) }
         ensures exact { IfOk result (λ all. tally.new ≡ counts_after_all tally.old self.now haystack.now 0 all.items) }
         ensures counted { SpendsWithin self.now haystack.now tally.old tally.new }
     {
@@ -444,11 +447,11 @@ pub struct FindIter<'s, 'h> {
 
 impl<'s, 'h> Model for FindIter<'s, 'h> {
     ghost use Rattle.std.specs.Prelude.{◌≤◌, length};
-    ghost use Rattle.literal_packed.specs.Finding.{Finding};
+    ghost use Rattle.literal_packed.specs.FindIterValue.{FindIterValue};
 
-    ghost Value = { Finding };
+    ghost Value = { FindIterValue };
 
-    ghost view = { λ a. record { searched = a.searcher.now; haystack = a.haystack.now; at = a.at; counts = a.tally } };
+    ghost view = { λ a. record { query = a.searcher.now; haystack = a.haystack.now; at = a.at; counts = a.tally } };
 
     ghost invariant = { λ a. a.at ≤ length a.haystack.now };
 }

@@ -6,13 +6,16 @@ ghost use Rattle.std.specs.List.{range_with_len};
 ghost use Rattle.literal_base.specs.declared.packed.MatchKind.{MatchKind};
 ghost use Rattle.literal_base.specs.declared.packed.MatchKind.TheVariants.{LeftmostFirst, LeftmostLongest};
 ghost use Rattle.literal_base.specs.Counts.{none_yet};
-ghost use Rattle.literal_base.specs.Found.{Found};
+ghost use Rattle.literal_base.specs.MatchValue.{MatchValue};
 ghost use Rattle.literal_base.specs.Occurs.{IsValidSpan, NothingOccurs, whole_of};
-ghost use Rattle.literal_base.specs.Leftmost.{IsBetter, IsLeftmost};
+ghost use Rattle.literal_base.specs.Leftmost.{IsBetter, IsLeftmost, is_better};
 ghost use Rattle.literal_base.specs.Greedy.{IsGreedy};
+ghost use Rattle.literal_base.specs.Query.{Query};
 ghost use Rattle.literal_packed.specs.Sum.{sum_of};
-ghost use Rattle.literal_packed.specs.Pairs.{is_better, counts_after};
-ghost use Rattle.literal_packed.specs.Finding.{Finding, FindsNext, LieApart, SpendsWithin, StandsAtEnd, counts_after_all};
+ghost use Rattle.literal_packed.specs.Pairs.{counts_after};
+ghost use Rattle.literal_base.specs.Apart.{LieApart};
+ghost use Rattle.literal_packed.specs.FindIterValue.{FindIterValue, FindsNext, StandsAtEnd};
+ghost use Rattle.literal_packed.specs.Spending.{SpendsAtMost, SpendsWithin, counts_after_all};
 
 use crate::{FindIter, Searcher};
 use literal_base::count::Tally;
@@ -34,16 +37,16 @@ pub fn better_is_tested()
 /// The matches of a greedy list are non-empty, in order, and don't overlap, and no pattern occurs
 /// whole before the first, between two neighbours, or after the last.
 pub fn greedy_lists_lie_apart()
-    ensures { (patterns : List (List ℕ)) (kind : MatchKind) (haystack : List ℕ) (at : ℕ) (all : List Found)
+    ensures { (query : Query) (haystack : List ℕ) (at : ℕ) (all : List MatchValue)
         → at ≤ length haystack
-        → IsGreedy patterns kind false haystack at all
-        → LieApart patterns haystack at all }
+        → IsGreedy query false haystack at all
+        → LieApart query.patterns haystack at all }
 {}
 
 /// A search of the whole haystack is that of the span that is all of it.
 pub fn find_is_find_in(searcher: &Searcher, haystack: &[u8]) -> (Option<Match>, Option<Match>)
     ensures same { result.0 ≡ result.1 }
-    ensures leftmost { IsLeftmost searcher.now.patterns searcher.now.kind false haystack.now (whole_of haystack.now) result.0 }
+    ensures leftmost { IsLeftmost searcher.now false haystack.now (whole_of haystack.now) result.0 }
 {
     leftmost_is_unique();
     let whole = Span {
@@ -68,7 +71,7 @@ pub fn iteration_is_greedy(
     searcher: &Searcher,
     haystack: &[u8],
 ) -> Result<Vec<Match>, AllocError>
-    ensures greedy { IfOk result (λ all. IsGreedy searcher.now.patterns searcher.now.kind false haystack.now 0 all.items) }
+    ensures greedy { IfOk result (λ all. IsGreedy searcher.now false haystack.now 0 all.items) }
     ensures apart { IfOk result (λ all. LieApart searcher.now.patterns haystack.now 0 all.items) }
     ensures few { IfOk result (λ all. length all.items ≤ length haystack.now) }
 {
@@ -84,7 +87,7 @@ pub fn iteration_is_greedy(
 /// compares no more than the pairs of the whole haystack.
 pub fn iteration_is_bounded<'s, 'h>(searcher: &'s Searcher, haystack: &'h [u8]) -> FindIter<'s, 'h>
     ensures bounded { SpendsWithin searcher.now haystack.now none_yet result.counts }
-    ensures searched { result.searched ≡ searcher.now }
+    ensures query { result.query ≡ searcher.now }
     ensures haystack { result.haystack ≡ haystack.now }
     ensures ended { StandsAtEnd result }
 {
@@ -101,7 +104,7 @@ pub fn list_is_iteration(
     tally: &mut Tally,
 ) -> Result<(Vec<Match>, Vec<Match>), AllocError>
     ensures same { IfOk result (λ both. both.0.items ≡ both.1.items) }
-    ensures greedy { IfOk result (λ both. IsGreedy searcher.now.patterns searcher.now.kind false haystack.now 0 both.0.items) }
+    ensures greedy { IfOk result (λ both. IsGreedy searcher.now false haystack.now 0 both.0.items) }
 {
     greedy_is_unique();
     let listed = searcher.find_all(haystack, tally)?;
@@ -109,14 +112,21 @@ pub fn list_is_iteration(
     Ok((listed, iterated))
 }
 
+/// One call of `next` counts no more than there is between the place from which it searches and the
+/// place from which the search goes on.
+pub fn next_is_bounded()
+    ensures { (old new : FindIterValue) (answer : Option MatchValue) → old.at ≤ length old.haystack
+        → FindsNext old answer new → SpendsAtMost old.query old.haystack old.at new.at old.counts new.counts }
+{}
+
 /// After a `None` an iterator stands at the end of the haystack.
 pub fn none_ends_an_iteration()
-    ensures { (old new : Finding) → FindsNext old None new → StandsAtEnd new }
+    ensures { (old new : FindIterValue) → FindsNext old None new → StandsAtEnd new }
 {}
 
 /// An iterator that stands at the end of the haystack answers `None`, and stays there.
 pub fn none_at_the_end()
-    ensures { (old new : Finding) (answer : Option Found) → StandsAtEnd old → FindsNext old answer new → IsNone answer × StandsAtEnd new }
+    ensures { (old new : FindIterValue) (answer : Option MatchValue) → StandsAtEnd old → FindsNext old answer new → IsNone answer × StandsAtEnd new }
 {}
 
 /// Whether a `None` of an iterator is followed by nothing but `None`, in so many calls more. It is.
@@ -139,12 +149,12 @@ pub fn none_is_for_good(matches: &mut FindIter<'_, '_>, more: usize) -> bool
 /// hashed, since the rest of one byte is shorter than the window. The bytes `!` and `a` share a
 /// bucket, and their sums differ.
 pub fn worked_counts()
-    ensures equal_sums { counts_after none_yet LeftmostFirst (codes "ab" ∷ []) (0x62 ∷ 0x60 ∷ 0x61 ∷ 0x62 ∷ []) (whole_of (0x62 ∷ 0x60 ∷ 0x61 ∷ 0x62 ∷ []))
+    ensures equal_sums { counts_after none_yet (record { kind = LeftmostFirst; patterns = codes "ab" ∷ [] }) (0x62 ∷ 0x60 ∷ 0x61 ∷ 0x62 ∷ []) (whole_of (0x62 ∷ 0x60 ∷ 0x61 ∷ 0x62 ∷ []))
         (Some (record { pattern = 0; start = 2; end = 4 }))
         ≡ record { hashed = 4; entries = 2; compared = 2; scanned = 0; tried = 0 } }
     ensures iteration { counts_after_all none_yet (record { kind = LeftmostFirst; patterns = codes "ab" ∷ codes "ba" ∷ [] }) (codes "abababa") 0
         (record { pattern = 0; start = 0; end = 2 } ∷ record { pattern = 0; start = 2; end = 4 } ∷ record { pattern = 0; start = 4; end = 6 } ∷ [])
         ≡ record { hashed = 6; entries = 3; compared = 3; scanned = 0; tried = 0 } }
-    ensures shared_bucket { counts_after none_yet LeftmostLongest (codes "a" ∷ []) (codes "!!!!") (whole_of (codes "!!!!")) None
+    ensures shared_bucket { counts_after none_yet (record { kind = LeftmostLongest; patterns = codes "a" ∷ [] }) (codes "!!!!") (whole_of (codes "!!!!")) None
         ≡ record { hashed = 4; entries = 4; compared = 0; scanned = 0; tried = 0 } }
 {}

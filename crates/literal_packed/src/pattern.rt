@@ -6,8 +6,8 @@ ghost use Rattle.std.specs.List.Sorted.{IsPermutation, IsSorted};
 ghost use Rattle.literal_base.specs.declared.packed.MatchKind.TheVariants.{LeftmostFirst};
 ghost use Rattle.literal_base.specs.Occurs.{StandsAt, pattern_at};
 ghost use Rattle.literal_base.specs.Leftmost.{IsBetter};
-ghost use Rattle.literal_packed.specs.Longest.{bytes_of, longest_cmp};
-ghost use Rattle.literal_packed.specs.Collected.{Collected, no_patterns, with_pattern, shortest_len, total_len, in_order, IsInOrder, IsWellFormed};
+ghost use Rattle.literal_packed.specs.Inside.Longest.{bytes_of, longest_cmp};
+ghost use Rattle.literal_packed.specs.PatternsValue.{PatternsValue, no_patterns, with_pattern, minimum_len_of, total_len, in_order, IsInOrder, IsWellFormed};
 
 use literal_base::count::Tally;
 use literal_base::packed::MatchKind;
@@ -31,13 +31,13 @@ pub struct Patterns {
 }
 
 impl Model for Patterns {
-    ghost use Rattle.literal_packed.specs.Collected.{Collected};
+    ghost use Rattle.literal_packed.specs.PatternsValue.{PatternsValue};
 
-    ghost Value = { Collected };
+    ghost Value = { PatternsValue };
 
-    ghost use Rattle.literal_packed.specs.PatternsInside.{collected, IsConsistent};
+    ghost use Rattle.literal_packed.specs.Inside.Patterns.{patterns_value, IsConsistent};
 
-    ghost view = { collected };
+    ghost view = { patterns_value };
 
     ghost invariant = { IsConsistent };
 }
@@ -120,7 +120,7 @@ impl Patterns {
 
     /// The length of the shortest pattern in bytes, and `usize::MAX` where there is none.
     pub fn minimum_len(&self) -> usize
-        ensures { result ≡ shortest_len self.now.patterns }
+        ensures { result ≡ minimum_len_of self.now.patterns }
     {
         self.minimum_len
     }
@@ -270,7 +270,7 @@ pub struct PatternIter<'p> {
 
 impl<'p> Model for PatternIter<'p> {
     ghost use Rattle.std.specs.Prelude.{List, ℕ, drop};
-    ghost use Rattle.literal_packed.specs.Collected.{in_order};
+    ghost use Rattle.literal_packed.specs.PatternsValue.{in_order};
 
     ghost Value = { List (ℕ × List ℕ) };
 

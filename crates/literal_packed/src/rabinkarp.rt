@@ -4,11 +4,12 @@ ghost use Rattle.std.specs.Prelude.{◌≡◌, ℕ, ◌≤◌, ◌<◌, ◌+◌,
 ghost use Rattle.std.specs.List.{All};
 ghost use Rattle.literal_base.specs.Occurs.{pattern_at, rest_from};
 ghost use Rattle.literal_base.specs.Leftmost.{IsLeftmost};
-ghost use Rattle.literal_packed.specs.Collected.{IsInOrder, shortest_len};
-ghost use Rattle.literal_packed.specs.Place.{IsBestAt, NoneStandsAt};
+ghost use Rattle.literal_packed.specs.PatternsValue.{query_of, IsInOrder, minimum_len_of};
+ghost use Rattle.literal_packed.specs.Inside.Place.{IsBestAt, NoneStandsAt};
 ghost use Rattle.literal_packed.specs.Sum.{sum_of};
 ghost use Rattle.literal_packed.specs.Pairs.{has_equal_sum, has_equal_bucket, window_sum, pairs_answered, counts_after};
-ghost use Rattle.literal_packed.specs.Buckets.{IsMadeFor, bucket_at, entry_lists};
+ghost use Rattle.literal_packed.specs.Inside.RabinKarp.{entry_lists};
+ghost use Rattle.literal_packed.specs.RabinKarpValue.{IsMadeFor, bucket_at};
 
 use crate::pattern::Patterns;
 use literal_base::count::Tally;
@@ -33,9 +34,10 @@ pub struct Rolling {
 
 impl Model for Rolling {
     ghost use Rattle.std.specs.Prelude.{◌≡◌, ◌≤◌};
-    ghost use Rattle.literal_packed.specs.Sum.{Rolled, power_of};
+    ghost use Rattle.literal_packed.specs.RollingValue.{RollingValue};
+    ghost use Rattle.literal_packed.specs.Sum.{power_of};
 
-    ghost Value = { Rolled };
+    ghost Value = { RollingValue };
 
     ghost view = { λ r. record { window = r.window; sum = r.value } };
 
@@ -146,16 +148,17 @@ fn found_at(patterns: &Patterns, id: PatternID, at: usize) -> Match
 /// entries of each bucket.
 #[derive(Drop)]
 pub struct RabinKarp {
-    hash_len: usize,
+    minimum_len: usize,
     buckets: Vec<Vec<(usize, PatternID)>>,
 }
 
 impl Model for RabinKarp {
-    ghost use Rattle.literal_packed.specs.Buckets.{Bucketed, entry_lists};
+    ghost use Rattle.literal_packed.specs.Inside.RabinKarp.{entry_lists};
+    ghost use Rattle.literal_packed.specs.RabinKarpValue.{RabinKarpValue};
 
-    ghost Value = { Bucketed };
+    ghost Value = { RabinKarpValue };
 
-    ghost view = { λ r. record { window = r.hash_len; buckets = entry_lists r.buckets.items } };
+    ghost view = { λ r. record { minimum_len = r.minimum_len; buckets = entry_lists r.buckets.items } };
 }
 
 impl RabinKarp {
@@ -167,19 +170,19 @@ impl RabinKarp {
         requires in_order { IsInOrder patterns.now }
         ensures made { IfOk result (IsMadeFor patterns.now) }
         ensures counted { OnOk result (tally.new ≡ record tally.old {
-          hashed = tally.old.hashed + length patterns.now.patterns * shortest_len patterns.now.patterns;
+          hashed = tally.old.hashed + length patterns.now.patterns * minimum_len_of patterns.now.patterns;
         }) }
         ensures others { tally.new ≡ record tally.old { hashed = tally.new.hashed } }
         ensures grows { tally.old.hashed ≤ tally.new.hashed }
     {
-        let window = patterns.minimum_len();
+        let minimum_len = patterns.minimum_len();
         let mut buckets = empty_buckets(patterns.allocator())?;
         for (id, pattern) in patterns.iter() {
-            let sum = sum_of_first(pattern.bytes(), window, tally);
+            let sum = sum_of_first(pattern.bytes(), minimum_len, tally);
             buckets[sum % BUCKETS].push((sum, id))?;
         }
         Ok(RabinKarp {
-            hash_len: window,
+            minimum_len,
             buckets,
         })
     }
@@ -189,7 +192,7 @@ impl RabinKarp {
         ensures { IfOk result (λ copy. copy ≡ self.now) }
     {
         Ok(RabinKarp {
-            hash_len: self.hash_len,
+            minimum_len: self.minimum_len,
             buckets: copy_of(*self.buckets.allocator(), self.buckets.as_slice())?,
         })
     }
@@ -229,10 +232,10 @@ impl RabinKarp {
         requires in_haystack { at ≤ length haystack.now }
         ensures best { MatchOption result
             (NoneStandsAt patterns.now.patterns false haystack.now at)
-            (IsBestAt patterns.now.patterns patterns.now.kind false haystack.now at) }
+            (IsBestAt (query_of patterns.now) false haystack.now at) }
         ensures counted { tally.new ≡ record tally.old {
-          entries = tally.old.entries + pairs_answered (has_equal_bucket patterns.now.patterns haystack.now) patterns.now.kind patterns.now.patterns at result;
-          compared = tally.old.compared + pairs_answered (has_equal_sum patterns.now.patterns haystack.now) patterns.now.kind patterns.now.patterns at result;
+          entries = tally.old.entries + pairs_answered (has_equal_bucket patterns.now.patterns haystack.now) (query_of patterns.now) at result;
+          compared = tally.old.compared + pairs_answered (has_equal_sum patterns.now.patterns haystack.now) (query_of patterns.now) at result;
         } }
     {
         let sum = rolling.value();
@@ -259,24 +262,24 @@ impl RabinKarp {
     ) -> Option<Match>
         requires made { IsMadeFor patterns.now self.now }
         requires in_haystack { at ≤ length haystack.now }
-        ensures leftmost { IsLeftmost patterns.now.patterns patterns.now.kind false haystack.now (rest_from haystack.now at) result }
-        ensures exact { tally.new ≡ counts_after tally.old patterns.now.kind patterns.now.patterns haystack.now (rest_from haystack.now at) result }
+        ensures leftmost { IsLeftmost (query_of patterns.now) false haystack.now (rest_from haystack.now at) result }
+        ensures exact { tally.new ≡ counts_after tally.old (query_of patterns.now) haystack.now (rest_from haystack.now at) result }
     {
         let end = haystack.len();
-        let hash_len = self.hash_len;
-        if hash_len > end - at {
+        let minimum_len = self.minimum_len;
+        if minimum_len > end - at {
             return None;
         }
-        let mut rolling = Rolling::new(hash_len);
-        for k in at..at + hash_len {
+        let mut rolling = Rolling::new(minimum_len);
+        for k in at..at + minimum_len {
             rolling.push(haystack[k], tally);
         }
-        let last = end - hash_len;
+        let last = end - minimum_len;
         for place in at..last {
             if let Some(id) = self.look_up(&rolling, patterns, haystack, place, tally) {
                 return Some(found_at(patterns, id, place));
             }
-            rolling.roll(haystack[place], haystack[place + hash_len], tally);
+            rolling.roll(haystack[place], haystack[place + minimum_len], tally);
         }
         let id = self.look_up(&rolling, patterns, haystack, last, tally)?;
         Some(found_at(patterns, id, last))

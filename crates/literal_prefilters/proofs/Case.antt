@@ -2,7 +2,7 @@
 use Rattle.std.proofs.Common.{◌≡◌, ◌==◌, ℕ, ◌||◌, Bool, true, false, ap, ◌∙◌, arith}
 use Rattle.std.proofs.lemmas.Bool.Decides.{nat_tests}
 use Rattle.literal_base.specs.Bytes.{opposite_case}
-use Rattle.literal_prefilters.specs.Case.{same_byte}
+use Rattle.literal_base.specs.Occurs.{same_byte}
 
 same_byte_both : (b x : ℕ) → same_byte true b x ≡ (b == x || b == opposite_case x)
 same_byte_both b x = grind (arith, nat_tests)

@@ -6,7 +6,7 @@ use Rattle.std.proofs.lemmas.List.{get_or_default}
 use Rattle.std.proofs.lemmas.Option.{cond_some}
 use Rattle.std.proofs.lemmas.List.Folds.{list_any_at}
 use Rattle.std.proofs.lemmas.List.Quantifiers.{position-Some}
-use Rattle.literal_prefilters.specs.Case.{same_byte}
+use Rattle.literal_base.specs.Occurs.{same_byte}
 use Rattle.literal_prefilters.specs.Table.{distance_of, is_in, reach_of, size, Covers}
 use Rattle.literal_prefilters.specs.Tables.{if_small, is_start_byte, start_bytes, start_table, is_rare_byte, largest_offset, rare_bytes, rare_table}
 use Rattle.literal_prefilters.proofs.First.{position_is, position-None}

@@ -1,7 +1,7 @@
 -- The largest offset of a byte in a pattern, one offset more.
 use Rattle.std.proofs.Common.{◌≡◌, ℕ, ◌+◌, ◌-◌, ◌<◌, ◌≤◌, ◌||◌, zero, suc, max, cond, Bool, true, false, List, [], ◌∷◌, length, get_or, fold, slice_index, add-one, ap, ◌∙◌, ⊎_elim, arith}
 use Rattle.std.proofs.lemmas.Bool.{cases_Bool, cases_eq, cond-true, cond-false}
-use Rattle.literal_prefilters.specs.Case.{same_byte}
+use Rattle.literal_base.specs.Occurs.{same_byte}
 use Rattle.std.specs.List.{All}
 use Rattle.literal_prefilters.specs.Tables.{offset_below, largest_offset}
 

@@ -4,7 +4,7 @@ use Rattle.std.specs.List.{list_any}
 use Rattle.std.proofs.lemmas.List.Sums.{fold_more}
 use Rattle.std.proofs.lemmas.List.Folds.{list_any_none}
 use Rattle.std.proofs.lemmas.Bool.{cases_lt}
-use Rattle.literal_prefilters.specs.Case.{same_byte}
+use Rattle.literal_base.specs.Occurs.{same_byte}
 use Rattle.literal_prefilters.specs.Tables.{rarest, with_rarest, is_rare_byte}
 
 or_false : (x : Bool) → (x || false) ≡ x

@@ -5,7 +5,7 @@ use Rattle.std.proofs.lemmas.Bool.{cases_Bool, cases_cond, or_left, or_right, or
 use Rattle.std.proofs.lemmas.List.{get_or_default}
 use Rattle.std.proofs.lemmas.List.Folds.{Any-from_list_any}
 use Rattle.literal_base.specs.Rank.{rank_of}
-use Rattle.literal_prefilters.specs.Case.{same_byte}
+use Rattle.literal_base.specs.Occurs.{same_byte}
 use Rattle.literal_prefilters.specs.Tables.{rarer, rarest, with_rarest, is_rare_byte, offset_below, largest_offset}
 use Rattle.literal_prefilters.proofs.Rare.{same_byte_refl}
 use Rattle.literal_prefilters.proofs.Variants.{same_byte_joined}

@@ -5,12 +5,10 @@ use Rattle.std.proofs.lemmas.Bool.{cases_lt}
 use Rattle.std.proofs.lemmas.List.Edits.{length-between, get_or-between}
 use Rattle.std.proofs.lemmas.List.Quantifiers.{position-Some}
 use Rattle.literal_base.specs.declared.search.Span.{Span}
-use Rattle.literal_base.specs.Occurs.{Same}
-use Rattle.literal_prefilters.specs.Case.{AreBytes}
-use Rattle.literal_base.specs.Occurs.{pattern_at, IsValidSpan, Occurs}
-use Rattle.literal_base.specs.Occurs.{NothingOccurs}
+use Rattle.literal_base.specs.Occurs.{Same, pattern_at, IsValidSpan, Occurs, NothingOccurs}
+use Rattle.literal_base.specs.Bytes.{AreBytes}
 use Rattle.literal_base.specs.declared.packed.MatchKind.{MatchKind}
-use Rattle.literal_prefilters.specs.Answers.{proposed}
+use Rattle.literal_prefilters.specs.Answers.{candidate_of}
 use Rattle.literal_prefilters.specs.Sound.{Sound}
 use Rattle.literal_prefilters.specs.Table.{distance_of, is_in, first, step_back, step, Covers}
 use Rattle.literal_prefilters.proofs.First.{IsFirst, IsFree, is_first_from, free_from_first}
@@ -99,10 +97,10 @@ module _ (table : List (Option ℕ)) (patterns : List (List ℕ)) (c : Bool) (co
       let after = o.after_start in
       let no = free.none (at + r.offset) (omega arith) r.before_end in let yes = r.here in cc
 
-  pub step-sound : (kind : MatchKind) → Sound patterns kind c haystack span (proposed (step table haystack span))
+  pub step-sound : (kind : MatchKind) → Sound (record { kind = kind; patterns = patterns }) c haystack span (candidate_of (step table haystack span))
   step-sound kind = from (first table haystack span) refl
     where
-      from : (o : Option ℕ) → first table haystack span ≡ o → Sound patterns kind c haystack span (proposed (option_map (step_back table haystack span.start) o))
+      from : (o : Option ℕ) → first table haystack span ≡ o → Sound (record { kind = kind; patterns = patterns }) c haystack span (candidate_of (option_map (step_back table haystack span.start) o))
       from None e = nothing_from_free (free_from_first table haystack span valid e)
       from (Some place) e =
           let f = is_first_from table haystack span valid place e in

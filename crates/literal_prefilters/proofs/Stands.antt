@@ -5,9 +5,7 @@ use Rattle.std.proofs.lemmas.Bool.{cases_Bool, cases_lt, cases_eq, cond-true, co
 use Rattle.std.proofs.lemmas.List.{length-set, get_or-set_same, get_or-set_other, get_or_default}
 use Rattle.std.proofs.lemmas.List.Folds.{Any-from_list_any, list_any_at}
 use Rattle.std.proofs.lemmas.Option.{slice_get-get_or, slice_get_within, get_or_from_slice_get}
-use Rattle.literal_base.specs.Occurs.{Same}
-use Rattle.literal_prefilters.specs.Case.{same_byte}
-use Rattle.literal_base.specs.Occurs.{pattern_at}
+use Rattle.literal_base.specs.Occurs.{Same, same_byte, pattern_at}
 use Rattle.literal_prefilters.specs.Tables.{largest_offset, offset_below}
 use Rattle.literal_prefilters.specs.Variants.{StandsIn, StartsVariants, IsLargestOffset}
 use Rattle.literal_prefilters.proofs.Offsets.{offset-le-offset_below}

@@ -3,8 +3,8 @@ use Rattle.std.proofs.Common.{◌≡◌, ℕ, ◌<◌, Bool, true, false, List, 
 use Rattle.std.specs.Char.{to_ascii_lowercase}
 use Rattle.std.proofs.lemmas.Bool.{eq-eqb, eqb-true}
 use Rattle.std.proofs.lemmas.List.{length-map, get_or-map, get_or_default, ext_get_or}
-use Rattle.literal_base.specs.Occurs.{Same}
-use Rattle.literal_prefilters.specs.Case.{same_byte, AreBytes}
+use Rattle.literal_base.specs.Occurs.{Same, same_byte}
+use Rattle.literal_base.specs.Bytes.{AreBytes}
 
 pub same_length : (c : Bool) (a b : List ℕ) → Same c a b → length a ≡ length b
 same_length true a b s = sym (length-map a to_ascii_lowercase) ∙ (ap length s ∙ length-map b to_ascii_lowercase)

@@ -10,6 +10,6 @@ start_of (candidate.Match found) = Some found.start
 start_of (candidate.PossibleStartOfMatch start) = Some start
 
 -- the answer of a prefilter by single bytes: a possible start, or nothing
-abbrev pub proposed : Option ℕ → Candidate
-proposed None = candidate.None
-proposed (Some start) = candidate.PossibleStartOfMatch start
+abbrev pub candidate_of : Option ℕ → Candidate
+candidate_of None = candidate.None
+candidate_of (Some start) = candidate.PossibleStartOfMatch start

@@ -4,24 +4,23 @@ use Rattle.std.specs.List.{All}
 use Rattle.literal_base.specs.declared.search.Span.{Span}
 use Rattle.literal_base.specs.Counts.{Counts}
 use Rattle.literal_prefilters.specs.declared.prefilter.Candidate.{Candidate}
-use Rattle.literal_prefilters.specs.Answers.{proposed}
+use Rattle.literal_prefilters.specs.Answers.{candidate_of}
 use Rattle.literal_prefilters.specs.Sound.{Coverage}
 use Rattle.literal_prefilters.specs.Table.{size, reach_of, first, step, bytes_scanned, Covers}
 
--- the table covers each pattern; for which match kind makes no difference
+-- the table covers each pattern, whatever the kind of match
 abbrev pub CoversAll : List (Option ℕ) → Coverage
-CoversAll table patterns kind ignore_case = All (Covers table ignore_case) patterns
+CoversAll table query ignore_case = All (Covers table ignore_case) query.patterns
 
 -- the answer is the step of the table, and the bytes up to the first of the table are scanned and nothing else is counted
 pub record IsStep (table : List (Option ℕ)) (haystack : List ℕ) (span : Span) (answer : Candidate) (old new : Counts) : Type 0 where
-  pub step : answer ≡ proposed (step table haystack span)
+  pub step : answer ≡ candidate_of (step table haystack span)
   pub scanned : new ≡ record old { scanned = old.scanned + bytes_scanned span (first table haystack span) }
 
 -- a table of so many bytes
-pub record HasBytes (n : ℕ) (table : List (Option ℕ)) : Type 0 where
-  pub count : size table ≡ n
+abbrev pub HasBytes : ℕ → List (Option ℕ) → Type 0
+HasBytes count table = size table ≡ count
 
--- a table of so many bytes, each with the distance 0
-pub record StartsWithBytes (n : ℕ) (table : List (Option ℕ)) : Type 0 where
-  pub count : size table ≡ n
-  pub none_back : reach_of table ≡ 0
+-- each distance is 0
+abbrev pub ReachesNowhere : List (Option ℕ) → Type 0
+ReachesNowhere table = reach_of table ≡ 0

@@ -1,10 +1,9 @@
 pub mod Answers
-pub mod Case
 pub mod Choice
+pub mod Inside
 pub mod Kinds
-pub mod PrefilterInside
+pub mod PrefilterBuilderValue
 pub mod Sound
 pub mod Table
-pub mod TableInside
 pub mod Tables
 pub mod Variants

@@ -1,9 +1,9 @@
 -- What a prefilter promises of its answers.
 use Rattle.std.specs.Prelude.{◌≡◌, ℕ, ◌+◌, ◌-◌, ◌<◌, ◌≤◌, Bool, List}
-use Rattle.literal_base.specs.declared.packed.MatchKind.{MatchKind}
 use Rattle.literal_base.specs.declared.search.Span.{Span}
 use Rattle.literal_base.specs.Counts.{Counts}
 use Rattle.literal_base.specs.Leftmost.{IsLeftmostMatch}
+use Rattle.literal_base.specs.Query.{Query}
 use Rattle.literal_base.specs.Occurs.{Occurs, NothingOccurs}
 use Rattle.literal_prefilters.specs.declared.prefilter.Candidate.{Candidate}
 use Rattle.literal_prefilters.specs.declared.prefilter.Candidate.TheVariants.{None, Match, PossibleStartOfMatch}
@@ -16,21 +16,21 @@ pub record IsPossibleStart (patterns : List (List ℕ)) (ignore_case : Bool) (ha
 
 -- the answer passes over no occurrence: none only if nothing occurs in the span, a match only if it is the leftmost one,
 -- and a place only if it is a possible start
-abbrev pub Sound : List (List ℕ) → MatchKind → Bool → List ℕ → Span → Candidate → Type 0
-Sound patterns kind ignore_case haystack span None =
-    NothingOccurs patterns ignore_case haystack span
-Sound patterns kind ignore_case haystack span (Match found) =
-    IsLeftmostMatch patterns kind ignore_case haystack span found
-Sound patterns kind ignore_case haystack span (PossibleStartOfMatch place) =
-    IsPossibleStart patterns ignore_case haystack span place
+abbrev pub Sound : Query → Bool → List ℕ → Span → Candidate → Type 0
+Sound query ignore_case haystack span None =
+    NothingOccurs query.patterns ignore_case haystack span
+Sound query ignore_case haystack span (Match found) =
+    IsLeftmostMatch query ignore_case haystack span found
+Sound query ignore_case haystack span (PossibleStartOfMatch place) =
+    IsPossibleStart query.patterns ignore_case haystack span place
 
--- which patterns are covered, for which kind of match, and with ASCII case ignored or not
+-- what is covered: which patterns, for which kind of match, and with ASCII case ignored or not
 abbrev pub Coverage : Type 1
-Coverage = List (List ℕ) → MatchKind → Bool → Type 0
+Coverage = Query → Bool → Type 0
 
--- the answer is sound for all patterns that are covered, whichever they are
+-- the answer is sound for whatever is covered
 pub record PassesOverNone (covers : Coverage) (haystack : List ℕ) (span : Span) (answer : Candidate) : Type 0 where
-  pub sound : (patterns : List (List ℕ)) (kind : MatchKind) (ignore_case : Bool) → covers patterns kind ignore_case → Sound patterns kind ignore_case haystack span answer
+  pub each : (query : Query) (ignore_case : Bool) → covers query ignore_case → Sound query ignore_case haystack span answer
 
 -- how many bytes an answer may scan: up to the reach past a possible start, and the span otherwise
 abbrev pub scans_at_most : ℕ → Span → Candidate → ℕ
@@ -42,7 +42,3 @@ scans_at_most reach span (PossibleStartOfMatch place) = place + reach + 1 - span
 pub record KeepsReach (reach : ℕ) (span : Span) (answer : Candidate) (old new : Counts) : Type 0 where
   pub tried : new.tried ≡ old.tried
   pub scanned : new.scanned ≤ old.scanned + scans_at_most reach span answer
-  pub scanned_grows : old.scanned ≤ new.scanned
-  pub hashed_grows : old.hashed ≤ new.hashed
-  pub entries_grow : old.entries ≤ new.entries
-  pub compared_grows : old.compared ≤ new.compared

@@ -4,7 +4,7 @@ use Rattle.std.specs.List.{enumerate_from}
 use Rattle.literal_base.specs.Rank.{rank_of}
 use Rattle.literal_base.specs.declared.search.Span.{Span}
 use Rattle.literal_base.specs.Occurs.{Same}
-use Rattle.literal_prefilters.specs.Case.{AreBytes}
+use Rattle.literal_base.specs.Bytes.{AreBytes}
 
 -- the distance of a byte, and None where it is not in the table
 abbrev pub distance_of : List (Option ℕ) → ℕ → Option ℕ

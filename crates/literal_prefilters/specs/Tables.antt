@@ -3,7 +3,7 @@ use Rattle.std.specs.Prelude.{◌==◌, ℕ, ◌&&◌, ◌||◌, not, zero, suc,
 use Rattle.std.specs.List.{list_any, list_all}
 use Rattle.literal_base.specs.Bytes.{by_byte}
 use Rattle.literal_base.specs.Rank.{rank_of}
-use Rattle.literal_prefilters.specs.Case.{same_byte}
+use Rattle.literal_base.specs.Occurs.{same_byte}
 use Rattle.literal_prefilters.specs.Table.{size}
 
 -- a table of the bytes of a set, each with its distance

@@ -1,7 +1,6 @@
 -- What the tables of a list of patterns say of the case variants of the patterns.
 use Rattle.std.specs.Prelude.{◌≡◌, ◌↔◌, ℕ, ◌<◌, ◌≤◌, true, Bool, List, length, Some, slice_get}
-use Rattle.literal_base.specs.Occurs.{Same}
-use Rattle.literal_base.specs.Occurs.{pattern_at}
+use Rattle.literal_base.specs.Occurs.{Same, pattern_at}
 use Rattle.literal_prefilters.specs.Tables.{is_start_byte, largest_offset}
 
 -- the byte stands at the offset in a case variant of a pattern

@@ -1,11 +1,11 @@
 //! Laws of tables and prefilters. Each function does nothing, and its contract is the law.
 ghost use Rattle.std.specs.Prelude.{◌≡◌, ◌↔◌, ◌≤◌, ◌<◌, ℕ, Bool, List, Option, None, false, slice_index, length};
 ghost use Rattle.std.specs.List.{All};
-ghost use Rattle.literal_base.specs.declared.packed.MatchKind.{MatchKind};
+ghost use Rattle.literal_base.specs.Query.{Query};
 ghost use Rattle.literal_base.specs.declared.search.Span.{Span};
 ghost use Rattle.literal_base.specs.Occurs.{IsValidSpan};
-ghost use Rattle.literal_prefilters.specs.Answers.{proposed};
-ghost use Rattle.literal_prefilters.specs.Case.{AreBytes};
+ghost use Rattle.literal_prefilters.specs.Answers.{candidate_of};
+ghost use Rattle.literal_base.specs.Bytes.{AreBytes};
 ghost use Rattle.literal_prefilters.specs.Sound.{Sound};
 ghost use Rattle.literal_prefilters.specs.Table.{Covers, is_in, step};
 ghost use Rattle.literal_prefilters.specs.Variants.{StartsVariants, IsLargestOffset};
@@ -13,11 +13,11 @@ ghost use Rattle.literal_prefilters.specs.Variants.{StartsVariants, IsLargestOff
 /// What a table proposes passes over no occurrence of patterns that it covers: in every haystack and
 /// every valid span of it, and for both leftmost kinds.
 pub fn covering_tables_are_sound()
-    ensures { (table : List (Option ℕ)) (patterns : List (List ℕ)) (kind : MatchKind) (ignore_case : Bool) (haystack : List ℕ) (span : Span)
-        → All (Covers table ignore_case) patterns
+    ensures { (table : List (Option ℕ)) (query : Query) (ignore_case : Bool) (haystack : List ℕ) (span : Span)
+        → All (Covers table ignore_case) query.patterns
         → AreBytes haystack
         → IsValidSpan haystack span
-        → Sound patterns kind ignore_case haystack span (proposed (step table haystack span)) }
+        → Sound query ignore_case haystack span (candidate_of (step table haystack span)) }
 {}
 
 /// A table proposes nothing exactly if the span holds no byte of it.

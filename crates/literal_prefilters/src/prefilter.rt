@@ -1,12 +1,14 @@
 //! Prefilters: they pass over parts of a haystack in which no pattern occurs, and propose places at
 //! which one may begin. All offsets are in bytes, from the beginning of the whole haystack.
-ghost use Rattle.std.specs.Prelude.{◌≡◌, ◌≤◌, ℕ, Bool, List, [], Some, length, IsOk, OnOk, OnErr, IfOk, IfSome, false};
+ghost use Rattle.std.specs.Prelude.{◌≡◌, ◌≤◌, ◌∷◌, ℕ, Bool, List, [], Some, length, IsOk, OnOk, OnErr, IfOk, IfSome, false};
 ghost use Rattle.literal_base.specs.Occurs.{IsValidSpan};
-ghost use Rattle.literal_prefilters.specs.Answers.{start_of, proposed};
-ghost use Rattle.literal_prefilters.specs.Choice.{Preparing, Adds, WouldKeep, IsBuiltFor, pick, takes_start};
+ghost use Rattle.literal_prefilters.specs.Answers.{start_of, candidate_of};
+ghost use Rattle.literal_prefilters.specs.Choice.{IsBuiltFor, pick, takes_start};
+ghost use Rattle.literal_prefilters.specs.PrefilterBuilderValue.{PrefilterBuilderValue, pattern_limit, with_added};
+ghost use Rattle.literal_packed.specs.State.{WouldKeep};
 ghost use Rattle.literal_prefilters.specs.Kinds.{CoversAll, IsStep};
 ghost use Rattle.literal_prefilters.specs.Table.{reach_of, step};
-ghost use Rattle.literal_prefilters.specs.PrefilterInside.{table_of_finder};
+ghost use Rattle.literal_prefilters.specs.Inside.Prefilter.{table_of_finder};
 ghost use Rattle.literal_prefilters.specs.Sound.{Coverage, PassesOverNone, KeepsReach};
 
 mod byte_table;
@@ -15,7 +17,8 @@ mod tables;
 
 pub use byte_table::ByteTable;
 pub use kinds::{
-    RareBytesOne, RareBytesThree, RareBytesTwo, StartBytesOne, StartBytesThree, StartBytesTwo,
+    RareBytes, RareBytesOne, RareBytesThree, RareBytesTwo, StartBytes, StartBytesOne,
+    StartBytesThree, StartBytesTwo,
 };
 use literal_base::count::Tally;
 use literal_base::search::{Match, MatchKind, Span};
@@ -47,13 +50,16 @@ enum Finder {
 }
 
 impl Model for Prefilter {
-    ghost use Rattle.std.specs.Prelude.{ℕ, List, Option};
+    ghost use Rattle.std.specs.Prelude.{◌≤◌, ℕ, List, Option};
+    ghost use Rattle.literal_prefilters.specs.Table.{reach_of};
 
     ghost Value = { List (Option ℕ) };
 
-    ghost use Rattle.literal_prefilters.specs.PrefilterInside.{table_of_finder};
+    ghost use Rattle.literal_prefilters.specs.Inside.Prefilter.{table_of_finder};
 
     ghost view = { λ pre. table_of_finder pre.finder };
+
+    ghost invariant = { λ pre. reach_of (table_of_finder pre.finder) ≤ 254 };
 }
 
 impl Prefilter {
@@ -62,7 +68,7 @@ impl Prefilter {
     /// in the span, and no occurrence in the span begins before it.
     pub fn find_in(&self, haystack: &[u8], span: Span) -> Candidate
         requires { IsValidSpan haystack.now span }
-        ensures step { result ≡ proposed (step self.now haystack.now span) }
+        ensures step { result ≡ candidate_of (step self.now haystack.now span) }
         ensures sound { PassesOverNone (CoversAll self.now) haystack.now span result }
     {
         self.find_in_counted(haystack, span, &mut Tally::new())
@@ -93,12 +99,9 @@ impl PrefilterI for Prefilter {
 
     ghost reach = { reach_of };
 
-    fn find_in(&self, haystack: &[u8], span: Span, tally: &mut Tally) -> Candidate
-        requires { IsValidSpan haystack.now span }
-        ensures sound { PassesOverNone (CoversAll self.now) haystack.now span result }
-        ensures reach { KeepsReach (reach_of self.now) span result tally.old tally.new }
-        ensures step { IsStep self.now haystack.now span result tally.old tally.new }
-    {
+    ghost answers = { IsStep };
+
+    fn find_in(&self, haystack: &[u8], span: Span, tally: &mut Tally) -> Candidate {
         self.find_in_counted(haystack, span, tally)
     }
 }
@@ -147,11 +150,18 @@ impl Candidate {
 /// answers then passes over no occurrence of these. It has a *reach*, the number of bytes that it may
 /// read past a place that it proposes.
 pub trait PrefilterI {
+    ghost use Rattle.literal_base.specs.Counts.{Counts};
+    ghost use Rattle.literal_base.specs.declared.search.Span.{Span};
+    ghost use Rattle.literal_prefilters.specs.declared.prefilter.Candidate.{Candidate};
+
     /// Whether the prefilter covers these patterns, for this match kind and with case ignored or not.
     ghost covers: { Self → Coverage };
 
     /// How many bytes past a proposed place the prefilter may read.
     ghost reach: { Self → ℕ };
+
+    /// What the prefilter answers on a span, and what that counts.
+    ghost answers: { Self → List ℕ → Span → Candidate → Counts → Counts → Type 0 };
 
     /// What may occur in the span, which has to be a valid span of the haystack: `None` only if no
     /// covered pattern occurs in it, a match only if it is the leftmost one, and a possible start only
@@ -159,7 +169,8 @@ pub trait PrefilterI {
     fn find_in(&self, haystack: &[u8], span: Span, tally: &mut Tally) -> Candidate
         requires { IsValidSpan haystack.now span }
         ensures sound { PassesOverNone (covers self.now) haystack.now span result }
-        ensures reach { KeepsReach (reach self.now) span result tally.old tally.new };
+        ensures reach { KeepsReach (reach self.now) span result tally.old tally.new }
+        ensures answer { answers self.now haystack.now span result tally.old tally.new };
 }
 
 /// Collects patterns, and builds the prefilter that suits them, if one does. An empty pattern, or one
@@ -174,15 +185,15 @@ pub struct Builder {
 }
 
 impl Model for Builder {
-    ghost use Rattle.literal_prefilters.specs.Choice.{Preparing};
+    ghost use Rattle.literal_prefilters.specs.PrefilterBuilderValue.{PrefilterBuilderValue};
 
-    ghost Value = { Preparing };
+    ghost Value = { PrefilterBuilderValue };
 
-    ghost use Rattle.literal_prefilters.specs.PrefilterInside.{preparing, IsPrepared};
+    ghost use Rattle.literal_prefilters.specs.Inside.Prefilter.{builder_value, IsSound};
 
-    ghost view = { preparing };
+    ghost view = { builder_value };
 
-    ghost invariant = { IsPrepared };
+    ghost invariant = { IsSound };
 }
 
 impl Builder {
@@ -245,8 +256,8 @@ impl Builder {
     /// [`PatternID::LIMIT`], disables it. Where memory is refused, all stays as it was; where the
     /// pattern is not kept no memory is asked for.
     pub fn add(&mut self, bytes: &[u8]) -> Result<(), AllocError>
-        ensures ok { OnOk result (Adds self.old bytes.now self.new) }
-        ensures no_memory { OnErr result (WouldKeep self.old bytes.now) }
+        ensures ok { OnOk result (self.new ≡ with_added self.old (bytes.now ∷ [])) }
+        ensures no_memory { OnErr result (WouldKeep pattern_limit self.old.state bytes.now) }
         ensures err { OnErr result (self.new ≡ self.old) }
     {
         if !self.enabled {
@@ -287,23 +298,25 @@ impl Finder {
     /// The kind that looks for the bytes with which patterns begin.
     fn start(table: ByteTable) -> Finder
         requires { reach_of table ≡ 0 }
-        ensures { table_of_finder result ≡ table }
+        ensures table { table_of_finder result ≡ table }
+        ensures near { reach_of table ≤ 254 }
     {
         match table.count() {
-            1 => Finder::StartBytesOne(StartBytesOne(table)),
-            2 => Finder::StartBytesTwo(StartBytesTwo(table)),
-            _ => Finder::StartBytesThree(StartBytesThree(table)),
+            1 => Finder::StartBytesOne(StartBytes(table)),
+            2 => Finder::StartBytesTwo(StartBytes(table)),
+            _ => Finder::StartBytesThree(StartBytes(table)),
         }
     }
 
     /// The kind that looks for rare bytes.
     fn rare(table: ByteTable) -> Finder
-        ensures { table_of_finder result ≡ table }
+        ensures table { table_of_finder result ≡ table }
+        ensures near { reach_of table ≤ 254 }
     {
         match table.count() {
-            1 => Finder::RareBytesOne(RareBytesOne(table)),
-            2 => Finder::RareBytesTwo(RareBytesTwo(table)),
-            _ => Finder::RareBytesThree(RareBytesThree(table)),
+            1 => Finder::RareBytesOne(RareBytes(table)),
+            2 => Finder::RareBytesTwo(RareBytes(table)),
+            _ => Finder::RareBytesThree(RareBytes(table)),
         }
     }
 }

@@ -1,20 +1,20 @@
 -- The best of the first patterns of a list that occur at a place.
 use Rattle.std.specs.Prelude.{ℕ, ◌<◌, Bool, List, Option, MatchOption}
-use Rattle.literal_base.specs.declared.packed.MatchKind.{MatchKind}
 use Rattle.literal_base.specs.declared.search.Span.{Span}
 use Rattle.literal_base.specs.Occurs.{Occurs}
+use Rattle.literal_base.specs.Query.{Query}
 use Rattle.literal_base.specs.Leftmost.{IsBetter}
 
-module _ (patterns : List (List ℕ)) (kind : MatchKind) (ignore_case : Bool) (haystack : List ℕ) (span : Span) (at n : ℕ) where
+module _ (query : Query) (ignore_case : Bool) (haystack : List ℕ) (span : Span) (at n : ℕ) where
   -- none of the first n patterns occurs at the place
   abbrev pub NoneOccursOf : Type 0
-  NoneOccursOf = (i : ℕ) → i < n → ¬ Occurs patterns ignore_case haystack span i at
+  NoneOccursOf = (i : ℕ) → i < n → ¬ Occurs query.patterns ignore_case haystack span i at
 
   -- pattern b is one of the first n patterns and occurs at the place, and none of them that is better does
   pub record IsBestOf (b : ℕ) : Type 0 where
     pub below : b < n
-    pub occurs : Occurs patterns ignore_case haystack span b at
-    pub best : (i : ℕ) → i < n → IsBetter kind patterns i b → ¬ Occurs patterns ignore_case haystack span i at
+    pub occurs : Occurs query.patterns ignore_case haystack span b at
+    pub best : (i : ℕ) → i < n → IsBetter query.kind query.patterns i b → ¬ Occurs query.patterns ignore_case haystack span i at
 
   -- the best of the first n patterns that occur at the place, and None exactly if none of them does
   abbrev pub IsBestIfAny : Option ℕ → Type 0

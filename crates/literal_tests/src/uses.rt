@@ -1,9 +1,10 @@
 //! Callers that rely on contracts alone.
 ghost use Rattle.std.specs.Prelude.{◌≡◌, ◌∷◌, [], List, false, length, IfOk, OnOk, IsNone, map, string_bytes};
 ghost use Rattle.std.specs.Iterator.{IsFinite};
-ghost use Rattle.literal_base.specs.Found.{Found};
+ghost use Rattle.literal_base.specs.MatchValue.{MatchValue};
 ghost use Rattle.literal_base.specs.Greedy.{IsGreedy};
-ghost use Rattle.literal_packed.specs.State.{Adds, Building, Builds, BuildsItems, builder_of, default_config};
+ghost use Rattle.literal_packed.specs.BuilderValue.{BuilderValue, builder_of, searcher_of, with_added, BuildsItems};
+ghost use Rattle.literal_packed.specs.ConfigValue.{default_config};
 ghost use Rattle.literal_packed.specs.Lending.{HoldsAll};
 
 use literal_prefilters::packed::pattern::{Pattern, PatternIter, Patterns};
@@ -14,7 +15,7 @@ use std::alloc::{AllocError, Global};
 /// Builds for two patterns in a chain of calls.
 #[tactic(auto, using(literal_packed::proofs::Added::added_two))]
 pub fn built_of_two(alloc: Global, a: &[u8], b: &[u8]) -> Result<Option<Searcher>, AllocError>
-    ensures { IfOk result (Builds (builder_of default_config (a.now ∷ b.now ∷ []))) }
+    ensures { IfOk result (λ built. built ≡ searcher_of (builder_of default_config (a.now ∷ b.now ∷ []))) }
 {
     Builder::new(alloc).add(a)?.add(b)?.build()
 }
@@ -27,7 +28,7 @@ pub fn built_by_kind(
     a: &[u8],
     b: &[u8],
 ) -> Result<Option<Searcher>, AllocError>
-    ensures { IfOk result (Builds (builder_of (record { kind = kind }) (a.now ∷ b.now ∷ []))) }
+    ensures { IfOk result (λ built. built ≡ searcher_of (builder_of (record { kind = kind }) (a.now ∷ b.now ∷ []))) }
 {
     Config::new()
         .match_kind(kind)
@@ -40,7 +41,7 @@ pub fn built_by_kind(
 
 /// Builds for the bytes of words, which are added in a loop.
 pub fn built_of_words(alloc: Global, words: &[String]) -> Result<Option<Searcher>, AllocError>
-    ensures { IfOk result (Builds (builder_of default_config (map string_bytes words.now))) }
+    ensures { IfOk result (λ built. built ≡ searcher_of (builder_of default_config (map string_bytes words.now))) }
 {
     let mut builder = Builder::new(alloc);
     for word in words {
@@ -71,9 +72,9 @@ pub fn extend_and_add<'a, I: IntoIterator<Item = &'a [u8]>>(
 ) -> Result<(), AllocError>
     requires { (it : I.IntoIter) → I.into_iter_gives patterns it
         → I.IntoIter.can_next it × IsFinite (I.IntoIter.remaining it) }
-    ensures { OnOk result ((mid : Building)
+    ensures { OnOk result ((mid : BuilderValue)
         × HoldsAll I.into_iter_gives I.IntoIter.next_gives patterns builder.old mid
-        × Adds mid (last.now ∷ []) builder.new) }
+        × (builder.new ≡ with_added mid (last.now ∷ []))) }
 {
     builder.extend(patterns)?.add(last)?;
     Ok(())
@@ -113,7 +114,7 @@ pub fn taken_in_turn(
     searcher: &Searcher,
     haystack: &[u8],
 ) -> Result<Vec<Match>, AllocError>
-    ensures { IfOk result (λ all. IsGreedy searcher.now.patterns searcher.now.kind false haystack.now 0 all.items) }
+    ensures { IfOk result (λ all. IsGreedy searcher.now false haystack.now 0 all.items) }
 {
     let mut all = Vec::new(alloc);
     for found in searcher.find_iter(haystack) {
@@ -128,14 +129,14 @@ pub fn collected(
     searcher: &Searcher,
     haystack: &[u8],
 ) -> Result<Vec<Match>, AllocError>
-    ensures { IfOk result (λ all. IsGreedy searcher.now.patterns searcher.now.kind false haystack.now 0 all.items) }
+    ensures { IfOk result (λ all. IsGreedy searcher.now false haystack.now 0 all.items) }
 {
     searcher.find_iter(haystack).collect(alloc)
 }
 
 /// The number of matches of an iteration.
 pub fn count_of_matches(searcher: &Searcher, haystack: &[u8]) -> usize
-    ensures { (all : List Found) × IsGreedy searcher.now.patterns searcher.now.kind false haystack.now 0 all × (result ≡ length all) }
+    ensures { (all : List MatchValue) × IsGreedy searcher.now false haystack.now 0 all × (result ≡ length all) }
 {
     searcher.find_iter(haystack).count()
 }

@@ -1,7 +1,7 @@
 //! Callers of identifiers and conversions that rely on contracts alone.
 ghost use Rattle.std.specs.Prelude.{◌≡◌, ◌<◌, ◌≤◌, ◌/◌, ◌%◌, ◌^◌, ◌↔◌, [], length, IsTrue, IfOk, IsNone};
 ghost use Rattle.std.specs.List.{enumerate_from, range_with_len};
-ghost use Rattle.literal_ids.specs.Identifier.{IsIdentifierOf};
+ghost use Rattle.literal_ids.specs.Identifier.{IsCheckedNumber};
 
 use literal_ids::int::{I8, I32, I64, U8, U16, U32, U64, Usize};
 use literal_ids::{
@@ -91,7 +91,7 @@ pub fn short_of<N: Usize>(n: N) -> u16
 
 /// The state of a number, by a conversion that says what it refuses.
 pub fn state_of(number: u64) -> Result<StateID, StateIDError>
-    ensures { IsIdentifierOf number result }
+    ensures { IsCheckedNumber number result }
 {
     number.try_into()
 }

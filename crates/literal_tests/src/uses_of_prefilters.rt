@@ -2,7 +2,9 @@
 ghost use Rattle.std.specs.Prelude.{◌≡◌, ◌≤◌, ℕ, Bool, List, MatchOption, IfOk, IfSome};
 ghost use Rattle.literal_base.specs.declared.packed.MatchKind.{MatchKind};
 ghost use Rattle.literal_base.specs.Occurs.{IsValidSpan, Occurs, NothingOccurs};
-ghost use Rattle.literal_prefilters.specs.Choice.{Serves, kept};
+ghost use Rattle.literal_base.specs.Query.{Query};
+ghost use Rattle.literal_packed.specs.State.{kept_of};
+ghost use Rattle.literal_prefilters.specs.Choice.{Serves};
 ghost use Rattle.literal_prefilters.specs.Sound.{Sound, KeepsReach};
 
 use literal_prefilters::Span;
@@ -19,11 +21,11 @@ pub fn search_from<P: PrefilterI>(
     tally: &mut Tally,
 ) -> Option<usize>
     requires { IsValidSpan haystack.now span }
-    ensures { (patterns : List (List ℕ)) (kind : MatchKind) (ignore_case : Bool)
-        → P.covers pre.now patterns kind ignore_case
+    ensures { (query : Query) (ignore_case : Bool)
+        → P.covers pre.now query ignore_case
         → MatchOption result
-        (NothingOccurs patterns ignore_case haystack.now span)
-        (λ start. (i at : ℕ) → Occurs patterns ignore_case haystack.now span i at → start ≤ at) }
+        (NothingOccurs query.patterns ignore_case haystack.now span)
+        (λ start. (i at : ℕ) → Occurs query.patterns ignore_case haystack.now span i at → start ≤ at) }
 {
     pre.find_in(haystack, span, tally).into_option()
 }
@@ -38,7 +40,7 @@ pub fn candidate_of(
     requires { IsValidSpan haystack.now span }
     ensures { IfOk result (λ answer. IfSome answer (λ candidate. (kind : MatchKind)
         → Serves builder.now.kind kind
-        → Sound (kept builder.now) kind builder.now.ignore_case haystack.now span candidate)) }
+        → Sound (record { kind = kind; patterns = kept_of builder.now.state }) builder.now.ignore_case haystack.now span candidate)) }
 {
     match builder.build()? {
         Some(pre) => Ok(Some(pre.find_in(haystack, span))),

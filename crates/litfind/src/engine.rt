@@ -2,9 +2,9 @@
 ghost use Rattle.std.specs.Prelude.{◌≡◌, ◌≢◌, ◌⊎◌, ◌↔◌, true, false, map, Some, None, IfOk, IfErr, OnOk, OnErr, MatchOption, IsErrOf, string_bytes};
 ghost use Rattle.std.specs.List.{flat_map};
 ghost use Rattle.std.specs.Io.KnownBytes.{Appends, Consumes};
-ghost use Rattle.literal_packed.specs.State.{Builds, builder_of};
+ghost use Rattle.literal_packed.specs.BuilderValue.{searcher_of};
 ghost use Rattle.litfind.specs.Lines.{line_of};
-ghost use Rattle.litfind.specs.Query.{HasNoSearcher, mode_kind, query_for, query_of};
+ghost use Rattle.litfind.specs.Query.{HasNoSearcher, builder_for, mode_kind, query_asked};
 ghost use Rattle.litfind.specs.Run.{IsFront, IsWhole, ReadSome, WroteFront, WroteLines};
 
 use crate::device::{Failed, Sink, Source};
@@ -15,7 +15,10 @@ use literal_base::count::Tally;
 use literal_packed::{Config, MatchKind, Searcher};
 use std::alloc::{AllocError, Global};
 
-/// What the words ask for.
+/// How many bytes are asked for at once.
+const BLOCK: usize = 65536;
+
+/// What the words ask for: a mode, and the patterns.
 #[derive(Clone, Copy)]
 struct Request<'w> {
     kind: MatchKind,
@@ -35,9 +38,9 @@ fn mode_kind(name: &str) -> Option<MatchKind>
 
 /// The mode and the patterns, where the words are these.
 fn parse(words: &[String]) -> Option<Request<'_>>
-    ensures { let query = query_of (map string_bytes words.now) in
+    ensures { let query = query_asked (map string_bytes words.now) in
         MatchOption result (query ≡ None)
-        (λ q. query ≡ Some (record { kind = q.kind; patterns = map string_bytes q.patterns.now })) }
+        (λ request. query ≡ Some (record { kind = request.kind; patterns = map string_bytes request.patterns.now })) }
 {
     let (mode, patterns) = words.split_first()?;
     if patterns.is_empty() {
@@ -55,7 +58,7 @@ fn build(
     kind: MatchKind,
     patterns: &[String],
 ) -> Result<Option<Searcher>, AllocError>
-    ensures { IfOk result (Builds (builder_of (record { kind = kind }) (map string_bytes patterns.now))) }
+    ensures { IfOk result (λ built. built ≡ searcher_of (builder_for (record { kind = kind; patterns = map string_bytes patterns.now }))) }
 {
     let mut builder = Config::new().match_kind(kind).builder(alloc);
     for pattern in patterns {
@@ -66,18 +69,18 @@ fn build(
 
 /// A searcher for what the words ask for.
 fn searcher(alloc: Global, words: &[String]) -> Result<Searcher, Fault>
-    ensures asked { IfOk result (λ searcher. query_of (map string_bytes words.now) ≡ Some (query_for searcher)) }
-    ensures usage { IsErrOf result Fault.Usage ↔ (query_of (map string_bytes words.now) ≡ None) }
+    ensures asked { IfOk result (λ searcher. query_asked (map string_bytes words.now) ≡ Some searcher) }
+    ensures usage { IsErrOf result Fault.Usage ↔ (query_asked (map string_bytes words.now) ≡ None) }
     ensures no_searcher { IsErrOf result Fault.NoSearcher → HasNoSearcher (map string_bytes words.now) }
     ensures not_buildable { HasNoSearcher (map string_bytes words.now)
         → IsErrOf result Fault.NoSearcher ⊎ IsErrOf result Fault.OutOfMemory }
     ensures read { IfErr result (λ fault. fault ≢ Fault.ReadFailed) }
     ensures write { IfErr result (λ fault. fault ≢ Fault.WriteFailed) }
 {
-    let Some(asked) = parse(words) else {
+    let Some(request) = parse(words) else {
         return Err(Fault::Usage);
     };
-    match build(alloc, asked.kind, asked.patterns)? {
+    match build(alloc, request.kind, request.patterns)? {
         Some(searcher) => Ok(searcher),
         None => Err(Fault::NoSearcher),
     }
@@ -105,7 +108,7 @@ fn read_to_end<R: Source>(alloc: Global, reader: &mut R) -> Result<Vec<u8>, Faul
     ensures fault { IfErr result (λ fault. (fault ≡ Fault.OutOfMemory) ⊎ (fault ≡ Fault.ReadFailed)) }
 {
     let mut input = Vec::new(alloc);
-    let mut buffer = [0u8; 4096];
+    let mut buffer = [0u8; BLOCK];
     loop {
         match reader.read(&mut buffer) {
             Ok(0) => return Ok(input),
@@ -153,7 +156,7 @@ pub fn run<R: Source, W: Sink>(
     ensures flushed { OnOk result (W.flushed writer.new ≡ true) }
 
     // The words are looked at first, before any read.
-    ensures usage { IsErrOf result Fault.Usage ↔ (query_of (map string_bytes words.now) ≡ None) }
+    ensures usage { IsErrOf result Fault.Usage ↔ (query_asked (map string_bytes words.now) ≡ None) }
     ensures no_searcher { IsErrOf result Fault.NoSearcher → HasNoSearcher (map string_bytes words.now) }
     ensures not_buildable { HasNoSearcher (map string_bytes words.now)
         → IsErrOf result Fault.NoSearcher ⊎ IsErrOf result Fault.OutOfMemory }

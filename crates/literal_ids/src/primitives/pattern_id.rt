@@ -3,7 +3,7 @@ ghost use Rattle.std.specs.Prelude.{◌≡◌, ◌+◌, ◌++◌, ◌<◌, ◌�
 ghost use Rattle.std.specs.Fmt.{decimal};
 ghost use Rattle.std.specs.Iterator.{YieldsFirst, YieldsFirstBy, item_count};
 ghost use Rattle.std.specs.List.{enumerate_from, range_with_len};
-ghost use Rattle.literal_ids.specs.Identifier.{IsIdentifierOf};
+ghost use Rattle.literal_ids.specs.Identifier.{IsCheckedNumber};
 
 use crate::int::{U32, U64};
 use crate::primitives::small_index::{SmallIndex, SmallIndexError, SmallIndexIter};
@@ -172,7 +172,7 @@ impl From<u8> for PatternID {
 impl TryFrom<u16> for PatternID {
     type Error = PatternIDError;
 
-    ghost try_from_gives = { IsIdentifierOf };
+    ghost try_from_gives = { IsCheckedNumber };
 
     fn try_from(value: u16) -> Result<PatternID, PatternIDError> {
         PatternID::new(usize::from(value))
@@ -183,7 +183,7 @@ impl TryFrom<u16> for PatternID {
 impl TryFrom<u32> for PatternID {
     type Error = PatternIDError;
 
-    ghost try_from_gives = { IsIdentifierOf };
+    ghost try_from_gives = { IsCheckedNumber };
 
     fn try_from(value: u32) -> Result<PatternID, PatternIDError> {
         PatternID::new(value.as_usize())
@@ -194,7 +194,7 @@ impl TryFrom<u32> for PatternID {
 impl TryFrom<u64> for PatternID {
     type Error = PatternIDError;
 
-    ghost try_from_gives = { IsIdentifierOf };
+    ghost try_from_gives = { IsCheckedNumber };
 
     fn try_from(value: u64) -> Result<PatternID, PatternIDError> {
         PatternID::new(value.as_usize())
@@ -205,7 +205,7 @@ impl TryFrom<u64> for PatternID {
 impl TryFrom<usize> for PatternID {
     type Error = PatternIDError;
 
-    ghost try_from_gives = { IsIdentifierOf };
+    ghost try_from_gives = { IsCheckedNumber };
 
     fn try_from(value: usize) -> Result<PatternID, PatternIDError> {
         PatternID::new(value)

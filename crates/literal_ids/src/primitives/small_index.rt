@@ -3,7 +3,7 @@ ghost use Rattle.std.specs.Prelude.{◌≡◌, ◌+◌, ◌++◌, ◌<◌, ◌�
 ghost use Rattle.std.specs.Fmt.{decimal};
 ghost use Rattle.std.specs.Iterator.{YieldsFirst, item_count};
 ghost use Rattle.std.specs.List.{range_with_len};
-ghost use Rattle.literal_ids.specs.Identifier.{IsIdentifierOf};
+ghost use Rattle.literal_ids.specs.Identifier.{IsCheckedNumber};
 
 use crate::int::{U32, U64, Usize};
 use std::fmt;
@@ -143,7 +143,7 @@ impl From<u8> for SmallIndex {
 impl TryFrom<u16> for SmallIndex {
     type Error = SmallIndexError;
 
-    ghost try_from_gives = { IsIdentifierOf };
+    ghost try_from_gives = { IsCheckedNumber };
 
     fn try_from(value: u16) -> Result<SmallIndex, SmallIndexError> {
         SmallIndex::new(usize::from(value))
@@ -154,7 +154,7 @@ impl TryFrom<u16> for SmallIndex {
 impl TryFrom<u32> for SmallIndex {
     type Error = SmallIndexError;
 
-    ghost try_from_gives = { IsIdentifierOf };
+    ghost try_from_gives = { IsCheckedNumber };
 
     fn try_from(value: u32) -> Result<SmallIndex, SmallIndexError> {
         SmallIndex::new(value.as_usize())
@@ -165,7 +165,7 @@ impl TryFrom<u32> for SmallIndex {
 impl TryFrom<u64> for SmallIndex {
     type Error = SmallIndexError;
 
-    ghost try_from_gives = { IsIdentifierOf };
+    ghost try_from_gives = { IsCheckedNumber };
 
     fn try_from(value: u64) -> Result<SmallIndex, SmallIndexError> {
         SmallIndex::new(value.as_usize())
@@ -176,7 +176,7 @@ impl TryFrom<u64> for SmallIndex {
 impl TryFrom<usize> for SmallIndex {
     type Error = SmallIndexError;
 
-    ghost try_from_gives = { IsIdentifierOf };
+    ghost try_from_gives = { IsCheckedNumber };
 
     fn try_from(value: usize) -> Result<SmallIndex, SmallIndexError> {
         SmallIndex::new(value)

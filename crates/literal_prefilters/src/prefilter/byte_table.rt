@@ -1,15 +1,18 @@
 //! A table of a few bytes, and the search for the first of them.
+ghost use Rattle.std.specs.List.{All};
 ghost use Rattle.std.specs.Prelude.{◌≡◌, ◌+◌, ◌≤◌, length, Some, IfSome, option_map, slice_index};
 ghost use Rattle.literal_base.specs.Occurs.{IsValidSpan};
 ghost use Rattle.literal_prefilters.specs.Kinds.{CoversAll, IsStep};
 ghost use Rattle.literal_prefilters.specs.Sound.{PassesOverNone, KeepsReach};
-ghost use Rattle.literal_prefilters.specs.Table.{AreDistances, size, rank_sum_of, distance_of, reach_of, first, bytes_scanned};
-ghost use Rattle.literal_prefilters.specs.Tables.{if_small};
+ghost use Rattle.literal_prefilters.specs.Table.{AreDistances, Covers, size, rank_sum_of, distance_of, reach_of, first, bytes_scanned};
+ghost use Rattle.literal_prefilters.specs.Tables.{if_small, start_table, rare_table};
 
+use super::tables;
 use crate::prefilter::Candidate;
 use literal_base::byte_frequencies::freq_rank;
 use literal_base::count::Tally;
 use literal_base::search::Span;
+use literal_packed::pattern::Patterns;
 use std::marker::Model;
 
 /// How many bytes a table has at most.
@@ -30,7 +33,7 @@ impl Model for ByteTable {
 
     ghost Value = { List (Option ℕ) };
 
-    ghost use Rattle.literal_prefilters.specs.TableInside.{IsTable};
+    ghost use Rattle.literal_prefilters.specs.Inside.ByteTable.{IsTable};
 
     ghost view = { λ t. t.distances };
 
@@ -45,6 +48,40 @@ struct TableByte {
 }
 
 impl ByteTable {
+    /// The table of the bytes with which the patterns begin, each with the distance 0; in both cases
+    /// where ASCII case is ignored. There is one where these are one to three bytes, all at most
+    /// 0x7F.
+    pub fn start(patterns: &Patterns, ignore_case: bool) -> Option<ByteTable>
+        ensures table { result ≡ start_table ignore_case patterns.now.patterns }
+        ensures none_back { IfSome result (λ t. reach_of t ≡ 0) }
+        ensures covers { IfSome result (λ t. All (Covers t ignore_case) patterns.now.patterns) }
+    {
+        let set = tables::start_set(patterns, ignore_case);
+        if tables::holds_high(&set) {
+            return None;
+        }
+        tables::table_of(&set, &[0; 256])
+    }
+
+    /// The table of a rare byte of each pattern, in both cases where ASCII case is ignored. The
+    /// patterns are taken by rising identifier: one that holds a byte taken before adds none,
+    /// another adds its byte of least rank, the earliest of equal rank. The distance of a byte is
+    /// the largest offset at which it stands in any pattern, in either case where case is ignored.
+    /// There is one where there is a pattern, each has at most 255 bytes, and these are at most
+    /// three bytes.
+    pub fn rare(patterns: &Patterns, ignore_case: bool) -> Option<ByteTable>
+        ensures table { result ≡ rare_table ignore_case patterns.now.patterns }
+        ensures covers { IfSome result (λ t. All (Covers t ignore_case) patterns.now.patterns) }
+    {
+        if patterns.len() == 0 || !tables::all_short(patterns) {
+            return None;
+        }
+        tables::table_of(
+            &tables::rare_set(patterns, ignore_case),
+            &tables::largest_offsets(patterns, ignore_case),
+        )
+    }
+
     /// The table with these distances, if it has one to three bytes.
     pub(crate) fn if_small(distances: [Option<u8>; 256]) -> Option<ByteTable>
         requires whole { length distances ≡ 256 }
@@ -74,6 +111,7 @@ impl ByteTable {
         ensures count { result ≡ size self.now }
         ensures some { 1 ≤ result }
         ensures few { result ≤ 3 }
+        ensures near { reach_of self.now ≤ 254 }
     {
         self.count
     }
@@ -111,7 +149,6 @@ impl ByteTable {
         requires { IsValidSpan haystack.now span }
         ensures place { option_map (λ f. f.place) result ≡ first self.now haystack.now span }
         ensures distance { IfSome result (λ f. distance_of self.now (slice_index haystack.now f.place) ≡ Some f.distance) }
-        ensures reach { reach_of self.now ≤ 254 }
         ensures scanned { tally.new ≡ record tally.old { scanned = tally.old.scanned + bytes_scanned span (option_map (λ f. f.place) result) } }
     {
         for place in span.start..span.end {
@@ -129,7 +166,6 @@ impl ByteTable {
         requires { IsValidSpan haystack.now span }
         ensures sound { PassesOverNone (CoversAll self.now) haystack.now span result }
         ensures step { IsStep self.now haystack.now span result tally.old tally.new }
-        ensures near { reach_of self.now ≤ 254 }
         ensures reach { KeepsReach (reach_of self.now) span result tally.old tally.new }
     {
         match self.find(haystack, span, tally) {

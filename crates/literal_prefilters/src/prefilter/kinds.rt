@@ -1,118 +1,56 @@
 //! The kinds of prefilter that look for single bytes: for one to three bytes with which the patterns
 //! begin, or for one to three rare bytes, of which each pattern holds one.
-ghost use Rattle.std.specs.Prelude.{◌≤◌};
-ghost use Rattle.literal_base.specs.Occurs.{IsValidSpan};
-ghost use Rattle.literal_prefilters.specs.Sound.{PassesOverNone, KeepsReach};
-ghost use Rattle.literal_prefilters.specs.Table.{reach_of};
-ghost use Rattle.literal_prefilters.specs.Kinds.{CoversAll, IsStep};
-
 use crate::prefilter::{ByteTable, Candidate, PrefilterI};
 use literal_base::count::Tally;
 use literal_base::search::Span;
 use std::marker::Model;
 
-/// Looks for the one byte with which every pattern begins. Contracts see its table.
+/// Looks for the bytes, this many, with one of which every pattern begins. Contracts see its table.
 #[derive(Drop)]
-pub struct StartBytesOne(pub(super) ByteTable);
+pub struct StartBytes<const COUNT: usize>(pub(super) ByteTable);
 
-impl Model for StartBytesOne {
+impl<const COUNT: usize> Model for StartBytes<COUNT> {
     ghost use Rattle.std.specs.Prelude.{ℕ, List, Option};
-    ghost use Rattle.literal_prefilters.specs.Kinds.{StartsWithBytes};
+    ghost use Rattle.literal_prefilters.specs.Kinds.{HasBytes, ReachesNowhere};
 
     ghost Value = { List (Option ℕ) };
 
     ghost view = { λ pre. pre.0 };
 
-    ghost invariant = { λ pre. StartsWithBytes 1 pre.0 };
+    ghost invariant = { λ pre. HasBytes COUNT pre.0 × ReachesNowhere pre.0 };
 }
 
-impl PrefilterI for StartBytesOne {
+impl<const COUNT: usize> PrefilterI for StartBytes<COUNT> {
+    ghost use Rattle.literal_prefilters.specs.Kinds.{CoversAll, IsStep};
+    ghost use Rattle.literal_prefilters.specs.Table.{reach_of};
+
     ghost covers = { CoversAll };
 
     ghost reach = { reach_of };
 
-    fn find_in(&self, haystack: &[u8], span: Span, tally: &mut Tally) -> Candidate
-        requires { IsValidSpan haystack.now span }
-        ensures sound { PassesOverNone (CoversAll self.now) haystack.now span result }
-        ensures reach { KeepsReach (reach_of self.now) span result tally.old tally.new }
-        ensures near { reach_of self.now ≤ 254 }
-        ensures step { IsStep self.now haystack.now span result tally.old tally.new }
-    {
-        let StartBytesOne(table) = self;
+    ghost answers = { IsStep };
+
+    fn find_in(&self, haystack: &[u8], span: Span, tally: &mut Tally) -> Candidate {
+        let StartBytes(table) = self;
         table.candidate(haystack, span, tally)
     }
 }
 
-/// Looks for the two bytes with one of which every pattern begins. Contracts see its table.
+/// Looks for the one byte with which every pattern begins.
+pub type StartBytesOne = StartBytes<1>;
+
+/// Looks for the two bytes with one of which every pattern begins.
+pub type StartBytesTwo = StartBytes<2>;
+
+/// Looks for the three bytes with one of which every pattern begins.
+pub type StartBytesThree = StartBytes<3>;
+
+/// Looks for bytes, this many, of which every pattern holds one, and proposes a place as far before
+/// the one that it finds as that may stand from the beginning of a pattern. Contracts see its table.
 #[derive(Drop)]
-pub struct StartBytesTwo(pub(super) ByteTable);
+pub struct RareBytes<const COUNT: usize>(pub(super) ByteTable);
 
-impl Model for StartBytesTwo {
-    ghost use Rattle.std.specs.Prelude.{ℕ, List, Option};
-    ghost use Rattle.literal_prefilters.specs.Kinds.{StartsWithBytes};
-
-    ghost Value = { List (Option ℕ) };
-
-    ghost view = { λ pre. pre.0 };
-
-    ghost invariant = { λ pre. StartsWithBytes 2 pre.0 };
-}
-
-impl PrefilterI for StartBytesTwo {
-    ghost covers = { CoversAll };
-
-    ghost reach = { reach_of };
-
-    fn find_in(&self, haystack: &[u8], span: Span, tally: &mut Tally) -> Candidate
-        requires { IsValidSpan haystack.now span }
-        ensures sound { PassesOverNone (CoversAll self.now) haystack.now span result }
-        ensures reach { KeepsReach (reach_of self.now) span result tally.old tally.new }
-        ensures near { reach_of self.now ≤ 254 }
-        ensures step { IsStep self.now haystack.now span result tally.old tally.new }
-    {
-        let StartBytesTwo(table) = self;
-        table.candidate(haystack, span, tally)
-    }
-}
-
-/// Looks for the three bytes with one of which every pattern begins. Contracts see its table.
-#[derive(Drop)]
-pub struct StartBytesThree(pub(super) ByteTable);
-
-impl Model for StartBytesThree {
-    ghost use Rattle.std.specs.Prelude.{ℕ, List, Option};
-    ghost use Rattle.literal_prefilters.specs.Kinds.{StartsWithBytes};
-
-    ghost Value = { List (Option ℕ) };
-
-    ghost view = { λ pre. pre.0 };
-
-    ghost invariant = { λ pre. StartsWithBytes 3 pre.0 };
-}
-
-impl PrefilterI for StartBytesThree {
-    ghost covers = { CoversAll };
-
-    ghost reach = { reach_of };
-
-    fn find_in(&self, haystack: &[u8], span: Span, tally: &mut Tally) -> Candidate
-        requires { IsValidSpan haystack.now span }
-        ensures sound { PassesOverNone (CoversAll self.now) haystack.now span result }
-        ensures reach { KeepsReach (reach_of self.now) span result tally.old tally.new }
-        ensures near { reach_of self.now ≤ 254 }
-        ensures step { IsStep self.now haystack.now span result tally.old tally.new }
-    {
-        let StartBytesThree(table) = self;
-        table.candidate(haystack, span, tally)
-    }
-}
-
-/// Looks for one byte that every pattern holds, and proposes a place as far before it as it may
-/// stand from the beginning of a pattern. Contracts see its table.
-#[derive(Drop)]
-pub struct RareBytesOne(pub(super) ByteTable);
-
-impl Model for RareBytesOne {
+impl<const COUNT: usize> Model for RareBytes<COUNT> {
     ghost use Rattle.std.specs.Prelude.{ℕ, List, Option};
     ghost use Rattle.literal_prefilters.specs.Kinds.{HasBytes};
 
@@ -120,88 +58,30 @@ impl Model for RareBytesOne {
 
     ghost view = { λ pre. pre.0 };
 
-    ghost invariant = { λ pre. HasBytes 1 pre.0 };
+    ghost invariant = { λ pre. HasBytes COUNT pre.0 };
 }
 
-impl PrefilterI for RareBytesOne {
+impl<const COUNT: usize> PrefilterI for RareBytes<COUNT> {
+    ghost use Rattle.literal_prefilters.specs.Kinds.{CoversAll, IsStep};
+    ghost use Rattle.literal_prefilters.specs.Table.{reach_of};
+
     ghost covers = { CoversAll };
 
     ghost reach = { reach_of };
 
-    fn find_in(&self, haystack: &[u8], span: Span, tally: &mut Tally) -> Candidate
-        requires { IsValidSpan haystack.now span }
-        ensures sound { PassesOverNone (CoversAll self.now) haystack.now span result }
-        ensures reach { KeepsReach (reach_of self.now) span result tally.old tally.new }
-        ensures near { reach_of self.now ≤ 254 }
-        ensures step { IsStep self.now haystack.now span result tally.old tally.new }
-    {
-        let RareBytesOne(table) = self;
+    ghost answers = { IsStep };
+
+    fn find_in(&self, haystack: &[u8], span: Span, tally: &mut Tally) -> Candidate {
+        let RareBytes(table) = self;
         table.candidate(haystack, span, tally)
     }
 }
 
-/// Looks for two bytes of which every pattern holds one, and proposes a place as far before it as it
-/// may stand from the beginning of a pattern. Contracts see its table.
-#[derive(Drop)]
-pub struct RareBytesTwo(pub(super) ByteTable);
+/// Looks for one byte that every pattern holds.
+pub type RareBytesOne = RareBytes<1>;
 
-impl Model for RareBytesTwo {
-    ghost use Rattle.std.specs.Prelude.{ℕ, List, Option};
-    ghost use Rattle.literal_prefilters.specs.Kinds.{HasBytes};
+/// Looks for two bytes of which every pattern holds one.
+pub type RareBytesTwo = RareBytes<2>;
 
-    ghost Value = { List (Option ℕ) };
-
-    ghost view = { λ pre. pre.0 };
-
-    ghost invariant = { λ pre. HasBytes 2 pre.0 };
-}
-
-impl PrefilterI for RareBytesTwo {
-    ghost covers = { CoversAll };
-
-    ghost reach = { reach_of };
-
-    fn find_in(&self, haystack: &[u8], span: Span, tally: &mut Tally) -> Candidate
-        requires { IsValidSpan haystack.now span }
-        ensures sound { PassesOverNone (CoversAll self.now) haystack.now span result }
-        ensures reach { KeepsReach (reach_of self.now) span result tally.old tally.new }
-        ensures near { reach_of self.now ≤ 254 }
-        ensures step { IsStep self.now haystack.now span result tally.old tally.new }
-    {
-        let RareBytesTwo(table) = self;
-        table.candidate(haystack, span, tally)
-    }
-}
-
-/// Looks for three bytes of which every pattern holds one, and proposes a place as far before it as
-/// it may stand from the beginning of a pattern. Contracts see its table.
-#[derive(Drop)]
-pub struct RareBytesThree(pub(super) ByteTable);
-
-impl Model for RareBytesThree {
-    ghost use Rattle.std.specs.Prelude.{ℕ, List, Option};
-    ghost use Rattle.literal_prefilters.specs.Kinds.{HasBytes};
-
-    ghost Value = { List (Option ℕ) };
-
-    ghost view = { λ pre. pre.0 };
-
-    ghost invariant = { λ pre. HasBytes 3 pre.0 };
-}
-
-impl PrefilterI for RareBytesThree {
-    ghost covers = { CoversAll };
-
-    ghost reach = { reach_of };
-
-    fn find_in(&self, haystack: &[u8], span: Span, tally: &mut Tally) -> Candidate
-        requires { IsValidSpan haystack.now span }
-        ensures sound { PassesOverNone (CoversAll self.now) haystack.now span result }
-        ensures reach { KeepsReach (reach_of self.now) span result tally.old tally.new }
-        ensures near { reach_of self.now ≤ 254 }
-        ensures step { IsStep self.now haystack.now span result tally.old tally.new }
-    {
-        let RareBytesThree(table) = self;
-        table.candidate(haystack, span, tally)
-    }
-}
+/// Looks for three bytes of which every pattern holds one.
+pub type RareBytesThree = RareBytes<3>;

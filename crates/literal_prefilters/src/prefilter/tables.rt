@@ -2,12 +2,11 @@
 ghost use Rattle.std.specs.Prelude.{◌≡◌, ◌==◌, ◌||◌, ◌<◌, ◌≤◌, ◌↔◌, ℕ, max, true, length, slice_index, if◌then◌else◌, IsTrue, IfSome, nat_le};
 ghost use Rattle.std.specs.List.{All, list_any, list_all};
 ghost use Rattle.literal_base.specs.Bytes.{contains};
-ghost use Rattle.literal_base.specs.Occurs.{pattern_at};
-ghost use Rattle.literal_prefilters.specs.Case.{same_byte};
+ghost use Rattle.literal_base.specs.Occurs.{pattern_at, same_byte};
 ghost use Rattle.literal_prefilters.specs.Table.{reach_of, Covers};
 ghost use Rattle.literal_prefilters.specs.Tables.{start_table, rare_table, rarest, is_start_byte, is_rare_byte, offset_below, largest_offset, table_of, if_small};
 
-use crate::prefilter::ByteTable;
+use super::ByteTable;
 use literal_base::alphabet::{ByteSet, opposite_ascii_case};
 use literal_base::byte_frequencies::freq_rank;
 use literal_ids::PatternID;
@@ -16,42 +15,6 @@ use literal_packed::pattern::Patterns;
 /// The length of the longest pattern that a table of rare bytes may have, so that an offset fits a
 /// byte.
 const LONGEST: usize = 255;
-
-impl ByteTable {
-    /// The table of the bytes with which the patterns begin, each with the distance 0; in both cases
-    /// where ASCII case is ignored. There is one where these are one to three bytes, all at most
-    /// 0x7F.
-    pub fn start(patterns: &Patterns, ignore_case: bool) -> Option<ByteTable>
-        ensures table { result ≡ start_table ignore_case patterns.now.patterns }
-        ensures none_back { IfSome result (λ t. reach_of t ≡ 0) }
-        ensures covers { IfSome result (λ t. All (Covers t ignore_case) patterns.now.patterns) }
-    {
-        let set = start_bytes(patterns, ignore_case);
-        if holds_high(&set) {
-            return None;
-        }
-        table_of(&set, &[0; 256])
-    }
-
-    /// The table of a rare byte of each pattern, in both cases where ASCII case is ignored. The
-    /// patterns are taken by rising identifier: one that holds a byte taken before adds none,
-    /// another adds its byte of least rank, the earliest of equal rank. The distance of a byte is
-    /// the largest offset at which it stands in any pattern, in either case where case is ignored.
-    /// There is one where there is a pattern, each has at most 255 bytes, and these are at most
-    /// three bytes.
-    pub fn rare(patterns: &Patterns, ignore_case: bool) -> Option<ByteTable>
-        ensures table { result ≡ rare_table ignore_case patterns.now.patterns }
-        ensures covers { IfSome result (λ t. All (Covers t ignore_case) patterns.now.patterns) }
-    {
-        if patterns.len() == 0 || !all_short(patterns) {
-            return None;
-        }
-        table_of(
-            &rare_bytes(patterns, ignore_case),
-            &largest_offsets(patterns, ignore_case),
-        )
-    }
-}
 
 /// The pattern of an identifier: the tables take the patterns by rising identifier, in whatever order
 /// they are tried at a place.
@@ -81,7 +44,7 @@ fn holds_any(set: &ByteSet, pattern: &[u8]) -> bool
 }
 
 /// Some byte of the set is above 0x7F.
-fn holds_high(set: &ByteSet) -> bool
+pub(super) fn holds_high(set: &ByteSet) -> bool
     ensures { IsTrue result ↔ ((b : ℕ) × (127 < b) × (b < 256) × (contains set.now b ≡ true)) }
 {
     for byte in 128..256usize {
@@ -92,7 +55,7 @@ fn holds_high(set: &ByteSet) -> bool
     false
 }
 
-fn start_bytes(patterns: &Patterns, ignore_case: bool) -> ByteSet
+pub(super) fn start_set(patterns: &Patterns, ignore_case: bool) -> ByteSet
     ensures each { (b : ℕ) → contains result b ≡ is_start_byte ignore_case patterns.now.patterns b }
     ensures not_empty { All (λ p. 0 < length p) patterns.now.patterns }
 {
@@ -117,7 +80,7 @@ fn rarest(pattern: &[u8]) -> u8
     best
 }
 
-fn rare_bytes(patterns: &Patterns, ignore_case: bool) -> ByteSet
+pub(super) fn rare_set(patterns: &Patterns, ignore_case: bool) -> ByteSet
     ensures each { (b : ℕ) → contains result b ≡ is_rare_byte ignore_case patterns.now.patterns b }
     ensures some { 0 < length patterns.now.patterns → (b : ℕ) × (b < 256) × (contains result b ≡ true) }
 {
@@ -154,7 +117,7 @@ fn raise_all(offsets: &mut [u8; 256], pattern: &[u8], ignore_case: bool)
     }
 }
 
-fn largest_offsets(patterns: &Patterns, ignore_case: bool) -> [u8; 256]
+pub(super) fn largest_offsets(patterns: &Patterns, ignore_case: bool) -> [u8; 256]
     requires { All (λ p. length p ≤ 255) patterns.now.patterns }
     ensures value { (b : ℕ) → slice_index result b ≡ largest_offset ignore_case patterns.now.patterns b }
     ensures near { (b : ℕ) → slice_index result b ≤ 254 }
@@ -166,7 +129,7 @@ fn largest_offsets(patterns: &Patterns, ignore_case: bool) -> [u8; 256]
     offsets
 }
 
-fn all_short(patterns: &Patterns) -> bool
+pub(super) fn all_short(patterns: &Patterns) -> bool
     ensures { result ≡ list_all (λ p. nat_le (length p) 255) patterns.now.patterns }
 {
     for id in 0..patterns.len() {
@@ -178,7 +141,7 @@ fn all_short(patterns: &Patterns) -> bool
 }
 
 /// The table of the bytes of the set with these distances, if it has one to three bytes.
-fn table_of(set: &ByteSet, offsets: &[u8; 256]) -> Option<ByteTable>
+pub(super) fn table_of(set: &ByteSet, offsets: &[u8; 256]) -> Option<ByteTable>
     requires { (b : ℕ) → slice_index offsets.now b ≤ 254 }
     ensures { result ≡ if_small (table_of (contains set.now) (slice_index offsets.now)) }
 {

@@ -1,14 +1,14 @@
-use Rattle.std.proofs.Common.{sym, subst, refl}
+use Rattle.std.proofs.Common.{Some, None, sym, subst, refl, arith}
 use Rattle.literal_packed.proofs.Spending.{spends_nothing}
-use Rattle.literal_packed.proofs.Iteration.{IsUnderWay, under_way_more, under_way_end, run_within}
+use Rattle.literal_packed.proofs.Iteration.{IsUnderWay, under_way_next, run_within}
 use Rattle.literal_packed.proofs.laws.iteration_is_bounded.Goals as goal
 
 pub loop-init : goal.loop-init
 loop-init c = subst (IsUnderWay c.args.searcher.now c.args.haystack.now) (sym c.find_iter-matches.ensures)
-    (record { searched_is = refl; haystack_is = refl; spends = spends_nothing _ _ _ _ })
+    (record { query_is = refl; haystack_is = refl; within = omega arith; spends = spends_nothing _ _ _ _ })
 
 pub loop-preserved : goal.loop-preserved
-loop-preserved c = under_way_more _ _ _ _ _ c.loop.invariant c.in-Some.ensures.steps
+loop-preserved c = under_way_next _ _ _ _ (Some _) c.loop.invariant c.in-Some.ensures.steps
 
 pub returns-clause-bounded : goal.returns-clause-bounded
-returns-clause-bounded c = run_within _ _ _ (under_way_end _ _ _ _ c.loop.invariant c.in_default.ensures.steps)
+returns-clause-bounded c = run_within _ _ _ (under_way_next _ _ _ _ None c.loop.invariant c.in_default.ensures.steps)

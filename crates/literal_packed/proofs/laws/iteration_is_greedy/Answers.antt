@@ -9,14 +9,14 @@ returns-clause-greedy c =
 
 pub returns-clause-apart : goal.returns-clause-apart
 returns-clause-apart c =
-    let searched = c.args.searcher.now in
-    greedy_apart searched.patterns searched.kind c.args.haystack.now 0 c.loop-found.all.items (omega arith)
-    (gathers_all searched c.args.haystack.now c.loop-found.all.items c.loop-found.matches c.next.new.self c.loop-found.invariant c.in_default.ensures.steps)
+    let query = c.args.searcher.now in
+    greedy_apart query c.args.haystack.now 0 c.loop-found.all.items (omega arith)
+    (gathers_all query c.args.haystack.now c.loop-found.all.items c.loop-found.matches c.next.new.self c.loop-found.invariant c.in_default.ensures.steps)
 
 pub returns-clause-few : goal.returns-clause-few
 returns-clause-few c =
-    let searched = c.args.searcher.now in
+    let query = c.args.searcher.now in
     let haystack = c.args.haystack.now in
-    let greedy = gathers_all searched haystack c.loop-found.all.items c.loop-found.matches c.next.new.self c.loop-found.invariant c.in_default.ensures.steps in
-    let few = apart_few searched.patterns haystack 0 c.loop-found.all.items (greedy_apart searched.patterns searched.kind haystack 0 c.loop-found.all.items (omega arith) greedy) in
+    let greedy = gathers_all query haystack c.loop-found.all.items c.loop-found.matches c.next.new.self c.loop-found.invariant c.in_default.ensures.steps in
+    let few = apart_few query.patterns haystack 0 c.loop-found.all.items (greedy_apart query haystack 0 c.loop-found.all.items (omega arith) greedy) in
     omega arith

@@ -1,4 +1,4 @@
-use Rattle.literal_packed.specs.Finding.{StandsAtEnd}
+use Rattle.literal_packed.specs.FindIterValue.{StandsAtEnd}
 use Rattle.literal_packed.proofs.laws.none_is_for_good.Given as goal
 
 abbrev pub invariant-loop : goal.invariant-loop

@@ -1,7 +1,7 @@
 use Rattle.std.proofs.Common.{length}
 use Rattle.std.proofs.lemmas.Result.{on_ok_weaker}
 use Rattle.std.proofs.lemmas.List.Sorted.{IsPermutation-trans}
-use Rattle.literal_packed.specs.Longest.{bytes_of}
+use Rattle.literal_packed.specs.Inside.Longest.{bytes_of}
 use Rattle.literal_packed.proofs.LongestOrder.{order-apart, better_from_sorted, better_from_longest}
 use Rattle.literal_packed.proofs.pattern.put_in_order.Goals as goal
 

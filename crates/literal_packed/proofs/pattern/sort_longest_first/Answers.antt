@@ -2,7 +2,7 @@ use Rattle.std.proofs.Common.{rules}
 use Rattle.std.specs.Ordering.{is_lt}
 use Rattle.std.proofs.lemmas.Fn.{always_returns_same}
 use Rattle.std.proofs.lemmas.Result.{on_ok_weaker}
-use Rattle.literal_packed.specs.Longest.{bytes_of, longest_cmp}
+use Rattle.literal_packed.specs.Inside.Longest.{bytes_of, longest_cmp}
 use Rattle.literal_packed.proofs.LongestOrder.{longest_ranks}
 use Rattle.literal_packed.proofs.pattern.sort_longest_first.Goals as goal
 

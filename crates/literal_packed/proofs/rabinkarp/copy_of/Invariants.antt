@@ -1,5 +1,5 @@
 use Rattle.std.proofs.Common.{◌≡◌, take}
-use Rattle.literal_packed.specs.Buckets.{entry_lists}
+use Rattle.literal_packed.specs.Inside.RabinKarp.{entry_lists}
 use Rattle.literal_packed.proofs.rabinkarp.copy_of.Given as goal
 
 abbrev pub invariant-loop-entries : goal.invariant-loop-entries

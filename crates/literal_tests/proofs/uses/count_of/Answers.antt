@@ -1,6 +1,6 @@
 use Rattle.std.proofs.Common.{ℕ, List, ◌∙◌}
 use Rattle.std.proofs.lemmas.Iterator.Consumers.{count_from_yields_List, YieldsList-from_first}
-use Rattle.literal_packed.specs.Collected.{in_order}
+use Rattle.literal_packed.specs.PatternsValue.{in_order}
 use Rattle.literal_tests.proofs.InOrder.{length_in_order}
 use Rattle.literal_tests.proofs.uses.count_of.Goals as goal
 

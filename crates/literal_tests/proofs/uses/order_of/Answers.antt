@@ -1,5 +1,5 @@
 use Rattle.std.proofs.Common.{◌≡◌, ◌++◌, ℕ, List, map, append-nil, sym, ap, ◌∙◌}
-use Rattle.literal_packed.specs.Collected.{in_order}
+use Rattle.literal_packed.specs.PatternsValue.{in_order}
 use Rattle.literal_tests.proofs.InOrder.{map_in_order}
 use Rattle.literal_tests.proofs.uses.order_of.Goals as goal
 

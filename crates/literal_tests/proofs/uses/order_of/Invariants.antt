@@ -1,5 +1,5 @@
 use Rattle.std.proofs.Common.{◌≡◌, ◌++◌, map}
-use Rattle.literal_packed.specs.Collected.{in_order}
+use Rattle.literal_packed.specs.PatternsValue.{in_order}
 use Rattle.literal_tests.proofs.uses.order_of.Given as goal
 
 abbrev pub invariant-loop-id : goal.invariant-loop-id

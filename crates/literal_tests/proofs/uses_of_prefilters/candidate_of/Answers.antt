@@ -1,5 +1,6 @@
 use Rattle.std.proofs.Common.{ℕ, Option, List, IfSome, subst}
-use Rattle.literal_prefilters.specs.Choice.{IsBuiltFor, kept}
+use Rattle.literal_packed.specs.State.{kept_of}
+use Rattle.literal_prefilters.specs.Choice.{IsBuiltFor}
 use Rattle.literal_tests.proofs.uses_of_prefilters.candidate_of.Goals as goal
 
 pub returns-in-Some : goal.returns-in-Some
@@ -7,4 +8,4 @@ returns-in-Some c = λ kind serves.
     let builder = c.args.builder.now in
     let P : Option (List (Option ℕ)) → Type 0 = λ built. IfSome built (IsBuiltFor builder) in
     let covers : IsBuiltFor builder c.in-Some.pre = subst P c.in-Some.is c.in_ok-pre.ensures.covers in
-    c.find_in.ensures.sound.sound (kept builder) kind builder.ignore_case (covers kind serves)
+    c.find_in.ensures.sound.each (record { kind = kind; patterns = kept_of builder.state }) builder.ignore_case (covers kind serves)

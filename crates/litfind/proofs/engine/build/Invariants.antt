@@ -1,5 +1,5 @@
 use Rattle.std.proofs.Common.{◌≡◌, map, take, string_bytes}
-use Rattle.literal_packed.specs.State.{builder_of}
+use Rattle.literal_packed.specs.BuilderValue.{builder_of}
 use Rattle.litfind.proofs.engine.build.Given as goal
 
 abbrev pub invariant-loop-pattern : goal.invariant-loop-pattern

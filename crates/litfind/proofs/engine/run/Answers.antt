@@ -1,6 +1,5 @@
 use Rattle.std.proofs.Common.{string_bytes, arith, rules}
 use Rattle.std.proofs.lemmas.Grind.{common_steps}
-use Rattle.litfind.specs.Query.{query_for}
 use Rattle.litfind.proofs.engine.run.Goals as goal
 
 pub returns-in-Ok-clause-ok : goal.returns-in-Ok-clause-ok
@@ -10,7 +9,7 @@ returns-in-Ok-clause-ok g c =
       text = string_bytes c.in_ok-text.text;
       read = c.in_ok-input.ensures.whole;
       lines = record {
-        query = query_for c.in_ok-searcher.searcher;
+        query = c.in_ok-searcher.searcher;
         asked = c.in_ok-searcher.ensures.asked;
         matches = c.in_ok-matches.matches.items;
         found = rw c.as_slice.ensures.value at c.in_ok-matches.ensures.greedy;
@@ -27,7 +26,7 @@ returns-clause-front g c = λ _.
       text = string_bytes c.in_ok-text.text;
       read = c.in_ok-input.ensures.whole;
       lines = record {
-        query = query_for c.in_ok-searcher.searcher;
+        query = c.in_ok-searcher.searcher;
         asked = c.in_ok-searcher.ensures.asked;
         matches = c.in_ok-matches.matches.items;
         found = rw c.as_slice.ensures.value at c.in_ok-matches.ensures.greedy;

@@ -1,5 +1,5 @@
 use Rattle.std.proofs.Common.{◌≡◌, length}
-use Rattle.literal_base.specs.ClassesInside.{runs_after}
+use Rattle.literal_base.specs.Inside.Classes.{runs_after}
 use Rattle.literal_base.proofs.alphabet.ByteClassElementRangesIterator.next.Given as goal
 
 abbrev pub invariant-loop-byte : goal.invariant-loop-byte

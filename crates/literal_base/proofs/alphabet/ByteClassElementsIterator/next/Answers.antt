@@ -1,5 +1,5 @@
 use Rattle.std.proofs.Common.{◌≡◌, ◌∷◌, ◌+◌, sym, ◌∙◌, ap, length, arith}
-use Rattle.literal_base.specs.ClassesInside.{bytes_from}
+use Rattle.literal_base.specs.Inside.Classes.{bytes_from}
 use Rattle.literal_base.proofs.BytesFrom.{bytes_from-taken, bytes_from-passed}
 use Rattle.literal_base.proofs.alphabet.ByteClassElementsIterator.next.Goals as goal
 

@@ -1,5 +1,5 @@
 use Rattle.std.proofs.Common.{◌-◌, ◌≡◌, ◌≤◌, length}
-use Rattle.literal_base.specs.ClassesInside.{bytes_from}
+use Rattle.literal_base.specs.Inside.Classes.{bytes_from}
 use Rattle.literal_base.proofs.alphabet.ByteClassElementsIterator.next.Given as goal
 
 abbrev pub invariant-loop-self : goal.invariant-loop-self

@@ -1,7 +1,7 @@
 use Rattle.std.proofs.Common.{sym, subst, arith}
 use Rattle.std.proofs.lemmas.List.Kept.{AllPairs-from_increasing}
 use Rattle.literal_base.specs.Classes.{elements_of, AreRuns}
-use Rattle.literal_base.specs.ClassesInside.{runs_of}
+use Rattle.literal_base.specs.Inside.Classes.{runs_of}
 use Rattle.literal_base.proofs.BytesFrom.{elements-rise}
 use Rattle.literal_base.proofs.Runs.{runs_of-AreRuns, length-runs_of-le}
 use Rattle.literal_base.proofs.alphabet.ByteClasses.element_ranges.Goals as goal

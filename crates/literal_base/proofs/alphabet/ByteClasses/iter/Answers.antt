@@ -1,7 +1,7 @@
 use Rattle.std.proofs.Common.{◌≤◌, ◌-◌, length, arith}
 use Rattle.std.proofs.lemmas.List.FromFn.{length-range_with_len}
 use Rattle.literal_base.specs.Classes.{alphabet_len_of}
-use Rattle.literal_base.specs.ClassesInside.{classes_from}
+use Rattle.literal_base.specs.Inside.Classes.{classes_from}
 use Rattle.literal_base.proofs.alphabet.ByteClasses.iter.Goals as goal
 
 pub returns-clause-few : goal.returns-clause-few

@@ -26,7 +26,9 @@ use types.Run.{enter, addr, stop, no_more, and_then, returns}
 use Rattle.std.specs.declared.alloc.AllocError.{AllocError}
 use Rattle.std.specs.contracts.alloc.AllocError.{the_row as E}
 use Rattle.std.proofs.alloc.AllocError.TheLaws.{the_row_laws as refusal_laws}
-use Rattle.literal_packed.specs.State.{Building, Adds, WouldKeep}
+use Rattle.literal_packed.specs.BuilderValue.{BuilderValue}
+use Rattle.literal_packed.specs.State.{WouldKeep}
+use Rattle.literal_packed.specs.BuilderValue.{pattern_limit, with_added}
 use Rattle.literal_packed.specs.Lending.{LentRestsAtErr}
 use Rattle.literal_packed.specs.declared.api.Lent.{Lent}
 use Rattle.literal_packed.specs.contracts.api.Builder.{the_row as R}
@@ -54,7 +56,7 @@ add_spec 𝓤 𝓛 𝓜 𝓡 wired =
     let y : G.Ghost = ((κs, qs, bounds, a, (mut_vals a.0, (shr_slice_vals a.1.0, tt))), tt) in
     let κ = ‵ (flft κs.0 qs.0) in let others = ‵ (flft κs.1.0 qs.1.0) ⊛ ‵ ftrue in
     let X = RS.the_row (lent_row (named_lft 2 0 tt κs)) E in let Y = RS.the_row (MutRef (named 0) κs.0 R) E in
-    let Named = λ (b : MutBor Building). b.ghost_name ≡ a.0.ghost_name in let Added = λ (b : MutBor Building). Adds a.0.now (a.1.0.now ∷ []) b.now in let Refused = WouldKeep a.0.now a.1.0.now in
+    let Named = λ (b : MutBor BuilderValue). b.ghost_name ≡ a.0.ghost_name in let Added = λ (b : MutBor BuilderValue). b.now ≡ with_added a.0.now (a.1.0.now ∷ []) in let Refused = WouldKeep pattern_limit a.0.now.state a.1.0.now in
     qed 𝓛 (raw (G.pre y) ∷ []) ∵ enter ! _ _ _ _ _ $ alloc_all ! (λ l. pass_all ! refl ((tt, tt), ((tt, (tt, (record { fits = are.1.0.0.1.0 }, tt))), tt)) $
     sets ! (addr ! (through ! refl (stop !))) refl (tt, tt) $
     calls_at ! F G (try_add_met 𝓤 𝓛 𝓜 𝓡 (code.calls-literal_packed::api::Builder::try_add 𝓡.env wired)) y (and_then ! (get ! refl) (and_then ! (get ! refl) (no_more !))) (λ v.
@@ -68,7 +70,7 @@ add_spec 𝓤 𝓛 𝓜 𝓡 wired =
     nothing ! $ move ! (1 ∷ 0 ∷ []) $ join ! $ nothing ! $ move ! (2 ∷ 0 ∷ []) $ join ! $ join ! $ nothing ! $ move ! (1 ∷ 0 ∷ []) $ use2 𝓛 (raw (K.pre z)) (id⊢ 𝓤 _) $
     -- [what the second call asks; the others; what the first ensures]
     calls_at ! F K (unwrapped_met 𝓤 𝓛 𝓜 𝓡 (code.calls-literal_packed::api::unwrapped 𝓡.env wired)) z (and_then ! (get ! refl) (no_more !)) (λ v'.
-    use1 𝓛 (later (some (λ (r' : Result (MutBor Building) AllocError). ((κ ⊛ ‵ ftrue) ⊛ ‵ (Y.own_val r' (v' ∷ [])))
+    use1 𝓛 (later (some (λ (r' : Result (MutBor BuilderValue) AllocError). ((κ ⊛ ‵ ftrue) ⊛ ‵ (Y.own_val r' (v' ∷ [])))
     ⊛ some (λ (ws : Lasts h.ended (κs.0, tt) (r, tt)). ‵ (lasts h.ended (κs.0, tt) (r, tt) ws) ⊛ raw (fact 𝓤 (Unwraps r r')))))) (id⊢ 𝓤 _) $
     await ! tt $ pick ! (λ r'. split ! $ split ! $ split ! $
     -- [the token; nothing; the answer; what the second call ensures; the others; what the first ensures]

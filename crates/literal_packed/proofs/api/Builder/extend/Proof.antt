@@ -32,7 +32,7 @@ use types.Run.{enter, of_opd, addr, stop, no_more, and_then, returns}
 use Rattle.std.specs.declared.alloc.AllocError.{AllocError}
 use Rattle.std.specs.contracts.alloc.AllocError.{the_row as E}
 use Rattle.std.proofs.alloc.AllocError.TheLaws.{the_row_laws as refusal_laws}
-use Rattle.literal_packed.specs.State.{Building}
+use Rattle.literal_packed.specs.BuilderValue.{BuilderValue}
 use Rattle.literal_packed.specs.Lending.{LentRestsAtErr, HoldsAll, HoldsTaken}
 use Rattle.literal_packed.specs.declared.api.Lent.{Lent}
 use Rattle.literal_packed.specs.contracts.api.Builder.{the_row as R}
@@ -63,7 +63,7 @@ extend_spec 𝓤 𝓛 𝓜 𝓡 wired I T LI LT gi di gt dt dd P mi mt md =
     let told : G.args y ≡ vs = λ i. are.0.0 i ++ (item.1 i ++ []) in
     let κ = ‵ (flft κs.0 qs.0) in let others = ‵ (flft κs.1.0 qs.1.0) ⊛ ‵ (flft κs.1.1.0 qs.1.1.0) ⊛ ‵ (flft κs.1.1.1.0 qs.1.1.1.0) ⊛ ‵ ftrue in
     let X = RS.the_row (lent_row (named_lft 4 0 tt κs)) E in let Y = RS.the_row (MutRef (named 0) κs.0 R) E in
-    let Named = λ (b : MutBor Building). b.ghost_name ≡ a.0.ghost_name in let Added = λ (b : MutBor Building). HoldsAll gi.into_iter_gives gt.next_gives a.1.0 a.0.now b.now in let Taken = HoldsTaken gi.into_iter_gives gt.next_gives a.1.0 a.0.now in
+    let Named = λ (b : MutBor BuilderValue). b.ghost_name ≡ a.0.ghost_name in let Added = λ (b : MutBor BuilderValue). HoldsAll gi.into_iter_gives gt.next_gives a.1.0 a.0.now b.now in let Taken = HoldsTaken gi.into_iter_gives gt.next_gives a.1.0 a.0.now in
     qed 𝓛 (raw (G.pre y) ∷ []) ∵ regoal ! (λ (us : List Val). prop (WpFn 𝓤 𝓛.H 𝓣.C 𝓣.Λ fn us (W.post y))) told refl $ enter ! _ _ _ vs _ $
     alloc_all ! (λ l. pass_all ! refl ((tt, tt), (item.2, tt)) $
     sets ! (addr ! (through ! refl (stop !))) refl (tt, tt) $ sets ! (of_opd ! (get ! refl)) refl item.2 $
@@ -79,7 +79,7 @@ extend_spec 𝓤 𝓛 𝓜 𝓡 wired I T LI LT gi di gt dt dd P mi mt md =
     nothing ! $ move ! (1 ∷ 0 ∷ []) $ join ! $ nothing ! $ move ! (2 ∷ 0 ∷ []) $ join ! $ join ! $ nothing ! $ move ! (1 ∷ 0 ∷ []) $ use2 𝓛 (raw (K.pre z)) (id⊢ 𝓤 _) $
     -- [what the second call asks; the others; what the first ensures]
     calls_at ! F K (unwrapped_met 𝓤 𝓛 𝓜 𝓡 (code.calls-literal_packed::api::unwrapped 𝓡.env wired)) z (and_then ! (get ! refl) (no_more !)) (λ v'.
-    use1 𝓛 (later (some (λ (r' : Result (MutBor Building) AllocError). ((κ ⊛ ‵ ftrue) ⊛ ‵ (Y.own_val r' (v' ∷ [])))
+    use1 𝓛 (later (some (λ (r' : Result (MutBor BuilderValue) AllocError). ((κ ⊛ ‵ ftrue) ⊛ ‵ (Y.own_val r' (v' ∷ [])))
     ⊛ some (λ (ws : Lasts h.ended (κs.0, tt) (r, tt)). ‵ (lasts h.ended (κs.0, tt) (r, tt) ws) ⊛ raw (fact 𝓤 (Unwraps r r')))))) (id⊢ 𝓤 _) $
     await ! tt $ pick ! (λ r'. split ! $ split ! $ split ! $
     -- [the token; nothing; the answer; what the second call ensures; the others; what the first ensures]

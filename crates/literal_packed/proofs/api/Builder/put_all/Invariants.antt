@@ -1,4 +1,4 @@
-use Rattle.literal_packed.specs.State.{AddsAll}
+use Rattle.literal_packed.specs.BuilderValue.{AddsAll}
 use Rattle.literal_packed.proofs.api.Builder.put_all.Given as goal
 
 abbrev pub invariant-loop-bytes : goal.invariant-loop-bytes

@@ -1,27 +1,24 @@
 use Rattle.std.proofs.Common.{ap, subst, ◌∙◌, length, ℕ}
 use Rattle.literal_base.specs.Counts.{Counts}
-use Rattle.literal_packed.specs.Finding.{Finding, Finds, FindsNothing}
-use Rattle.literal_packed.proofs.Spending.{spends_some, spends_none}
+use Rattle.literal_packed.specs.FindIterValue.{FindIterValue, Finds, FindsNothing}
 use Rattle.literal_packed.proofs.api.FindIterIterator.next.Goals as goal
 
 pub returns-in_default-clause-steps : goal.returns-in_default-clause-steps
 returns-in_default-clause-steps c =
     let inside = c.self.inside in
-    let at : Counts → Finding = λ counts. record { searched = inside.searcher.now; haystack = inside.haystack.now; at = length inside.haystack.now; counts = counts } in
-    subst (λ (f : Finding). FindsNothing f (at c.find_in_counted.new.tally)) c.self.view_is (record {
+    let at : Counts → FindIterValue = λ counts. record { query = inside.searcher.now; haystack = inside.haystack.now; at = length inside.haystack.now; counts = counts } in
+    subst (λ (f : FindIterValue). FindsNothing f (at c.find_in_counted.new.tally)) c.self.view_is (record {
       nothing = c.in_default.ensures.leftmost;
       goes_on = ap at c.in_default.ensures.exact;
-      spends = spends_none inside.searcher.now inside.haystack.now inside.at inside.tally c.find_in_counted.new.tally c.self.invariant c.in_default.ensures.leftmost c.in_default.ensures.exact;
     })
 
 pub returns-clause-steps : goal.returns-clause-steps
 returns-clause-steps c =
     let inside = c.self.inside in
     let found = c.in-Some.found in
-    let at : ℕ → Counts → Finding = λ e counts. record { searched = inside.searcher.now; haystack = inside.haystack.now; at = e; counts = counts } in
-    subst (λ (f : Finding). Finds f found (at c.end-self-inside.result c.find_in_counted.new.tally)) c.self.view_is (record {
+    let at : ℕ → Counts → FindIterValue = λ e counts. record { query = inside.searcher.now; haystack = inside.haystack.now; at = e; counts = counts } in
+    subst (λ (f : FindIterValue). Finds f found (at c.end-self-inside.result c.find_in_counted.new.tally)) c.self.view_is (record {
       leftmost = c.in-Some.ensures.leftmost;
       not_empty = c.in-Some.ensures.not_empty;
       goes_on = ap (λ e. at e c.find_in_counted.new.tally) c.end-self-inside.ensures.end ∙ ap (at found.end) c.in-Some.ensures.exact;
-      spends = spends_some inside.searcher.now inside.haystack.now inside.at inside.tally c.find_in_counted.new.tally c.self.invariant found c.in-Some.ensures.not_empty c.in-Some.ensures.leftmost c.in-Some.ensures.exact;
     })

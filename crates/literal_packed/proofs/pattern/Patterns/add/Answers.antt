@@ -1,13 +1,13 @@
 use Rattle.std.proofs.Common.{◌+◌, ◌<◌, length, refl, sym, subst, arith}
 use Rattle.std.proofs.lemmas.Grind.{common_steps}
 use Rattle.literal_packed.specs.declared.pattern.Patterns.TheInside.{Inside}
-use Rattle.literal_packed.specs.Collected.{Collected}
+use Rattle.literal_packed.specs.PatternsValue.{PatternsValue}
 use Rattle.literal_packed.proofs.InOrder.{IsConsistent-add, IsInOrder-add}
 use Rattle.literal_packed.proofs.pattern.Patterns.add.Goals as goal
 
 pub invariant_of-self-2 : goal.invariant_of-self-2
 invariant_of-self-2 c =
-    let room = subst (λ (p : Collected). length p.patterns < 2147483647) (sym c.self.view_is) c.requires.room in
+    let room = subst (λ (p : PatternsValue). length p.patterns < 2147483647) (sym c.self.view_is) c.requires.room in
     IsConsistent-add c.self.inside _ c.args.bytes.now c.self.invariant c.requires.some room (grind (arith, common_steps)) c.min-self-inside.ensures refl (omega arith)
 
 pub returns-clause-in_order : goal.returns-clause-in_order

@@ -1,34 +1,34 @@
 use Rattle.std.proofs.Common.{◌≡◌, ◌+◌, ◌-◌, ◌<◌, ℕ, None, false, Option, length, sym, ap, subst, ◌∙◌, arith}
-use Rattle.literal_base.specs.Found.{Found}
+use Rattle.literal_base.specs.MatchValue.{MatchValue}
 use Rattle.literal_base.specs.Counts.{Counts}
 use Rattle.literal_base.specs.Occurs.{rest_from}
 use Rattle.literal_base.specs.Leftmost.{IsLeftmost}
-use Rattle.literal_packed.specs.Collected.{shortest_len}
-use Rattle.literal_packed.specs.Buckets.{Bucketed}
+use Rattle.literal_packed.specs.PatternsValue.{query_of, minimum_len_of}
+use Rattle.literal_packed.specs.RabinKarpValue.{RabinKarpValue}
 use Rattle.literal_packed.specs.Pairs.{hashed_up_to, pairs_up_to, has_equal_bucket, has_equal_sum}
-use Rattle.literal_packed.proofs.Shortest.{shortest_len_some}
+use Rattle.literal_packed.proofs.Shortest.{minimum_len_of_some}
 use Rattle.literal_packed.proofs.Windows.{sum-roll_by, sum-push, nothing_short, nothing_after, passed_more}
 use Rattle.literal_packed.proofs.PlaceCounts.{counted_all, counts_rolled, counts_some, counts_end, before}
 use Rattle.literal_packed.proofs.rabinkarp.RabinKarp.find_at.Goals as goal
 
-abbrev window_of : Bucketed → ℕ
-window_of b = b.window
+abbrev window_of : RabinKarpValue → ℕ
+window_of b = b.minimum_len
 
-abbrev start : Found → ℕ
+abbrev start : MatchValue → ℕ
 start f = f.start
 
-abbrev pattern : Found → ℕ
+abbrev pattern : MatchValue → ℕ
 pattern f = f.pattern
 
-pub returns-then-hash_len-end-clause-leftmost : goal.returns-then-hash_len-end-clause-leftmost
-returns-then-hash_len-end-clause-leftmost c =
-    let window : c.self.inside.hash_len ≡ shortest_len c.args.patterns.now.patterns = ap window_of c.self.view_is ∙ c.requires.made.window in
+pub returns-then-minimum_len-end-clause-leftmost : goal.returns-then-minimum_len-end-clause-leftmost
+returns-then-minimum_len-end-clause-leftmost c =
+    let window : c.self.inside.minimum_len ≡ minimum_len_of c.args.patterns.now.patterns = ap window_of c.self.view_is ∙ c.requires.made.minimum_len in
     nothing_short c.args.patterns.now.patterns c.args.haystack.now c.args.at (omega arith)
 
 pub new-rolling-requires : goal.new-rolling-requires
 new-rolling-requires c =
-    let window : c.self.inside.hash_len ≡ shortest_len c.args.patterns.now.patterns = ap window_of c.self.view_is ∙ c.requires.made.window in
-    let some = shortest_len_some c.args.patterns.now.patterns c.requires.made.searchable.well_formed.not_empty in
+    let window : c.self.inside.minimum_len ≡ minimum_len_of c.args.patterns.now.patterns = ap window_of c.self.view_is ∙ c.requires.made.minimum_len in
+    let some = minimum_len_of_some c.args.patterns.now.patterns c.requires.made.searchable.well_formed.not_empty in
     omega arith
 
 pub loop-k-preserved : goal.loop-k-preserved
@@ -46,15 +46,15 @@ loop-k-preserved c = record {
 
 pub loop-place-preserved : goal.loop-place-preserved
 loop-place-preserved c =
-    let window : c.self.inside.hash_len ≡ shortest_len c.args.patterns.now.patterns = ap window_of c.self.view_is ∙ c.requires.made.window in
+    let window : c.self.inside.minimum_len ≡ minimum_len_of c.args.patterns.now.patterns = ap window_of c.self.view_is ∙ c.requires.made.minimum_len in
     let haystack = c.args.haystack.now in
     let patterns = c.args.patterns.now in
-    let m = shortest_len patterns.patterns in
-    let some = shortest_len_some patterns.patterns c.requires.made.searchable.well_formed.not_empty in
+    let m = minimum_len_of patterns.patterns in
+    let some = minimum_len_of_some patterns.patterns c.requires.made.searchable.well_formed.not_empty in
     let place = c.loop-place.place in
     let next : place + m < length haystack = omega arith in
     record {
-      sum = sum-roll_by haystack place m c.self.inside.hash_len c.loop-place.rolling.window c.loop-place.rolling.sum c.roll.new.self.sum window c.loop-place.invariant.window
+      sum = sum-roll_by haystack place m c.self.inside.minimum_len c.loop-place.rolling.window c.loop-place.rolling.sum c.roll.new.self.sum window c.loop-place.invariant.window
           some next c.roll.ensures.sum c.loop-place.invariant.sum;
       window = c.roll.ensures.window ∙ c.loop-place.invariant.window;
       passed = passed_more patterns.patterns haystack c.args.at place c.loop-place.invariant.passed c.in_default.ensures.best;
@@ -71,15 +71,15 @@ pub returns-in_err-id-clause-leftmost : goal.returns-in_err-id-clause-leftmost
 returns-in_err-id-clause-leftmost c =
     let patterns = c.args.patterns.now in
     let haystack = c.args.haystack.now in
-    let window : c.self.inside.hash_len ≡ shortest_len c.args.patterns.now.patterns = ap window_of c.self.view_is ∙ c.requires.made.window in
-    let fits = c.if-hash_len-end.false in
+    let window : c.self.inside.minimum_len ≡ minimum_len_of c.args.patterns.now.patterns = ap window_of c.self.view_is ∙ c.requires.made.minimum_len in
+    let fits = c.if-minimum_len-end.false in
     let ended = c.loop-place-test.false in
     let after = c.loop-place.auto.place in
     let top = c.loop-place.auto.place-end in
-    let last = length haystack - c.self.inside.hash_len in
+    let last = length haystack - c.self.inside.minimum_len in
     let at_end : c.loop-place.place ≡ last = omega arith in
     let nothing : c.from_residual.result ≡ None = c.from_residual.ensures in
-    subst (IsLeftmost patterns.patterns patterns.kind false haystack (rest_from haystack c.args.at)) (sym nothing)
+    subst (IsLeftmost (query_of patterns) false haystack (rest_from haystack c.args.at)) (sym nothing)
     (nothing_after patterns.patterns haystack c.args.at last (omega arith)
     (passed_more patterns.patterns haystack c.args.at last (λ s low high. c.loop-place.invariant.passed s low (omega arith)) c.in_err-id.ensures.best))
 
@@ -88,28 +88,28 @@ returns-in_err-id-clause-exact c =
     let patterns = c.args.patterns.now in
     let haystack = c.args.haystack.now in
     let at = c.args.at in
-    let window : c.self.inside.hash_len ≡ shortest_len c.args.patterns.now.patterns = ap window_of c.self.view_is ∙ c.requires.made.window in
-    let fits = c.if-hash_len-end.false in
+    let window : c.self.inside.minimum_len ≡ minimum_len_of c.args.patterns.now.patterns = ap window_of c.self.view_is ∙ c.requires.made.minimum_len in
+    let fits = c.if-minimum_len-end.false in
     let ended = c.loop-place-test.false in
     let after = c.loop-place.auto.place in
     let top = c.loop-place.auto.place-end in
-    let last = length haystack - c.self.inside.hash_len in
+    let last = length haystack - c.self.inside.minimum_len in
     let at_end : c.loop-place.place ≡ last = omega arith in
     let nothing : c.from_residual.result ≡ None = c.from_residual.ensures in
-    subst (λ (r : Option Found). c.look_up-2.new.tally ≡ counted_all c.args.tally.now (hashed_up_to patterns.patterns (rest_from haystack at) r)
-    (pairs_up_to (has_equal_bucket patterns.patterns haystack) patterns.kind patterns.patterns (rest_from haystack at) r)
-    (pairs_up_to (has_equal_sum patterns.patterns haystack) patterns.kind patterns.patterns (rest_from haystack at) r)) (sym nothing)
+    subst (λ (r : Option MatchValue). c.look_up-2.new.tally ≡ counted_all c.args.tally.now (hashed_up_to patterns.patterns (rest_from haystack at) r)
+    (pairs_up_to (has_equal_bucket patterns.patterns haystack) (query_of patterns) (rest_from haystack at) r)
+    (pairs_up_to (has_equal_sum patterns.patterns haystack) (query_of patterns) (rest_from haystack at) r)) (sym nothing)
     (counts_end patterns haystack at c.args.tally.now c.loop-place.tally c.look_up-2.new.tally last (omega arith) (omega arith)
     (subst (λ k. c.loop-place.tally ≡ before patterns haystack at c.args.tally.now k) at_end c.loop-place.invariant.counted) c.in_err-id.ensures.counted)
 
 pub returns-clause-exact : goal.returns-clause-exact
 returns-clause-exact c =
-    let window : c.self.inside.hash_len ≡ shortest_len c.args.patterns.now.patterns = ap window_of c.self.view_is ∙ c.requires.made.window in
-    let fits = c.if-hash_len-end.false in
+    let window : c.self.inside.minimum_len ≡ minimum_len_of c.args.patterns.now.patterns = ap window_of c.self.view_is ∙ c.requires.made.minimum_len in
+    let fits = c.if-minimum_len-end.false in
     let ended = c.loop-place-test.false in
     let after = c.loop-place.auto.place in
     let top = c.loop-place.auto.place-end in
-    let last = length c.args.haystack.now - c.self.inside.hash_len in
+    let last = length c.args.haystack.now - c.self.inside.minimum_len in
     let at_end : c.loop-place.place ≡ last = omega arith in
     counts_some c.args.patterns.now c.args.haystack.now c.args.at c.args.tally.now c.loop-place.tally c.look_up-2.new.tally last c.in_ok-id.id c.found_at-2.result
     (ap start c.found_at-2.ensures) (ap pattern c.found_at-2.ensures)

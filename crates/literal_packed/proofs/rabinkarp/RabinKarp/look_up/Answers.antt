@@ -1,7 +1,7 @@
 use Rattle.std.proofs.Common.{◌%◌, ◌∙◌, length, refl, arith}
 use Rattle.std.proofs.lemmas.Bool.{false≢true}
 use Rattle.std.proofs.lemmas.Grind.{common_steps}
-use Rattle.literal_packed.specs.Buckets.{bucket_at}
+use Rattle.literal_packed.specs.RabinKarpValue.{bucket_at}
 use Rattle.literal_packed.proofs.LookUp.{IsRead, look_up_in, entry_of_pattern, none_more, not_of_sum, counts_other, counts_vain, counts_found, best_found, none_found, counts_none}
 use Rattle.literal_packed.proofs.rabinkarp.RabinKarp.look_up.Goals as goal
 use Rattle.literal_packed.proofs.rabinkarp.RabinKarp.look_up.Goals.{else-entry_sum-sum-via-then-entry_sum-sum+else-matches_at, else-entry_sum-sum-via-else-entry_sum-sum}

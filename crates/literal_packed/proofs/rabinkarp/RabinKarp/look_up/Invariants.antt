@@ -1,7 +1,7 @@
 use Rattle.std.proofs.Common.{◌≡◌, ◌+◌, ◌-◌, false, eqb, take}
 use Rattle.std.specs.List.{All, count_by}
 use Rattle.literal_base.specs.Occurs.{StandsAt, pattern_at}
-use Rattle.literal_packed.specs.Buckets.{bucket_of}
+use Rattle.literal_packed.specs.RabinKarpValue.{bucket_of}
 use Rattle.literal_packed.proofs.rabinkarp.RabinKarp.look_up.Given as goal
 
 -- none of the entries so far stands there, and each was read once and compared where its sum is that of the window

@@ -6,10 +6,10 @@ use Rattle.std.proofs.lemmas.Nat.{mod_below}
 use Rattle.literal_base.specs.Counts.{Counts}
 use Rattle.literal_packed.specs.Sum.{sum_of}
 use Rattle.literal_packed.specs.Pairs.{key_of}
-use Rattle.literal_packed.specs.Collected.{shortest_len}
+use Rattle.literal_packed.specs.PatternsValue.{minimum_len_of}
 use Rattle.literal_base.specs.Occurs.{pattern_at}
 use Rattle.literal_packed.proofs.Tried.{head_below, split_next, split_more}
-use Rattle.literal_packed.proofs.Shortest.{shortest_len_some, shortest_len-le}
+use Rattle.literal_packed.proofs.Shortest.{minimum_len_of_some, minimum_len_of-le}
 use Rattle.literal_packed.proofs.Dealing.{pattern_of_head, entries_all, hashed_more, hashed_of, length_all, in_bucket, entry_of, IsDealt, dealt_none, dealt_next}
 use Rattle.literal_packed.proofs.rabinkarp.RabinKarp.new.Goals as goal
 
@@ -27,8 +27,8 @@ loop-id-init c =
 
 pub sum_of_first-sum-requires-clause-some : goal.sum_of_first-sum-requires-clause-some
 sum_of_first-sum-requires-clause-some c =
-    let some = shortest_len_some c.args.patterns.now.patterns c.iter-id-items.ensures.well_formed.not_empty in
-    let is = c.minimum_len-window.ensures in
+    let some = minimum_len_of_some c.args.patterns.now.patterns c.iter-id-items.ensures.well_formed.not_empty in
+    let is = c.minimum_len-minimum_len.ensures in
     omega arith
 
 pub sum_of_first-sum-requires-clause-room : goal.sum_of_first-sum-requires-clause-room
@@ -38,8 +38,8 @@ sum_of_first-sum-requires-clause-room c =
     let below = head_below patterns c.iter-id-items.ensures.well_formed _ _ _ split in
     let is : c.bytes.result.now ≡ _ = c.bytes.ensures ∙ pattern_of_head patterns _ _ _ split in
     let long = ap length is in
-    let least = shortest_len-le patterns.patterns _ below in
-    let window = c.minimum_len-window.ensures in
+    let least = minimum_len_of-le patterns.patterns _ below in
+    let window = c.minimum_len-minimum_len.ensures in
     omega arith
 
 pub loop-id-preserved : goal.loop-id-preserved
@@ -50,7 +50,7 @@ loop-id-preserved c =
     let bytes : c.bytes.result.now ≡ pattern_at patterns.patterns c.in-Some.id = c.bytes.ensures ∙ pattern_of_head patterns _ _ _ split in
     let sum = c.sum_of_first-sum.result in
     let key : sum ≡ key_of patterns.patterns c.in-Some.id =
-    c.sum_of_first-sum.ensures.sum ∙ (ap (λ n. sum_of (take n c.bytes.result.now)) c.minimum_len-window.ensures ∙ ap (λ xs. sum_of (take (shortest_len patterns.patterns) xs)) bytes) in
+    c.sum_of_first-sum.ensures.sum ∙ (ap (λ n. sum_of (take n c.bytes.result.now)) c.minimum_len-minimum_len.ensures ∙ ap (λ xs. sum_of (take (minimum_len_of patterns.patterns) xs)) bytes) in
     let below = mod_below sum 64 (omega arith) in
     let each = c.loop-id.invariant.dealt.each in
     let long = length-map items (λ b. b.items) in
@@ -72,7 +72,7 @@ returns-clause-made c =
     record {
       searchable = record { well_formed = c.iter-id-items.ensures.well_formed; in_order = c.requires.in_order };
       some = c.requires.some;
-      window = c.minimum_len-window.ensures;
+      minimum_len = c.minimum_len-minimum_len.ensures;
       each = dealt.each;
       buckets = λ k h. dealt.buckets_are k h ∙ ap (filter (in_bucket k)) all;
     }
@@ -82,5 +82,5 @@ returns-clause-counted c =
     let patterns = c.args.patterns.now in
     let all = sym (append-nil c.loop-id.yielded) ∙ (ap (λ ps. c.loop-id.yielded ++ ps) (sym c.in-None.ensures.steps.0) ∙ c.loop-id.invariant.split) in
     c.loop-id.invariant.counted
-    ∙ (ap (λ n. hashed_of c.args.tally.now n c.minimum_len-window.result) (length_all patterns c.loop-id.yielded c.iter-id-items.ensures.well_formed all)
-    ∙ ap (hashed_of c.args.tally.now (length patterns.patterns)) c.minimum_len-window.ensures)
+    ∙ (ap (λ n. hashed_of c.args.tally.now n c.minimum_len-minimum_len.result) (length_all patterns c.loop-id.yielded c.iter-id-items.ensures.well_formed all)
+    ∙ ap (hashed_of c.args.tally.now (length patterns.patterns)) c.minimum_len-minimum_len.ensures)

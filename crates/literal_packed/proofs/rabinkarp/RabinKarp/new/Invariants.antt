@@ -1,6 +1,6 @@
 use Rattle.std.proofs.Common.{◌≡◌, ◌+◌, ◌*◌, ◌++◌, length, map}
-use Rattle.literal_packed.specs.Collected.{in_order}
-use Rattle.literal_packed.specs.Buckets.{entry_lists}
+use Rattle.literal_packed.specs.PatternsValue.{in_order}
+use Rattle.literal_packed.specs.Inside.RabinKarp.{entry_lists}
 use Rattle.literal_packed.proofs.Dealing.{entry_of, IsDealt}
 use Rattle.literal_packed.proofs.rabinkarp.RabinKarp.new.Given as goal
 
@@ -9,5 +9,5 @@ abbrev pub invariant-loop-id : goal.invariant-loop-id
 invariant-loop-id l = record {
   split : l.yielded ++ l.id-iterator ≡ in_order l.patterns;
   dealt : IsDealt (entry_lists l.buckets.items) (map (entry_of l.patterns) l.yielded);
-  counted : l.tally ≡ record l.initial.tally { hashed = l.initial.tally.hashed + length l.yielded * l.window };
+  counted : l.tally ≡ record l.initial.tally { hashed = l.initial.tally.hashed + length l.yielded * l.minimum_len };
 }

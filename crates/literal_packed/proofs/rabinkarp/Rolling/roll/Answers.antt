@@ -1,12 +1,12 @@
 use Rattle.std.proofs.Common.{◌+◌, ◌%◌, ◌^◌, ℕ, sym, ap, ◌∙◌}
-use Rattle.literal_packed.specs.Sum.{Rolled}
+use Rattle.literal_packed.specs.RollingValue.{RollingValue}
 use Rattle.literal_packed.proofs.SumSteps.{sum_of-roll}
 use Rattle.literal_packed.proofs.rabinkarp.Rolling.roll.Goals as goal
 
 pub returns-clause-sum : goal.returns-clause-sum
 returns-clause-sum c = λ w long is.
-    let value : Rolled → ℕ = λ r. r.sum in
-    let window : Rolled → ℕ = λ r. r.window in
+    let value : RollingValue → ℕ = λ r. r.sum in
+    let window : RollingValue → ℕ = λ r. r.window in
     let inside = c.self.inside in
     ap (λ v. (v + c.args.new) % 2 ^ 64) c.wrapping_shl.ensures
     ∙ sum_of-roll c.args.old w c.args.new inside.value inside.power inside.window

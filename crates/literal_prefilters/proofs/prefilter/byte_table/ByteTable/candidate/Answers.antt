@@ -11,10 +11,10 @@ returns-in-None-clause-step c = search rules
 
 pub returns-in-None-clause-sound : goal.returns-in-None-clause-sound
 returns-in-None-clause-sound c = record {
-  sound = λ patterns kind ignore_case covers.
+  each = λ query ignore_case covers.
       let h = c.args.haystack.now in
-      let P : Candidate → Type 0 = Sound patterns kind ignore_case h c.args.span in
-      subst P (sym (returns-in-None-clause-step c).step) (step-sound c.args.self.now patterns ignore_case covers h (are_bytes h (λ k. omega (arith, c.type_inv.haystack k))) c.args.span c.requires kind);
+      let P : Candidate → Type 0 = Sound query ignore_case h c.args.span in
+      subst P (sym (returns-in-None-clause-step c).step) (step-sound c.args.self.now query.patterns ignore_case covers h (are_bytes h (λ k. omega (arith, c.type_inv.haystack k))) c.args.span c.requires query.kind);
 }
 
 pub returns-in-Some-clause-step : goal.returns-in-Some-clause-step
@@ -22,10 +22,10 @@ returns-in-Some-clause-step c = search rules
 
 pub returns-in-Some-clause-sound : goal.returns-in-Some-clause-sound
 returns-in-Some-clause-sound c = record {
-  sound = λ patterns kind ignore_case covers.
+  each = λ query ignore_case covers.
       let h = c.args.haystack.now in
-      let P : Candidate → Type 0 = Sound patterns kind ignore_case h c.args.span in
-      subst P (sym (returns-in-Some-clause-step c).step) (step-sound c.args.self.now patterns ignore_case covers h (are_bytes h (λ k. omega (arith, c.type_inv.haystack k))) c.args.span c.requires kind);
+      let P : Candidate → Type 0 = Sound query ignore_case h c.args.span in
+      subst P (sym (returns-in-Some-clause-step c).step) (step-sound c.args.self.now query.patterns ignore_case covers h (are_bytes h (λ k. omega (arith, c.type_inv.haystack k))) c.args.span c.requires query.kind);
 }
 
 pub returns-in-Some-clause-reach : goal.returns-in-Some-clause-reach
@@ -33,14 +33,7 @@ returns-in-Some-clause-reach c =
     let counted = c.in-Some.ensures.scanned in
     let far = distance-le-reach_of c.args.self.now (slice_index c.args.haystack.now c.in-Some.found.place) c.in-Some.found.distance c.in-Some.ensures.distance in
     let scanned = ap (λ t. t.scanned) counted in
-    let hashed = ap (λ t. t.hashed) counted in
-    let entries = ap (λ t. t.entries) counted in
-    let compared = ap (λ t. t.compared) counted in
     record {
       tried = ap (λ t. t.tried) counted;
       scanned = omega (arith, scanned, far);
-      scanned_grows = omega (arith, scanned);
-      hashed_grows = omega (arith, hashed);
-      entries_grow = omega (arith, entries);
-      compared_grows = omega (arith, compared);
     }

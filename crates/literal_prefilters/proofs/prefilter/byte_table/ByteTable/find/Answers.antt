@@ -1,5 +1,4 @@
 use Rattle.std.proofs.Common.{sym, ap, is_some, arith}
-use Rattle.literal_prefilters.proofs.Reach.{reach_of-le}
 use Rattle.literal_prefilters.proofs.First.{first_is, first_none}
 use Rattle.literal_prefilters.proofs.prefilter.byte_table.ByteTable.find.Goals as goal
 
@@ -17,9 +16,3 @@ returns-clause-place c =
     sym (first_none c.args.self.now c.args.haystack.now c.args.span c.requires (record {
       none = λ k after below. c.loop-place.invariant.free.none k after (omega arith);
     }))
-
-pub returns-in-Some-clause-reach : goal.returns-in-Some-clause-reach
-returns-in-Some-clause-reach c = rw (← c.self.view_is) (reach_of-le 254 c.self.inside.distances c.self.invariant.near)
-
-pub returns-clause-reach : goal.returns-clause-reach
-returns-clause-reach c = rw (← c.self.view_is) (reach_of-le 254 c.self.inside.distances c.self.invariant.near)

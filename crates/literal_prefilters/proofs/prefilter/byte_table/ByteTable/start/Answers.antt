@@ -10,17 +10,17 @@ use Rattle.literal_prefilters.proofs.prefilter.byte_table.ByteTable.start.Goals 
 pub returns-then-holds_high-clause-table : goal.returns-then-holds_high-clause-table
 returns-then-holds_high-clause-table c =
     let high = c.holds_high.ensures.0 c.if-holds_high.true in
-    sym (start_table_none c.args.ignore_case c.args.patterns.now.patterns high.0 high.1 high.2 (sym (c.start_bytes-set.ensures.each high.0) ∙ high.3))
+    sym (start_table_none c.args.ignore_case c.args.patterns.now.patterns high.0 high.1 high.2 (sym (c.start_set-set.ensures.each high.0) ∙ high.3))
 
 pub returns-clause-table : goal.returns-clause-table
 returns-clause-table c =
     let ic = c.args.ignore_case in
     let ps = c.args.patterns.now.patterns in
-    let set = c.start_bytes-set.result in
-    c.table_of.ensures ∙ (ap if_small (table_of_agree (contains set) (is_start_byte ic ps) (slice_index (replicate 256 0)) (λ _. 0) c.start_bytes-set.ensures.each (get_or-replicate_same 256 0)) ∙ sym (start_table_some ic ps (λ b high below. sym (c.start_bytes-set.ensures.each b) ∙ false_from_ne_true (contains set b) (λ here. let no : c.holds_high.result ≡ true = c.holds_high.ensures.1 (b, high, below, here) in cc))))
+    let set = c.start_set-set.result in
+    c.table_of.ensures ∙ (ap if_small (table_of_agree (contains set) (is_start_byte ic ps) (slice_index (replicate 256 0)) (λ _. 0) c.start_set-set.ensures.each (get_or-replicate_same 256 0)) ∙ sym (start_table_some ic ps (λ b high below. sym (c.start_set-set.ensures.each b) ∙ false_from_ne_true (contains set b) (λ here. let no : c.holds_high.result ≡ true = c.holds_high.ensures.1 (b, high, below, here) in cc))))
 
 pub returns-clause-covers : goal.returns-clause-covers
-returns-clause-covers c = rw (returns-clause-table c) (start_table-covers c.args.ignore_case c.args.patterns.now.patterns c.start_bytes-set.ensures.not_empty)
+returns-clause-covers c = rw (returns-clause-table c) (start_table-covers c.args.ignore_case c.args.patterns.now.patterns c.start_set-set.ensures.not_empty)
 
 pub table_of-requires : goal.table_of-requires
 table_of-requires c = λ b. omega (arith, get_or-replicate_same {X = ℕ} 256 0 b)

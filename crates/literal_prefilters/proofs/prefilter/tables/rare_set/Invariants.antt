@@ -1,7 +1,7 @@
 use Rattle.std.proofs.Common.{◌≡◌, ◌<◌, ℕ, true, take}
 use Rattle.literal_base.specs.Bytes.{contains}
 use Rattle.literal_prefilters.specs.Tables.{is_rare_byte}
-use Rattle.literal_prefilters.proofs.prefilter.tables.rare_bytes.Given as goal
+use Rattle.literal_prefilters.proofs.prefilter.tables.rare_set.Given as goal
 
 abbrev pub invariant-loop-id : goal.invariant-loop-id
 invariant-loop-id l = record {

@@ -1,8 +1,8 @@
 -- What stands at one place of a haystack.
 use Rattle.std.specs.Prelude.{ℕ, ◌<◌, Bool, List, length}
-use Rattle.literal_base.specs.declared.packed.MatchKind.{MatchKind}
 use Rattle.literal_base.specs.Occurs.{StandsAt, pattern_at}
 use Rattle.literal_base.specs.Leftmost.{IsBetter}
+use Rattle.literal_base.specs.Query.{Query}
 
 -- no pattern stands at the place
 abbrev pub NoneStandsAt : List (List ℕ) → Bool → List ℕ → ℕ → Type 0
@@ -10,7 +10,7 @@ NoneStandsAt patterns ignore_case haystack at =
     (i : ℕ) → i < length patterns → ¬ StandsAt ignore_case (pattern_at patterns i) haystack at
 
 -- pattern i stands at the place, and none that is better
-pub record IsBestAt (patterns : List (List ℕ)) (kind : MatchKind) (ignore_case : Bool) (haystack : List ℕ) (at i : ℕ) : Type 0 where
-  pub is_pattern : i < length patterns
-  pub stands : StandsAt ignore_case (pattern_at patterns i) haystack at
-  pub best : (j : ℕ) → j < length patterns → IsBetter kind patterns j i → ¬ StandsAt ignore_case (pattern_at patterns j) haystack at
+pub record IsBestAt (query : Query) (ignore_case : Bool) (haystack : List ℕ) (at i : ℕ) : Type 0 where
+  pub is_pattern : i < length query.patterns
+  pub stands : StandsAt ignore_case (pattern_at query.patterns i) haystack at
+  pub best : (j : ℕ) → j < length query.patterns → IsBetter query.kind query.patterns j i → ¬ StandsAt ignore_case (pattern_at query.patterns j) haystack at

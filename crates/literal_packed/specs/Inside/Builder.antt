@@ -2,16 +2,17 @@
 use Rattle.std.specs.Prelude.{◌≡◌, [], Some, None, true, if◌then◌else◌}
 use Rattle.literal_base.specs.declared.packed.MatchKind.TheVariants.{LeftmostFirst}
 use Rattle.literal_packed.specs.declared.api.Builder.TheInside.{Inside}
-use Rattle.literal_packed.specs.Collected.{IsInOrder}
-use Rattle.literal_packed.specs.State.{Building, state_of}
+use Rattle.literal_packed.specs.PatternsValue.{IsInOrder}
+use Rattle.literal_packed.specs.BuilderValue.{BuilderValue, pattern_limit}
+use Rattle.literal_packed.specs.State.{state_of}
 
 -- what a caller sees
-abbrev pub building : Inside → Building
-building a = record { config = a.config; state = if a.inert then None else Some a.patterns.patterns }
+abbrev pub builder_value : Inside → BuilderValue
+builder_value a = record { config = a.config; state = if a.inert then None else Some a.patterns.patterns }
 
 -- what the fields keep: an inert builder has dropped its patterns, and the others may be kept
 pub record IsSound (a : Inside) : Type 0 where
   pub emptied : a.inert ≡ true → a.patterns.patterns ≡ []
-  pub allowed : state_of a.patterns.patterns ≡ Some a.patterns.patterns
+  pub allowed : state_of pattern_limit a.patterns.patterns ≡ Some a.patterns.patterns
   pub first : a.patterns.kind ≡ LeftmostFirst
   pub in_order : IsInOrder a.patterns

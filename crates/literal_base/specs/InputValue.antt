@@ -4,7 +4,7 @@ use Rattle.literal_base.specs.declared.search.Anchored.{Anchored}
 
 -- a haystack, the offsets from which and up to which it is searched, whether a match has to begin at that start,
 -- and whether any match will do as soon as one is known
-pub record Requested : Type 0 where
+pub record InputValue : Type 0 where
   pub haystack : List ℕ
   pub start : ℕ
   pub end : ℕ

@@ -1,7 +1,7 @@
 use Rattle.std.proofs.Common.{◌≡◌, ℕ, take}
 use Rattle.literal_base.specs.Bytes.{contains}
 use Rattle.literal_prefilters.specs.Tables.{is_start_byte}
-use Rattle.literal_prefilters.proofs.prefilter.tables.start_bytes.Given as goal
+use Rattle.literal_prefilters.proofs.prefilter.tables.start_set.Given as goal
 
 abbrev pub invariant-loop-id : goal.invariant-loop-id
 invariant-loop-id l =

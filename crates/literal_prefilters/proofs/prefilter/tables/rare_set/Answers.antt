@@ -3,10 +3,10 @@ use Rattle.std.specs.List.{list_any}
 use Rattle.literal_prefilters.specs.Tables.{rarest}
 use Rattle.std.proofs.lemmas.Bool.{or_right}
 use Rattle.literal_base.specs.Bytes.{contains}
-use Rattle.literal_prefilters.specs.Case.{same_byte}
+use Rattle.literal_base.specs.Occurs.{same_byte}
 use Rattle.literal_prefilters.proofs.Rare.{rare_more-kept, rare_more-added, same_byte_refl, some_before}
-use Rattle.literal_prefilters.proofs.prefilter.tables.rare_bytes.Goals as goal
-use Rattle.literal_prefilters.proofs.prefilter.tables.rare_bytes.Goals.{then-not-holds_any, else-not-holds_any}
+use Rattle.literal_prefilters.proofs.prefilter.tables.rare_set.Goals as goal
+use Rattle.literal_prefilters.proofs.prefilter.tables.rare_set.Goals.{then-not-holds_any, else-not-holds_any}
 
 pub loop-id-preserved : goal.loop-id-preserved
 loop-id-preserved c =

@@ -6,45 +6,50 @@ use Rattle.literal_base.specs.declared.packed.MatchKind.{MatchKind}
 use Rattle.literal_base.specs.declared.packed.MatchKind.TheVariants.{LeftmostFirst}
 use Rattle.literal_base.specs.Occurs.{pattern_at}
 use Rattle.literal_base.specs.Leftmost.{IsBetter}
+use Rattle.literal_base.specs.Query.{Query}
 
 -- which occurrence is the match, the patterns by their identifiers, and the identifiers in the order in which the patterns are tried
-pub record Collected : Type 0 where
+pub record PatternsValue : Type 0 where
   pub kind : MatchKind
   pub patterns : List (List ℕ)
   pub order : List ℕ
 
+-- what is searched for by a search for them
+abbrev pub query_of : PatternsValue → Query
+query_of c = record { kind = c.kind; patterns = c.patterns }
+
 -- none
-abbrev pub no_patterns : Collected
+abbrev pub no_patterns : PatternsValue
 no_patterns = record { kind = LeftmostFirst; patterns = []; order = [] }
 
 -- one more, which gets the next identifier and is tried last
-abbrev pub with_pattern : Collected → List ℕ → Collected
+abbrev pub with_pattern : PatternsValue → List ℕ → PatternsValue
 with_pattern c bytes =
     record { kind = c.kind; patterns = c.patterns ++ bytes ∷ []; order = c.order ++ length c.patterns ∷ [] }
 
 -- the length of the shortest pattern, and `usize::MAX` where there is none
-abbrev pub shortest_len : List (List ℕ) → ℕ
-shortest_len patterns = fold (λ n bytes. min n (length bytes)) (2 ^ 64 - 1) patterns
+abbrev pub minimum_len_of : List (List ℕ) → ℕ
+minimum_len_of patterns = fold (λ n bytes. min n (length bytes)) (2 ^ 64 - 1) patterns
 
 -- the length of all patterns together
 abbrev pub total_len : List (List ℕ) → ℕ
 total_len patterns = sum_by length patterns
 
 -- the patterns with their identifiers, in the order in which they are tried
-abbrev pub in_order : Collected → List (ℕ × List ℕ)
+abbrev pub in_order : PatternsValue → List (ℕ × List ℕ)
 in_order c = map (λ i. (i, pattern_at c.patterns i)) c.order
 
 -- what always holds: each pattern is tried once, none is empty, and the last one has an identifier
-pub record IsWellFormed (c : Collected) : Type 0 where
+pub record IsWellFormed (c : PatternsValue) : Type 0 where
   pub once : IsPermutation (range_with_len 0 (length c.patterns)) c.order
   pub not_empty : All (λ (bytes : List ℕ). 0 < length bytes) c.patterns
   pub numbered : length c.patterns ≤ 2147483647
 
 -- each pattern is tried before those that it is better than
-abbrev pub IsInOrder : Collected → Type 0
+abbrev pub IsInOrder : PatternsValue → Type 0
 IsInOrder c = AllPairs (IsBetter c.kind c.patterns) c.order
 
 -- patterns that a search may use
-pub record IsSearchable (c : Collected) : Type 0 where
+pub record IsSearchable (c : PatternsValue) : Type 0 where
   pub well_formed : IsWellFormed c
   pub in_order : IsInOrder c

@@ -1,0 +1,43 @@
+-- A builder, as contracts see it, and what it builds.
+use Rattle.std.specs.Prelude.{◌≡◌, ℕ, ◌<◌, List, length, Option, Some, None, nat_lt, if◌then◌else◌, map}
+use Rattle.std.specs.Borrow.{Bor}
+use Rattle.std.specs.Iterator.{Drains}
+use Rattle.literal_base.specs.Query.{Query}
+use Rattle.literal_packed.specs.ConfigValue.{ConfigValue, default_config}
+use Rattle.literal_packed.specs.State.{kept_of, state_of, state_after}
+
+-- how many patterns a builder keeps at most
+abbrev pub pattern_limit : ℕ
+pattern_limit = 128
+
+-- what it was made by, and its patterns, or None where it is inert
+pub record BuilderValue : Type 0 where
+  pub config : ConfigValue
+  pub state : Option (List (List ℕ))
+
+-- the builder of a configuration to which these patterns were added
+abbrev pub builder_of : ConfigValue → List (List ℕ) → BuilderValue
+builder_of config added = record { config = config; state = state_of pattern_limit added }
+
+-- a builder after more patterns were added
+abbrev pub with_added : BuilderValue → List (List ℕ) → BuilderValue
+with_added b more = record { config = b.config; state = state_after pattern_limit b.state more }
+
+-- a searcher can be built: the builder keeps a pattern
+abbrev pub IsBuildable : BuilderValue → Type 0
+IsBuildable b = 0 < length (kept_of b.state)
+
+-- the searcher that is built, and None where none can be: for the builder's match kind and patterns
+abbrev pub searcher_of : BuilderValue → Option Query
+searcher_of b =
+    if nat_lt 0 (length (kept_of b.state)) then Some (record { kind = b.config.kind; patterns = kept_of b.state }) else None
+
+-- after an addition of references to patterns
+abbrev pub AddsAll : BuilderValue → List (Bor (List ℕ)) → BuilderValue → Type 0
+AddsAll old more new = new ≡ with_added old (map (λ p. p.now) more)
+
+-- the answer is what a new builder builds from all the items of an iterator
+abbrev pub BuildsItems : {U T : Type 0} → (U → T → Type 0) → (T → Option (Bor (List ℕ)) → T → Type 0) → U → Option Query → Type 0
+BuildsItems {U} {T} becomes steps patterns answer =
+    (it : T) × (items : List (Bor (List ℕ))) × becomes patterns it × Drains steps it items
+    × (answer ≡ searcher_of (builder_of default_config (map (λ p. p.now) items)))

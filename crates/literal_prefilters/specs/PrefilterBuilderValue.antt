@@ -1,0 +1,18 @@
+-- The builder of a prefilter, as contracts see it.
+use Rattle.std.specs.Prelude.{ℕ, Bool, List, Option}
+use Rattle.literal_base.specs.declared.search.MatchKind.{MatchKind}
+use Rattle.literal_packed.specs.State.{state_after}
+
+-- how many patterns a prefilter is built for at most
+abbrev pub pattern_limit : ℕ
+pattern_limit = 2147483647
+
+-- for which kind of match, whether ASCII case is ignored, and its patterns, or None where it is disabled
+pub record PrefilterBuilderValue : Type 0 where
+  pub kind : MatchKind
+  pub ignore_case : Bool
+  pub state : Option (List (List ℕ))
+
+-- a builder after more patterns were added
+abbrev pub with_added : PrefilterBuilderValue → List (List ℕ) → PrefilterBuilderValue
+with_added b more = record b { state = state_after pattern_limit b.state more }
