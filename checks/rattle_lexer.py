@@ -247,6 +247,7 @@ def tokens_of(text):
     return tuple(Lexer(text).run())
 
 
+@functools.lru_cache(maxsize=None)
 def words(text):
     """The tokens of a piece of Rattle as a tuple of texts, to be compared with."""
     return tuple(token.text for token in tokens_of(text))

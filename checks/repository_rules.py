@@ -1,4 +1,5 @@
 """The rules on the repository as a whole, beside its code. Each yields what breaks it."""
+import functools
 import os
 import re
 
@@ -92,10 +93,15 @@ def walks(repository):
 def citations(repository):
     """No text cites what its reader does not have."""
     for path, text in repository.texts.items():
-        for number, line in enumerate(text.splitlines(), 1):
-            cited = CITATIONS.search(line)
-            if cited:
-                yield f"{path}:{number}: {cited.group(0)}"
+        for number, cited in cited_lines(text):
+            yield f"{path}:{number}: {cited}"
+
+
+@functools.lru_cache(maxsize=None)
+def cited_lines(text):
+    """The lines of a text that cite, by their numbers, with the words that do."""
+    found = [(number, CITATIONS.search(line)) for number, line in enumerate(text.splitlines(), 1)]
+    return [(number, cited.group(0)) for number, cited in found if cited]
 
 
 def holes(repository):

@@ -87,6 +87,21 @@ def parsed(sources):
         seen.add(function.key)
 
 
+def listed(sources):
+    """Each place that the tables list is there, and each search without a tally has its words held."""
+    there = {function.key for function in sources.functions}
+    named = [place(*key) for where in tables.TICKS.values() for key in where]
+    named += [place(*key) for where in tables.MAKERS.values() for key in where]
+    for table in (COUNTED, UNCOUNTED, LAWS, FIELD_READERS, TALLY_MAKERS, TALLY_TAKERS, OTHER_SIGNATURES, CLOSURES,
+                  BUCKET_READERS, BODIES, STATEMENTS, named):
+        for path, owner, name in table:
+            if (path, owner, name) not in there:
+                yield f"{path}: there is no {' '.join(owner)} :: {name}"
+    for key in UNCOUNTED:
+        if key not in BODIES:
+            yield f"{key[0]}: the words of {key[2]} are not held"
+
+
 def attributes(sources):
     """Attributes outside of tests are of the listed forms."""
     for path, items in sources.items.items():
@@ -132,14 +147,17 @@ def kinds(sources):
             for word in {"macro_rules", "unsafe", "extern", "async"} & set(texts(item.tokens)):
                 yield f"{path}:{item.line}: {item.kind} {item.name} has {word}"
             for child in item.children:
-                if is_of_searches(path) and child.kind not in ("fn", "ghost") and not is_item_type(item, child):
+                if is_of_searches(path) and child.kind not in ("fn", "ghost") and not is_item_type(sources, item, child):
                     yield f"{path}:{child.line}: {child.kind} {child.name} in an impl or a trait"
             if is_of_searches(path) and item.kind in ("type", "static"):
                 yield f"{path}:{item.line}: {item.kind} {item.name}"
 
 
-def is_item_type(item, child):
-    return child.kind == "type" and child.name == "Item" and "Iterator" in texts(item.head)
+def is_item_type(sources, item, child):
+    """Whether it is the type of an iterator's items, and these are of plain types."""
+    known = set(tables.PLAIN_TYPES) | declared_types(sources)
+    types = [token.text for token in child.head if token.kind == "name"]
+    return child.kind == "type" and child.name == "Item" and "Iterator" in texts(item.head) and set(types) <= known
 
 
 def forms(sources):
@@ -166,7 +184,7 @@ def odd_form(body, at, token):
         return "a string that names the haystack"
     if token.kind != "sign":
         return None
-    if token.text in ("#", "$", "~"):
+    if token.text in ("#", "$", "~") and texts(body[at : at + 3]) != ("#", "[", "tactic"):
         return f"the sign {token.text}"
     if token.text == "!" and before and before.kind == "name" and before.text not in KEYWORDS and after in OPENING:
         return None if before.text in tables.MACROS else f"the macro {before.text}"
@@ -200,8 +218,7 @@ def names(sources):
     """A name by which the rules go is declared once, at its place, in all crates."""
     for path, items in sources.items.items():
         for item in items:
-            own = tables.OWN_NAMES.get(item.name)
-            if own and (path != own or item.kind not in ("struct", "trait")):
+            if is_taken(path, item):
                 yield f"{path}:{item.line}: {item.kind} {item.name}"
             for token in item.generics:
                 if token.text in tables.OWN_NAMES:
@@ -212,6 +229,16 @@ def names(sources):
         for token in function.item.generics:
             if token.text in tables.OWN_NAMES and token.text != "PrefilterI":
                 yield f"{function}: the parameter {token.text}"
+
+
+def is_taken(path, item):
+    """Whether an item has the name of another: of an own type, one of std's, or of a value."""
+    own = tables.OWN_NAMES.get(item.name)
+    if own:
+        return path != own or item.kind not in ("struct", "trait")
+    if item.name in tables.STD_TYPES:
+        return True
+    return item.name in tables.VALUE_TYPES and (is_of_searches(path) or item.kind not in ("struct", "enum"))
 
 
 def impls(sources):
@@ -267,7 +294,7 @@ def odd_values(sources):
     """Values of the layers below that searches may hold, with a reference or a parameter."""
     for path, items in sources.items.items():
         for item in items:
-            if not is_of_searches(path) and item.kind in ("struct", "enum") and item.name in tables.PLAIN_TYPES:
+            if not is_of_searches(path) and item.kind in ("struct", "enum") and item.name in tables.VALUE_TYPES:
                 if item.generics or {"&", "*", "Vec", "Box", "u8"} & set(texts(item.body)):
                     yield f"{path}:{item.line}: {item.name} holds more than numbers"
 
@@ -377,6 +404,9 @@ def reads(sources):
             for at in uses:
                 if at not in held and not is_no_read(function, body, at):
                     yield f"{function} reads the haystack: {line_of(body, at)}"
+        if uses:
+            for word in set(texts(body)) & set(tables.NOT_IN_A_SEARCH):
+                yield f"{function} calls {word}"
 
 
 def held_places(function):
@@ -580,9 +610,7 @@ def bodies(sources):
     """The held bodies stand word for word."""
     there = {function.key: function for function in sources.functions}
     for key, held in BODIES.items():
-        if key not in there:
-            yield f"{key[0]}: there is no {' '.join(key[1])} :: {key[2]}"
-        elif normal(texts(there[key].item.body or ())) != normal(words(held)):
+        if key in there and normal(texts(there[key].item.body or ())) != normal(words(held)):
             yield f"{there[key]} differs from the words that are held"
 
 
@@ -591,7 +619,6 @@ def statements(sources):
     there = {function.key: function for function in sources.functions}
     for key, (held, forms_of) in STATEMENTS.items():
         if key not in there:
-            yield f"{key[0]}: there is no {' '.join(key[1])} :: {key[2]}"
             continue
         body = texts(there[key].item.body or ())
         for statement in held:
@@ -615,6 +642,6 @@ def stands_in(body, at, name, form):
 
 
 RULES = [
-    parsed, attributes, imports, kinds, forms, constants, names, impls, structs, signatures, reads, laws, tallies,
+    parsed, listed, attributes, imports, kinds, forms, constants, names, impls, structs, signatures, reads, laws, tallies,
     ticks, program, entries, bodies, statements,
 ]

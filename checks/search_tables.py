@@ -68,6 +68,9 @@ LAWS = {
     (PACKED_LAWS, "", "list_is_iteration"): "compares a list and an iteration",
 }
 
+# What no function that takes a haystack calls: a copy reads all bucket entries.
+NOT_IN_A_SEARCH = ("try_clone", "build", "builder")
+
 # A haystack in a field: the methods that may name `self.haystack` and `&mut self.tally`.
 FIELD_READERS = {
     (API, "impl<'s, 'h> Iterator for FindIter<'s, 'h>", "next"): "goes on with its search, in its tally",
@@ -154,10 +157,11 @@ CLOSURES = {
 
 # The types that a signature, a field or a constant of the crates of searches may name, beside those
 # that the crates declare: numbers and std's, and values of the layers below that hold no bytes.
-PLAIN_TYPES = (
-    "usize", "u16", "u128", "bool", "Option", "Result", "Vec", "Global", "AllocError", "Self", "fmt", "Formatter",
-    "PatternID", "Match", "MatchKind", "Span", "ByteSet", "mut",
+STD_TYPES = (
+    "usize", "u16", "u128", "bool", "Option", "Result", "Vec", "Global", "AllocError", "Self", "fmt", "Formatter", "mut",
 )
+VALUE_TYPES = ("PatternID", "Match", "MatchKind", "Span", "ByteSet")
+PLAIN_TYPES = STD_TYPES + VALUE_TYPES
 
 # --- Forms of code ---------------------------------------------------------------------------------
 
@@ -198,7 +202,6 @@ OWN_NAMES = {
     "TableByte": BYTE_TABLE,
     "Prefilter": PREFILTER,
     "PrefilterI": PREFILTER,
-    "Span": "crates/literal_base/src/search.rt",
 }
 
 # All impls of the types that hold a haystack, bucket entries, or sums.
