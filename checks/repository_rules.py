@@ -1,0 +1,150 @@
+"""The rules on the repository as a whole, beside its code. Each yields what breaks it."""
+import functools
+import os
+import re
+
+import search_rules
+import search_tables
+from rattle_items import Sources
+
+# The only proofs that are walked by hand: a walk elsewhere could forge a count of steps.
+WALKS = {
+    "crates/literal_base/proofs/count/Tally/new/Proof.antt": "a tally has no field that code sees",
+    "crates/literal_base/proofs/count/Tally/plus/Proof.antt": "a tally has no field that code sees",
+    "crates/literal_base/proofs/search/Span/of_mut/Proof.antt": "what a slice ends as that was lent in part",
+    "crates/literal_packed/proofs/api/Builder/add/Proof.antt": "what a builder ends as that was lent on",
+    "crates/literal_packed/proofs/api/Builder/extend/Proof.antt": "what a builder ends as that was lent on",
+}
+
+# Words by which a text would lean on a paper that its reader does not have.
+CITATIONS = re.compile(
+    r"\b(?:T|D|W|R|L|E|C|P)[0-9]{1,2}\b"
+    r"|\b(?:[Dd]ocument|[Pp]aper|[Rr]equest|[Dd]emand|[Ii]ssue|[Ss]ection|[Rr]ow) [0-9]"
+    r"|\b(?:theorems|requests|readings)\.md\b"
+    r"|\bthe" r" papers?\b"
+)
+
+LONGEST_FILE = 800
+
+
+class Repository:
+    """The texts of a repository by their paths from its top, its links, and its sources."""
+
+    def __init__(self, texts, links=()):
+        self.texts = texts
+        self.links = links
+        sources = {path: text for path, text in texts.items() if re.match(r"crates/\w+/src/.*\.rt$", path)}
+        self.sources = Sources(sources, search_tables.TEST_CRATES)
+
+
+def texts_of(root):
+    """The texts of the files in a folder, by their paths from it, and the paths that are links."""
+    texts, links = {}, []
+    for folder, folders, names in os.walk(root):
+        folders[:] = [name for name in folders if name not in (".git", "out", "__pycache__")]
+        for name in sorted(folders + names):
+            full = os.path.join(folder, name)
+            path = os.path.relpath(full, root)
+            if os.path.islink(full):
+                links.append(path)
+            elif name in names:
+                with open(full, encoding="utf-8", newline="") as file:
+                    texts[path] = file.read()
+    return texts, links
+
+
+def handles(repository):
+    """No handle is allowed."""
+    if repository.texts.get("HANDLES") != "Handles allowed: none.\n":
+        yield "HANDLES has to hold the one line 'Handles allowed: none.'"
+
+
+def crates(repository):
+    """crates.txt lists the crates, which stand on one another alone, and not on crates of tests."""
+    listed = {}
+    for line in repository.texts["crates.txt"].splitlines():
+        line = line.split("#")[0].strip()
+        if line:
+            name, _, below = line.partition(":")
+            listed[name.strip()] = listed.get(name.strip(), []) + below.split()
+    known = search_tables.SEARCH_CRATES + search_tables.OTHER_CRATES + search_tables.TEST_CRATES
+    for name, below in listed.items():
+        if name not in known:
+            yield f"{name} is of no kind that search_tables.py knows"
+        if not any(path.startswith(f"crates/{name}/src/") for path in repository.texts):
+            yield f"crates.txt lists {name}, which is no crate here"
+        for other in below:
+            if other not in listed:
+                yield f"{name} stands on {other}, which crates.txt does not list"
+            if other in search_tables.TEST_CRATES:
+                yield f"{name} stands on {other}, a crate of tests"
+    for name in {path.split("/")[1] for path in repository.texts if path.startswith("crates/")}:
+        if name not in listed:
+            yield f"crates.txt does not list {name}"
+
+
+def walks(repository):
+    """Proofs by hand stand where they are listed."""
+    for path in repository.texts:
+        if path.endswith("/Proof.antt") and path not in WALKS:
+            yield f"a proof by hand: {path}"
+
+
+def citations(repository):
+    """No text cites what its reader does not have."""
+    for path, text in repository.texts.items():
+        for number, cited in cited_lines(text):
+            yield f"{path}:{number}: {cited}"
+
+
+@functools.lru_cache(maxsize=None)
+def cited_lines(text):
+    """The lines of a text that cite, by their numbers, with the words that do."""
+    found = [(number, CITATIONS.search(line)) for number, line in enumerate(text.splitlines(), 1)]
+    return [(number, cited.group(0)) for number, cited in found if cited]
+
+
+def holes(repository):
+    """No proof is left open."""
+    for path, text in repository.texts.items():
+        if path.endswith(".antt"):
+            for number, line in enumerate(text.splitlines(), 1):
+                if re.search(r"(?:^|[ (=])\?(?:$|[ );])", line.split("--")[0]):
+                    yield f"{path}:{number}: a hole"
+
+
+def lengths(repository):
+    """No file is long."""
+    for path, text in repository.texts.items():
+        if path.endswith((".rt", ".antt")) and len(text.splitlines()) > LONGEST_FILE:
+            yield f"{path} has {len(text.splitlines())} lines"
+
+
+def strays(repository):
+    """No file of another kind, no link, and no source outside of the folders of sources."""
+    for path in repository.links:
+        yield f"{path} is a link"
+    for path in repository.texts:
+        is_source = re.match(r"crates/\w+/src/", path) is not None
+        if os.path.basename(path) == "BUILD.bazel" or is_source != path.endswith(".rt"):
+            yield f"{path} is no file of this repository"
+
+
+def definitions(repository):
+    """Each definition that a contract may cite is said in plain words, by its name."""
+    explained = set(re.findall(r"\w+", " ".join(re.findall(r"`([^`]*)`", repository.texts["docs/DEFINITIONS.md"]))))
+    for path, text in repository.texts.items():
+        if re.match(r"crates/\w+/specs/.*\.antt$", path):
+            for name in re.findall(r"^ *(?:abbrev pub|unfoldable pub|pub record) (\w+)", text, re.M):
+                if name not in explained:
+                    yield f"{path}: {name} is not in docs/DEFINITIONS.md"
+
+
+RULES = [handles, crates, walks, citations, holes, lengths, strays, definitions]
+
+
+def broken_rules(repository):
+    """What breaks each rule, these and those on searches, by the rule's name."""
+    found = {rule.__name__: list(rule(repository)) for rule in RULES}
+    found.update({rule.__name__: list(rule(repository.sources)) for rule in search_rules.RULES})
+    return found

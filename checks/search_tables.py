@@ -1,0 +1,325 @@
+"""What the rules on searches allow, each with its reason. All else is refused.
+
+A place is a file, the head of an impl or trait as it stands there ('' for a function of its own), and
+a function. Where code moves or is renamed, its line here moves with it. Held words are compared token
+by token, without comments, clauses and ghost items.
+"""
+
+COUNT = "crates/literal_base/src/count.rt"
+API = "crates/literal_packed/src/api.rt"
+PATTERN = "crates/literal_packed/src/pattern.rt"
+RABIN_KARP = "crates/literal_packed/src/rabinkarp.rt"
+PACKED_LAWS = "crates/literal_packed/src/laws.rt"
+PREFILTER = "crates/literal_prefilters/src/prefilter.rt"
+BYTE_TABLE = "crates/literal_prefilters/src/prefilter/byte_table.rt"
+KINDS = "crates/literal_prefilters/src/prefilter/kinds.rt"
+TABLES = "crates/literal_prefilters/src/prefilter/tables.rt"
+ENGINE = "crates/litfind/src/engine.rt"
+
+# Crates that hold tests alone, which no other crate stands on.
+TEST_CRATES = ("literal_tests", "refused_memory")
+
+# Crates whose code may have a haystack in hand.
+SEARCH_CRATES = ("literal_packed", "literal_prefilters")
+
+# The other crates: values that searches use, and the program.
+OTHER_CRATES = ("literal_ids", "literal_base", "litfind")
+
+# --- Haystacks -------------------------------------------------------------------------------------
+
+# The functions that take a haystack: a parameter `haystack: &[u8]`, and a `tally: &mut Tally` beside it.
+# They ask for its length, cut it, and hand it on to one another, always with the tally.
+COUNTED = {
+    (API, "impl Searcher", "find_in_counted"): "cuts the haystack at the end of the span",
+    (API, "impl Searcher", "find_all"): "searches what is left, again and again",
+    (PATTERN, "impl Patterns", "matches_at"): "compares, in the words that are held below",
+    (RABIN_KARP, "impl RabinKarp", "look_up"): "hands it to `matches_at`",
+    (RABIN_KARP, "impl RabinKarp", "find_at"): "hashes, by the two reads that are held below",
+    (PREFILTER, "impl Prefilter", "find_in_counted"): "hands it to the kind",
+    (PREFILTER, "impl PrefilterI for Prefilter", "find_in"): "the same by the trait",
+    (PREFILTER, "trait PrefilterI", "find_in"): "the signature alone",
+    (BYTE_TABLE, "impl ByteTable", "scan"): "hands it to `find`",
+    (BYTE_TABLE, "impl ByteTable", "find"): "scans, in the words that are held below",
+    (BYTE_TABLE, "impl ByteTable", "candidate"): "hands it to `find`",
+    (KINDS, "impl PrefilterI for StartBytesOne", "find_in"): "hands it to the table",
+    (KINDS, "impl PrefilterI for StartBytesTwo", "find_in"): "hands it to the table",
+    (KINDS, "impl PrefilterI for StartBytesThree", "find_in"): "hands it to the table",
+    (KINDS, "impl PrefilterI for RareBytesOne", "find_in"): "hands it to the table",
+    (KINDS, "impl PrefilterI for RareBytesTwo", "find_in"): "hands it to the table",
+    (KINDS, "impl PrefilterI for RareBytesThree", "find_in"): "hands it to the table",
+}
+
+# Those that take a haystack and no tally: each makes a tally for one search. Their words are held below.
+UNCOUNTED = {
+    (API, "impl Searcher", "find"): "the whole haystack, by `find_in`",
+    (API, "impl Searcher", "find_in"): "one search in a tally of its own",
+    (API, "impl Searcher", "find_iter"): "one iteration in a tally of its own",
+    (PREFILTER, "impl Prefilter", "find_in"): "one search in a tally of its own",
+}
+
+# Laws take a haystack too, and may call any search. No search may call a law in turn: outside of the
+# files of laws, the modules of laws of these crates are not named.
+LAW_FILES = (PACKED_LAWS, "crates/literal_prefilters/src/laws.rt")
+LAWS = {
+    (PACKED_LAWS, "", "find_is_find_in"): "compares two searches",
+    (PACKED_LAWS, "", "none_if_nothing_occurs"): "says when a search answers nothing",
+    (PACKED_LAWS, "", "iteration_is_greedy"): "collects an iteration",
+    (PACKED_LAWS, "", "iteration_is_bounded"): "goes through an iteration",
+    (PACKED_LAWS, "", "list_is_iteration"): "compares a list and an iteration",
+}
+
+# What no function that takes a haystack calls: a copy reads all bucket entries.
+NOT_IN_A_SEARCH = ("try_clone", "build", "builder")
+
+# A haystack in a field: the methods that may name `self.haystack` and `&mut self.tally`.
+FIELD_READERS = {
+    (API, "impl<'s, 'h> Iterator for FindIter<'s, 'h>", "next"): "goes on with its search, in its tally",
+}
+
+# --- Tallies and ticks -----------------------------------------------------------------------------
+
+# The functions that make a tally of their own, each once.
+TALLY_MAKERS = {
+    (API, "impl Builder", "build"): "for the hashes of the patterns, which are no search",
+    (API, "impl Searcher", "find_in"): "for one search, which nobody counts",
+    (API, "impl Searcher", "find_iter"): "for one iteration",
+    (PREFILTER, "impl Prefilter", "find_in"): "for one search, which nobody counts",
+    (ENGINE, "", "run"): "for the search of a run",
+}
+
+# Functions that take a tally and no haystack.
+TALLY_TAKERS = {
+    (RABIN_KARP, "impl Rolling", "push"): "hashes a byte",
+    (RABIN_KARP, "impl Rolling", "roll"): "hashes a byte",
+    (RABIN_KARP, "", "sum_of_first"): "hashes the beginning of a pattern",
+    (RABIN_KARP, "impl RabinKarp", "new"): "hashes the patterns",
+    (RABIN_KARP, "impl RabinKarp", "entry"): "reads a bucket entry",
+}
+
+# Where each tick stands, once in each function.
+TICKS = {
+    "tick_hashed": [(RABIN_KARP, "impl Rolling", "push"), (RABIN_KARP, "impl Rolling", "roll")],
+    "tick_entries": [(RABIN_KARP, "impl RabinKarp", "entry")],
+    "tick_compared": [(PATTERN, "impl Patterns", "matches_at")],
+    "tick_scanned": [(BYTE_TABLE, "impl ByteTable", "find")],
+    "tick_tried": [],
+}
+
+# --- Bytes of patterns, and what is generic --------------------------------------------------------
+
+# The names of parameters that may hold bytes, or lists of them, that come from `Patterns` or a caller
+# who adds patterns, and never from a haystack.
+PATTERN_NAMES = ("bytes", "pattern", "patterns", "by_id", "lists", "byte", "old", "new", "offset", "offsets", "distances")
+
+# The functions whose signature may speak of bytes (by parameters of these names), of writers and
+# iterators by a type parameter, or of lists of bucket entries.
+OTHER_SIGNATURES = {
+    (API, "impl Builder", "add"): "a pattern",
+    (API, "impl Builder", "try_add"): "a pattern",
+    (API, "impl Builder", "put"): "a pattern",
+    (API, "impl Builder", "extend"): "patterns by an iterator",
+    (API, "impl Builder", "try_extend"): "patterns by an iterator",
+    (API, "impl Builder", "put_all"): "patterns by an iterator",
+    (API, "impl Searcher", "new"): "patterns by an iterator",
+    (API, "impl fmt::Debug for Builder", "fmt"): "a writer",
+    (API, "impl fmt::Debug for Searcher", "fmt"): "a writer",
+    (PATTERN, "impl Patterns", "add"): "a pattern",
+    (PATTERN, "", "copy_of"): "the bytes of the patterns",
+    (PATTERN, "", "length_of"): "the bytes of the patterns",
+    (PATTERN, "", "sort_longest_first"): "the bytes of the patterns",
+    (PATTERN, "", "put_in_order"): "the bytes of the patterns",
+    (PATTERN, "impl<'p> Pattern<'p>", "bytes"): "the bytes of a pattern",
+    (PATTERN, "impl<'p> Pattern<'p>", "is_prefix"): "bytes that a pattern may begin",
+    (PATTERN, "impl fmt::Debug for Pattern<'_>", "fmt"): "a writer",
+    (RABIN_KARP, "impl Rolling", "push"): "the byte that is hashed",
+    (RABIN_KARP, "impl Rolling", "roll"): "the bytes that go and come",
+    (RABIN_KARP, "", "sum_of_first"): "the bytes of a pattern",
+    (PREFILTER, "impl fmt::Debug for Prefilter", "fmt"): "a writer",
+    (PREFILTER, "impl Builder", "add"): "a pattern",
+    (PREFILTER, "impl fmt::Debug for Builder", "fmt"): "a writer",
+    (BYTE_TABLE, "impl ByteTable", "if_small"): "the distance of each byte",
+    (BYTE_TABLE, "impl ByteTable", "distance"): "a byte",
+    (TABLES, "", "bytes_of"): "the bytes of a pattern",
+    (TABLES, "", "mark"): "a byte of a pattern",
+    (TABLES, "", "holds_any"): "the bytes of a pattern",
+    (TABLES, "", "rarest"): "the bytes of a pattern",
+    (TABLES, "", "raise"): "a byte of a pattern",
+    (TABLES, "", "raise_all"): "the bytes of a pattern",
+    (TABLES, "", "largest_offsets"): "the offset of each byte",
+    (TABLES, "", "table_of"): "the offset of each byte",
+}
+
+# Functions with a closure.
+CLOSURES = {
+    (PATTERN, "", "sort_longest_first"): "compares two identifiers",
+    (TABLES, "", "holds_any"): "looks up a byte of a pattern",
+}
+
+# The types that a signature, a field or a constant of the crates of searches may name, beside those
+# that the crates declare: numbers and std's, and values of the layers below that hold no bytes.
+STD_TYPES = (
+    "usize", "u16", "u128", "bool", "Option", "Result", "Vec", "Global", "AllocError", "Self", "fmt", "Formatter", "mut",
+)
+VALUE_TYPES = ("PatternID", "Match", "MatchKind", "Span", "ByteSet")
+PLAIN_TYPES = STD_TYPES + VALUE_TYPES
+
+# --- Forms of code ---------------------------------------------------------------------------------
+
+# What the crates of searches import from std.
+STD_IMPORTS = (
+    "std::alloc::{AllocError, Global}", "std::fmt", "std::marker::Model",
+)
+
+# Imports under another name, or of all names, in any crate that is no test.
+ODD_IMPORTS = {
+    ("crates/literal_prefilters/src/lib.rt", "literal_packed as packed"): "the public path of the original",
+}
+
+# The macros of the crates of searches.
+MACROS = ("write", "prove")
+
+# The traits that types of these crates implement. Only these types: none of another crate, nor a parameter.
+TRAITS = ("Model", "Iterator", "Default", "fmt::Debug", "PrefilterI")
+
+DERIVES = ("Clone", "Copy", "Debug", "Default", "Drop", "Eq", "Hash", "Ord", "PartialEq", "PartialOrd")
+
+# Attributes of items outside of tests; `derive` and `tactic` have their own rule.
+ATTRIBUTES = ("inline", "inline(always)", "inline(never)", "cold", "must_use")
+
+# --- Names that mean one thing ---------------------------------------------------------------------
+
+# The types by whose names the rules go, and the one file that declares each.
+OWN_NAMES = {
+    "Tally": COUNT,
+    "Patterns": PATTERN,
+    "Pattern": PATTERN,
+    "PatternIter": PATTERN,
+    "RabinKarp": RABIN_KARP,
+    "Rolling": RABIN_KARP,
+    "Searcher": API,
+    "FindIter": API,
+    "ByteTable": BYTE_TABLE,
+    "TableByte": BYTE_TABLE,
+    "Prefilter": PREFILTER,
+    "PrefilterI": PREFILTER,
+}
+
+# All impls of the types that hold a haystack, bucket entries, or sums.
+IMPLS = {
+    "Searcher": ["impl Model for Searcher", "impl Searcher", "impl fmt::Debug for Searcher"],
+    "FindIter": ["impl<'s, 'h> Model for FindIter<'s, 'h>", "impl<'s, 'h> Iterator for FindIter<'s, 'h>"],
+    "RabinKarp": ["impl Model for RabinKarp", "impl RabinKarp"],
+    "Rolling": ["impl Model for Rolling", "impl Rolling"],
+}
+
+# Where a struct is made, which is the one place where its name stands before braces.
+MAKERS = {
+    "FindIter": [(API, "impl Searcher", "find_iter")],
+    "RabinKarp": [(RABIN_KARP, "impl RabinKarp", "new"), (RABIN_KARP, "impl RabinKarp", "try_clone")],
+    "Rolling": [(RABIN_KARP, "impl Rolling", "new")],
+    "Patterns": [(PATTERN, "impl Patterns", "new"), (PATTERN, "impl Patterns", "try_clone")],
+}
+
+# Where the field of the bucket entries is named, or a variable that becomes it.
+BUCKET_READERS = {
+    (RABIN_KARP, "impl RabinKarp", "new"): "puts the entries in",
+    (RABIN_KARP, "impl RabinKarp", "try_clone"): "copies them",
+    (RABIN_KARP, "impl RabinKarp", "bucket_len"): "counts those of a bucket",
+    (RABIN_KARP, "impl RabinKarp", "entry"): "reads one, and ticks",
+    (RABIN_KARP, "", "empty_buckets"): "makes empty ones",
+    (RABIN_KARP, "", "copy_of"): "copies them",
+}
+
+# --- Held words ------------------------------------------------------------------------------------
+
+# The code of the counts, whole.
+TALLY_CODE = """
+use std::marker::Model;
+#[derive(Drop)] pub struct Tally { }
+const _: () = prove!(size_of::<Tally>() == 0);
+impl Model for Tally { }
+impl Tally {
+    pub fn new() -> Tally { Tally {} }
+    pub fn tick_hashed(&mut self) { *self = self.plus(1, 0, 0, 0, 0); }
+    pub fn tick_entries(&mut self) { *self = self.plus(0, 1, 0, 0, 0); }
+    pub fn tick_compared(&mut self) { *self = self.plus(0, 0, 1, 0, 0); }
+    pub fn tick_scanned(&mut self) { *self = self.plus(0, 0, 0, 1, 0); }
+    pub fn tick_tried(&mut self) { *self = self.plus(0, 0, 0, 0, 1); }
+    fn plus(&self, hashed: u64, entries: u64, compared: u64, scanned: u64, tried: u64) -> Tally { Self {} }
+}
+"""
+
+# Structs with a haystack, bytes, or bucket entries in their fields.
+STRUCTS = {
+    "FindIter": """#[derive(Drop)]
+        pub struct FindIter<'s, 'h> { searcher: &'s Searcher, haystack: &'h [u8], at: usize, tally: Tally, }""",
+    "Searcher": "#[derive(Drop)] pub struct Searcher { patterns: Patterns, rabin_karp: RabinKarp, }",
+    "RabinKarp": "#[derive(Drop)] pub struct RabinKarp { hash_len: usize, buckets: Vec<Vec<(usize, PatternID)>>, }",
+    "Rolling": "#[derive(Drop)] pub struct Rolling { window: usize, value: usize, power: usize, }",
+    "Patterns": """#[derive(Drop)] pub struct Patterns { kind: MatchKind, by_id: Vec<Vec<u8>>, order: Vec<PatternID>,
+        minimum_len: usize, total_pattern_bytes: u128, }""",
+    "Pattern": "#[derive(Clone, Drop)] pub struct Pattern<'p>(&'p [u8]);",
+    "ByteTable": "#[derive(Drop)] pub struct ByteTable { distances: [Option<u8>; 256], count: usize, rank_sum: u16, }",
+    "TableByte": "#[derive(Clone, Copy, Drop)] struct TableByte { place: usize, distance: u8, }",
+}
+
+# The bodies that read bytes of the haystack, read bucket entries, tick, or make a tally for a search.
+BODIES = {
+    (API, "impl Searcher", "find"): "self.find_in(haystack, Span { start: 0, end: haystack.len(), },)",
+    (API, "impl Searcher", "find_in"): "let mut tally = Tally::new(); self.find_in_counted(haystack, span, &mut tally)",
+    (API, "impl Searcher", "find_iter"): "FindIter { searcher: self, haystack, at: 0, tally: Tally::new(), }",
+    (PREFILTER, "impl Prefilter", "find_in"): "self.find_in_counted(haystack, span, &mut Tally::new())",
+    (PATTERN, "impl Patterns", "matches_at"): """
+        tally.tick_compared();
+        let bytes = self.get(id).bytes();
+        if bytes.len() > haystack.len() - at { return false; }
+        let haystack = &haystack[at..at + bytes.len()];
+        if ignore_case { haystack.eq_ignore_ascii_case(bytes) } else { haystack == bytes }""",
+    (BYTE_TABLE, "impl ByteTable", "find"): """
+        for place in span.start..span.end {
+            tally.tick_scanned();
+            if let Some(distance) = self.distances[haystack[place] as usize] {
+                return Some(TableByte { place, distance });
+            }
+        }
+        None""",
+    (RABIN_KARP, "impl RabinKarp", "entry"): "tally.tick_entries(); self.buckets[bucket][k]",
+    (RABIN_KARP, "impl RabinKarp", "bucket_len"): "self.buckets[bucket].len()",
+    (RABIN_KARP, "impl RabinKarp", "try_clone"): """
+        Ok(RabinKarp {
+            hash_len: self.hash_len,
+            buckets: copy_of(*self.buckets.allocator(), self.buckets.as_slice())?,
+        })""",
+    (RABIN_KARP, "", "copy_of"): """
+        let mut copy = Vec::with_capacity(alloc, buckets.len())?;
+        for entries in buckets { copy.push(Vec::from_slice(alloc, entries.as_slice())?)?; }
+        Ok(copy)""",
+    (RABIN_KARP, "", "empty_buckets"): """
+        let mut buckets = Vec::with_capacity(alloc, BUCKETS)?;
+        for _ in 0..BUCKETS { buckets.push(Vec::new(alloc))?; }
+        Ok(buckets)""",
+    (RABIN_KARP, "impl Rolling", "new"): """
+        let power = if window <= 64 { 1 << (window - 1) } else { 0 };
+        Rolling { window, value: 0, power, }""",
+    (RABIN_KARP, "impl Rolling", "push"): """
+        tally.tick_hashed();
+        self.value = self.value.wrapping_shl(1).wrapping_add(byte as usize);""",
+    (RABIN_KARP, "impl Rolling", "roll"): """
+        tally.tick_hashed();
+        self.value = self.value.wrapping_sub((old as usize).wrapping_mul(self.power)).wrapping_shl(1)
+            .wrapping_add(new as usize);""",
+    (RABIN_KARP, "impl Rolling", "value"): "self.value",
+}
+
+# Statements that stand once in a body, and hold all that the body has of the names beside them: the two
+# reads of the hash. Elsewhere in the body a name may stand in the listed forms alone.
+STATEMENTS = {
+    (RABIN_KARP, "impl RabinKarp", "find_at"): (
+        [
+            "let mut rolling = Rolling::new(hash_len);",
+            "for k in at..at + hash_len { rolling.push(haystack[k], tally); }",
+            "rolling.roll(haystack[place], haystack[place + hash_len], tally);",
+        ],
+        {"rolling": ["( & rolling ,"], "Rolling": []},
+    ),
+}
