@@ -12,8 +12,8 @@ BASE_SEARCH = "crates/literal_base/src/search.rt"
 CUT = "        let haystack = &haystack[..span.end];"
 ENTRY = "            let (entry_sum, id) = self.entry(bucket, k, tally);"
 IS_MATCH = "            if entry_sum == sum && patterns.matches_at(id, haystack, at, false, tally) {"
-LAST = "        let last = end - hash_len;"
-ROLLING = "        let mut rolling = Rolling::new(hash_len);"
+LAST = "        let last = end - minimum_len;"
+ROLLING = "        let mut rolling = Rolling::new(minimum_len);"
 STEP_BACK = "                let start = found.place"
 TRY_CLONE = "    /// A copy, made for the same patterns."
 SCANNED = "            tally.tick_scanned();"
@@ -182,7 +182,7 @@ FORMS = [
     ("closure_without_parameters", "forms", [in_look_up("let peek = || haystack.len();")]),
     ("closure_that_moves", "forms", [in_look_up("let peek = move |k: usize| k;")]),
     ("ref_binding", "forms", [in_look_up("let ref text = haystack;")]),
-    ("struct_by_self", "forms", [method("    fn peek(&self) -> usize {\n        let Self { hash_len, .. } = self;\n        *hash_len\n    }")]),
+    ("struct_by_self", "forms", [method("    fn peek(&self) -> usize {\n        let Self { minimum_len, .. } = self;\n        *minimum_len\n    }")]),
     ("unsafe_function", "forms", [helper("unsafe fn peek() {}")]),
     ("clause_in_a_body", "forms", [in_look_up("let peek = |k: usize| requires { ⊤ } { k };")]),
 ]
@@ -306,7 +306,7 @@ STRUCTS = [
     ("searcher_with_an_index", "structs", [replace(API, "    rabin_karp: RabinKarp,\n}", "    rabin_karp: RabinKarp,\n    index: Vec<(usize, PatternID)>,\n}")]),
     ("buckets_that_print", "structs", [replace(RABIN_KARP, "#[derive(Drop)]\npub struct RabinKarp", "#[derive(Debug, Drop)]\npub struct RabinKarp")]),
     ("buckets_of_another_name", "structs", [replace(
-        RABIN_KARP, "    hash_len: usize,\n    buckets: Vec", "    hash_len: usize,\n    lists: Vec")]),
+        RABIN_KARP, "    minimum_len: usize,\n    buckets: Vec", "    minimum_len: usize,\n    lists: Vec")]),
     ("span_with_a_haystack", "structs", [replace(BASE_SEARCH, "pub struct Span {", "pub struct Span<'h> {\n    text: &'h [u8],")]),
 ]
 
@@ -349,7 +349,7 @@ TALLIES = [
 ENTRIES = [
     ("uncounted_entries", "entries", [replace(RABIN_KARP, ENTRY, "            let (entry_sum, id) = self.buckets[bucket][k];")]),
     ("buckets_taken_apart", "entries", [in_look_up("let RabinKarp { buckets, .. } = self;")]),
-    ("other_field_taken_apart", "entries", [in_look_up("let RabinKarp { hash_len, .. } = self;")]),
+    ("other_field_taken_apart", "entries", [in_look_up("let RabinKarp { minimum_len, .. } = self;")]),
     ("patterns_taken_apart", "entries", [append(PATTERN, "\nfn peek(patterns: &Patterns) -> usize {\n    let Patterns { minimum_len, .. } = patterns;\n    *minimum_len\n}\n")]),
     ("patterns_taken_apart_below", "entries", [in_look_up("if let Patterns { order, .. } = patterns {}")]),
     ("free_try_clone", "entries", [helper("fn try_clone(rabin_karp: &RabinKarp) -> usize {\n    rabin_karp.buckets.iter().count()\n}")]),
@@ -368,12 +368,12 @@ ENTRIES = [
         RABIN_KARP, "            .wrapping_sub((old", "            .wrapping_add(0)\n            .wrapping_sub((old")]),
     ("search_twice_in_a_tally_of_its_own", "bodies", [before(
         API, "        self.find_in_counted(haystack, span, &mut tally)", "        let _ = self.find_in_counted(haystack, span, &mut tally);")]),
-    ("hash_of_its_own", "statements", [replace(RABIN_KARP, ROLLING, "        let mut rolling = Bytes::new(hash_len);")]),
+    ("hash_of_its_own", "statements", [replace(RABIN_KARP, ROLLING, "        let mut rolling = Bytes::new(minimum_len);")]),
     ("hash_made_anew", "statements", [in_find_at("        let mut rolling = Rolling::new(1);")]),
     ("hash_taken_over", "statements", [in_find_at("        let other = rolling;")]),
     ("hash_by_another_call", "statements", [in_find_at("        rolling.push_all(tally);")]),
     ("hash_moved_by_another_byte", "statements", [replace(
-        RABIN_KARP, "haystack[place + hash_len], tally", "haystack[place + hash_len - 1], tally")]),
+        RABIN_KARP, "haystack[place + minimum_len], tally", "haystack[place + minimum_len - 1], tally")]),
 ]
 
 COPIES = REPOSITORY + TEXT + IMPORTS + FORMS + READS + SIGNATURES + NAMES + STRUCTS + TALLIES + ENTRIES

@@ -149,8 +149,22 @@ def kinds(sources):
             for child in item.children:
                 if is_of_searches(path) and child.kind not in ("fn", "ghost") and not is_item_type(sources, item, child):
                     yield f"{path}:{child.line}: {child.kind} {child.name} in an impl or a trait"
-            if is_of_searches(path) and item.kind in ("type", "static"):
+            if is_of_searches(path) and item.kind in ("type", "static") and not is_alias(path, item):
                 yield f"{path}:{item.line}: {item.kind} {item.name}"
+
+
+def is_alias(path, item):
+    """Whether it is one of the listed aliases, word for word."""
+    held = tables.ALIASES.get((path, item.name))
+    return held is not None and normal(texts(item.tokens)) == normal(words(f"pub type {item.name} = {held};"))
+
+
+def has_type_parameter(generics):
+    """Whether there is a parameter beside lifetimes and numbers of the type `usize`."""
+    plain = [token.text for token in generics if token.kind != "lifetime" and token.text != ","]
+    while plain[:1] == ["const"] and plain[2:4] == [":", "usize"]:
+        plain = plain[4:]
+    return bool(plain)
 
 
 def is_item_type(sources, item, child):
@@ -259,14 +273,15 @@ def impls(sources):
 
 def odd_impl(path, item, own):
     head = item.head[1 + (len(item.generics) + 2 if item.generics else 0) :]
-    if any(token.kind != "lifetime" and token.text != "," for token in item.generics):
+    if has_type_parameter(item.generics):
         yield f"{path}:{item.line}: an impl with a parameter"
     plain = texts(head)
     if "for" in plain:
         trait, plain = plain[: plain.index("for")], plain[plain.index("for") + 1 :]
         if trait not in [words(known) for known in tables.TRAITS]:
             yield f"{path}:{item.line}: an impl of {' '.join(trait)}"
-    if plain[0] not in own or not set(plain[1:]) <= {"<", ">", ",", "'_"} | {t.text for t in head if t.kind == "lifetime"}:
+    arguments = {"<", ">", ",", "'_"} | {token.text for token in item.generics}
+    if plain[0] not in own or not set(plain[1:]) <= arguments | {t.text for t in head if t.kind == "lifetime"}:
         yield f"{path}:{item.line}: an impl for {' '.join(plain)}"
 
 
@@ -279,7 +294,7 @@ def structs(sources):
             if normal(texts(item.tokens)) != normal(words(held)):
                 yield f"{path}:{item.line}: struct {item.name} differs from the words that are held"
         elif item.kind in ("struct", "enum"):
-            if any(token.kind != "lifetime" and token.text != "," for token in item.generics):
+            if has_type_parameter(item.generics):
                 yield f"{path}:{item.line}: {item.name} has a type parameter"
             for word in odd_fields(item, known):
                 yield f"{path}:{item.line}: {item.name} holds {word}"
@@ -316,7 +331,8 @@ def is_in_a_type(item, part, at):
 
 
 def declared_types(sources):
-    return {item.name for _, item in search_items(sources) if item.kind in ("struct", "enum", "trait")}
+    own = {item.name for _, item in search_items(sources) if item.kind in ("struct", "enum", "trait")}
+    return own | {name for _, name in tables.ALIASES}
 
 
 # --- Signatures -------------------------------------------------------------------------------------

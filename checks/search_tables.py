@@ -41,12 +41,8 @@ COUNTED = {
     (BYTE_TABLE, "impl ByteTable", "scan"): "hands it to `find`",
     (BYTE_TABLE, "impl ByteTable", "find"): "scans, in the words that are held below",
     (BYTE_TABLE, "impl ByteTable", "candidate"): "hands it to `find`",
-    (KINDS, "impl PrefilterI for StartBytesOne", "find_in"): "hands it to the table",
-    (KINDS, "impl PrefilterI for StartBytesTwo", "find_in"): "hands it to the table",
-    (KINDS, "impl PrefilterI for StartBytesThree", "find_in"): "hands it to the table",
-    (KINDS, "impl PrefilterI for RareBytesOne", "find_in"): "hands it to the table",
-    (KINDS, "impl PrefilterI for RareBytesTwo", "find_in"): "hands it to the table",
-    (KINDS, "impl PrefilterI for RareBytesThree", "find_in"): "hands it to the table",
+    (KINDS, "impl<const COUNT: usize> PrefilterI for StartBytes<COUNT>", "find_in"): "hands it to the table",
+    (KINDS, "impl<const COUNT: usize> PrefilterI for RareBytes<COUNT>", "find_in"): "hands it to the table",
 }
 
 # Those that take a haystack and no tally: each makes a tally for one search. Their words are held below.
@@ -183,6 +179,16 @@ TRAITS = ("Model", "Iterator", "Default", "fmt::Debug", "PrefilterI")
 
 DERIVES = ("Clone", "Copy", "Debug", "Default", "Drop", "Eq", "Hash", "Ord", "PartialEq", "PartialOrd")
 
+# Aliases of types in the crates of searches: a kind of prefilter with its number of bytes.
+ALIASES = {
+    (KINDS, "StartBytesOne"): "StartBytes<1>",
+    (KINDS, "StartBytesTwo"): "StartBytes<2>",
+    (KINDS, "StartBytesThree"): "StartBytes<3>",
+    (KINDS, "RareBytesOne"): "RareBytes<1>",
+    (KINDS, "RareBytesTwo"): "RareBytes<2>",
+    (KINDS, "RareBytesThree"): "RareBytes<3>",
+}
+
 # Attributes of items outside of tests; `derive` and `tactic` have their own rule.
 ATTRIBUTES = ("inline", "inline(always)", "inline(never)", "cold", "must_use")
 
@@ -254,7 +260,7 @@ STRUCTS = {
     "FindIter": """#[derive(Drop)]
         pub struct FindIter<'s, 'h> { searcher: &'s Searcher, haystack: &'h [u8], at: usize, tally: Tally, }""",
     "Searcher": "#[derive(Drop)] pub struct Searcher { patterns: Patterns, rabin_karp: RabinKarp, }",
-    "RabinKarp": "#[derive(Drop)] pub struct RabinKarp { hash_len: usize, buckets: Vec<Vec<(usize, PatternID)>>, }",
+    "RabinKarp": "#[derive(Drop)] pub struct RabinKarp { minimum_len: usize, buckets: Vec<Vec<(usize, PatternID)>>, }",
     "Rolling": "#[derive(Drop)] pub struct Rolling { window: usize, value: usize, power: usize, }",
     "Patterns": """#[derive(Drop)] pub struct Patterns { kind: MatchKind, by_id: Vec<Vec<u8>>, order: Vec<PatternID>,
         minimum_len: usize, total_pattern_bytes: u128, }""",
@@ -287,7 +293,7 @@ BODIES = {
     (RABIN_KARP, "impl RabinKarp", "bucket_len"): "self.buckets[bucket].len()",
     (RABIN_KARP, "impl RabinKarp", "try_clone"): """
         Ok(RabinKarp {
-            hash_len: self.hash_len,
+            minimum_len: self.minimum_len,
             buckets: copy_of(*self.buckets.allocator(), self.buckets.as_slice())?,
         })""",
     (RABIN_KARP, "", "copy_of"): """
@@ -316,9 +322,9 @@ BODIES = {
 STATEMENTS = {
     (RABIN_KARP, "impl RabinKarp", "find_at"): (
         [
-            "let mut rolling = Rolling::new(hash_len);",
-            "for k in at..at + hash_len { rolling.push(haystack[k], tally); }",
-            "rolling.roll(haystack[place], haystack[place + hash_len], tally);",
+            "let mut rolling = Rolling::new(minimum_len);",
+            "for k in at..at + minimum_len { rolling.push(haystack[k], tally); }",
+            "rolling.roll(haystack[place], haystack[place + minimum_len], tally);",
         ],
         {"rolling": ["( & rolling ,"], "Rolling": []},
     ),
