@@ -13,7 +13,7 @@ import re
 
 from rattle_source import functions_in
 
-LINE = re.compile(r"^(file|in|old|new|shape):(?: (.*))?$", re.M)
+LINE = re.compile(r"(file|in|old|new|shape):(?: (.*))?")
 
 
 class BadEdit(Exception):
@@ -74,7 +74,11 @@ class Edit:
     def read(self, lines, crate):
         """Applies the pairs of the edit one after the other."""
         path = function = old = ""
-        for head, text in LINE.findall(lines):
+        for line in filter(str.strip, lines.split("\n")):
+            found = LINE.fullmatch(line)
+            if not found:
+                raise BadEdit(f"a line is none of an edit: {line}")
+            head, text = found.groups("")
             if head == "file":
                 path, function = text.strip(), ""
                 if path not in crate.texts:
@@ -84,7 +88,9 @@ class Edit:
             elif head == "old":
                 old = text
             elif head == "new":
-                self.texts[path] = replaced(self.texts.get(path, crate.texts.get(path, "")), path, function, old, text, crate)
+                before = self.texts.get(path, crate.texts.get(path, ""))
+                self.texts[path] = replaced(before, path, function, old, text, crate)
+                old = ""
             else:
                 self.shape = text.strip()
 
