@@ -1,0 +1,131 @@
+"""A crate's sources with their functions, and edits of them.
+
+An edit is a file of lines:
+
+  file: src/lib.rt    the file that the pairs below it change
+  in: FUNCTION        where it stands, the pairs below it change the body of this function alone; it is named as a check
+                      reports it, or by as many of its last segments as make it one
+  old: TEXT           what stands there exactly once, in what the pairs above have made
+  new: TEXT           what to put in its place
+  shape: REASON       why only the shape of a proof can refuse it
+"""
+import re
+
+from rattle_source import functions_in
+
+LINE = re.compile(r"(file|in|old|new|shape):(?: (.*))?")
+
+
+class BadEdit(Exception):
+    """Why an edit cannot be applied."""
+
+
+class Crate:
+    """A crate as it stands: by path, the text and the functions of each source file.
+
+    `reported` gives the name that a check has for a function; take_names fills it.
+    """
+
+    def __init__(self, root, name):
+        self.name, self.folder, self.reported = name, root / "crates" / name, {}
+        files = sorted(self.folder.glob("src/**/*.rt"))
+        self.texts = {str(file.relative_to(self.folder)): file.read_text("utf-8") for file in files}
+        self.functions = {path: functions_in(text, path) for path, text in self.texts.items()}
+
+    def take_names(self, names):
+        """Takes the names that a check reports: it has an impl's methods below the module of the type, wherever the impl stands."""
+        for functions in self.functions.values():
+            for name, _, _ in functions:
+                same = [it for it in names if it.split("::")[-2:] == name.split("::")[-2:]]
+                self.reported[name] = same[0] if name not in names and len(same) == 1 else name
+
+    def with_bodies(self, path, bodies):
+        """Returns the text of a file with these bodies, by their numbers, in place of its own."""
+        text = self.texts[path]
+        for number, body in sorted(bodies.items(), reverse=True):
+            function = self.functions[path][number]
+            text = text[: function.start] + body + text[function.end :]
+        return text
+
+
+class Edit:
+    """An edit of a crate.
+
+    texts       each file that it changes, by path, as it makes it
+    bodies      each body that it changes, by path and number in that file
+    functions   the names of these functions
+    is_loose    whether it changes more than bodies, as a constant or a contract
+    shape       its line `shape:`
+    fault       why it cannot be applied, or an empty text
+    """
+
+    def __init__(self, file, crate):
+        self.name, self.texts, self.bodies, self.functions = file.name, {}, {}, []
+        self.is_loose, self.shape, self.fault = False, "", ""
+        try:
+            self.read(file.read_text("utf-8"), crate)
+            for path, text in self.texts.items():
+                self.compare(path, text, crate)
+            if not self.is_loose and not self.functions:
+                raise BadEdit("it changes no function")
+        except BadEdit as why:
+            self.fault = str(why)
+
+    def read(self, lines, crate):
+        """Applies the pairs of the edit one after the other."""
+        path = function = old = ""
+        for line in filter(str.strip, lines.split("\n")):
+            found = LINE.fullmatch(line)
+            if not found:
+                raise BadEdit(f"a line is none of an edit: {line}")
+            head, text = found.groups("")
+            if head == "file":
+                path, function = text.strip(), ""
+                if path not in crate.texts:
+                    raise BadEdit(f"there is no file {path}")
+            elif head == "in":
+                function = text.strip()
+            elif head == "old":
+                old = text
+            elif head == "new":
+                before = self.texts.get(path, crate.texts.get(path, ""))
+                self.texts[path] = replaced(before, path, function, old, text, crate)
+                old = ""
+            else:
+                self.shape = text.strip()
+
+    def compare(self, path, text, crate):
+        """Finds what the edit changes in a file."""
+        before, old, new = crate.texts[path], crate.functions[path], functions_in(text, path)
+        self.is_loose |= [it.name for it in old] != [it.name for it in new] or beside(before, old) != beside(text, new)
+        for number, (was, now) in enumerate(zip(old, new)):
+            if before[was.start : was.end] != text[now.start : now.end]:
+                self.bodies[path, number] = text[now.start : now.end]
+                self.functions.append(crate.reported[was.name])
+
+
+def replaced(text, path, name, old, new, crate):
+    """Returns a text with the one place of an old text replaced, in the body of a function where one is named."""
+    start, end, where = 0, len(text), path
+    if name:
+        function = function_named(name, functions_in(text, path), path, crate)
+        start, end, where = function.start, function.end, f"the body of {name}"
+    count = text.count(old, start, end) if old else 0
+    if count != 1:
+        raise BadEdit(f"an 'old:' text is in {where} {count} times, and not once")
+    at = text.index(old, start, end)
+    return text[:at] + new + text[at + len(old) :]
+
+
+def function_named(name, functions, path, crate):
+    """Returns the one function with this name, or with these last segments of one."""
+    found = [it for it in functions if f"::{crate.reported.get(it.name, it.name)}".endswith(f"::{name}")]
+    if len(found) != 1:
+        raise BadEdit(f"'in: {name}' names {len(found)} functions of {path}, and not one")
+    return found[0]
+
+
+def beside(text, functions):
+    """Returns the parts of a text that are in no function's body."""
+    starts, ends = [0, *(it.end for it in functions)], [*(it.start for it in functions), len(text)]
+    return [text[start:end] for start, end in zip(starts, ends)]

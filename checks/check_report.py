@@ -1,0 +1,79 @@
+"""Reads what `rt check` says of a crate: which functions are proved, and how the proof of each other one is refused."""
+import re
+from collections import namedtuple
+
+# How a goal of a function is refused, the strongest first. `false`: the known facts allow values at which it is false.
+# `open`: the search ended without a proof. `unfit`: only the answer that is written was tried, and does not fit.
+GOALS = ("false", "open", "unfit")
+
+# A refusal's kind is one of GOALS, `shape` where a proof only names what is gone or was walked by hand for another body,
+# or `unclear`.
+Refusal = namedtuple("Refusal", "kind text")
+
+CLOSURE = re.compile(r"(^|::)fn::(.*?)::[^:+]*(\+Fn.*)?$")
+FALSE = re.compile(r"^note: (src/\S+):(\d+):\d+: it is not proved .* allow values at which this goal is false", re.M)
+NAME_IS_GONE = re.compile(r"has no field|is not in scope|has no `|is no name|was not admitted")
+UNPROVED_GOALS = re.compile(r"did not prove ((?:`[^`]+`(?:, )?)+)")
+WAITS = re.compile(r"which (is|are) not proved|waits for the proof")
+
+
+class Report:
+    """What a check said of a crate.
+
+    is_judged   whether it came as far as the prover
+    fault       its first error
+    lines       what it says of each function and impl, by name
+    refusals    by the name of a function, what refused its own proof
+    """
+
+    def __init__(self, said, crate):
+        self.is_judged = "\nlogic=" in said
+        self.fault = next((line for line in said.split("\n") if re.search(r"error[:\[]", line)), said[-200:].strip())[:200]
+        self.lines = dict(re.findall(rf"^(?:fn|impl) {crate.name}::(\S+): (.*)", said, re.M))
+        self.refusals = {}
+        at_values = functions_with_a_false_goal(said, crate)
+        for name, line in self.lines.items():
+            function = CLOSURE.sub(r"\1\2", name)
+            refusal = refusal_of(line, errors_of(said, name), function in at_values)
+            if refusal:
+                self.refusals.setdefault(function, refusal)
+
+    def unproved(self):
+        """Returns the functions and impls whose line does not read as proved."""
+        return [name for name, line in self.lines.items() if not line.startswith("proved")]
+
+
+def functions_with_a_false_goal(said, crate):
+    """Returns the functions of which a note says that a goal is false at some values."""
+    found = set()
+    for path, line in FALSE.findall(said):
+        for function in crate.functions[path]:
+            if crate.texts[path].count("\n", 0, function.end) + 1 >= int(line):
+                found.add(crate.reported.get(function.name))
+                break
+    return found
+
+
+def errors_of(said, name):
+    """Returns the errors in a function's own proof files: the file, and the text."""
+    folder = re.escape(f"proofs/{name.replace('::', '/')}")
+    # (a count of declarations is what antt passed over once it had refused another)
+    return re.findall(rf"^(?:\./)?{folder}/(\w+)\.antt:\d+:\d+: error: (?!\d+ declaration)(.*)", said, re.M)
+
+
+def refusal_of(line, errors, has_a_false_goal):
+    """Returns how a function's own proof is refused, or None where nothing of its own is."""
+    goals = UNPROVED_GOALS.search(line)
+    if goals:
+        return Refusal("false" if has_a_false_goal else "open", goals[1].rstrip(", "))
+    unfit = [text for file, text in errors if file != "Proof" and not NAME_IS_GONE.search(text)]
+    if unfit:
+        others = [text.partition(": ")[0] for text in unfit[1:]]
+        return Refusal("unfit", ", ".join([*others, unfit[0][:120]]))
+    if errors:
+        file, text = errors[0]
+        by_hand = "its proof is by hand, and fits no other body: " if file == "Proof" else ""
+        return Refusal("shape", by_hand + text[:120])
+    if line.startswith("proved") or WAITS.search(line):
+        return None
+    return Refusal("unclear", line[:160])
