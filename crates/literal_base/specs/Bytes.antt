@@ -25,4 +25,5 @@ no_bytes = by_byte (λ _. false)
 -- the same letter in the other case: A to Z, 65 to 90, against a to z, 97 to 122. Each other byte itself
 abbrev pub opposite_case : ℕ → ℕ
 opposite_case b =
-    if nat_lt b 65 then b else (if nat_lt b 91 then b + 32 else (if nat_lt b 97 then b else (if nat_lt b 123 then b - 32 else b)))
+    if nat_lt b 65 then b else (if nat_lt b 91 then b + 32 else
+    (if nat_lt b 97 then b else (if nat_lt b 123 then b - 32 else b)))

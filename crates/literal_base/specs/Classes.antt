@@ -1,5 +1,6 @@
 -- Classes of bytes: a list with a number for each of the 256 bytes, its class.
-use Rattle.std.specs.Prelude.{◌≡◌, ℕ, ◌+◌, ◌-◌, ◌^◌, ◌<◌, ◌≤◌, ◌==◌, ◌&&◌, ◌||◌, Bool, List, filter, take, count_by, nat_le, slice_index}
+use Rattle.std.specs.Prelude.{◌≡◌, ℕ, ◌+◌, ◌-◌, ◌^◌, ◌<◌, ◌≤◌, ◌==◌, ◌&&◌, ◌||◌, Bool, List, filter, take, count_by}
+use Rattle.std.specs.Prelude.{nat_le, slice_index}
 use Rattle.std.specs.List.{All, AllPairs, flat_map, list_any, range_with_len}
 use Rattle.literal_base.specs.Bytes.{all_bytes, by_byte, contains}
 

@@ -11,7 +11,8 @@ pub record InputValue : Type 0 where
   pub anchored : Anchored
   pub earliest : Bool
 
--- offsets between which a haystack may be searched: a valid span of it, or a start one beyond the end, where no search is left
+-- offsets between which a haystack may be searched: a valid span of it, or a start one beyond the end, where no search
+-- is left
 pub record AreBounds (haystack : List ℕ) (start end : ℕ) : Type 0 where
   pub in_haystack : end ≤ length haystack
   pub start_at_most : start ≤ end + 1

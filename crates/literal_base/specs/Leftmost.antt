@@ -29,9 +29,11 @@ pub record IsLeftmostMatch (query : Query) (ignore_case : Bool) (haystack : List
   pub occurs : Occurs query.patterns ignore_case haystack span found.pattern found.start
   pub whole : found.end ≡ found.start + length (pattern_at query.patterns found.pattern)
   pub earliest : (i at : ℕ) → at < found.start → ¬ Occurs query.patterns ignore_case haystack span i at
-  pub best : (i : ℕ) → IsBetter query.kind query.patterns i found.pattern → ¬ Occurs query.patterns ignore_case haystack span i found.start
+  pub best : (i : ℕ) → IsBetter query.kind query.patterns i found.pattern
+      → ¬ Occurs query.patterns ignore_case haystack span i found.start
 
 -- the leftmost match in the span, and None exactly if no pattern occurs in it
 abbrev pub IsLeftmost : Query → Bool → List ℕ → Span → Option MatchValue → Type 0
 IsLeftmost query ignore_case haystack span answer =
-    MatchOption answer (NothingOccurs query.patterns ignore_case haystack span) (IsLeftmostMatch query ignore_case haystack span)
+    MatchOption answer (NothingOccurs query.patterns ignore_case haystack span)
+    (IsLeftmostMatch query ignore_case haystack span)

@@ -1,8 +1,10 @@
 -- Where patterns stand in a haystack.
 -- A pattern and a haystack are lists of bytes. The patterns are numbered from 0, in the order of a list.
 -- A place is an offset in the whole haystack.
-use Rattle.std.specs.Prelude.{◌≡◌, ◌==◌, ℕ, ◌+◌, ◌<◌, ◌≤◌, Bool, if◌then◌else◌, List, [], length, map, slice_range, slice_index_or}
+use Rattle.std.specs.Prelude.{◌≡◌, ◌==◌, ℕ, ◌+◌, ◌<◌, ◌≤◌, Bool, if◌then◌else◌, List, [], length, map, slice_range}
+use Rattle.std.specs.Prelude.{slice_index_or}
 use Rattle.std.specs.Char.{to_ascii_lowercase}
+use Rattle.std.specs.List.{All}
 use Rattle.literal_base.specs.declared.search.Span.{Span}
 
 -- the bytes; where case is ignored, each of A to Z is replaced by its small letter
@@ -20,6 +22,10 @@ same_byte ignore_case a b = if ignore_case then to_ascii_lowercase a == to_ascii
 -- the pattern of a number, and the empty list where there is none
 abbrev pub pattern_at : List (List ℕ) → ℕ → List ℕ
 pattern_at patterns i = slice_index_or patterns i []
+
+-- no pattern is empty
+abbrev pub NoneIsEmpty : List (List ℕ) → Type 0
+NoneIsEmpty patterns = All (λ (bytes : List ℕ). 0 < length bytes) patterns
 
 -- the bytes stand whole in the haystack at a place
 pub record StandsAt (ignore_case : Bool) (bytes haystack : List ℕ) (at : ℕ) : Type 0 where
@@ -44,7 +50,8 @@ abbrev pub rest_from : List ℕ → ℕ → Span
 rest_from haystack at = record { start = at; end = length haystack }
 
 -- pattern i occurs at a place of the span: it lies whole in the span, and the haystack's bytes there are the pattern's
-pub record Occurs (patterns : List (List ℕ)) (ignore_case : Bool) (haystack : List ℕ) (span : Span) (i at : ℕ) : Type 0 where
+pub record Occurs (patterns : List (List ℕ)) (ignore_case : Bool) (haystack : List ℕ) (span : Span)
+    (i at : ℕ) : Type 0 where
   pub is_pattern : i < length patterns
   pub after_start : span.start ≤ at
   pub before_end : at + length (pattern_at patterns i) ≤ span.end

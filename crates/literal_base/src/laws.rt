@@ -8,7 +8,7 @@ ghost use Rattle.literal_base.specs.declared.packed.MatchKind.TheVariants.{Leftm
 ghost use Rattle.literal_base.specs.declared.search.Span.{Span};
 ghost use Rattle.literal_base.specs.MatchValue.{MatchValue};
 ghost use Rattle.literal_base.specs.Leftmost.{IsLeftmost, IsLeftmostMatch};
-ghost use Rattle.literal_base.specs.Occurs.{Occurs, pattern_at};
+ghost use Rattle.literal_base.specs.Occurs.{NoneIsEmpty, Occurs, pattern_at};
 ghost use Rattle.literal_base.specs.Greedy.{IsGreedy};
 ghost use Rattle.literal_base.specs.Query.{Query};
 
@@ -32,7 +32,7 @@ pub fn leftmost_is_unique()
 /// Where no pattern is empty, there is a greedy list from every place on.
 pub fn greedy_exists()
     ensures { (query : Query) (ignore_case : Bool) (haystack : List ℕ) (at : ℕ)
-        → All (λ (bytes : List ℕ). 0 < length bytes) query.patterns
+        → NoneIsEmpty query.patterns
         → (all : List MatchValue) × IsGreedy query ignore_case haystack at all }
 {}
 

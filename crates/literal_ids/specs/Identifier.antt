@@ -6,10 +6,12 @@ use Rattle.std.specs.declared.cmp.Ordering.{Ordering}
 -- what a number gives: up to 2147483646 the identifier with that number; above, an error that keeps the number
 abbrev pub IsCheckedNumber : ℕ → Result ℕ ℕ → Type 0
 IsCheckedNumber number answer =
-    MatchResult answer (λ id. (number ≤ 2147483646) × (id ≡ number)) (λ refused. (2147483646 < number) × (refused ≡ number))
+    MatchResult answer (λ id. (number ≤ 2147483646) × (id ≡ number))
+    (λ refused. (2147483646 < number) × (refused ≡ number))
 
 -- identifiers are equal, and come before one another, as their numbers do; equal ones write the same to a hasher
-pub record IsComparedByNumber (eq : ℕ → ℕ → Bool) (partial_cmp : ℕ → ℕ → Option Ordering) (cmp : ℕ → ℕ → Ordering) (hash_input : ℕ → List (List ℕ)) : Type 0 where
+pub record IsComparedByNumber (eq : ℕ → ℕ → Bool) (partial_cmp : ℕ → ℕ → Option Ordering) (cmp : ℕ → ℕ → Ordering)
+    (hash_input : ℕ → List (List ℕ)) : Type 0 where
   pub equal : (a b : ℕ) → IsTrue (eq a b) ↔ (a ≡ b)
   pub partial_order : (a b : ℕ) → partial_cmp a b ≡ Some (nat_cmp a b)
   pub order : (a b : ℕ) → cmp a b ≡ nat_cmp a b

@@ -30,14 +30,16 @@ IsBuildable b = 0 < length (kept_of b.state)
 -- the searcher that is built, and None where none can be: for the builder's match kind and patterns
 abbrev pub searcher_of : BuilderValue → Option Query
 searcher_of b =
-    if nat_lt 0 (length (kept_of b.state)) then Some (record { kind = b.config.kind; patterns = kept_of b.state }) else None
+    if nat_lt 0 (length (kept_of b.state)) then Some
+    (record { kind = b.config.kind; patterns = kept_of b.state }) else None
 
 -- after an addition of references to patterns
 abbrev pub AddsAll : BuilderValue → List (Bor (List ℕ)) → BuilderValue → Type 0
 AddsAll old more new = new ≡ with_added old (map (λ p. p.now) more)
 
 -- the answer is what a new builder builds from all the items of an iterator
-abbrev pub BuildsItems : {U T : Type 0} → (U → T → Type 0) → (T → Option (Bor (List ℕ)) → T → Type 0) → U → Option Query → Type 0
+abbrev pub BuildsItems : {U T : Type 0} → (U → T → Type 0) → (T → Option (Bor (List ℕ)) → T → Type 0) → U → Option Query
+    → Type 0
 BuildsItems {U} {T} becomes steps patterns answer =
     (it : T) × (items : List (Bor (List ℕ))) × becomes patterns it × Drains steps it items
     × (answer ≡ searcher_of (builder_of default_config (map (λ p. p.now) items)))

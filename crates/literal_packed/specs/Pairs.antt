@@ -1,6 +1,7 @@
 -- How many pairs of a place of a haystack and a pattern have equal sums, and what a search counts.
 -- The window of a place has as many bytes as the shortest pattern.
-use Rattle.std.specs.Prelude.{ℕ, ◌+◌, ◌-◌, ◌%◌, Bool, ◌&&◌, ◌||◌, ◌==◌, nat_lt, if◌then◌else◌, List, length, take, Option, Some, None, count_by, sum_by, slice_range}
+use Rattle.std.specs.Prelude.{ℕ, ◌+◌, ◌-◌, ◌%◌, Bool, ◌&&◌, ◌||◌, ◌==◌, nat_lt, if◌then◌else◌, List, length, take}
+use Rattle.std.specs.Prelude.{Option, Some, None, count_by, sum_by, slice_range}
 use Rattle.std.specs.List.{range_with_len}
 use Rattle.literal_base.specs.declared.search.Span.{Span}
 use Rattle.literal_base.specs.Counts.{Counts}
@@ -34,7 +35,8 @@ pairs_at test n at = count_by (test at) (range_with_len 0 n)
 -- how many of the patterns pass a test at a place and are pattern j or better than it
 abbrev pub pairs_at_up_to : (ℕ → ℕ → Bool) → Query → ℕ → ℕ → ℕ
 pairs_at_up_to test query at j =
-    count_by (λ i. test at i && (i == j || is_better query.kind query.patterns i j)) (range_with_len 0 (length query.patterns))
+    count_by (λ i. test at i && (i == j || is_better query.kind query.patterns i j))
+    (range_with_len 0 (length query.patterns))
 
 -- how many of the patterns pass a test at a place: up to the pattern that is the answer there, if there is one
 abbrev pub pairs_answered : (ℕ → ℕ → Bool) → Query → ℕ → Option ℕ → ℕ
@@ -58,11 +60,13 @@ equal_pairs patterns haystack span = pairs_in (has_equal_sum patterns haystack) 
 abbrev pub bucket_pairs : List (List ℕ) → List ℕ → Span → ℕ
 bucket_pairs patterns haystack span = pairs_in (has_equal_bucket patterns haystack) patterns span
 
--- the pairs up to an answer: all where there is none. With a match (j, t, e) those of a place before t, and those of t with j or a better pattern
+-- the pairs up to an answer: all where there is none. With a match (j, t, e) those of a place before t, and those of t
+-- with j or a better pattern
 abbrev pub pairs_up_to : (ℕ → ℕ → Bool) → Query → Span → Option MatchValue → ℕ
 pairs_up_to test query span None = pairs_in test query.patterns span
 pairs_up_to test query span (Some found) =
-    pairs_between test (length query.patterns) span.start found.start + pairs_at_up_to test query found.start found.pattern
+    pairs_between test (length query.patterns) span.start found.start + pairs_at_up_to test query found.start
+    found.pattern
 
 -- how many bytes of the span go into the sums, up to an answer: each up to the end of the last window.
 -- With no answer that is each byte, and none where the span is shorter than the window
@@ -71,7 +75,8 @@ hashed_up_to patterns span None =
     if nat_lt (span.end - span.start) (minimum_len_of patterns) then 0 else span.end - span.start
 hashed_up_to patterns span (Some found) = found.start + minimum_len_of patterns - span.start
 
--- the counts after a search in a span that gives an answer: the bytes hashed, the pairs whose entries were read, and those that were compared
+-- the counts after a search in a span that gives an answer: the bytes hashed, the pairs whose entries were read, and
+-- those that were compared
 abbrev pub counts_after : Counts → Query → List ℕ → Span → Option MatchValue → Counts
 counts_after old query haystack span answer = record old {
   hashed = old.hashed + hashed_up_to query.patterns span answer;

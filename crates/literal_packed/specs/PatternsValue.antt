@@ -4,11 +4,12 @@ use Rattle.std.specs.List.{All, AllPairs, range_with_len}
 use Rattle.std.specs.List.Sorted.{IsPermutation}
 use Rattle.literal_base.specs.declared.packed.MatchKind.{MatchKind}
 use Rattle.literal_base.specs.declared.packed.MatchKind.TheVariants.{LeftmostFirst}
-use Rattle.literal_base.specs.Occurs.{pattern_at}
+use Rattle.literal_base.specs.Occurs.{NoneIsEmpty, pattern_at}
 use Rattle.literal_base.specs.Leftmost.{IsBetter}
 use Rattle.literal_base.specs.Query.{Query}
 
--- which occurrence is the match, the patterns by their identifiers, and the identifiers in the order in which the patterns are tried
+-- which occurrence is the match, the patterns by their identifiers, and the identifiers in the order in which the
+-- patterns are tried
 pub record PatternsValue : Type 0 where
   pub kind : MatchKind
   pub patterns : List (List ℕ)
@@ -42,7 +43,7 @@ in_order c = map (λ i. (i, pattern_at c.patterns i)) c.order
 -- what always holds: each pattern is tried once, none is empty, and the last one has an identifier
 pub record IsWellFormed (c : PatternsValue) : Type 0 where
   pub once : IsPermutation (range_with_len 0 (length c.patterns)) c.order
-  pub not_empty : All (λ (bytes : List ℕ). 0 < length bytes) c.patterns
+  pub not_empty : NoneIsEmpty c.patterns
   pub numbered : length c.patterns ≤ 2147483647
 
 -- each pattern is tried before those that it is better than

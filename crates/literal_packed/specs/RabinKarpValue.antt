@@ -3,7 +3,8 @@ use Rattle.std.specs.Prelude.{◌≡◌, ℕ, ◌<◌, ◌%◌, ◌==◌, List, 
 use Rattle.literal_packed.specs.PatternsValue.{PatternsValue, IsSearchable, minimum_len_of}
 use Rattle.literal_packed.specs.Pairs.{key_of}
 
--- how many bytes of each pattern are summed, and the entries of each bucket: pairs of a sum and the identifier of a pattern
+-- how many bytes of each pattern are summed, and the entries of each bucket: pairs of a sum and the identifier of a
+-- pattern
 pub record RabinKarpValue : Type 0 where
   pub minimum_len : ℕ
   pub buckets : List (List (ℕ × ℕ))

@@ -6,12 +6,14 @@ use Rattle.literal_base.specs.Occurs.{rest_from, whole_of}
 use Rattle.literal_base.specs.Query.{Query}
 use Rattle.literal_packed.specs.Pairs.{counts_after, equal_pairs, bucket_pairs}
 
--- the counts of searches one after another: each of the rest from where the one before goes on, with these matches as their answers, and None at last
+-- the counts of searches one after another: each of the rest from where the one before goes on, with these matches as
+-- their answers, and None at last
 abbrev pub counts_after_all : Counts → Query → List ℕ → ℕ → List MatchValue → Counts
 counts_after_all old query haystack at [] =
     counts_after old query haystack (rest_from haystack at) None
 counts_after_all old query haystack at (found ∷ more) =
-    counts_after_all (counts_after old query haystack (rest_from haystack at) (Some found)) query haystack found.end more
+    counts_after_all (counts_after old query haystack (rest_from haystack at) (Some found)) query haystack found.end
+    more
 
 -- the three counts of a search don't fall, and the others stay
 pub record CountsOn (old new : Counts) : Type 0 where
@@ -24,8 +26,10 @@ pub record CountsOn (old new : Counts) : Type 0 where
 -- at most the bytes, the BucketPairs and the EqualPairs of the rest from the one less those of the rest from the other
 pub record SpendsAtMost (query : Query) (haystack : List ℕ) (from to : ℕ) (old new : Counts) : Type 0 where
   pub hashed : new.hashed + (length haystack - to) ≤ old.hashed + (length haystack - from)
-  pub entries : new.entries + bucket_pairs query.patterns haystack (rest_from haystack to) ≤ old.entries + bucket_pairs query.patterns haystack (rest_from haystack from)
-  pub compared : new.compared + equal_pairs query.patterns haystack (rest_from haystack to) ≤ old.compared + equal_pairs query.patterns haystack (rest_from haystack from)
+  pub entries : new.entries + bucket_pairs query.patterns haystack (rest_from haystack to)
+      ≤ old.entries + bucket_pairs query.patterns haystack (rest_from haystack from)
+  pub compared : new.compared + equal_pairs query.patterns haystack (rest_from haystack to)
+      ≤ old.compared + equal_pairs query.patterns haystack (rest_from haystack from)
   pub counts_on : CountsOn old new
 
 -- a search of all of a haystack counts at most its bytes, its BucketPairs and its EqualPairs

@@ -1,6 +1,7 @@
 -- The patterns of a builder: those that were added, as long as none of them is empty and there are not too many.
 -- These words serve every builder, each with its own limit.
-use Rattle.std.specs.Prelude.{ℕ, ◌<◌, Bool, ◌&&◌, nat_lt, nat_le, if◌then◌else◌, List, [], ◌∷◌, ◌++◌, length, Option, Some, None, IsSomeAnd, unwrap_or}
+use Rattle.std.specs.Prelude.{ℕ, ◌<◌, Bool, ◌&&◌, nat_lt, nat_le, if◌then◌else◌, List, [], ◌∷◌, ◌++◌, length, Option}
+use Rattle.std.specs.Prelude.{Some, None, IsSomeAnd, unwrap_or}
 use Rattle.std.specs.List.{list_all}
 
 -- none of the patterns is empty, and there are no more than the limit

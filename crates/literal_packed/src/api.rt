@@ -1,7 +1,7 @@
 //! The configuration, the builder, and the searcher.
 ghost use Rattle.std.specs.Prelude.{◌≡◌, ◌<◌, ◌⊎◌, ◌∷◌, [], length, Ok, Err, false, IsOk, IfOk, IfErr, OnOk, OnErr, IfSome, MatchResult};
 ghost use Rattle.std.specs.Borrow.{sem};
-ghost use Rattle.std.specs.Iterator.{ExtendsWithItems, IsFinite};
+ghost use Rattle.std.specs.Iterator.{ExtendsWithItems};
 ghost use Rattle.literal_base.specs.Occurs.{IsValidSpan, whole_of};
 ghost use Rattle.literal_base.specs.Leftmost.{IsLeftmost};
 ghost use Rattle.literal_base.specs.Greedy.{IsGreedy};
@@ -13,7 +13,7 @@ ghost use Rattle.literal_packed.specs.State.{WouldKeep, kept_of};
 ghost use Rattle.literal_packed.specs.Pairs.{counts_after};
 ghost use Rattle.literal_packed.specs.FindIterValue.{FindsNext, bytes_left};
 ghost use Rattle.literal_packed.specs.Spending.{SpendsWithin, counts_after_all};
-ghost use Rattle.literal_packed.specs.Lending.{RestsAtErr, LentRestsAtErr, HoldsTaken, HoldsAll};
+ghost use Rattle.literal_packed.specs.Lending.{CanBeTaken, RestsAtErr, LentRestsAtErr, HoldsTaken, HoldsAll};
 
 use crate::pattern::Patterns;
 use crate::rabinkarp::RabinKarp;
@@ -76,7 +76,7 @@ impl Config {
         ensures same { result.ghost_name ≡ self.entry.ghost_name }
         ensures now { result.now ≡ self.old }
     {
-        let _ = yes;
+        let _ = yes; // (the original takes it)
         self
     }
 }
@@ -126,11 +126,13 @@ impl Builder {
         ensures ok { IfOk result (λ built. built ≡ searcher_of self.now) }
         ensures no_memory { IsOk result ⊎ IsBuildable self.now }
     {
+        // An inert builder has dropped its patterns.
         if self.patterns.is_empty() {
             return Ok(None);
         }
         let mut patterns = self.patterns.try_clone()?;
         patterns.set_match_kind(self.config.kind)?;
+        // What is hashed of the patterns themselves is no step of a search.
         let rabin_karp = RabinKarp::new(&patterns, &mut Tally::new())?;
         Ok(Some(Searcher {
             patterns,
@@ -142,16 +144,19 @@ impl Builder {
     /// 128, makes it so. Where memory is refused, all stays as it was; where the pattern is not kept
     /// no memory is asked for.
     pub fn add(&mut self, bytes: &[u8]) -> Result<&mut Builder, AllocError>
-        ensures* err { sem 𝓛 (RestsAtErr (λ b. b ≡ self.old) self.entry result) }
+        // After an error the builder is as before.
+        ensures* as_before { sem 𝓛 (RestsAtErr (λ b. b ≡ self.old) self.entry result) }
         ensures same { IfOk result (λ b. b.ghost_name ≡ self.entry.ghost_name) }
         ensures ok { IfOk result (λ b. b.now ≡ with_added self.old (bytes.now ∷ [])) }
         ensures no_memory { OnErr result (WouldKeep pattern_limit self.old.state bytes.now) }
     {
+        // Two steps: only where the builder is lent in a struct is there a generated proof of what
+        // holds of it after an error.
         unwrapped(self.try_add(bytes))
     }
 
     fn try_add(&mut self, bytes: &[u8]) -> Result<Lent<'_>, AllocError>
-        ensures* err { sem 𝓛 (LentRestsAtErr (λ b. b ≡ self.old) self.entry result) }
+        ensures* as_before { sem 𝓛 (LentRestsAtErr (λ b. b ≡ self.old) self.entry result) }
         ensures same { IfOk result (λ l. l.builder.ghost_name ≡ self.entry.ghost_name) }
         ensures ok { IfOk result (λ l. l.builder.now ≡ with_added self.old (bytes.now ∷ [])) }
         ensures no_memory { OnErr result (WouldKeep pattern_limit self.old.state bytes.now) }
@@ -183,12 +188,13 @@ impl Builder {
         &mut self,
         patterns: I,
     ) -> Result<&mut Builder, AllocError>
-        requires { (it : I.IntoIter) → I.into_iter_gives patterns it
-            → I.IntoIter.can_next it × IsFinite (I.IntoIter.remaining it) }
-        ensures* err { sem 𝓛 (RestsAtErr (HoldsTaken I.into_iter_gives I.IntoIter.next_gives patterns self.old) self.entry result) }
+        requires { CanBeTaken I.into_iter_gives I.IntoIter.can_next I.IntoIter.remaining patterns }
+        // After an error the builder has the patterns before the refused one.
+        ensures* taken { sem 𝓛 (RestsAtErr (HoldsTaken I.into_iter_gives I.IntoIter.next_gives patterns self.old) self.entry result) }
         ensures same { IfOk result (λ b. b.ghost_name ≡ self.entry.ghost_name) }
         ensures ok { IfOk result (λ b. HoldsAll I.into_iter_gives I.IntoIter.next_gives patterns self.old b.now) }
     {
+        // Two steps, as in `add`.
         unwrapped(self.try_extend(patterns))
     }
 
@@ -196,9 +202,8 @@ impl Builder {
         &mut self,
         patterns: I,
     ) -> Result<Lent<'_>, AllocError>
-        requires { (it : I.IntoIter) → I.into_iter_gives patterns it
-            → I.IntoIter.can_next it × IsFinite (I.IntoIter.remaining it) }
-        ensures* err { sem 𝓛 (LentRestsAtErr (HoldsTaken I.into_iter_gives I.IntoIter.next_gives patterns self.old) self.entry result) }
+        requires { CanBeTaken I.into_iter_gives I.IntoIter.can_next I.IntoIter.remaining patterns }
+        ensures* taken { sem 𝓛 (LentRestsAtErr (HoldsTaken I.into_iter_gives I.IntoIter.next_gives patterns self.old) self.entry result) }
         ensures same { IfOk result (λ l. l.builder.ghost_name ≡ self.entry.ghost_name) }
         ensures ok { IfOk result (λ l. HoldsAll I.into_iter_gives I.IntoIter.next_gives patterns self.old l.builder.now) }
     {
@@ -210,8 +215,7 @@ impl Builder {
         &mut self,
         patterns: I,
     ) -> Result<(), AllocError>
-        requires { (it : I.IntoIter) → I.into_iter_gives patterns it
-            → I.IntoIter.can_next it × IsFinite (I.IntoIter.remaining it) }
+        requires { CanBeTaken I.into_iter_gives I.IntoIter.can_next I.IntoIter.remaining patterns }
         ensures { ExtendsWithItems I.into_iter_gives I.IntoIter.next_gives AddsAll patterns self.old self.new result }
     {
         for bytes in patterns {
@@ -302,8 +306,7 @@ impl Searcher {
         alloc: Global,
         patterns: I,
     ) -> Result<Option<Searcher>, AllocError>
-        requires { (it : I.IntoIter) → I.into_iter_gives patterns it
-            → I.IntoIter.can_next it × IsFinite (I.IntoIter.remaining it) }
+        requires { CanBeTaken I.into_iter_gives I.IntoIter.can_next I.IntoIter.remaining patterns }
         ensures { IfOk result (BuildsItems I.into_iter_gives I.IntoIter.next_gives patterns) }
     {
         let mut builder = Builder::new(alloc);
@@ -360,6 +363,7 @@ impl Searcher {
         ensures not_empty { IfSome result (λ found. found.start < found.end) }
         ensures exact { tally.new ≡ counts_after tally.old self.now haystack.now span result }
     {
+        // `find_at` searches to the end of its haystack, which is the end of the span.
         let haystack = &haystack[..span.end];
         self.rabin_karp
             .find_at(&self.patterns, haystack, span.start, tally)

@@ -135,7 +135,8 @@ impl Patterns {
     /// The pattern of an identifier, which has to be below the number of patterns.
     pub fn get(&self, id: PatternID) -> Pattern<'_>
         requires { id < length self.now.patterns }
-        ensures { result ≡ pattern_at self.now.patterns id }
+        ensures bytes { result ≡ pattern_at self.now.patterns id }
+        ensures some { 0 < length result }
     {
         Pattern(&self.by_id[id.as_usize()])
     }
@@ -145,7 +146,7 @@ impl Patterns {
         ensures items { result ≡ in_order self.now }
         ensures well_formed { IsWellFormed self.now }
     {
-        let _ = &self.kind;
+        let _ = &self.kind; // (a read, after which the proof has what the fields keep)
         PatternIter {
             patterns: self,
             i: 0,

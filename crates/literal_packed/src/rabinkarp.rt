@@ -18,7 +18,7 @@ use literal_ids::PatternID;
 use std::alloc::{AllocError, Global};
 use std::marker::Model;
 
-/// How many buckets there are.
+/// How many buckets there are: a power of two, so that a sum's bucket is its last bits.
 const BUCKETS: usize = 64;
 
 /// The sum of a window of bytes, modulo 2 to the power of 64: each byte counts for itself times 2 to
@@ -50,6 +50,7 @@ impl Rolling {
         requires { 1 ≤ window }
         ensures { result ≡ record { window = window; sum = 0 } }
     {
+        // Past 64 bytes the first byte's weight is a multiple of 2 to the power of 64.
         let power = if window <= 64 { 1 << (window - 1) } else { 0 };
         Rolling {
             window,

@@ -34,4 +34,5 @@ Serves root_kind.LeftmostLongest kind = kind ≡ LeftmostLongest
 -- the table covers the patterns of the builder, for each kind of match that its prefilter serves
 abbrev pub IsBuiltFor : PrefilterBuilderValue → List (Option ℕ) → Type 0
 IsBuiltFor b table =
-    (kind : MatchKind) → Serves b.kind kind → CoversAll table (record { kind = kind; patterns = kept_of b.state }) b.ignore_case
+    (kind : MatchKind) → Serves b.kind kind → CoversAll table
+    (record { kind = kind; patterns = kept_of b.state }) b.ignore_case

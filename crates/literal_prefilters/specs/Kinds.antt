@@ -12,8 +12,10 @@ use Rattle.literal_prefilters.specs.Table.{size, reach_of, first, step, bytes_sc
 abbrev pub CoversAll : List (Option ℕ) → Coverage
 CoversAll table query ignore_case = All (Covers table ignore_case) query.patterns
 
--- the answer is the step of the table, and the bytes up to the first of the table are scanned and nothing else is counted
-pub record IsStep (table : List (Option ℕ)) (haystack : List ℕ) (span : Span) (answer : Candidate) (old new : Counts) : Type 0 where
+-- the answer is the step of the table, and the bytes up to the first of the table are scanned and nothing else is
+-- counted
+pub record IsStep (table : List (Option ℕ)) (haystack : List ℕ) (span : Span) (answer : Candidate)
+    (old new : Counts) : Type 0 where
   pub step : answer ≡ candidate_of (step table haystack span)
   pub scanned : new ≡ record old { scanned = old.scanned + bytes_scanned span (first table haystack span) }
 

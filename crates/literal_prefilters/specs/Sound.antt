@@ -9,12 +9,14 @@ use Rattle.literal_prefilters.specs.declared.prefilter.Candidate.{Candidate}
 use Rattle.literal_prefilters.specs.declared.prefilter.Candidate.TheVariants.{None, Match, PossibleStartOfMatch}
 
 -- the place is in the span, and no occurrence in the span begins before it
-pub record IsPossibleStart (patterns : List (List ℕ)) (ignore_case : Bool) (haystack : List ℕ) (span : Span) (place : ℕ) : Type 0 where
+pub record IsPossibleStart (patterns : List (List ℕ)) (ignore_case : Bool) (haystack : List ℕ) (span : Span)
+    (place : ℕ) : Type 0 where
   pub after_start : span.start ≤ place
   pub before_end : place < span.end
   pub none_before : (i at : ℕ) → Occurs patterns ignore_case haystack span i at → place ≤ at
 
--- the answer passes over no occurrence: none only if nothing occurs in the span, a match only if it is the leftmost one,
+-- the answer passes over no occurrence: none only if nothing occurs in the span, a match only if it is the leftmost
+-- one,
 -- and a place only if it is a possible start
 abbrev pub Sound : Query → Bool → List ℕ → Span → Candidate → Type 0
 Sound query ignore_case haystack span None =
@@ -30,7 +32,8 @@ Coverage = Query → Bool → Type 0
 
 -- the answer is sound for whatever is covered
 pub record PassesOverNone (covers : Coverage) (haystack : List ℕ) (span : Span) (answer : Candidate) : Type 0 where
-  pub each : (query : Query) (ignore_case : Bool) → covers query ignore_case → Sound query ignore_case haystack span answer
+  pub each : (query : Query) (ignore_case : Bool) → covers query ignore_case
+      → Sound query ignore_case haystack span answer
 
 -- how many bytes an answer may scan: up to the reach past a possible start, and the span otherwise
 abbrev pub scans_at_most : ℕ → Span → Candidate → ℕ

@@ -1,5 +1,7 @@
 -- A table of bytes: for each of the 256 bytes its distance, if it has one.
-use Rattle.std.specs.Prelude.{ℕ, ◌+◌, ◌-◌, ◌≤◌, max, unwrap_or, Bool, List, Option, None, Some, IfSome, MatchOption, is_some, option_map, position, fold, sum_by, count_by, slice_index, slice_index_or, slice_range, if◌then◌else◌}
+use Rattle.std.specs.Prelude.{ℕ, ◌+◌, ◌-◌, ◌≤◌, max, unwrap_or, Bool, List, Option, None, Some, IfSome, MatchOption}
+use Rattle.std.specs.Prelude.{is_some, option_map, position, fold, sum_by, count_by, slice_index, slice_index_or}
+use Rattle.std.specs.Prelude.{slice_range, if◌then◌else◌}
 use Rattle.std.specs.List.{enumerate_from}
 use Rattle.literal_base.specs.Rank.{rank_of}
 use Rattle.literal_base.specs.declared.search.Span.{Span}
@@ -52,7 +54,10 @@ abbrev pub bytes_scanned : Span → Option ℕ → ℕ
 bytes_scanned span None = span.end - span.start
 bytes_scanned span (Some place) = place + 1 - span.start
 
--- in each case variant of the pattern some byte is in the table, and the distance of the earliest one is at least its offset
+-- in each case variant of the pattern some byte is in the table, and the distance of the earliest one is at least its
+-- offset
 abbrev pub Covers : List (Option ℕ) → Bool → List ℕ → Type 0
 Covers table ignore_case pattern =
-    (variant : List ℕ) → AreBytes variant → Same ignore_case variant pattern → MatchOption (position (is_in table) variant) ⊥ (λ j. IfSome (distance_of table (slice_index variant j)) (λ d. j ≤ d))
+    (variant : List ℕ) → AreBytes variant → Same ignore_case variant pattern
+    → MatchOption (position (is_in table) variant) ⊥
+    (λ j. IfSome (distance_of table (slice_index variant j)) (λ d. j ≤ d))

@@ -1,5 +1,6 @@
 -- The two tables of a list of patterns.
-use Rattle.std.specs.Prelude.{◌==◌, ℕ, ◌&&◌, ◌||◌, not, zero, suc, max, Bool, false, List, length, drop, Option, None, Some, fold, nat_lt, nat_le, slice_index, if◌then◌else◌}
+use Rattle.std.specs.Prelude.{◌==◌, ℕ, ◌&&◌, ◌||◌, not, zero, suc, max, Bool, false, List, length, drop, Option, None}
+use Rattle.std.specs.Prelude.{Some, fold, nat_lt, nat_le, slice_index, if◌then◌else◌}
 use Rattle.std.specs.List.{list_any, list_all}
 use Rattle.literal_base.specs.Bytes.{by_byte}
 use Rattle.literal_base.specs.Rank.{rank_of}
@@ -36,7 +37,8 @@ rarer a b = if nat_lt (rank_of b) (rank_of a) then b else a
 abbrev pub rarest : List ℕ → ℕ
 rarest pattern = fold rarer (slice_index pattern 0) pattern
 
--- the set after one more pattern: one that holds a byte of the set adds nothing, and another its rarest byte, in both cases where case is ignored
+-- the set after one more pattern: one that holds a byte of the set adds nothing, and another its rarest byte, in both
+-- cases where case is ignored
 abbrev pub with_rarest : Bool → (ℕ → Bool) → List ℕ → ℕ → Bool
 with_rarest ignore_case in_set pattern byte =
     in_set byte || (not (list_any in_set pattern) && same_byte ignore_case byte (rarest pattern))
@@ -64,4 +66,5 @@ rare_bytes ignore_case patterns = table_of (is_rare_byte ignore_case patterns) (
 abbrev pub rare_table : Bool → List (List ℕ) → Option (List (Option ℕ))
 rare_table ignore_case patterns =
     let table = rare_bytes ignore_case patterns in
-    if (nat_lt 0 (length patterns) && list_all (λ p. nat_le (length p) 255) patterns) && nat_le (size table) 3 then Some table else None
+    if (nat_lt 0 (length patterns) && list_all (λ p. nat_le (length p) 255) patterns) && nat_le
+    (size table) 3 then Some table else None

@@ -18,5 +18,7 @@ StartsVariants ignore_case patterns =
 
 -- the distance of a byte that stands in a case variant is the largest offset at which it does
 pub record IsLargestOffset (ignore_case : Bool) (patterns : List (List ℕ)) (byte : ℕ) : Type 0 where
-  pub bound : (offset : ℕ) → StandsIn ignore_case patterns byte offset → offset ≤ largest_offset ignore_case patterns byte
-  pub reached : (offset : ℕ) → StandsIn ignore_case patterns byte offset → StandsIn ignore_case patterns byte (largest_offset ignore_case patterns byte)
+  pub bound : (offset : ℕ) → StandsIn ignore_case patterns byte offset
+      → offset ≤ largest_offset ignore_case patterns byte
+  pub reached : (offset : ℕ) → StandsIn ignore_case patterns byte offset
+      → StandsIn ignore_case patterns byte (largest_offset ignore_case patterns byte)

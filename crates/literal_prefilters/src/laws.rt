@@ -3,7 +3,7 @@ ghost use Rattle.std.specs.Prelude.{◌≡◌, ◌↔◌, ◌≤◌, ◌<◌, �
 ghost use Rattle.std.specs.List.{All};
 ghost use Rattle.literal_base.specs.Query.{Query};
 ghost use Rattle.literal_base.specs.declared.search.Span.{Span};
-ghost use Rattle.literal_base.specs.Occurs.{IsValidSpan};
+ghost use Rattle.literal_base.specs.Occurs.{NoneIsEmpty, IsValidSpan};
 ghost use Rattle.literal_prefilters.specs.Answers.{candidate_of};
 ghost use Rattle.literal_base.specs.Bytes.{AreBytes};
 ghost use Rattle.literal_prefilters.specs.Sound.{Sound};
@@ -32,7 +32,7 @@ pub fn nothing_is_proposed_without_a_byte()
 /// which is empty.
 pub fn start_bytes_begin_variants()
     ensures { (ignore_case : Bool) (patterns : List (List ℕ))
-        → All (λ (bytes : List ℕ). 0 < length bytes) patterns
+        → NoneIsEmpty patterns
         → StartsVariants ignore_case patterns }
 {}
 

@@ -14,7 +14,8 @@ module _ (query : Query) (ignore_case : Bool) (haystack : List ℕ) (span : Span
   pub record IsBestOf (b : ℕ) : Type 0 where
     pub below : b < n
     pub occurs : Occurs query.patterns ignore_case haystack span b at
-    pub best : (i : ℕ) → i < n → IsBetter query.kind query.patterns i b → ¬ Occurs query.patterns ignore_case haystack span i at
+    pub best : (i : ℕ) → i < n → IsBetter query.kind query.patterns i b
+        → ¬ Occurs query.patterns ignore_case haystack span i at
 
   -- the best of the first n patterns that occur at the place, and None exactly if none of them does
   abbrev pub IsBestIfAny : Option ℕ → Type 0

@@ -2,7 +2,7 @@
 //! shares nothing with the searches that are compared with it but the definitions.
 ghost use Rattle.std.specs.Prelude.{◌≡◌, ◌+◌, ◌<◌, ◌≤◌, ◌⊎◌, ◌↔◌, List, ℕ, length, map, Some, IsTrue, IfOk};
 ghost use Rattle.std.specs.List.{All};
-ghost use Rattle.literal_base.specs.Occurs.{Occurs, Same, IsValidSpan, pattern_at};
+ghost use Rattle.literal_base.specs.Occurs.{NoneIsEmpty, Occurs, Same, IsValidSpan, pattern_at};
 ghost use Rattle.literal_base.specs.Leftmost.{IsBetter, IsLeftmost};
 ghost use Rattle.literal_base.specs.Greedy.{IsGreedy};
 ghost use Rattle.literal_tests.specs.Best.{IsBestIfAny};
@@ -122,7 +122,7 @@ pub fn leftmost_plainly(
 
 /// Whether no pattern is empty.
 pub fn none_is_empty(patterns: &[&[u8]]) -> bool
-    ensures { IsTrue result ↔ All (λ (bytes : List ℕ). 0 < length bytes) (map (λ p. p.now) patterns.now) }
+    ensures { IsTrue result ↔ NoneIsEmpty (map (λ p. p.now) patterns.now) }
 {
     for i in 0..patterns.len() {
         if pattern(patterns, i).is_empty() {
@@ -142,7 +142,7 @@ pub fn greedy_plainly(
     haystack: &[u8],
 ) -> Result<Vec<Match>, AllocError>
     requires numbered { length patterns.now ≤ PatternID.LIMIT }
-    requires not_empty { All (λ (bytes : List ℕ). 0 < length bytes) (map (λ p. p.now) patterns.now) }
+    requires not_empty { NoneIsEmpty (map (λ p. p.now) patterns.now) }
     ensures { IfOk result (λ all. IsGreedy (record { kind = kind; patterns = map (λ p. p.now) patterns.now }) ignore_case haystack.now 0 all.items) }
 {
     let mut all = Vec::new(alloc);

@@ -14,7 +14,8 @@ AreMatches query input matches = IsGreedy query false input 0 matches
 -- the line of a match: the identifier of its pattern, and the offsets from which and up to which it
 -- stands, in decimal with one space between, and a line feed
 abbrev pub line_of : MatchValue → List ℕ
-line_of found = decimal found.pattern ++ codes " " ++ decimal found.start ++ codes " " ++ decimal found.end ++ codes "\n"
+line_of found = decimal found.pattern ++ codes " " ++ decimal found.start ++ codes " " ++ decimal found.end ++ codes
+    "\n"
 
 -- the text is a line for each match of the input, for the query of the words
 pub record AreLines (words : List (List ℕ)) (input text : List ℕ) : Type 0 where

@@ -18,7 +18,8 @@ mode_kind name =
 abbrev pub query_asked : List (List ℕ) → Option Query
 query_asked [] = None
 query_asked (mode ∷ []) = None
-query_asked (mode ∷ (first ∷ more)) = option_map (λ kind. record { kind = kind; patterns = first ∷ more }) (mode_kind mode)
+query_asked (mode ∷ (first ∷ more)) = option_map (λ kind. record { kind = kind; patterns = first ∷ more })
+    (mode_kind mode)
 
 -- the builder to which the patterns of a query were added
 abbrev pub builder_for : Query → BuilderValue

@@ -242,7 +242,7 @@ impl Model for SmallIndexIter {
 
 impl SmallIndexIter {
     /// The indices from 0 up to and not including `len`, which is at most [`SmallIndex::LIMIT`].
-    #[tactic(auto, using(crate::proofs::Numbers::range_length))]
+    #[tactic(auto, using(crate::proofs::lemmas::Counting::range_length))]
     pub fn new(len: usize) -> SmallIndexIter
         requires { len ≤ SmallIndex.LIMIT }
         ensures items { result ≡ range_with_len 0 len }
@@ -259,7 +259,7 @@ impl Iterator for SmallIndexIter {
 
     ghost remaining = { item_count (λ left. left) };
 
-    #[tactic(auto, using(crate::proofs::Numbers::range_moved, crate::proofs::Numbers::first_of_left))]
+    #[tactic(auto, using(crate::proofs::lemmas::Counting::range_moved, crate::proofs::lemmas::Counting::first_of_left))]
     fn next(&mut self) -> Option<SmallIndex> {
         let index = self.range.next()?;
         Some(SmallIndex::must(index))

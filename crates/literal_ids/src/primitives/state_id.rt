@@ -280,7 +280,7 @@ impl Iterator for StateIDIter {
 
 /// The elements of the slice in order, each with its place as an identifier. The slice has at most
 /// [`StateID::LIMIT`] elements.
-#[tactic(auto, using(crate::proofs::Numbers::zip_range, crate::proofs::Numbers::zip_length))]
+#[tactic(auto, using(crate::proofs::lemmas::Counting::zip_range, crate::proofs::lemmas::Counting::zip_length))]
 pub fn with_state_ids<T>(items: &[T]) -> WithStateIDIter<'_, T>
     requires { length items.now ≤ StateID.LIMIT }
     ensures items { result ≡ enumerate_from 0 items.now }
@@ -317,7 +317,7 @@ impl<'a, T> Iterator for WithStateIDIter<'a, T> {
 
     ghost remaining = { item_count (λ left. left) };
 
-    #[tactic(auto, using(crate::proofs::Numbers::zip_nothing))]
+    #[tactic(auto, using(crate::proofs::lemmas::Counting::zip_nothing))]
     fn next(&mut self) -> Option<(StateID, &'a T)> {
         let item = self.items.next()?;
         let id = self.ids.next()?;

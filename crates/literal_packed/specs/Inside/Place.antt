@@ -13,4 +13,5 @@ NoneStandsAt patterns ignore_case haystack at =
 pub record IsBestAt (query : Query) (ignore_case : Bool) (haystack : List ℕ) (at i : ℕ) : Type 0 where
   pub is_pattern : i < length query.patterns
   pub stands : StandsAt ignore_case (pattern_at query.patterns i) haystack at
-  pub best : (j : ℕ) → j < length query.patterns → IsBetter query.kind query.patterns j i → ¬ StandsAt ignore_case (pattern_at query.patterns j) haystack at
+  pub best : (j : ℕ) → j < length query.patterns → IsBetter query.kind query.patterns j i
+      → ¬ StandsAt ignore_case (pattern_at query.patterns j) haystack at

@@ -3,7 +3,9 @@ use Rattle.std.specs.Prelude.{◌≡◌, ℕ, List, [], Option, Some, None, fals
 use Rattle.literal_base.specs.declared.packed.MatchKind.TheVariants.{LeftmostFirst}
 use Rattle.literal_packed.specs.PatternsValue.{IsInOrder}
 use Rattle.literal_prefilters.specs.declared.prefilter.Finder.{Finder}
-use Rattle.literal_prefilters.specs.declared.prefilter.Finder.TheVariants.{StartBytesOne, StartBytesTwo, StartBytesThree, RareBytesOne, RareBytesTwo, RareBytesThree}
+use Rattle.literal_prefilters.specs.declared.prefilter.Finder.TheVariants.{StartBytesOne, StartBytesTwo}
+use Rattle.literal_prefilters.specs.declared.prefilter.Finder.TheVariants.{StartBytesThree, RareBytesOne, RareBytesTwo}
+use Rattle.literal_prefilters.specs.declared.prefilter.Finder.TheVariants.{RareBytesThree}
 use Rattle.literal_prefilters.specs.declared.prefilter.Builder.TheInside.{Inside}
 use Rattle.literal_packed.specs.State.{state_of}
 use Rattle.literal_prefilters.specs.PrefilterBuilderValue.{PrefilterBuilderValue, pattern_limit}

@@ -2,7 +2,7 @@
 ghost use Rattle.std.specs.Prelude.{◌≡◌, ◌==◌, ◌||◌, ◌<◌, ◌≤◌, ◌↔◌, ℕ, max, true, length, slice_index, if◌then◌else◌, IsTrue, IfSome, nat_le};
 ghost use Rattle.std.specs.List.{All, list_any, list_all};
 ghost use Rattle.literal_base.specs.Bytes.{contains};
-ghost use Rattle.literal_base.specs.Occurs.{pattern_at, same_byte};
+ghost use Rattle.literal_base.specs.Occurs.{NoneIsEmpty, pattern_at, same_byte};
 ghost use Rattle.literal_prefilters.specs.Table.{reach_of, Covers};
 ghost use Rattle.literal_prefilters.specs.Tables.{start_table, rare_table, rarest, is_start_byte, is_rare_byte, offset_below, largest_offset, table_of, if_small};
 
@@ -23,7 +23,7 @@ fn bytes_of(patterns: &Patterns, id: usize) -> &[u8]
     ensures bytes { result.now ≡ pattern_at patterns.now.patterns id }
     ensures some { 0 < length result.now }
 {
-    let _ = patterns.len(); // says that each has an identifier, and none is empty
+    let _ = patterns.len(); // (its contract says that each pattern has an identifier)
     patterns.get(PatternID::must(id)).bytes()
 }
 
@@ -57,7 +57,7 @@ pub(super) fn holds_high(set: &ByteSet) -> bool
 
 pub(super) fn start_set(patterns: &Patterns, ignore_case: bool) -> ByteSet
     ensures each { (b : ℕ) → contains result b ≡ is_start_byte ignore_case patterns.now.patterns b }
-    ensures not_empty { All (λ p. 0 < length p) patterns.now.patterns }
+    ensures not_empty { NoneIsEmpty patterns.now.patterns }
 {
     let mut set = ByteSet::empty();
     for id in 0..patterns.len() {

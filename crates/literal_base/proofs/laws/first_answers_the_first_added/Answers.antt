@@ -1,4 +1,4 @@
-use Rattle.literal_base.proofs.Ties.{first_added}
+use Rattle.literal_base.proofs.lemmas.Ties.{first_added}
 use Rattle.literal_base.proofs.laws.first_answers_the_first_added.Goals as goal
 
 pub returns : goal.returns

@@ -1,4 +1,4 @@
-use Rattle.literal_base.proofs.Exists.{leftmost_exists_lem}
+use Rattle.literal_base.proofs.lemmas.Exists.{leftmost_exists_lem}
 use Rattle.literal_base.proofs.laws.leftmost_exists.Goals as goal
 
 pub returns : goal.returns

@@ -1,4 +1,4 @@
-use Rattle.literal_packed.proofs.BetterTest.{Decides-is_better}
+use Rattle.literal_packed.proofs.lemmas.Ties.{Decides-is_better}
 use Rattle.literal_packed.proofs.laws.better_is_tested.Goals as goal
 
 pub returns : goal.returns

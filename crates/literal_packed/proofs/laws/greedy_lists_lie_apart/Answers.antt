@@ -1,4 +1,4 @@
-use Rattle.literal_packed.proofs.GreedyList.{greedy_apart}
+use Rattle.literal_packed.proofs.lemmas.GreedyLists.{greedy_apart}
 use Rattle.literal_packed.proofs.laws.greedy_lists_lie_apart.Goals as goal
 
 pub returns : goal.returns

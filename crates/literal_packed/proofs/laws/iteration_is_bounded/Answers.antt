@@ -1,6 +1,6 @@
 use Rattle.std.proofs.Common.{Some, None, sym, subst, refl, arith}
-use Rattle.literal_packed.proofs.Spending.{spends_nothing}
-use Rattle.literal_packed.proofs.Iteration.{IsUnderWay, under_way_next, run_within}
+use Rattle.literal_packed.proofs.lemmas.Spending.{spends_nothing}
+use Rattle.literal_packed.proofs.lemmas.Iterations.{IsUnderWay, under_way_next, run_within}
 use Rattle.literal_packed.proofs.laws.iteration_is_bounded.Goals as goal
 
 pub loop-init : goal.loop-init

@@ -1,4 +1,4 @@
-use Rattle.literal_packed.proofs.Iteration.{IsGathering}
+use Rattle.literal_packed.proofs.lemmas.Iterations.{IsGathering}
 use Rattle.literal_packed.proofs.laws.iteration_is_greedy.Given as goal
 
 abbrev pub invariant-loop-found : goal.invariant-loop-found

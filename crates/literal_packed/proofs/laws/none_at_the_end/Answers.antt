@@ -1,4 +1,4 @@
-use Rattle.literal_packed.proofs.Iteration.{none_at_end}
+use Rattle.literal_packed.proofs.lemmas.Iterations.{none_at_end}
 use Rattle.literal_packed.proofs.laws.none_at_the_end.Goals as goal
 
 pub returns : goal.returns

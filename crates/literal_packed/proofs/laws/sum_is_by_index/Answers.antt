@@ -1,5 +1,5 @@
 use Rattle.std.proofs.Common.{◌%◌, ◌^◌, ap}
-use Rattle.literal_packed.proofs.SumByIndex.{weighted_by_index}
+use Rattle.literal_packed.proofs.lemmas.SumByIndex.{weighted_by_index}
 use Rattle.literal_packed.proofs.laws.sum_is_by_index.Goals as goal
 
 pub returns : goal.returns

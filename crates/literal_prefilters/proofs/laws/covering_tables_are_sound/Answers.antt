@@ -1,4 +1,4 @@
-use Rattle.literal_prefilters.proofs.Sound.{step-sound}
+use Rattle.literal_prefilters.proofs.lemmas.Sound.{step-sound}
 use Rattle.literal_prefilters.proofs.laws.covering_tables_are_sound.Goals as goal
 
 pub returns : goal.returns

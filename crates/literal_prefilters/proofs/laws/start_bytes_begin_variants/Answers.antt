@@ -1,4 +1,4 @@
-use Rattle.literal_prefilters.proofs.Stands.{starts_variants}
+use Rattle.literal_prefilters.proofs.lemmas.Stands.{starts_variants}
 use Rattle.literal_prefilters.proofs.laws.start_bytes_begin_variants.Goals as goal
 
 pub returns : goal.returns

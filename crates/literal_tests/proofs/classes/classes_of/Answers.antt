@@ -2,8 +2,8 @@ use Rattle.std.proofs.Common.{take, get_or, sym, ap, ◌∙◌}
 use Rattle.std.proofs.lemmas.List.{take_more, take_all}
 use Rattle.literal_base.specs.Bytes.{by_byte}
 use Rattle.literal_base.specs.Classes.{class_of, marks_of, with_range_marked}
-use Rattle.literal_base.proofs.Marks.{marks_of-push}
-use Rattle.literal_tests.proofs.Shared.{share_by_byte}
+use Rattle.literal_base.proofs.lemmas.Marks.{marks_of-push}
+use Rattle.literal_tests.proofs.lemmas.Shared.{share_by_byte}
 use Rattle.literal_tests.proofs.classes.classes_of.Goals as goal
 
 pub loop-start-preserved : goal.loop-start-preserved
@@ -19,7 +19,8 @@ loop-start-preserved c =
 pub returns-clause-classes : goal.returns-clause-classes
 returns-clause-classes c =
     c.byte_classes.ensures
-    ∙ ap (λ marks. by_byte (class_of marks)) (c.loop-start.invariant ∙ ap marks_of (take_all c.loop-start.start-index c.args.ranges.now c.loop-start-test.false))
+    ∙ ap (λ marks. by_byte (class_of marks)) (c.loop-start.invariant
+    ∙ ap marks_of (take_all c.loop-start.start-index c.args.ranges.now c.loop-start-test.false))
 
 pub returns-clause-shared : goal.returns-clause-shared
 returns-clause-shared c = share_by_byte c.args.ranges.now _ (returns-clause-classes c) c.requires

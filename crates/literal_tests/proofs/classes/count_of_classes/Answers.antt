@@ -10,4 +10,5 @@ returns c =
     let len = alphabet_len_of c.args.classes.now in
     let same = λ (class : ℕ). class in
     let left = λ (classes : List ℕ). classes in
-    count_from_yields_List c.iter.result c.count.result c.count.ensures.ran (YieldsList-from_first same left (range_with_len 0 len) c.iter.ensures.classes) ∙ length-range_with_len 0 len
+    count_from_yields_List c.iter.result c.count.result c.count.ensures.ran
+    (YieldsList-from_first same left (range_with_len 0 len) c.iter.ensures.classes) ∙ length-range_with_len 0 len

@@ -8,4 +8,5 @@ returns-in-Some c = λ kind serves.
     let builder = c.args.builder.now in
     let P : Option (List (Option ℕ)) → Type 0 = λ built. IfSome built (IsBuiltFor builder) in
     let covers : IsBuiltFor builder c.in-Some.pre = subst P c.in-Some.is c.in_ok-pre.ensures.covers in
-    c.find_in.ensures.sound.each (record { kind = kind; patterns = kept_of builder.state }) builder.ignore_case (covers kind serves)
+    c.find_in.ensures.sound.each (record { kind = kind; patterns = kept_of builder.state }) builder.ignore_case
+    (covers kind serves)

@@ -1,6 +1,6 @@
 use Rattle.std.proofs.Common.{◌≡◌, ◌∷◌, ◌+◌, length, sym, ap, ◌∙◌, arith}
 use Rattle.literal_base.specs.Inside.Classes.{classes_from}
-use Rattle.literal_base.proofs.BytesFrom.{classes_from-more}
+use Rattle.literal_base.proofs.lemmas.ClassIterations.{classes_from-more}
 use Rattle.literal_base.proofs.alphabet.ByteClassIterIterator.next.Goals as goal
 
 pub returns-clause-steps : goal.returns-clause-steps

@@ -1,5 +1,5 @@
 use Rattle.std.proofs.Common.{◌≤◌, length, sym, ap, ◌∙◌, subst}
-use Rattle.literal_base.proofs.BytesFrom.{elements-bytes_from, length-elements-le}
+use Rattle.literal_base.proofs.lemmas.ClassIterations.{elements-bytes_from, length-elements-le}
 use Rattle.literal_base.proofs.alphabet.ByteClasses.elements.Goals as goal
 
 pub returns-clause-bytes : goal.returns-clause-bytes

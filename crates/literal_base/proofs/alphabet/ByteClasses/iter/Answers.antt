@@ -7,5 +7,10 @@ use Rattle.literal_base.proofs.alphabet.ByteClasses.iter.Goals as goal
 pub returns-clause-few : goal.returns-clause-few
 returns-clause-few c =
     let classes = c.args.self.now in
-    let few : length (classes_from classes 0) ≤ 256 = omega (arith, length-range_with_len 0 (alphabet_len_of classes - 0), c.alphabet_len.ensures.len, c.alphabet_len.ensures.few) in
+    let few : length (classes_from classes 0) ≤ 256 = omega (
+      arith,
+      length-range_with_len 0 (alphabet_len_of classes - 0),
+      c.alphabet_len.ensures.len,
+      c.alphabet_len.ensures.few,
+    ) in
     few

@@ -1,5 +1,5 @@
 use Rattle.std.proofs.Common.{◌≤◌, ◌/◌, ◌<◌, max, subst}
-use Rattle.literal_base.proofs.Stride.{power-IsStride2}
+use Rattle.literal_base.proofs.lemmas.Stride.{power-IsStride2}
 use Rattle.literal_base.proofs.alphabet.ByteClasses.stride2.Goals as goal
 
 pub returns-clause-stride2 : goal.returns-clause-stride2

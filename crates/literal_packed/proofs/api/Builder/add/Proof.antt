@@ -34,7 +34,7 @@ use Rattle.literal_packed.specs.declared.api.Lent.{Lent}
 use Rattle.literal_packed.specs.contracts.api.Builder.{the_row as R}
 use Rattle.literal_packed.specs.contracts.api.Lent.{the_row as lent_row}
 use Rattle.literal_packed.proofs.api.Lent.TheLaws.{the_row_laws as lent_laws}
-use Rattle.literal_packed.proofs.Carried.{Unwraps, rests_of_lent, ok_of_lent, err_of_lent}
+use Rattle.literal_packed.proofs.lemmas.Lending.{Unwraps, rests_of_lent, ok_of_lent, err_of_lent}
 use Rattle.literal_packed.specs.contracts.api.Builder.try_add as g
 use Rattle.literal_packed.proofs.api.Builder.try_add.Met.{met as try_add_met}
 use Rattle.literal_packed.specs.contracts.api.unwrapped as h

@@ -25,7 +25,7 @@ use mir.Syntax.{named, a_type, dcons, dnil}
 use mir.Val.{Val, vptr}
 use prog.Wp.{WpFn}
 use base.Logic.{ent}
-use Rattle.literal_packed.proofs.OneValue.{one}
+use Rattle.literal_packed.proofs.lemmas.OneValue.{one}
 use types.ByLocal.{alloc_all, pass_all, free_all, look_at, get, through, sets, lands_as}
 use types.Kit.{prop, regoal, ‵, raw, ◌⊛◌, later, some, ◌$◌, ◌∵◌, !, qed, done, move, drop, group, use0, use1, use2, split, join, pick, await, rewrite, suffices}
 use types.Run.{enter, of_opd, addr, stop, no_more, and_then, returns}
@@ -38,7 +38,7 @@ use Rattle.literal_packed.specs.declared.api.Lent.{Lent}
 use Rattle.literal_packed.specs.contracts.api.Builder.{the_row as R}
 use Rattle.literal_packed.specs.contracts.api.Lent.{the_row as lent_row}
 use Rattle.literal_packed.proofs.api.Lent.TheLaws.{the_row_laws as lent_laws}
-use Rattle.literal_packed.proofs.Carried.{Unwraps, rests_of_lent, ok_of_lent}
+use Rattle.literal_packed.proofs.lemmas.Lending.{Unwraps, rests_of_lent, ok_of_lent}
 use Rattle.literal_packed.specs.contracts.api.Builder.try_extend as g
 use Rattle.literal_packed.proofs.api.Builder.try_extend.Met.{met as try_extend_met}
 use Rattle.literal_packed.specs.contracts.api.unwrapped as h

@@ -5,15 +5,18 @@ use Rattle.literal_base.specs.Occurs.{NothingOccurs}
 use Rattle.literal_base.specs.Leftmost.{IsLeftmostMatch}
 use Rattle.literal_packed.specs.Pairs.{counts_after}
 use Rattle.literal_packed.specs.Spending.{SpendsAtMost}
-use Rattle.literal_packed.proofs.Spending.{spends_found, spends_last, spends_within, ends_within, rest_is}
-use Rattle.literal_packed.proofs.GreedyList.{CountsBefore, IsGreedyBefore, greedy_more, greedy_all, counts_more, counts_all}
+use Rattle.literal_packed.proofs.lemmas.Spending.{spends_found, spends_last, spends_within, ends_within, rest_is}
+use Rattle.literal_packed.proofs.lemmas.GreedyLists.{CountsBefore, IsGreedyBefore, greedy_more, greedy_all, counts_more}
+use Rattle.literal_packed.proofs.lemmas.GreedyLists.{counts_all}
 use Rattle.literal_packed.proofs.api.Searcher.find_all.Goals as goal
 
 pub returns-in_err-push-clause-counted : goal.returns-in_err-push-clause-counted
 returns-in_err-push-clause-counted c =
     spends_within c.args.self.now c.args.haystack.now c.in-Some.found.end c.args.tally.now c.find_in_counted.new.tally
-    (spends_found c.args.self.now c.args.haystack.now c.loop-found.rest c.args.tally.now c.loop-found.tally c.find_in_counted.new.tally c.in-Some.found
-    c.loop-found.invariant.to_end c.loop-found.invariant.within c.in-Some.ensures.not_empty c.loop-found.invariant.spends c.in-Some.ensures.leftmost c.in-Some.ensures.exact)
+    (spends_found c.args.self.now c.args.haystack.now c.loop-found.rest c.args.tally.now c.loop-found.tally
+    c.find_in_counted.new.tally c.in-Some.found
+    c.loop-found.invariant.to_end c.loop-found.invariant.within c.in-Some.ensures.not_empty
+    c.loop-found.invariant.spends c.in-Some.ensures.leftmost c.in-Some.ensures.exact)
 
 pub loop-found-preserved : goal.loop-found-preserved
 loop-found-preserved c =
@@ -22,22 +25,31 @@ loop-found-preserved c =
     let found = c.in-Some.found in
     let start = c.loop-found.rest.start in
     let span_is = rest_is haystack c.loop-found.rest c.loop-found.invariant.to_end in
-    let leftmost = subst (λ (s : Span). IsLeftmostMatch query false haystack s found) span_is c.in-Some.ensures.leftmost in
-    let counted = subst (λ (s : Span). c.find_in_counted.new.tally ≡ counts_after c.loop-found.tally query haystack s (Some found)) span_is c.in-Some.ensures.exact in
+    let leftmost = subst (λ (s : Span). IsLeftmostMatch query false haystack s found) span_is c.in-Some.ensures.leftmost
+    in
+    let counted = subst (λ (s : Span). c.find_in_counted.new.tally ≡ counts_after c.loop-found.tally query haystack s
+    (Some found)) span_is c.in-Some.ensures.exact in
     let end_is = c.end.ensures.end in
-    let ends = ends_within query haystack c.loop-found.rest found c.loop-found.invariant.to_end c.in-Some.ensures.leftmost in
+    let ends = ends_within query haystack c.loop-found.rest found c.loop-found.invariant.to_end
+    c.in-Some.ensures.leftmost in
     record {
       within = omega arith;
       to_end = c.loop-found.invariant.to_end;
-      greedy = subst (λ (xs : List MatchValue). IsGreedyBefore query haystack xs c.end.result) (sym c.in_ok-push.ensures.items)
+      greedy = subst (λ (xs : List MatchValue). IsGreedyBefore query haystack xs c.end.result)
+          (sym c.in_ok-push.ensures.items)
           (subst (λ e. IsGreedyBefore query haystack (c.loop-found.all.items ++ found ∷ []) e) (sym end_is)
           (greedy_more query haystack c.loop-found.all.items start found c.loop-found.invariant.greedy leftmost));
-      exact = subst (λ (xs : List MatchValue). CountsBefore query haystack c.args.tally.now c.find_in_counted.new.tally xs c.end.result) (sym c.in_ok-push.ensures.items)
-          (subst (λ e. CountsBefore query haystack c.args.tally.now c.find_in_counted.new.tally (c.loop-found.all.items ++ found ∷ []) e) (sym end_is)
-          (counts_more query haystack c.args.tally.now c.loop-found.tally c.find_in_counted.new.tally c.loop-found.all.items start found c.loop-found.invariant.exact counted));
+      exact = subst (λ (xs : List MatchValue). CountsBefore query haystack c.args.tally.now c.find_in_counted.new.tally
+          xs c.end.result) (sym c.in_ok-push.ensures.items)
+          (subst (λ e. CountsBefore query haystack c.args.tally.now c.find_in_counted.new.tally
+          (c.loop-found.all.items ++ found ∷ []) e) (sym end_is)
+          (counts_more query haystack c.args.tally.now c.loop-found.tally c.find_in_counted.new.tally
+          c.loop-found.all.items start found c.loop-found.invariant.exact counted));
       spends = subst (λ e. SpendsAtMost query haystack 0 e c.args.tally.now c.find_in_counted.new.tally) (sym end_is)
-          (spends_found query haystack c.loop-found.rest c.args.tally.now c.loop-found.tally c.find_in_counted.new.tally found
-          c.loop-found.invariant.to_end c.loop-found.invariant.within c.in-Some.ensures.not_empty c.loop-found.invariant.spends c.in-Some.ensures.leftmost c.in-Some.ensures.exact);
+          (spends_found query haystack c.loop-found.rest c.args.tally.now c.loop-found.tally c.find_in_counted.new.tally
+          found
+          c.loop-found.invariant.to_end c.loop-found.invariant.within c.in-Some.ensures.not_empty
+          c.loop-found.invariant.spends c.in-Some.ensures.leftmost c.in-Some.ensures.exact);
     }
 
 pub returns-clause-greedy : goal.returns-clause-greedy
@@ -45,17 +57,23 @@ returns-clause-greedy c =
     let query = c.args.self.now in
     let haystack = c.args.haystack.now in
     greedy_all query haystack c.loop-found.all.items c.loop-found.rest.start c.loop-found.invariant.greedy
-    (subst (λ (s : Span). NothingOccurs query.patterns false haystack s) (rest_is haystack c.loop-found.rest c.loop-found.invariant.to_end) c.in_default.ensures.leftmost)
+    (subst (λ (s : Span). NothingOccurs query.patterns false haystack s)
+    (rest_is haystack c.loop-found.rest c.loop-found.invariant.to_end) c.in_default.ensures.leftmost)
 
 pub returns-clause-exact : goal.returns-clause-exact
 returns-clause-exact c =
     let query = c.args.self.now in
     let haystack = c.args.haystack.now in
-    counts_all query haystack c.args.tally.now c.loop-found.tally c.find_in_counted.new.tally c.loop-found.all.items c.loop-found.rest.start c.loop-found.invariant.exact
-    (subst (λ (s : Span). c.find_in_counted.new.tally ≡ counts_after c.loop-found.tally query haystack s None) (rest_is haystack c.loop-found.rest c.loop-found.invariant.to_end) c.in_default.ensures.exact)
+    counts_all query haystack c.args.tally.now c.loop-found.tally c.find_in_counted.new.tally c.loop-found.all.items
+    c.loop-found.rest.start c.loop-found.invariant.exact
+    (subst (λ (s : Span). c.find_in_counted.new.tally ≡ counts_after c.loop-found.tally query haystack s None)
+    (rest_is haystack c.loop-found.rest c.loop-found.invariant.to_end) c.in_default.ensures.exact)
 
 pub returns-clause-counted : goal.returns-clause-counted
 returns-clause-counted c =
-    spends_within c.args.self.now c.args.haystack.now (length c.args.haystack.now) c.args.tally.now c.find_in_counted.new.tally
-    (spends_last c.args.self.now c.args.haystack.now c.loop-found.rest c.args.tally.now c.loop-found.tally c.find_in_counted.new.tally
-    c.loop-found.invariant.to_end c.loop-found.invariant.within c.loop-found.invariant.spends c.in_default.ensures.leftmost c.in_default.ensures.exact)
+    spends_within c.args.self.now c.args.haystack.now
+    (length c.args.haystack.now) c.args.tally.now c.find_in_counted.new.tally
+    (spends_last c.args.self.now c.args.haystack.now c.loop-found.rest c.args.tally.now c.loop-found.tally
+    c.find_in_counted.new.tally
+    c.loop-found.invariant.to_end c.loop-found.invariant.within c.loop-found.invariant.spends
+    c.in_default.ensures.leftmost c.in_default.ensures.exact)

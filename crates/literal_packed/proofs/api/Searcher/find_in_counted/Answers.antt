@@ -3,18 +3,22 @@ use Rattle.literal_base.specs.Occurs.{rest_from}
 use Rattle.literal_base.specs.Leftmost.{IsLeftmost}
 use Rattle.literal_packed.specs.Pairs.{counts_after}
 use Rattle.literal_base.specs.Query.{Query}
-use Rattle.literal_packed.proofs.Cut.{leftmost_uncut, counts_uncut}
+use Rattle.literal_packed.proofs.lemmas.CutHaystack.{leftmost_uncut, counts_uncut}
 use Rattle.literal_packed.proofs.api.Searcher.find_in_counted.Goals as goal
 
 pub returns-clause-leftmost : goal.returns-clause-leftmost
 returns-clause-leftmost c =
     let cut = take c.args.span.end c.args.haystack.now in
     leftmost_uncut c.args.self.now c.args.haystack.now c.args.span c.requires.in_haystack c.find_at.result
-    (subst (λ (s : Query). IsLeftmost s false cut (rest_from cut c.args.span.start) c.find_at.result) c.self.view_is c.find_at.ensures.leftmost)
+    (subst (λ (s : Query). IsLeftmost s false cut (rest_from cut c.args.span.start) c.find_at.result) c.self.view_is
+    c.find_at.ensures.leftmost)
 
 pub returns-clause-exact : goal.returns-clause-exact
 returns-clause-exact c =
     let cut = take c.args.span.end c.args.haystack.now in
-    let leftmost = subst (λ (s : Query). IsLeftmost s false cut (rest_from cut c.args.span.start) c.find_at.result) c.self.view_is c.find_at.ensures.leftmost in
-    subst (λ (s : Query). c.find_at.new.tally ≡ counts_after c.args.tally.now s cut (rest_from cut c.args.span.start) c.find_at.result) c.self.view_is c.find_at.ensures.exact
-    ∙ counts_uncut c.args.self.now c.args.haystack.now c.args.span c.requires.in_haystack c.args.tally.now c.find_at.result leftmost
+    let leftmost = subst (λ (s : Query). IsLeftmost s false cut (rest_from cut c.args.span.start) c.find_at.result)
+    c.self.view_is c.find_at.ensures.leftmost in
+    subst (λ (s : Query). c.find_at.new.tally ≡ counts_after c.args.tally.now s cut
+    (rest_from cut c.args.span.start) c.find_at.result) c.self.view_is c.find_at.ensures.exact
+    ∙ counts_uncut c.args.self.now c.args.haystack.now c.args.span c.requires.in_haystack c.args.tally.now
+    c.find_at.result leftmost

@@ -1,5 +1,5 @@
 use Rattle.std.proofs.Common.{ap, length, refl}
-use Rattle.literal_packed.proofs.InOrder.{order_once, IsConsistent-reorder}
+use Rattle.literal_packed.proofs.lemmas.Order.{order_once, IsConsistent-reorder}
 use Rattle.literal_packed.proofs.pattern.Patterns.set_match_kind.Goals as goal
 
 pub put_in_order-requires : goal.put_in_order-requires

@@ -24,7 +24,9 @@ invariant-loop-place l =
       passed : (s : ℕ) → l.at ≤ s → s < l.place → NoneStandsAt patterns false l.haystack s;
       counted : l.tally ≡ record l.fn.tally {
         hashed = l.fn.tally.hashed + (l.place + minimum_len_of patterns - l.at);
-        entries = l.fn.tally.entries + pairs_between (has_equal_bucket patterns l.haystack) (length patterns) l.at l.place;
-        compared = l.fn.tally.compared + pairs_between (has_equal_sum patterns l.haystack) (length patterns) l.at l.place;
+        entries = l.fn.tally.entries + pairs_between (has_equal_bucket patterns l.haystack)
+            (length patterns) l.at l.place;
+        compared = l.fn.tally.compared + pairs_between (has_equal_sum patterns l.haystack)
+            (length patterns) l.at l.place;
       };
     }

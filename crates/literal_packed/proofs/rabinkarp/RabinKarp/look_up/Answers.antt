@@ -2,38 +2,53 @@ use Rattle.std.proofs.Common.{◌%◌, ◌∙◌, length, refl, arith}
 use Rattle.std.proofs.lemmas.Bool.{false≢true}
 use Rattle.std.proofs.lemmas.Grind.{common_steps}
 use Rattle.literal_packed.specs.RabinKarpValue.{bucket_at}
-use Rattle.literal_packed.proofs.LookUp.{IsRead, look_up_in, entry_of_pattern, none_more, not_of_sum, counts_other, counts_vain, counts_found, best_found, none_found, counts_none}
+use Rattle.literal_packed.proofs.lemmas.LookUp.{IsRead, look_up_in, entry_of_pattern, none_more, not_of_sum}
+use Rattle.literal_packed.proofs.lemmas.LookUp.{counts_other, counts_vain, counts_found, best_found, none_found}
+use Rattle.literal_packed.proofs.lemmas.LookUp.{counts_none}
 use Rattle.literal_packed.proofs.rabinkarp.RabinKarp.look_up.Goals as goal
-use Rattle.literal_packed.proofs.rabinkarp.RabinKarp.look_up.Goals.{else-entry_sum-sum-via-then-entry_sum-sum+else-matches_at, else-entry_sum-sum-via-else-entry_sum-sum}
+use Rattle.literal_packed.proofs.rabinkarp.RabinKarp.look_up.Goals.{else-entry_sum-sum-via-then-entry_sum-sum+else-matches_at}
+use Rattle.literal_packed.proofs.rabinkarp.RabinKarp.look_up.Goals.{else-entry_sum-sum-via-else-entry_sum-sum}
 
 pub matches_at-requires-clause-is_pattern : goal.matches_at-requires-clause-is_pattern
 matches_at-requires-clause-is_pattern c =
-    let here = look_up_in c.args.patterns.now c.args.self.now c.args.haystack.now c.args.at c.value-sum.result c.requires.made (c.value-sum.ensures ∙ c.requires.sum) in
-    (entry_of_pattern here c.loop-k.k c.entry-entry_sum.result (record { after = omega arith; before = grind (arith, common_steps); is = c.entry-entry_sum.ensures.entry })).1
+    let here = look_up_in c.args.patterns.now c.args.self.now c.args.haystack.now c.args.at c.value-sum.result
+    c.requires.made (c.value-sum.ensures ∙ c.requires.sum) in
+    (entry_of_pattern here c.loop-k.k c.entry-entry_sum.result
+    (record { after = omega arith; before = grind (arith, common_steps); is = c.entry-entry_sum.ensures.entry })).1
 
 pub returns-then-matches_at-clause-best : goal.returns-then-matches_at-clause-best
 returns-then-matches_at-clause-best c =
-    let here = look_up_in c.args.patterns.now c.args.self.now c.args.haystack.now c.args.at c.value-sum.result c.requires.made (c.value-sum.ensures ∙ c.requires.sum) in
-    best_found here c.loop-k.k c.entry-entry_sum.result (record { after = omega arith; before = grind (arith, common_steps); is = c.entry-entry_sum.ensures.entry }) c.loop-k.invariant.none (c.if-matches_at.ensures.stands.0 refl)
+    let here = look_up_in c.args.patterns.now c.args.self.now c.args.haystack.now c.args.at c.value-sum.result
+    c.requires.made (c.value-sum.ensures ∙ c.requires.sum) in
+    best_found here c.loop-k.k c.entry-entry_sum.result
+    (record { after = omega arith; before = grind (arith, common_steps); is = c.entry-entry_sum.ensures.entry })
+    c.loop-k.invariant.none (c.if-matches_at.ensures.stands.0 refl)
 
 pub returns-then-matches_at-clause-counted : goal.returns-then-matches_at-clause-counted
 returns-then-matches_at-clause-counted c =
-    let here = look_up_in c.args.patterns.now c.args.self.now c.args.haystack.now c.args.at c.value-sum.result c.requires.made (c.value-sum.ensures ∙ c.requires.sum) in
-    counts_found here c.loop-k.k c.entry-entry_sum.result c.args.tally.now c.loop-k.tally c.entry-entry_sum.new.tally c.matches_at.new.tally (record { after = omega arith; before = grind (arith, common_steps); is = c.entry-entry_sum.ensures.entry })
+    let here = look_up_in c.args.patterns.now c.args.self.now c.args.haystack.now c.args.at c.value-sum.result
+    c.requires.made (c.value-sum.ensures ∙ c.requires.sum) in
+    counts_found here c.loop-k.k c.entry-entry_sum.result c.args.tally.now c.loop-k.tally c.entry-entry_sum.new.tally
+    c.matches_at.new.tally
+    (record { after = omega arith; before = grind (arith, common_steps); is = c.entry-entry_sum.ensures.entry })
     c.if-entry_sum-sum.true c.loop-k.invariant.counted c.entry-entry_sum.ensures.counted c.if-matches_at.ensures.counted
 
 pub loop-k-preserved : goal.loop-k-preserved
 loop-k-preserved c =
-    let here = look_up_in c.args.patterns.now c.args.self.now c.args.haystack.now c.args.at c.value-sum.result c.requires.made (c.value-sum.ensures ∙ c.requires.sum) in
+    let here = look_up_in c.args.patterns.now c.args.self.now c.args.haystack.now c.args.at c.value-sum.result
+    c.requires.made (c.value-sum.ensures ∙ c.requires.sum) in
     let k = c.loop-k.k in
     let x = c.entry-entry_sum.result in
     let entries = bucket_at c.args.self.now (c.value-sum.result % 64) in
-    let read : IsRead entries 0 (length entries) k x = record { after = omega arith; before = grind (arith, common_steps); is = c.entry-entry_sum.ensures.entry } in
+    let read : IsRead entries 0 (length entries) k x =
+    record { after = omega arith; before = grind (arith, common_steps); is = c.entry-entry_sum.ensures.entry } in
     elim c.else-entry_sum-sum.branch [
       | else-entry_sum-sum-via-then-entry_sum-sum+else-matches_at w ↦ record {
-        none = none_more here k x read c.loop-k.invariant.none (λ stands. false≢true (w.if-matches_at.ensures.stands.1 stands));
+        none = none_more here k x read c.loop-k.invariant.none
+            (λ stands. false≢true (w.if-matches_at.ensures.stands.1 stands));
         counted = w.tally-is ∙ counts_vain here k x c.args.tally.now c.loop-k.tally c.entry-entry_sum.new.tally _ read
-            w.if-entry_sum-sum.true c.loop-k.invariant.counted c.entry-entry_sum.ensures.counted w.if-matches_at.ensures.counted;
+            w.if-entry_sum-sum.true c.loop-k.invariant.counted c.entry-entry_sum.ensures.counted
+            w.if-matches_at.ensures.counted;
       }
       | else-entry_sum-sum-via-else-entry_sum-sum w ↦ record {
         none = none_more here k x read c.loop-k.invariant.none (not_of_sum here k x read w.if-entry_sum-sum.false);
@@ -44,10 +59,13 @@ loop-k-preserved c =
 
 pub returns-clause-best : goal.returns-clause-best
 returns-clause-best c =
-    let here = look_up_in c.args.patterns.now c.args.self.now c.args.haystack.now c.args.at c.value-sum.result c.requires.made (c.value-sum.ensures ∙ c.requires.sum) in
+    let here = look_up_in c.args.patterns.now c.args.self.now c.args.haystack.now c.args.at c.value-sum.result
+    c.requires.made (c.value-sum.ensures ∙ c.requires.sum) in
     none_found here c.loop-k.k (omega arith) (grind (arith, common_steps)) c.loop-k.invariant.none
 
 pub returns-clause-counted : goal.returns-clause-counted
 returns-clause-counted c =
-    let here = look_up_in c.args.patterns.now c.args.self.now c.args.haystack.now c.args.at c.value-sum.result c.requires.made (c.value-sum.ensures ∙ c.requires.sum) in
-    counts_none here c.loop-k.k c.args.tally.now c.loop-k.tally (omega arith) (λ _. grind (arith, common_steps)) (grind (arith, common_steps)) c.loop-k.invariant.counted
+    let here = look_up_in c.args.patterns.now c.args.self.now c.args.haystack.now c.args.at c.value-sum.result
+    c.requires.made (c.value-sum.ensures ∙ c.requires.sum) in
+    counts_none here c.loop-k.k c.args.tally.now c.loop-k.tally (omega arith) (λ _. grind (arith, common_steps))
+    (grind (arith, common_steps)) c.loop-k.invariant.counted

@@ -1,7 +1,7 @@
 use Rattle.std.proofs.Common.{◌≡◌, ◌+◌, ◌*◌, ◌++◌, length, map}
 use Rattle.literal_packed.specs.PatternsValue.{in_order}
 use Rattle.literal_packed.specs.Inside.RabinKarp.{entry_lists}
-use Rattle.literal_packed.proofs.Dealing.{entry_of, IsDealt}
+use Rattle.literal_packed.proofs.lemmas.Dealing.{entry_of, IsDealt}
 use Rattle.literal_packed.proofs.rabinkarp.RabinKarp.new.Given as goal
 
 -- the patterns so far are dealt out, and the first bytes of each were hashed

@@ -1,5 +1,5 @@
 use Rattle.std.proofs.Common.{arith, ◌∙◌}
-use Rattle.literal_packed.proofs.SumSteps.{power_past, power_within}
+use Rattle.literal_packed.proofs.lemmas.Sums.{power_past, power_within}
 use Rattle.literal_packed.proofs.rabinkarp.Rolling.new.Goals as goal
 use Rattle.literal_packed.proofs.rabinkarp.Rolling.new.Goals.{then-window-le64, else-window-le64}
 

@@ -1,6 +1,6 @@
 use Rattle.std.proofs.Common.{◌+◌, ◌%◌, ◌^◌, ℕ, sym, ap, ◌∙◌}
 use Rattle.literal_packed.specs.RollingValue.{RollingValue}
-use Rattle.literal_packed.proofs.SumSteps.{sum_of-roll}
+use Rattle.literal_packed.proofs.lemmas.Sums.{sum_of-roll}
 use Rattle.literal_packed.proofs.rabinkarp.Rolling.roll.Goals as goal
 
 pub returns-clause-sum : goal.returns-clause-sum

@@ -1,6 +1,6 @@
 use Rattle.std.proofs.Common.{◌==◌, ◌||◌, max, cond, slice_index, sym, ap, ◌∙◌}
-use Rattle.literal_prefilters.proofs.Case.{same_byte-ignored, same_byte-kept}
-use Rattle.literal_prefilters.proofs.Offsets.{offset_below-more, raised_twice}
+use Rattle.literal_prefilters.proofs.lemmas.Case.{same_byte-ignored, same_byte-kept}
+use Rattle.literal_prefilters.proofs.lemmas.Offsets.{offset_below-more, raised_twice}
 use Rattle.literal_prefilters.proofs.prefilter.tables.raise_all.Goals as goal
 use Rattle.literal_prefilters.proofs.prefilter.tables.raise_all.Goals.{then-ignore_case, else-ignore_case}
 
@@ -16,8 +16,15 @@ loop-offset-preserved c = λ b.
     elim c.if-ignore_case.branch [
       | then-ignore_case w ↦
           offset_below-more c.args.ignore_case b p n start old new (c.loop-offset.invariant b)
-          (ap (λ os. slice_index os b) w.offsets-is ∙ (raised_twice (b == x) (b == w.opposite_ascii_case.result) n old one _ (c.raise.ensures b) (w.raise-then-ignore_case.ensures b) ∙ ap (λ t. cond t (max old n) old) (ap (λ y. b == x || b == y) w.opposite_ascii_case.ensures ∙ sym (same_byte-ignored c.args.ignore_case b x w.if-ignore_case.true))))
+          (ap (λ os. slice_index os b) w.offsets-is
+          ∙ (raised_twice (b == x) (b == w.opposite_ascii_case.result) n old one _ (c.raise.ensures b)
+          (w.raise-then-ignore_case.ensures b)
+          ∙ ap (λ t. cond t (max old n) old)
+          (ap (λ y. b == x || b == y) w.opposite_ascii_case.ensures
+          ∙ sym (same_byte-ignored c.args.ignore_case b x w.if-ignore_case.true))))
       | else-ignore_case w ↦
           offset_below-more c.args.ignore_case b p n start old new (c.loop-offset.invariant b)
-          (ap (λ os. slice_index os b) w.offsets-is ∙ (c.raise.ensures b ∙ ap (λ t. cond t (max old n) old) (sym (same_byte-kept c.args.ignore_case b x w.if-ignore_case.false))))
+          (ap (λ os. slice_index os b) w.offsets-is
+          ∙ (c.raise.ensures b ∙ ap (λ t. cond t (max old n) old)
+          (sym (same_byte-kept c.args.ignore_case b x w.if-ignore_case.false))))
     ]

@@ -4,4 +4,5 @@ use Rattle.literal_prefilters.proofs.prefilter.tables.raise_all.Given as goal
 
 abbrev pub invariant-loop-offset : goal.invariant-loop-offset
 invariant-loop-offset l =
-    (b : ℕ) → slice_index l.offsets b ≡ max (slice_index l.initial.offsets b) (offset_below l.ignore_case b l.pattern l.offset)
+    (b : ℕ) → slice_index l.offsets b ≡ max (slice_index l.initial.offsets b)
+    (offset_below l.ignore_case b l.pattern l.offset)

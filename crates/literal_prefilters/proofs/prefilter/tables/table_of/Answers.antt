@@ -1,6 +1,6 @@
 use Rattle.std.proofs.Common.{cond, Some, None, slice_index, refl, ap, ◌∙◌, arith}
 use Rattle.literal_base.specs.Bytes.{contains}
-use Rattle.literal_base.proofs.ByByte.{by_byte_is, get_or-replicate_same}
+use Rattle.literal_base.proofs.lemmas.ByByte.{by_byte_is, get_or-replicate_same}
 use Rattle.literal_prefilters.specs.Tables.{if_small}
 use Rattle.literal_prefilters.proofs.prefilter.tables.table_of.Goals as goal
 
@@ -15,4 +15,6 @@ pub returns : goal.returns
 returns c =
     let set = c.args.set.now in
     let offsets = c.args.offsets.now in
-    c.if_small.ensures ∙ ap if_small (by_byte_is (λ b. cond (contains set b) (Some (slice_index offsets b)) None) c.loop-byte.distances None c.loop-byte.invariant.whole (λ b below. c.loop-byte.invariant.done b (omega arith)))
+    c.if_small.ensures ∙ ap if_small (by_byte_is
+    (λ b. cond (contains set b) (Some (slice_index offsets b)) None) c.loop-byte.distances None
+    c.loop-byte.invariant.whole (λ b below. c.loop-byte.invariant.done b (omega arith)))

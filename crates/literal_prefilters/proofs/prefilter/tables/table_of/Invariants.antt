@@ -5,6 +5,7 @@ use Rattle.literal_prefilters.proofs.prefilter.tables.table_of.Given as goal
 abbrev pub invariant-loop-byte : goal.invariant-loop-byte
 invariant-loop-byte l = record {
   whole : length l.distances ≡ 256;
-  done : (b : ℕ) → b < l.byte → get_or l.distances b None ≡ cond (contains l.set b) (Some (slice_index l.offsets b)) None;
+  done : (b : ℕ) → b < l.byte → get_or l.distances b None ≡ cond (contains l.set b)
+      (Some (slice_index l.offsets b)) None;
   to_do : (b : ℕ) → l.byte ≤ b → get_or l.distances b None ≡ None;
 }

@@ -1,0 +1,9 @@
+-- Lemmas that several proofs share, by topic.
+pub mod ByByte
+pub mod ClassIterations
+pub mod Exists
+pub mod Marks
+pub mod Runs
+pub mod Stride
+pub mod Ties
+pub mod Unique

@@ -1,0 +1,21 @@
+-- Lemmas that several proofs share, by topic.
+pub mod Additions
+pub mod Buckets
+pub mod CutHaystack
+pub mod Dealing
+pub mod Given
+pub mod GreedyLists
+pub mod Iterations
+pub mod Lending
+pub mod Lists
+pub mod LongestOrder
+pub mod LookUp
+pub mod MinimumLen
+pub mod OneValue
+pub mod Order
+pub mod PlaceCounts
+pub mod Spending
+pub mod SumByIndex
+pub mod Sums
+pub mod Ties
+pub mod Windows

@@ -1,0 +1,79 @@
+-- The state of a builder, addition after addition.
+-- For `Builder::put_all` and `Searcher::new`.
+use Rattle.std.proofs.Common.{◌≡◌, ℕ, ◌++◌, Bool, true, false, cond, List, [], ◌∷◌, length, map, Option, Some, None}
+use Rattle.std.proofs.Common.{Result, Ok, Err, IfOk, ltb, refl, sym, ap, ◌∙◌, append_assoc, append-nil, arith}
+use Rattle.std.specs.List.{list_all}
+use Rattle.std.specs.Borrow.{Bor}
+use Rattle.std.proofs.lemmas.Bool.Decides.{nat_tests}
+use Rattle.std.proofs.lemmas.List.{length-append, map_push}
+use Rattle.std.proofs.lemmas.List.Folds.{list_all-append}
+use Rattle.literal_packed.specs.State.{may_keep, state_of, state_after}
+use Rattle.literal_base.specs.Query.{Query}
+use Rattle.literal_packed.specs.ConfigValue.{ConfigValue, default_config}
+use Rattle.literal_packed.specs.Lending.{HoldsAll}
+use Rattle.literal_packed.specs.BuilderValue.{AddsAll, BuilderValue, BuildsItems, builder_of, pattern_limit}
+use Rattle.literal_packed.specs.BuilderValue.{searcher_of, with_added}
+
+abbrev is_some : List ℕ → Bool
+is_some bytes = ltb 0 (length bytes)
+
+-- what may not be kept may not with more patterns either
+past_for_good : (limit : ℕ) (a b : List (List ℕ)) → may_keep limit a ≡ false → may_keep limit (a ++ b) ≡ false
+past_for_good limit a b past = grind (arith, nat_tests, list_all-append is_some a b, length-append a b)
+
+after_state : (limit : ℕ) (a b : List (List ℕ)) (first : List ℕ) (kept : Bool) → may_keep limit a ≡ kept
+    → state_after limit (cond kept (Some a) None) (first ∷ b) ≡ state_of limit (a ++ first ∷ b)
+after_state limit a b first true is = refl
+after_state limit a b first false is =
+    sym (ap (λ k. cond k (Some (a ++ first ∷ b)) None) (past_for_good limit a (first ∷ b) is))
+
+pub state_after-state_of : (limit : ℕ) (a b : List (List ℕ))
+    → state_after limit (state_of limit a) b ≡ state_of limit (a ++ b)
+state_after-state_of limit a [] = ap (state_of limit) (sym (append-nil a))
+state_after-state_of limit a (first ∷ b) = after_state limit a b first (may_keep limit a) refl
+
+-- two additions in turn are one of both
+pub state_after-append : (limit : ℕ) (state : Option (List (List ℕ))) (a b : List (List ℕ))
+    → state_after limit (state_after limit state a) b ≡ state_after limit state (a ++ b)
+state_after-append limit state [] b = refl
+state_after-append limit state (first ∷ a) [] = ap (state_after limit state) (sym (append-nil (first ∷ a)))
+state_after-append limit None (first ∷ a) (next ∷ b) = refl
+state_after-append limit (Some kept) (first ∷ a) (next ∷ b) =
+    state_after-state_of limit (kept ++ first ∷ a) (next ∷ b)
+    ∙ ap (state_of limit) (append_assoc kept (first ∷ a) (next ∷ b))
+
+-- the same of builders
+pub added_more : (config : ConfigValue) (a b : List (List ℕ))
+    → with_added (builder_of config a) b ≡ builder_of config (a ++ b)
+added_more config a b = ap (λ s. record { config = config; state = s }) (state_after-state_of pattern_limit a b)
+
+-- a builder with no pattern to which two are added in turn is the builder of both
+pub added_two : (config : ConfigValue) (a b : List ℕ) (mid new : BuilderValue)
+    → mid ≡ with_added (builder_of config []) (a ∷ [])
+    → new ≡ with_added mid (b ∷ []) → new ≡ builder_of config (a ∷ b ∷ [])
+added_two config a b mid new first second =
+    second ∙ (ap (λ m. with_added m (b ∷ [])) first ∙ added_more config (a ∷ []) (b ∷ []))
+
+-- one item more of an iterator
+pub added_all_more : (old now new : BuilderValue) (items : List (Bor (List ℕ))) (item : Bor (List ℕ))
+    → AddsAll old items now
+    → new ≡ with_added now (item.now ∷ []) → AddsAll old (items ++ item ∷ []) new
+added_all_more old now new items item so_far next =
+    next
+    ∙ (ap (λ b. with_added b (item.now ∷ [])) so_far
+    ∙ (ap (λ s. record { config = old.config; state = s })
+    (state_after-append pattern_limit old.state (map (λ p. p.now) items) (item.now ∷ []))
+    ∙ ap (with_added old) (sym (map_push (λ (p : Bor (List ℕ)). p.now) items item))))
+
+-- what a new builder builds from all items of an iterator
+pub builds_items : {U T E : Type 0} (becomes : U → T → Type 0) (steps : T → Option (Bor (List ℕ)) → T → Type 0)
+    (patterns : U)
+    (start new : BuilderValue) (built : Result (Option Query) E) → start ≡ builder_of default_config []
+    → HoldsAll becomes steps patterns start new → IfOk built (λ b. b ≡ searcher_of new)
+    → IfOk built (BuildsItems becomes steps patterns)
+builds_items becomes steps patterns start new (Ok answer) starts (it, items, is_iterator, adds, drains) is =
+    let all : new ≡ builder_of default_config (map (λ p. p.now) items) =
+    adds ∙ (ap (λ b. with_added b (map (λ p. p.now) items)) starts
+    ∙ added_more default_config [] (map (λ p. p.now) items)) in
+    (it, items, is_iterator, drains, is ∙ ap searcher_of all)
+builds_items becomes steps patterns start new (Err error) starts holds is = tt

@@ -1,0 +1,116 @@
+-- A greedy list and its counts, match by match, and how its matches lie.
+-- For `Searcher::find_all`, and the laws on iterations.
+use Rattle.std.proofs.Common.{◌≡◌, ℕ, ◌-◌, ◌<◌, ◌≤◌, false, List, [], ◌∷◌, ◌++◌, length, Some, None, append_assoc}
+use Rattle.std.proofs.Common.{append-nil, sym, ap, ◌∙◌, subst, arith}
+use Rattle.std.specs.List.{All}
+use Rattle.literal_base.specs.declared.packed.MatchKind.{MatchKind}
+use Rattle.literal_base.specs.Counts.{Counts}
+use Rattle.literal_base.specs.MatchValue.{MatchValue}
+use Rattle.literal_base.specs.Occurs.{NoneIsEmpty, NothingOccurs, pattern_at, rest_from, between}
+use Rattle.literal_base.specs.Leftmost.{IsLeftmostMatch}
+use Rattle.literal_base.specs.Greedy.{IsGreedy}
+use Rattle.literal_base.specs.Query.{Query}
+use Rattle.literal_packed.specs.Pairs.{counts_after}
+use Rattle.literal_base.specs.Apart.{LieApart}
+use Rattle.literal_packed.specs.Spending.{counts_after_all}
+use Rattle.literal_packed.proofs.lemmas.Windows.{none_empty}
+
+-- the matches so far, before a place: whatever is greedy from there on goes on from them
+pub record IsGreedyBefore (query : Query) (haystack : List ℕ) (done : List MatchValue) (at : ℕ) : Type 0 where
+  pub goes_on : (more : List MatchValue) → IsGreedy query false haystack at more
+      → IsGreedy query false haystack 0 (done ++ more)
+
+pub greedy_more : (query : Query) (haystack : List ℕ) (done : List MatchValue) (at : ℕ) (found : MatchValue)
+    → IsGreedyBefore query haystack done at
+    → IsLeftmostMatch query false haystack (rest_from haystack at) found
+    → IsGreedyBefore query haystack (done ++ found ∷ []) found.end
+greedy_more query haystack done at found before leftmost = record {
+  goes_on = λ more greedy. subst (IsGreedy query false haystack 0) (sym (append_assoc done (found ∷ []) more))
+      (before.goes_on (found ∷ more) (leftmost, greedy));
+}
+
+pub greedy_all : (query : Query) (haystack : List ℕ) (done : List MatchValue) (at : ℕ)
+    → IsGreedyBefore query haystack done at
+    → NothingOccurs query.patterns false haystack (rest_from haystack at) → IsGreedy query false haystack 0 done
+greedy_all query haystack done at before nothing = subst (IsGreedy query false haystack 0) (append-nil done)
+    (before.goes_on [] nothing)
+
+-- the counts so far: whatever follows, they go on from them
+pub record CountsBefore (query : Query) (haystack : List ℕ) (old now : Counts) (done : List MatchValue)
+    (at : ℕ) : Type 0 where
+  pub goes_on : (more : List MatchValue) → counts_after_all now query haystack at more
+      ≡ counts_after_all old query haystack 0 (done ++ more)
+
+pub counts_more : (query : Query) (haystack : List ℕ) (old now new : Counts) (done : List MatchValue) (at : ℕ)
+    (found : MatchValue) → CountsBefore query haystack old now done at
+    → new ≡ counts_after now query haystack (rest_from haystack at) (Some found)
+    → CountsBefore query haystack old new (done ++ found ∷ []) found.end
+counts_more query haystack old now new done at found before is = record {
+  goes_on = λ more.
+      ap (λ (t : Counts). counts_after_all t query haystack found.end more) is
+      ∙ (before.goes_on (found ∷ more) ∙ ap (counts_after_all old query haystack 0)
+      (sym (append_assoc done (found ∷ []) more)));
+}
+
+pub counts_all : (query : Query) (haystack : List ℕ) (old now new : Counts) (done : List MatchValue) (at : ℕ)
+    → CountsBefore query haystack old now done at
+    → new ≡ counts_after now query haystack (rest_from haystack at) None
+    → new ≡ counts_after_all old query haystack 0 done
+counts_all query haystack old now new done at before is =
+    is ∙ (before.goes_on [] ∙ ap (counts_after_all old query haystack 0) (append-nil done))
+
+-- where a greedy list is followed by nothing, no pattern is empty
+greedy_not_empty : (query : Query) (haystack : List ℕ) (at : ℕ) (all : List MatchValue) → at ≤ length haystack
+    → IsGreedy query false haystack at all → NoneIsEmpty query.patterns
+greedy_not_empty query haystack at [] within nothing = none_empty query.patterns haystack at within nothing
+greedy_not_empty query haystack at (found ∷ more) within greedy =
+    let fits = greedy.0.occurs.before_end in
+    let whole = greedy.0.whole in
+    greedy_not_empty query haystack found.end more (omega arith) greedy.1
+
+-- no pattern occurs whole between a place and the leftmost match from there on
+nothing_between : (query : Query) (haystack : List ℕ) (at : ℕ) (found : MatchValue) → NoneIsEmpty query.patterns
+    → IsLeftmostMatch query false haystack (rest_from haystack at) found
+    → NothingOccurs query.patterns false haystack (between at found.start)
+nothing_between query haystack at found not_empty leftmost i s occurs =
+    let some : 0 < length (pattern_at query.patterns i) = not_empty i [] occurs.is_pattern in
+    let fits = occurs.before_end in
+    let there = leftmost.occurs.before_end in
+    let before : s < found.start = omega arith in
+    leftmost.earliest i s before
+    (record {
+      is_pattern = occurs.is_pattern;
+      after_start = occurs.after_start;
+      before_end = omega arith;
+      same = occurs.same;
+    })
+
+apart_from : (query : Query) (haystack : List ℕ) (at : ℕ) (all : List MatchValue) → NoneIsEmpty query.patterns
+    → IsGreedy query false haystack at all → LieApart query.patterns haystack at all
+apart_from query haystack at [] not_empty nothing = nothing
+apart_from query haystack at (found ∷ more) not_empty greedy =
+    let leftmost = greedy.0 in
+    let some : 0 < length (pattern_at query.patterns found.pattern) =
+    not_empty found.pattern [] leftmost.occurs.is_pattern in
+    let fits = leftmost.occurs.before_end in
+    let whole = leftmost.whole in (
+      leftmost.occurs.after_start,
+      omega arith,
+      omega arith,
+      nothing_between query haystack at found not_empty leftmost,
+      apart_from query haystack found.end more not_empty greedy.1,
+    )
+
+-- a greedy list lies apart
+pub greedy_apart : (query : Query) (haystack : List ℕ) (at : ℕ) (all : List MatchValue) → at ≤ length haystack
+    → IsGreedy query false haystack at all → LieApart query.patterns haystack at all
+greedy_apart query haystack at all within greedy =
+    apart_from query haystack at all (greedy_not_empty query haystack at all within greedy) greedy
+
+-- each of the matches takes a byte or more
+pub apart_few : (patterns : List (List ℕ)) (haystack : List ℕ) (at : ℕ) (all : List MatchValue)
+    → LieApart patterns haystack at all → length all ≤ length haystack - at
+apart_few patterns haystack at [] apart = omega arith
+apart_few patterns haystack at (found ∷ more) (after, some, within, nothing, apart) =
+    let rest = apart_few patterns haystack found.end more apart in
+    omega arith

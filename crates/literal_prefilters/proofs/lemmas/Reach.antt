@@ -1,0 +1,56 @@
+-- How far past the place that it proposes a table reads.
+-- For `ByteTable::count`, `start` and `candidate`.
+use Rattle.std.proofs.Common.{◌≡◌, ℕ, ◌<◌, ◌≤◌, Bool, true, false, cond, List, [], ◌∷◌, zero, suc, max, fold, Option}
+use Rattle.std.proofs.Common.{Some, None, IfSome, unwrap_or, sym, ap, subst, ⊎_elim, arith}
+use Rattle.std.proofs.lemmas.Bool.{cases_lt}
+use Rattle.std.proofs.lemmas.List.{get_or_past}
+use Rattle.literal_prefilters.specs.Table.{distance_of, reach_of}
+use Rattle.literal_prefilters.specs.Tables.{is_start_byte, start_bytes}
+use Rattle.literal_prefilters.proofs.lemmas.TableOf.{distance_of-table_of, length-table_of}
+
+most_from : (table : List (Option ℕ)) (a : ℕ) → a ≤ fold (λ most o. max most (unwrap_or o 0)) a table
+most_from [] a = omega arith
+most_from (o ∷ table) a = omega (arith, most_from table (max a (unwrap_or o 0)))
+
+most_at : (table : List (Option ℕ)) (a b : ℕ)
+    → unwrap_or (distance_of table b) 0 ≤ fold (λ most o. max most (unwrap_or o 0)) a table
+most_at [] a b = omega arith
+most_at (o ∷ table) a zero = omega (arith, most_from table (max a (unwrap_or o 0)))
+most_at (o ∷ table) a (suc b) = most_at table (max a (unwrap_or o 0)) b
+
+most_below : (m : ℕ) (table : List (Option ℕ)) (a : ℕ) → a ≤ m → ((b : ℕ) → IfSome (distance_of table b) (λ d. d ≤ m))
+    → fold (λ most o. max most (unwrap_or o 0)) a table ≤ m
+most_below m [] a low each = low
+most_below m (None ∷ table) a low each =
+    most_below m table (max a 0) (omega arith) (λ b. each (suc b))
+most_below m (Some d ∷ table) a low each =
+    let first : d ≤ m = each zero in
+    most_below m table (max a d) (omega arith) (λ b. each (suc b))
+
+-- where no distance is beyond a number, the reach is not
+pub reach_of-le : (m : ℕ) (table : List (Option ℕ)) → ((b : ℕ) → IfSome (distance_of table b) (λ d. d ≤ m))
+    → reach_of table ≤ m
+reach_of-le m table each = most_below m table 0 (omega arith) each
+
+if_some_zero : (p : Bool) → IfSome (cond p (Some 0) None) (λ d. d ≤ 0)
+if_some_zero true = omega arith
+if_some_zero false = tt
+
+-- a start table proposes the place of its byte
+pub reach_of-start_bytes : (c : Bool) (ps : List (List ℕ)) → reach_of (start_bytes c ps) ≡ 0
+reach_of-start_bytes c ps =
+    let set = is_start_byte c ps in
+    let low = reach_of-le 0 (start_bytes c ps) (λ b.
+    let P : Option ℕ → Type 0 = λ o. IfSome o (λ d. d ≤ 0) in
+    ⊎_elim
+    (λ (below : b < 256). subst P (sym (distance_of-table_of set (λ _. 0) b below)) (if_some_zero (set b)))
+    (λ (past : 256 ≤ b). subst P
+    (sym (get_or_past (start_bytes c ps) b None (omega (arith, length-table_of set (λ _. 0))))) tt)
+    (cases_lt b 256)) in
+    omega arith
+
+-- no distance is beyond the reach
+pub distance-le-reach_of : (table : List (Option ℕ)) (b d : ℕ) → distance_of table b ≡ Some d → d ≤ reach_of table
+distance-le-reach_of table b d e =
+    let value : unwrap_or (distance_of table b) 0 ≡ d = ap (λ o. unwrap_or o 0) e in
+    omega (arith, most_at table 0 b)
