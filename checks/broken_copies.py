@@ -178,6 +178,8 @@ FORMS = [
     ("macro_in_a_function", "forms", [in_look_up('let _ = include!("peek.inc");')]),
     ("matches_macro", "reads", [in_look_up("if matches!(haystack, [0, ..]) { return None; }")]),
     ("haystack_in_a_text", "forms", [in_look_up('let _ = write!(f, "{haystack:?}");')]),
+    ("haystack_in_a_text_with_escapes", "forms", [in_look_up('let _ = write!(f, "{\\u{68}aystack:?}");')]),
+    ("haystack_in_a_text_over_two_lines", "forms", [in_look_up('let _ = write!(f, "{hay\\\n    stack:?}");')]),
     ("closure", "forms", [in_look_up("let at_k = |id: PatternID| patterns.matches_at(id, haystack, at, false, tally);")]),
     ("closure_without_parameters", "forms", [in_look_up("let peek = || haystack.len();")]),
     ("closure_that_moves", "forms", [in_look_up("let peek = move |k: usize| k;")]),

@@ -168,8 +168,11 @@ def forms(sources):
             yield f"{function} is {' '.join(item.qualifiers)}"
         if item.has_ghosts:
             yield f"{function} has a clause in its body"
+        has_haystack = function.key in FIELD_READERS or any(kind_of(param) == "haystack" for param in item.params)
         for at, token in enumerate(item.body or ()):
             why = odd_form(item.body, at, token)
+            if has_haystack and token.kind == "string":
+                why = "a text beside a haystack, which it may print"
             if why and not (why == "a closure" and function.key in CLOSURES):
                 yield f"{function}: {why}: {line_of(item.body, at)}"
 
@@ -180,8 +183,6 @@ def odd_form(body, at, token):
     after = body[at + 1].text if at + 1 < len(body) else ""
     if token.kind == "name" and token.text in ODD_WORDS:
         return f"the word {token.text}"
-    if token.kind == "string" and "haystack" in token.text:
-        return "a string that names the haystack"
     if token.kind != "sign":
         return None
     if token.text in ("#", "$", "~") and texts(body[at : at + 3]) != ("#", "[", "tactic"):
