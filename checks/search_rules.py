@@ -182,8 +182,11 @@ def forms(sources):
             yield f"{function} is {' '.join(item.qualifiers)}"
         if item.has_ghosts:
             yield f"{function} has a clause in its body"
+        has_haystack = function.key in FIELD_READERS or any(kind_of(param) == "haystack" for param in item.params)
         for at, token in enumerate(item.body or ()):
             why = odd_form(item.body, at, token)
+            if has_haystack and token.kind == "string":
+                why = "a text beside a haystack, which it may print"
             if why and not (why == "a closure" and function.key in CLOSURES):
                 yield f"{function}: {why}: {line_of(item.body, at)}"
 
@@ -194,8 +197,6 @@ def odd_form(body, at, token):
     after = body[at + 1].text if at + 1 < len(body) else ""
     if token.kind == "name" and token.text in ODD_WORDS:
         return f"the word {token.text}"
-    if token.kind == "string" and "haystack" in token.text:
-        return "a string that names the haystack"
     if token.kind != "sign":
         return None
     if token.text in ("#", "$", "~") and texts(body[at : at + 3]) != ("#", "[", "tactic"):
@@ -570,16 +571,26 @@ def odd_tally_uses(function):
 def is_tally_use(function, plain, at):
     """Whether a tally is made, ticked, or handed on as a last argument."""
     before, after = plain[max(0, at - 4) : at], plain[at + 1 : at + 4]
-    last = after[:1] == (")",) or after[:2] == (",", ")")
     if before[-2:] == ("let", "mut") and plain[at + 1 : at + 8] == words("= Tally::new();"):
         return function.key in TALLY_MAKERS
     if before == words("&mut self.") and function.key in FIELD_READERS:
-        return last
+        return is_last_argument(function.item.body, at, at - 4)
     if before[-2:] == ("&", "mut") and function.key in TALLY_MAKERS:
-        return last
+        return is_last_argument(function.item.body, at, at - 2)
     if before[-1:] in (("(",), (",",)):
-        return last
+        return is_last_argument(function.item.body, at, at)
     return after[:1] == (".",) and after[1:2] and after[1] in tables.TICKS and before[-1:] != (".",)
+
+
+def is_last_argument(body, at, begin):
+    """Whether the value from one place to another is the last argument of a call of a function."""
+    after = texts(body[at + 1 : at + 3])
+    opening = enclosing(body, at)
+    if opening is None or not (after[:1] == (")",) or after == (",", ")")):
+        return False
+    name = body[opening - 1]
+    is_function = name.kind == "name" and name.text.islower() and name.text not in KEYWORDS
+    return body[opening].text == "(" and is_function and body[begin - 1].text in ("(", ",")
 
 
 def ticks(sources):
