@@ -94,7 +94,7 @@ REPOSITORY = [
     ("crate_on_tests", "crates", [append("crates.txt", "litfind: literal_tests\n")]),
     ("walk_elsewhere", "walks", [write("crates/literal_packed/proofs/api/Searcher/find/Proof.antt", "")]),
     ("paper_cited", "citations", [append("README.md", "as the theorem " + "T" + "3 says\n")]),
-    ("hole_left", "holes", [append("crates/literal_base/proofs/Unique.antt", "\nopen_goal = ?\n")]),
+    ("hole_left", "holes", [append("crates/literal_base/proofs/lemmas/Unique.antt", "\nopen_goal = ?\n")]),
     ("long_file", "lengths", [append(BASE_SEARCH, "\n" * 801)]),
     ("definition_unexplained", "definitions", [
         append("crates/literal_base/specs/Counts.antt", "\nabbrev pub another_word : Counts\nanother_word = none_yet\n")]),
