@@ -18,7 +18,7 @@ range_rises a n k below =
     let len = length-range_with_len a n in
     omega (arith, get_or-range_with_len a n k 0 (omega arith), get_or-range_with_len a n (k + 1) 0 (omega arith))
 
-pub bytes_from-more : (classes : List ℕ) (class byte : ℕ) → byte < length classes
+bytes_from-more : (classes : List ℕ) (class byte : ℕ) → byte < length classes
     → bytes_from classes class byte ≡ cond (slice_index classes byte == class)
     (byte ∷ bytes_from classes class (byte + 1)) (bytes_from classes class (byte + 1))
 bytes_from-more classes class byte below =

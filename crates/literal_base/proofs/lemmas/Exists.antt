@@ -30,12 +30,12 @@ at_most_or_not a b =
     ]
 
 -- no pattern is better than itself
-pub better-irreflexive : (kind : MatchKind) (patterns : List (List ℕ)) (i : ℕ) → ¬ IsBetter kind patterns i i
+better-irreflexive : (kind : MatchKind) (patterns : List (List ℕ)) (i : ℕ) → ¬ IsBetter kind patterns i i
 better-irreflexive LeftmostFirst patterns i h = omega arith
 better-irreflexive LeftmostLongest patterns i h = elim h [ inl longer ↦ omega arith | inr same ↦ omega arith ]
 
 -- what is better than a better one is better
-pub better-transitive : (kind : MatchKind) (patterns : List (List ℕ)) (i j k : ℕ) → IsBetter kind patterns i j
+better-transitive : (kind : MatchKind) (patterns : List (List ℕ)) (i j k : ℕ) → IsBetter kind patterns i j
     → IsBetter kind patterns j k → IsBetter kind patterns i k
 better-transitive LeftmostFirst patterns i j k a b = omega arith
 better-transitive LeftmostLongest patterns i j k a b =
@@ -59,7 +59,12 @@ module _ (query : Query) (ignore_case : Bool) (haystack : List ℕ) (span : Span
           | inl inside ↦ elim (decided (bytes_eq (case_folded ignore_case there) (case_folded ignore_case bytes))
               (bytes_eq-Decides (case_folded ignore_case there) (case_folded ignore_case bytes))) [
                 | inr differs ↦ inr (λ o. differs o.same)
-                | inl same ↦ inl (record { is_pattern = is_pattern; after_start = after; before_end = inside; same = same })
+                | inl same ↦ inl (record {
+                  is_pattern = is_pattern;
+                  after_start = after;
+                  before_end = inside;
+                  same = same;
+                })
               ]
         ]
       ]
@@ -177,7 +182,7 @@ module _ (query : Query) (ignore_case : Bool) (haystack : List ℕ) (not_empty :
       (found ∷ more.0, (leftmost, more.1))
 
   -- at most so many bytes are left, and each match takes one or more
-  pub greedy_within : (most at : ℕ) → length haystack ≤ at + most → GreedyFrom at
+  greedy_within : (most at : ℕ) → length haystack ≤ at + most → GreedyFrom at
   greedy_within zero at h = (
     [],
     λ i s o.

@@ -1,7 +1,7 @@
 -- The runs of bytes in rising order.
 -- For `ByteClasses::element_ranges` and the laws on runs.
-use Rattle.std.proofs.Common.{◌≡◌, ◌==◌, ℕ, zero, suc, ◌+◌, ◌-◌, ◌<◌, ◌≤◌, Bool, true, false, cond, List, [], ◌∷◌, ◌++◌}
-use Rattle.std.proofs.Common.{length, get_or, ◌≢◌, sym, refl, ap, ap₂, ◌∙◌, subst, ⊎_elim, arith}
+use Rattle.std.proofs.Common.{◌≡◌, ℕ, zero, suc, ◌+◌, ◌-◌, ◌<◌, ◌≤◌, List, [], ◌∷◌, ◌++◌}
+use Rattle.std.proofs.Common.{length, get_or, ◌≢◌, sym, refl, ap, ◌∙◌, subst, ⊎_elim, arith}
 use Rattle.std.specs.List.{All, AllPairs, Contains, flat_map, range_with_len}
 use Rattle.std.proofs.lemmas.Bool.{cond-true, cond-false, eq-eqb, ne_eqb, cases_eq, cases_order}
 use Rattle.std.proofs.lemmas.List.Elements.{All-nil, All-cons, All-head, All-tail, All-same, All-weaker}
@@ -16,34 +16,6 @@ Ordered run = run.0 ≤ run.1
 
 abbrev Apart : ℕ × ℕ → ℕ × ℕ → Type 0
 Apart run later = run.1 + 1 < later.0
-
-joined-cond : (t : Bool) (run : ℕ × ℕ) (xs ys : List (ℕ × ℕ))
-    → joined run (cond t xs ys) ≡ cond t (joined run xs) (joined run ys)
-joined-cond true run xs ys = refl
-joined-cond false run xs ys = refl
-
-cons-cond : (t : Bool) (run : ℕ × ℕ) (xs ys : List (ℕ × ℕ)) → cond t (run ∷ xs) (run ∷ ys) ≡ run ∷ cond t xs ys
-cons-cond true run xs ys = refl
-cons-cond false run xs ys = refl
-
--- a run that ends just before a byte takes it in
-pub joined-next : (first last b : ℕ) (runs : List (ℕ × ℕ)) → b ≡ last + 1
-    → joined (first, last) (joined (b, b) runs) ≡ joined (first, b) runs
-joined-next first last b [] touches = cond-true _ _ _ (eq-eqb b (last + 1) touches)
-joined-next first last b (next ∷ more) touches =
-    let taken = eq-eqb b (last + 1) touches in
-    joined-cond (next.0 == b + 1) (first, last) _ _
-    ∙ ap₂ (cond (next.0 == b + 1)) (cond-true _ _ _ taken) (cond-true _ _ _ taken)
-
--- a run that ends elsewhere stands alone
-pub joined-other : (first last b : ℕ) (runs : List (ℕ × ℕ)) → (b ≡ last + 1 → ⊥)
-    → joined (first, last) (joined (b, b) runs) ≡ (first, last) ∷ joined (b, b) runs
-joined-other first last b [] apart = cond-false _ _ _ (ne_eqb b (last + 1) apart)
-joined-other first last b (next ∷ more) apart =
-    let left = ne_eqb b (last + 1) apart in
-    joined-cond (next.0 == b + 1) (first, last) _ _
-    ∙ (ap₂ (cond (next.0 == b + 1)) (cond-false _ _ _ left) (cond-false _ _ _ left)
-    ∙ cons-cond (next.0 == b + 1) (first, last) _ _)
 
 later_pairs : {X : Type 0} (R : X → X → Type 0) (x : X) (xs : List X) → AllPairs R (x ∷ xs) → AllPairs R xs
 later_pairs R x xs all i j d before below = all (suc i) (suc j) d (omega arith) (omega arith)

@@ -8,7 +8,7 @@ use Rattle.std.specs.Int.{IsPowerOfTwo}
 use Rattle.literal_base.specs.Classes.{alphabet_len_of, IsStride2}
 
 -- greater powers have greater exponents
-pub exponent-le : (i j : ℕ) → 2 ^ i < 2 * 2 ^ j → i ≤ j
+exponent-le : (i j : ℕ) → 2 ^ i < 2 * 2 ^ j → i ≤ j
 exponent-le i j below = dite (dec_le i j) (λ y. y) (λ not.
     let more : 2 ^ suc j ≤ 2 ^ i = pow_mono (lt_of_not-le not) in
     let twice : 2 ^ suc j ≡ 2 ^ j * 2 = pow-suc 2 j in

@@ -13,7 +13,7 @@ use Rattle.literal_base.specs.Leftmost.{IsBetter, IsLeftmostMatch, IsLeftmost}
 use Rattle.literal_base.specs.Greedy.{IsGreedy}
 
 -- matches with the same three numbers
-pub MatchValue-ext : (a b : MatchValue) → a.pattern ≡ b.pattern → a.start ≡ b.start → a.end ≡ b.end → a ≡ b
+MatchValue-ext : (a b : MatchValue) → a.pattern ≡ b.pattern → a.start ≡ b.start → a.end ≡ b.end → a ≡ b
 MatchValue-ext a b pattern start end =
     let by_pattern : ℕ → MatchValue = λ n. record { pattern = n; start = a.start; end = a.end } in
     let by_start : ℕ → MatchValue = λ n. record { pattern = b.pattern; start = n; end = a.end } in
@@ -66,7 +66,7 @@ module _ (query : Query) (ignore_case : Bool) (haystack : List ℕ) (span : Span
       ]
 
   -- there is one leftmost match
-  pub leftmost_match_unique : (a b : MatchValue) → IsLeftmostMatch query ignore_case haystack span a
+  leftmost_match_unique : (a b : MatchValue) → IsLeftmostMatch query ignore_case haystack span a
       → IsLeftmostMatch query ignore_case haystack span b → a ≡ b
   leftmost_match_unique a b at_a at_b =
       let start = same_start a b at_a at_b in

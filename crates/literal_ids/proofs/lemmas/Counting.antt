@@ -7,7 +7,7 @@ use Rattle.std.specs.List.{enumerate_from, range_with_len, zip}
 use Rattle.std.specs.Iterator.{MakesProgress, item_count}
 
 -- of the numbers from a up to b the first is a, and the numbers from a + 1 are left
-pub range_first : (a b : ℕ) → 0 < b - a → range_with_len a (b - a) ≡ a ∷ range_with_len (a + 1) (b - (a + 1))
+range_first : (a b : ℕ) → 0 < b - a → range_with_len a (b - a) ≡ a ∷ range_with_len (a + 1) (b - (a + 1))
 range_first a b h =
     let one_more : b - a ≡ suc (b - (a + 1)) = omega arith in
     ap (range_with_len a) one_more

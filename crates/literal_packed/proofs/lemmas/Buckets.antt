@@ -1,10 +1,10 @@
 -- The entries of a bucket, and the patterns that they are for.
 -- For the look-up in `RabinKarp::look_up`.
-use Rattle.std.proofs.Common.{◌≡◌, ℕ, zero, suc, ◌+◌, ◌%◌, ◌<◌, Bool, true, false, ◌&&◌, cond, eqb, List, [], ◌∷◌, ◌++◌}
-use Rattle.std.proofs.Common.{length, map, take, drop, get_or, inl, inr, refl, sym, ap, subst, ◌∙◌, arith, add-zero}
-use Rattle.std.specs.List.{All, AllPairs, Contains, filter, count_by, range_with_len}
-use Rattle.std.proofs.lemmas.Bool.{cases_order, eqb-true, eq-eqb, false≢true}
-use Rattle.std.proofs.lemmas.List.{get_or-map, length-map, drop_more, take-append-drop, get_or-take, get_or-drop}
+use Rattle.std.proofs.Common.{◌≡◌, ℕ, zero, ◌+◌, ◌%◌, ◌<◌, Bool, true, false, ◌&&◌, cond, eqb, List, ◌∷◌, ◌++◌}
+use Rattle.std.proofs.Common.{length, take, drop, get_or, inl, inr, refl, sym, ap, subst, ◌∙◌, arith, add-zero}
+use Rattle.std.specs.List.{All, AllPairs, Contains, count_by, range_with_len}
+use Rattle.std.proofs.lemmas.Bool.{cases_order, eqb-true, eq-eqb}
+use Rattle.std.proofs.lemmas.List.{drop_more, take-append-drop, get_or-take, get_or-drop}
 use Rattle.std.proofs.lemmas.List.{length-drop, length-take-le, get_or_default}
 use Rattle.std.proofs.lemmas.List.Elements.{All-map, All-filter}
 use Rattle.std.proofs.lemmas.List.FromFn.{get_or-range_with_len, length-range_with_len}
@@ -18,59 +18,12 @@ use Rattle.literal_packed.specs.Inside.Place.{IsBestAt, NoneStandsAt}
 use Rattle.literal_packed.proofs.lemmas.Order.{order-below}
 use Rattle.literal_packed.specs.Pairs.{key_of, window_sum, has_equal_sum, has_equal_bucket, pairs_at, pairs_at_up_to}
 use Rattle.literal_packed.specs.RabinKarpValue.{entries_of, bucket_of}
-use Rattle.literal_packed.proofs.lemmas.Lists.{count_by-cons, count_by-append, count_by-same, count_by-none}
+use Rattle.literal_packed.proofs.lemmas.Lists.{Contains-map, Contains-filter, AllPairs-map, and_implied, and_right_true}
+use Rattle.literal_packed.proofs.lemmas.Lists.{and_right_false, and_left_part, count_by-cons, count_by-append}
+use Rattle.literal_packed.proofs.lemmas.Lists.{count_by-same, count_by-none}
 use Rattle.literal_packed.proofs.lemmas.Lists.{count_by-all, count_by-map, count_by-filter}
 use Rattle.literal_packed.proofs.lemmas.Ties.{better_asymmetric, is_up_to, up_to_better, up_to_self, up_to_worse}
 use Rattle.literal_packed.proofs.lemmas.MinimumLen.{stands_key}
-
-Contains-map : {X Y : Type 0} (f : X → Y) (xs : List X) (x : X) → Contains xs x → Contains (map f xs) (f x)
-Contains-map f xs x at =
-    let k = at.0 in
-    let long = length-map xs f in
-    (k, omega (arith, at.1), get_or-map f xs k x (f x) at.1 ∙ ap f at.2)
-
-contains_later : {X : Type 0} (b : Bool) (y : X) (ys : List X) (x : X) → Contains ys x → Contains (cond b (y ∷ ys) ys) x
-contains_later true y ys x at = (suc at.0, omega (arith, at.1), at.2)
-contains_later false y ys x at = at
-
-contains_here : {X : Type 0} (b : Bool) (y : X) (ys : List X) (x : X) → b ≡ true → y ≡ x
-    → Contains (cond b (y ∷ ys) ys) x
-contains_here true y ys x is same = (0, omega arith, same)
-contains_here false y ys x is same = absurd (false≢true is)
-
-Contains-filter : {X : Type 0} (q : X → Bool) (xs : List X) (x : X) → Contains xs x → q x ≡ true
-    → Contains (filter q xs) x
-Contains-filter q [] x at is = absurd (omega (arith, at.1))
-Contains-filter q (y ∷ ys) x (zero, within, same) is = contains_here (q y) y (filter q ys) x (ap q same ∙ is) same
-Contains-filter q (y ∷ ys) x (suc k, within, same) is =
-    contains_later (q y) y (filter q ys) x (Contains-filter q ys x (k, omega arith, same) is)
-
-AllPairs-map : {Y : Type 0} (R : Y → Y → Type 0) (f : ℕ → Y) (xs : List ℕ) → AllPairs (λ x y. R (f x) (f y)) xs
-    → AllPairs R (map f xs)
-AllPairs-map R f xs all i j d before within =
-    let long = length-map xs f in
-    let j_in : j < length xs = omega arith in
-    let i_in : i < length xs = omega arith in
-    subst (λ y. R y (get_or (map f xs) j d)) (sym (get_or-map f xs i 0 d i_in))
-    (subst (λ y. R (f (get_or xs i 0)) y) (sym (get_or-map f xs j 0 d j_in)) (all i j 0 before j_in))
-
--- a test that follows from another
-and_implied : (x y : Bool) → (y ≡ true → x ≡ true) → (x && y) ≡ y
-and_implied true y h = refl
-and_implied false true h = h refl
-and_implied false false h = refl
-
-and_right_true : (x y : Bool) → y ≡ true → (x && y) ≡ x
-and_right_true true y is = is
-and_right_true false y is = refl
-
-and_right_false : (x y : Bool) → y ≡ false → (x && y) ≡ false
-and_right_false true y is = is
-and_right_false false y is = refl
-
-and_left_part : (x y : Bool) → (x && y) ≡ true → x ≡ true
-and_left_part true y is = refl
-and_left_part false y is = is
 
 module _ (c : PatternsValue) where
   abbrev key : ℕ → ℕ
@@ -91,7 +44,7 @@ module _ (c : PatternsValue) where
       )
 
   -- each pattern stands in the bucket of its sum
-  pub in_bucket : IsWellFormed c → (k j : ℕ) → j < n → key j % 64 ≡ k → Contains (bucket_of c k) (entry j)
+  in_bucket : IsWellFormed c → (k j : ℕ) → j < n → key j % 64 ≡ k → Contains (bucket_of c k) (entry j)
   in_bucket w k j h is =
       Contains-filter (λ (e : ℕ × ℕ). eqb (e.0 % 64) k) (entries_of c) (entry j)
       (Contains-map entry c.order j (order_has w j h)) (eq-eqb _ _ is)
@@ -116,14 +69,14 @@ module _ (c : PatternsValue) where
   count_order w p = sum_by-IsPermutation (λ i. cond (p i) 1 0) (range_with_len 0 n) c.order w.once
 
   -- what a bucket holds, counted over the patterns
-  pub count_bucket : IsWellFormed c → (k : ℕ) (p : ℕ × ℕ → Bool)
+  count_bucket : IsWellFormed c → (k : ℕ) (p : ℕ × ℕ → Bool)
       → count_by p (bucket_of c k) ≡ count_by (λ i. eqb (key i % 64) k && p (entry i)) (range_with_len 0 n)
   count_bucket w k p =
       count_by-filter p (λ (e : ℕ × ℕ). eqb (e.0 % 64) k) (entries_of c)
       ∙ (count_by-map (λ (e : ℕ × ℕ). eqb (e.0 % 64) k && p e) entry c.order
       ∙ count_order w (λ i. eqb (key i % 64) k && p (entry i)))
 
-  pub length_bucket : IsWellFormed c → (k : ℕ)
+  length_bucket : IsWellFormed c → (k : ℕ)
       → length (bucket_of c k) ≡ count_by (λ i. eqb (key i % 64) k) (range_with_len 0 n)
   length_bucket w k =
       length-filter (λ (e : ℕ × ℕ). eqb (e.0 % 64) k) (entries_of c)

@@ -47,7 +47,7 @@ module _ (query : Query) (h : List ℕ) (span : Span) (inside : span.end ≤ len
   abbrev cut : List ℕ
   cut = take span.end h
 
-  pub span_is : rest_from cut span.start ≡ span
+  span_is : rest_from cut span.start ≡ span
   span_is =
       let to : ℕ → Span = λ e. record { start = span.start; end = e } in
       ap to (length-take-le span.end h inside)

@@ -83,7 +83,7 @@ filter_one_no : (k : ℕ) (e : ℕ × ℕ) → (e.0 % 64 ≡ k → ⊥) → filt
 filter_one_no k e other = ap (λ b. cond b (e ∷ []) []) (ne_eqb _ _ other)
 
 -- one entry more is put into its bucket
-pub dealt_more : (buckets : List (List (ℕ × ℕ))) (entries : List (ℕ × ℕ)) (e : ℕ × ℕ) (new : List (ℕ × ℕ))
+dealt_more : (buckets : List (List (ℕ × ℕ))) (entries : List (ℕ × ℕ)) (e : ℕ × ℕ) (new : List (ℕ × ℕ))
     → IsDealt buckets entries
     → new ≡ get_or buckets (e.0 % 64) [] ++ e ∷ [] → IsDealt (set buckets (e.0 % 64) new) (entries ++ e ∷ [])
 dealt_more buckets entries e new dealt is =

@@ -18,7 +18,7 @@ module _ (c : PatternsValue) where
       ∙ (ap length split ∙ length-map c.order (λ i. (i, pattern_at c.patterns i)))
 
   -- the one that is next
-  pub head_at : (done left : List (ℕ × List ℕ)) (x : ℕ × List ℕ) → done ++ x ∷ left ≡ in_order c
+  head_at : (done left : List (ℕ × List ℕ)) (x : ℕ × List ℕ) → done ++ x ∷ left ≡ in_order c
       → (length done < length c.order) × ((e : ℕ) → get_or c.order (length done) e ≡ x.0)
   head_at done left x split =
       let total = length-order done (x ∷ left) split in

@@ -69,7 +69,7 @@ gathers_all query haystack done old new so_far nothing =
     (greedy_all old.query old.haystack done old.at so_far.greedy nothing.nothing))
 
 -- a search that stands at the end of the haystack finds nothing
-pub nothing_at_end : (old new : FindIterValue) (found : MatchValue) → StandsAtEnd old → Finds old found new → ⊥
+nothing_at_end : (old new : FindIterValue) (found : MatchValue) → StandsAtEnd old → Finds old found new → ⊥
 nothing_at_end old new found ended finds =
     let some = finds.not_empty in
     let after = finds.leftmost.occurs.after_start in

@@ -17,7 +17,7 @@ use Rattle.literal_base.specs.Occurs.{pattern_at}
 use Rattle.literal_base.specs.Leftmost.{IsBetter}
 use Rattle.literal_packed.specs.Inside.Longest.{longest_cmp}
 
-pub longest_total : (patterns : List (List ℕ)) → IsTotalOrder (longest_cmp patterns)
+longest_total : (patterns : List (List ℕ)) → IsTotalOrder (longest_cmp patterns)
 longest_total patterns =
     then_total (back_total (on_total (λ i. length (pattern_at patterns i)) nat_cmp_total)) nat_cmp_total
 

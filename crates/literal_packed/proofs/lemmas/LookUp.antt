@@ -1,10 +1,10 @@
 -- The steps of a look-up.
 -- For `RabinKarp::look_up`.
-use Rattle.std.proofs.Common.{◌≡◌, ℕ, ◌+◌, ◌-◌, ◌%◌, ◌<◌, ◌≤◌, Bool, true, false, eqb, List, Some, length, take, drop}
+use Rattle.std.proofs.Common.{refl, ◌≡◌, ℕ, ◌+◌, ◌-◌, ◌%◌, ◌<◌, ◌≤◌, Bool, true, false, eqb, List, Some, length, take}
 use Rattle.std.proofs.Common.{get_or, slice_get, sym, ap, subst, ◌∙◌, arith}
-use Rattle.std.specs.List.{All, count_by, slice_range}
+use Rattle.std.specs.List.{All, count_by}
 use Rattle.std.proofs.lemmas.Bool.{eq-eqb, ne_eqb}
-use Rattle.std.proofs.lemmas.List.{length-take-le, length-drop, get_or-take, get_or-drop, take_all}
+use Rattle.std.proofs.lemmas.List.{take_all}
 use Rattle.std.proofs.lemmas.List.Elements.{All-more}
 use Rattle.std.proofs.lemmas.List.Sums.{count_by_more_yes, count_by_more_no}
 use Rattle.std.proofs.lemmas.Nat.{mod_below}
@@ -26,7 +26,7 @@ same_counts : (old : Counts) (a b c d : ℕ) → a ≡ c → b ≡ d → counted
 same_counts old a b c d e f = ap (λ m. counted old m b) e ∙ ap (λ n. counted old c n) f
 
 -- an entry was read
-pub counts_read : (old now read : Counts) (m n : ℕ) → now ≡ counted old m n
+counts_read : (old now read : Counts) (m n : ℕ) → now ≡ counted old m n
     → read ≡ record now { entries = now.entries + 1 } → read ≡ counted old (m + 1) n
 counts_read old now read m n is next =
     let step : Counts → Counts = λ t. record t { entries = t.entries + 1 } in
@@ -35,7 +35,7 @@ counts_read old now read m n is next =
     next ∙ (ap step is ∙ ap f e)
 
 -- a pattern was compared
-pub counts_compared : (old now compared : Counts) (m n : ℕ) → now ≡ counted old m n
+counts_compared : (old now compared : Counts) (m n : ℕ) → now ≡ counted old m n
     → compared ≡ record now { compared = now.compared + 1 } → compared ≡ counted old m (n + 1)
 counts_compared old now compared m n is next =
     let step : Counts → Counts = λ t. record t { compared = t.compared + 1 } in
@@ -43,23 +43,19 @@ counts_compared old now compared m n is next =
     let e : old.compared + n + 1 ≡ old.compared + (n + 1) = omega arith in
     next ∙ (ap step is ∙ ap f e)
 
--- a look-up of the sum of the window at a place: the entries of its bucket stand between two places of a list
-pub record IsLookUp (c : PatternsValue) (haystack : List ℕ) (at sum : ℕ) (entries : List (ℕ × ℕ))
-    (from to : ℕ) : Type 0 where
+-- a look-up of the sum of the window at a place: it reads the entries of the bucket of that sum
+pub record IsLookUp (c : PatternsValue) (haystack : List ℕ) (at sum : ℕ) (entries : List (ℕ × ℕ)) : Type 0 where
   pub searchable : IsSearchable c
   pub sum_is : sum ≡ window_sum c.patterns haystack at
-  pub ordered : from ≤ to
-  pub inside : to ≤ length entries
-  pub is : slice_range entries from to ≡ bucket_of c (sum % 64)
+  pub is : entries ≡ bucket_of c (sum % 64)
 
 -- the entry that was read there
-pub record IsRead (entries : List (ℕ × ℕ)) (from to k : ℕ) (x : ℕ × ℕ) : Type 0 where
-  pub after : from ≤ k
-  pub before : k < to
+pub record IsRead (entries : List (ℕ × ℕ)) (k : ℕ) (x : ℕ × ℕ) : Type 0 where
+  pub before : k < length entries
   pub is : slice_get entries k ≡ Some x
 
-module _ {c : PatternsValue} {haystack : List ℕ} {at sum : ℕ} {entries : List (ℕ × ℕ)} {from to : ℕ}
-    (here : IsLookUp c haystack at sum entries from to) where
+module _ {c : PatternsValue} {haystack : List ℕ} {at sum : ℕ} {entries : List (ℕ × ℕ)}
+    (here : IsLookUp c haystack at sum entries) where
   abbrev bucket : List (ℕ × ℕ)
   bucket = bucket_of c (sum % 64)
 
@@ -69,138 +65,111 @@ module _ {c : PatternsValue} {haystack : List ℕ} {at sum : ℕ} {entries : Lis
   abbrev has_sum : ℕ × ℕ → Bool
   has_sum e = eqb e.0 sum
 
-  -- how long the bucket is
-  pub length_is : length bucket ≡ to - from
-  length_is =
-      let inside = here.inside in
-      let ordered = here.ordered in
-      ap length (sym here.is)
-      ∙ length-take-le (to - from) (drop from entries) (omega (arith, length-drop from entries))
+  -- the entry that was read is that of the bucket
+  entry_within : (k : ℕ) (x : ℕ × ℕ) → IsRead entries k x → k < length bucket
+  entry_within k x read = subst (λ es. k < length es) here.is read.before
 
-  -- the entry at a place of the list is that of the bucket
-  pub entry_within : (k : ℕ) → from ≤ k → k < to → k - from < length bucket
-  entry_within k after before = omega (arith, length_is)
+  entry_is : (k : ℕ) (x : ℕ × ℕ) → IsRead entries k x → get_or bucket k x ≡ x
+  entry_is k x read = ap (λ es. get_or es k x) (sym here.is) ∙ get_or_from_slice_get entries k x x read.is
 
-  pub entry_is : (k : ℕ) (x : ℕ × ℕ) → IsRead entries from to k x → get_or bucket (k - from) x ≡ x
-  entry_is k x read =
-      let after = read.after in
-      let before = read.before in
-      let place : from + (k - from) ≡ k = omega arith in
-      ap (λ xs. get_or xs (k - from) x) (sym (here.is))
-      ∙ (get_or-take (to - from) (drop from entries) (k - from) x (omega arith)
-      ∙ (get_or-drop from entries (k - from) x
-      ∙ (ap (λ i. get_or entries i x) place ∙ get_or_from_slice_get entries k x x read.is)))
-
-  pub entry_of_pattern : (k : ℕ) (x : ℕ × ℕ) → IsRead entries from to k x → IsEntry c x
+  pub entry_of_pattern : (k : ℕ) (x : ℕ × ℕ) → IsRead entries k x → IsEntry c x
   entry_of_pattern k x read =
-      subst (IsEntry c) (entry_is k x read) (bucket_entries c here.searchable.well_formed (sum % 64) (k - from) x
-      (entry_within k read.after read.before))
+      subst (IsEntry c) (entry_is k x read)
+      (bucket_entries c here.searchable.well_formed (sum % 64) k x (entry_within k x read))
 
   abbrev done : ℕ → List (ℕ × ℕ)
-  done k = take (k - from) bucket
+  done k = take k bucket
 
   abbrev NoneOf : List (ℕ × ℕ) → Type 0
   NoneOf es = All (λ e. ¬ Stands e) es
 
-  step_is : (k : ℕ) → from ≤ k → k - from + 1 ≡ k + 1 - from
-  step_is k after = omega arith
-
   -- one entry more does not stand there
-  pub none_more : (k : ℕ) (x : ℕ × ℕ) → IsRead entries from to k x → NoneOf (done k) → ¬ Stands x
-      → NoneOf (done (k + 1))
+  pub none_more : (k : ℕ) (x : ℕ × ℕ) → IsRead entries k x → NoneOf (done k) → ¬ Stands x → NoneOf (done (k + 1))
   none_more k x read none not_here =
-      let not_there : ¬ Stands (get_or bucket (k - from) x) = subst (λ e. ¬ Stands e)
-      (sym (entry_is k x read)) not_here in
-      subst (λ i. NoneOf (take i bucket)) (step_is k read.after)
-      (All-more (λ e. ¬ Stands e) bucket (k - from) x (entry_within k read.after read.before) none not_there)
+      let not_there : ¬ Stands (get_or bucket k x) = subst (λ e. ¬ Stands e) (sym (entry_is k x read)) not_here in
+      All-more (λ e. ¬ Stands e) bucket k x (entry_within k x read) none not_there
 
-  pub not_of_sum : (k : ℕ) (x : ℕ × ℕ) → IsRead entries from to k x → (x.0 ≡ sum → ⊥) → ¬ Stands x
+  pub not_of_sum : (k : ℕ) (x : ℕ × ℕ) → IsRead entries k x → (x.0 ≡ sum → ⊥) → ¬ Stands x
   not_of_sum k x read other =
       other_sum c here.searchable.well_formed here.searchable.in_order haystack at sum here.sum_is x
       (entry_of_pattern k x read) other
 
-  count_yes : (k : ℕ) (x : ℕ × ℕ) → IsRead entries from to k x → x.0 ≡ sum
+  count_yes : (k : ℕ) (x : ℕ × ℕ) → IsRead entries k x → x.0 ≡ sum
       → count_by has_sum (done k) + 1 ≡ count_by has_sum (done (k + 1))
   count_yes k x read equal =
-      let test : has_sum (get_or bucket (k - from) x) ≡ true = ap has_sum (entry_is k x read) ∙ eq-eqb _ _ equal in
-      sym (count_by_more_yes has_sum bucket (k - from) x (entry_within k read.after read.before) test)
-      ∙ ap (λ i. count_by has_sum (take i bucket)) (step_is k read.after)
+      let test : has_sum (get_or bucket k x) ≡ true = ap has_sum (entry_is k x read) ∙ eq-eqb _ _ equal in
+      sym (count_by_more_yes has_sum bucket k x (entry_within k x read) test)
 
-  count_no : (k : ℕ) (x : ℕ × ℕ) → IsRead entries from to k x → (x.0 ≡ sum → ⊥)
+  count_no : (k : ℕ) (x : ℕ × ℕ) → IsRead entries k x → (x.0 ≡ sum → ⊥)
       → count_by has_sum (done k) ≡ count_by has_sum (done (k + 1))
   count_no k x read other =
-      let test : has_sum (get_or bucket (k - from) x) ≡ false = ap has_sum (entry_is k x read) ∙ ne_eqb _ _ other in
-      sym (count_by_more_no has_sum bucket (k - from) x (entry_within k read.after read.before) test)
-      ∙ ap (λ i. count_by has_sum (take i bucket)) (step_is k read.after)
+      let test : has_sum (get_or bucket k x) ≡ false = ap has_sum (entry_is k x read) ∙ ne_eqb _ _ other in
+      sym (count_by_more_no has_sum bucket k x (entry_within k x read) test)
 
   -- the counts after an entry of another sum, and after one that was compared in vain
-  pub counts_other : (k : ℕ) (x : ℕ × ℕ) (old now ticked : Counts) → IsRead entries from to k x → (x.0 ≡ sum → ⊥)
-      → now ≡ counted old (k - from) (count_by has_sum (done k)) → ticked ≡ record now { entries = now.entries + 1 }
-      → ticked ≡ counted old (k + 1 - from) (count_by has_sum (done (k + 1)))
+  pub counts_other : (k : ℕ) (x : ℕ × ℕ) (old now ticked : Counts) → IsRead entries k x → (x.0 ≡ sum → ⊥)
+      → now ≡ counted old k (count_by has_sum (done k)) → ticked ≡ record now { entries = now.entries + 1 }
+      → ticked ≡ counted old (k + 1) (count_by has_sum (done (k + 1)))
   counts_other k x old now ticked read other was next =
-      counts_read old now ticked _ _ was next ∙ same_counts old _ _ _ _ (step_is k read.after) (count_no k x read other)
+      counts_read old now ticked _ _ was next ∙ same_counts old _ _ _ _ refl (count_no k x read other)
 
-  pub counts_vain : (k : ℕ) (x : ℕ × ℕ) (old now ticked compared : Counts) → IsRead entries from to k x → x.0 ≡ sum
-      → now ≡ counted old (k - from) (count_by has_sum (done k)) → ticked ≡ record now { entries = now.entries + 1 }
+  pub counts_vain : (k : ℕ) (x : ℕ × ℕ) (old now ticked compared : Counts) → IsRead entries k x → x.0 ≡ sum
+      → now ≡ counted old k (count_by has_sum (done k)) → ticked ≡ record now { entries = now.entries + 1 }
       → compared ≡ record ticked { compared = ticked.compared + 1 }
-      → compared ≡ counted old (k + 1 - from) (count_by has_sum (done (k + 1)))
+      → compared ≡ counted old (k + 1) (count_by has_sum (done (k + 1)))
   counts_vain k x old now ticked compared read equal was next then =
       counts_compared old ticked compared _ _ (counts_read old now ticked _ _ was next) then
-      ∙ same_counts old _ _ _ _ (step_is k read.after) (count_yes k x read equal)
+      ∙ same_counts old _ _ _ _ refl (count_yes k x read equal)
 
   -- and those of an entry that stands there
-  pub counts_found : (k : ℕ) (x : ℕ × ℕ) (old now ticked compared : Counts) → IsRead entries from to k x → x.0 ≡ sum
-      → now ≡ counted old (k - from) (count_by has_sum (done k)) → ticked ≡ record now { entries = now.entries + 1 }
+  pub counts_found : (k : ℕ) (x : ℕ × ℕ) (old now ticked compared : Counts) → IsRead entries k x → x.0 ≡ sum
+      → now ≡ counted old k (count_by has_sum (done k)) → ticked ≡ record now { entries = now.entries + 1 }
       → compared ≡ record ticked { compared = ticked.compared + 1 }
       → compared ≡ counted old (pairs_at_up_to (has_equal_bucket c.patterns haystack) (query_of c) at x.1)
       (pairs_at_up_to (has_equal_sum c.patterns haystack) (query_of c) at x.1)
   counts_found k x old now ticked compared read equal was next then =
-      let within = entry_within k read.after read.before in
+      let within = entry_within k x read in
       let in_place = entry_is k x read in
       counts_compared old ticked compared _ _ (counts_read old now ticked _ _ was next) then
       ∙ same_counts old _ _ _ _
-      (entries_some c here.searchable.well_formed here.searchable.in_order haystack at sum here.sum_is
-      (k - from) x within in_place)
-      (compared_some c here.searchable.well_formed here.searchable.in_order haystack at sum here.sum_is
-      (k - from) x within in_place equal)
+      (entries_some c here.searchable.well_formed here.searchable.in_order haystack at sum here.sum_is k x within
+      in_place)
+      (compared_some c here.searchable.well_formed here.searchable.in_order haystack at sum here.sum_is k x within
+      in_place equal)
 
-  pub best_found : (k : ℕ) (x : ℕ × ℕ) → IsRead entries from to k x → NoneOf (done k) → Stands x
+  pub best_found : (k : ℕ) (x : ℕ × ℕ) → IsRead entries k x → NoneOf (done k) → Stands x
       → IsBestAt (query_of c) false haystack at x.1
   best_found k x read none stands =
-      best_stands c here.searchable.well_formed here.searchable.in_order haystack at sum here.sum_is (k - from) x
-      (entry_within k read.after read.before) (entry_is k x read) none stands
+      best_stands c here.searchable.well_formed here.searchable.in_order haystack at sum here.sum_is k x
+      (entry_within k x read) (entry_is k x read) none stands
 
-  all_done : (k : ℕ) → from ≤ k → to ≤ k → done k ≡ bucket
-  all_done k after ended = take_all (k - from) bucket (omega (arith, length_is))
+  length_is : length entries ≡ length bucket
+  length_is = ap length here.is
 
-  pub none_found : (k : ℕ) → from ≤ k → to ≤ k → NoneOf (done k) → NoneStandsAt c.patterns false haystack at
-  none_found k after ended none =
+  all_done : (k : ℕ) → length entries ≤ k → done k ≡ bucket
+  all_done k ended = take_all k bucket (omega (arith, length_is))
+
+  pub none_found : (k : ℕ) → length entries ≤ k → NoneOf (done k) → NoneStandsAt c.patterns false haystack at
+  none_found k ended none =
       none_stands c here.searchable.well_formed here.searchable.in_order haystack at sum here.sum_is
-      (subst NoneOf (all_done k after ended) none)
+      (subst NoneOf (all_done k ended) none)
 
-  pub counts_none : (k : ℕ) (old now : Counts) → from ≤ k → (from ≤ to → k ≤ to) → to ≤ k
-      → now ≡ counted old (k - from) (count_by has_sum (done k))
+  pub counts_none : (k : ℕ) (old now : Counts) → k ≤ length entries → length entries ≤ k
+      → now ≡ counted old k (count_by has_sum (done k))
       → now ≡ counted old (pairs_at (has_equal_bucket c.patterns haystack) (length c.patterns) at)
       (pairs_at (has_equal_sum c.patterns haystack) (length c.patterns) at)
-  counts_none k old now after within ended was =
-      let top : k ≤ to = within here.ordered in
-      let whole : k - from ≡ length bucket = omega (arith, length_is) in
+  counts_none k old now within ended was =
+      let whole : k ≡ length bucket = omega (arith, length_is) in
       was ∙ same_counts old _ _ _ _
       (whole ∙ entries_none c here.searchable.well_formed here.searchable.in_order haystack at sum here.sum_is)
-      (ap (count_by has_sum) (all_done k after ended)
+      (ap (count_by has_sum) (all_done k ended)
       ∙ compared_none c here.searchable.well_formed here.searchable.in_order haystack at sum here.sum_is)
 
 -- the look-up in a list of its own for each bucket
 pub look_up_in : (c : PatternsValue) (b : RabinKarpValue) (haystack : List ℕ) (at sum : ℕ) → IsMadeFor c b
-    → sum ≡ window_sum c.patterns haystack at
-    → IsLookUp c haystack at sum (bucket_at b (sum % 64)) 0 (length (bucket_at b (sum % 64)))
-look_up_in c b haystack at sum made sum_is =
-    let entries = bucket_at b (sum % 64) in
-    let below = mod_below sum 64 (omega arith) in
-    record {
-      searchable = made.searchable;
-      sum_is = sum_is;
-      ordered = omega arith;
-      inside = omega arith;
-      is = take_all (length entries - 0) entries (omega arith) ∙ made.buckets (sum % 64) below;
-    }
+    → sum ≡ window_sum c.patterns haystack at → IsLookUp c haystack at sum (bucket_at b (sum % 64))
+look_up_in c b haystack at sum made sum_is = record {
+  searchable = made.searchable;
+  sum_is = sum_is;
+  is = made.buckets (sum % 64) (mod_below sum 64 (omega arith));
+}

@@ -4,14 +4,15 @@ use Rattle.std.proofs.Common.{◌≡◌, ℕ, ◌≤◌, ◌*◌, ◌+◌, ◌-�
 use Rattle.std.proofs.Common.{refl, sym, ap, ◌∙◌, subst, arith}
 use Rattle.std.specs.List.{All, AllPairs, range_with_len}
 use Rattle.std.specs.List.Sorted.{IsPermutation}
-use Rattle.std.proofs.lemmas.List.{drop_more, get_or-map, length_push, map-id, length-map}
+use Rattle.std.proofs.lemmas.List.{drop_more, get_or-map, length_push, length-map}
 use Rattle.std.proofs.lemmas.List.Elements.{All-push}
-use Rattle.std.proofs.lemmas.List.FromFn.{get_or-range_with_len, length-range_with_len, map-range_with_len_more}
+use Rattle.std.proofs.lemmas.List.FromFn.{get_or-range_with_len, length-range_with_len}
 use Rattle.std.proofs.lemmas.List.Sorted.{All-permutation, IsPermutation-append_left, IsPermutation-trans}
 use Rattle.std.proofs.lemmas.List.Sums.{fold_push, sum_by_push}
 use Rattle.std.proofs.lemmas.List.Quantifiers.{all_pairs_push}
 use Rattle.literal_base.specs.declared.packed.MatchKind.TheVariants.{LeftmostFirst}
 use Rattle.literal_base.specs.Occurs.{pattern_at}
+use Rattle.literal_packed.proofs.lemmas.Lists.{range-push}
 use Rattle.literal_packed.specs.declared.pattern.Patterns.TheInside.{Inside}
 use Rattle.literal_packed.specs.PatternsValue.{PatternsValue, IsWellFormed, IsInOrder, with_pattern, in_order}
 use Rattle.literal_packed.specs.PatternsValue.{minimum_len_of, total_len}
@@ -35,7 +36,7 @@ pub order_below_at : (c : PatternsValue) (i id : ℕ) → IsWellFormed c → i <
 order_below_at c i id w in_range is = rw is (order-below c w i id in_range)
 
 -- what comes at a place of the order, and what comes after it
-pub in_order-drop : (c : PatternsValue) (i id : ℕ) → i < length c.order → id ≡ get_or c.order i id
+in_order-drop : (c : PatternsValue) (i id : ℕ) → i < length c.order → id ≡ get_or c.order i id
     → drop i (in_order c) ≡ (id, pattern_at c.patterns id) ∷ drop (i + 1) (in_order c)
 in_order-drop c i id in_range is =
     let pair : ℕ → ℕ × List ℕ = λ i. (i, pattern_at c.patterns i) in
@@ -43,13 +44,7 @@ in_order-drop c i id in_range is =
     drop_more (in_order c) i (pair id) fits
     ∙ ap (λ p. p ∷ drop (i + 1) (in_order c)) (get_or-map pair c.order i id (pair id) in_range ∙ ap pair (sym is))
 
--- one number more
-range-push : (n : ℕ) → range_with_len 0 (n + 1) ≡ range_with_len 0 n ++ n ∷ []
-range-push n =
-    sym (map-id (range_with_len 0 (n + 1)))
-    ∙ (map-range_with_len_more (λ i. i) 0 n n (omega arith) ∙ ap (λ is. is ++ n ∷ []) (map-id (range_with_len 0 n)))
-
-pub IsWellFormed-with_pattern : (c : PatternsValue) (bytes : List ℕ) → IsWellFormed c → 0 < length bytes
+IsWellFormed-with_pattern : (c : PatternsValue) (bytes : List ℕ) → IsWellFormed c → 0 < length bytes
     → length c.patterns < 2147483647 → IsWellFormed (with_pattern c bytes)
 IsWellFormed-with_pattern c bytes w some room =
     let n = length c.patterns in
@@ -116,7 +111,7 @@ IsConsistent-reorder a b h same shortest total moved =
     }
 
 -- a pattern that is added last keeps the order of adding
-pub IsInOrder-with_pattern : (c : PatternsValue) (bytes : List ℕ) → IsWellFormed c → c.kind ≡ LeftmostFirst
+IsInOrder-with_pattern : (c : PatternsValue) (bytes : List ℕ) → IsWellFormed c → c.kind ≡ LeftmostFirst
     → IsInOrder c → IsInOrder (with_pattern c bytes)
 IsInOrder-with_pattern c bytes w first ordered i j d before in_range =
     let n = length c.patterns in

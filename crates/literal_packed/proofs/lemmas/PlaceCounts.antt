@@ -39,7 +39,7 @@ same_all old h e c h' e' c' p q r =
     ap (λ n. counted_all old n e c) p ∙ (ap (λ n. counted_all old h' n c) q ∙ ap (λ n. counted_all old h' e' n) r)
 
 -- after a look-up
-pub counts_looked : (old now looked : Counts) (h e c m n : ℕ) → now ≡ counted_all old h e c
+counts_looked : (old now looked : Counts) (h e c m n : ℕ) → now ≡ counted_all old h e c
     → looked ≡ record now { entries = now.entries + m; compared = now.compared + n }
     → looked ≡ counted_all old h (e + m) (c + n)
 counts_looked old now looked h e c m n is next =
@@ -50,7 +50,7 @@ counts_looked old now looked h e c m n is next =
     next ∙ (ap step is ∙ (ap (λ a. f a (old.compared + c + n)) x ∙ ap (λ b. f (old.entries + (e + m)) b) y))
 
 -- after a push or a roll
-pub counts_hashed : (old now hashed : Counts) (h e c : ℕ) → now ≡ counted_all old h e c
+counts_hashed : (old now hashed : Counts) (h e c : ℕ) → now ≡ counted_all old h e c
     → hashed ≡ record now { hashed = now.hashed + 1 } → hashed ≡ counted_all old (h + 1) e c
 counts_hashed old now hashed h e c is next =
     let step : Counts → Counts = λ t. record t { hashed = t.hashed + 1 } in

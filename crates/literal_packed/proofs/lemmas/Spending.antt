@@ -23,7 +23,7 @@ use Rattle.literal_packed.proofs.lemmas.MinimumLen.{minimum_len_of-le, minimum_l
 use Rattle.literal_packed.proofs.lemmas.Windows.{none_empty}
 use Rattle.literal_packed.proofs.lemmas.PlaceCounts.{pairs_between-more, pairs_between-none}
 
-pub pairs_between-split : (test : ℕ → ℕ → Bool) (n a b c : ℕ) → a ≤ b → b ≤ c
+pairs_between-split : (test : ℕ → ℕ → Bool) (n a b c : ℕ) → a ≤ b → b ≤ c
     → pairs_between test n a c ≡ pairs_between test n a b + pairs_between test n b c
 pairs_between-split test n a b c low high =
     let long : c - a ≡ (b - a) + (c - b) = omega arith in
@@ -34,7 +34,7 @@ pairs_between-split test n a b c low high =
     ∙ ap (λ s. pairs_between test n a b + sum_by (pairs_at test n) (range_with_len s (c - b))) place))
 
 -- fewer places, fewer pairs
-pub pairs_between-le : (test : ℕ → ℕ → Bool) (n a b c : ℕ) → a ≤ b → pairs_between test n b c ≤ pairs_between test n a c
+pairs_between-le : (test : ℕ → ℕ → Bool) (n a b c : ℕ) → a ≤ b → pairs_between test n b c ≤ pairs_between test n a c
 pairs_between-le test n a b c low =
     elim (cases_lt c b) [
       | inl short ↦ omega (arith, pairs_between-none test n b c (omega arith))
@@ -53,7 +53,7 @@ pairs_at_up_to-le test query at j =
     (range_with_len 0 (length query.patterns)) (λ i. both-le (test at i) (is_up_to query.kind query.patterns j i))
 
 -- the pairs up to a match, and those from its end on
-pub pairs_up_to-le : (test : ℕ → ℕ → Bool) (query : Query) (from to last : ℕ) (found : MatchValue)
+pairs_up_to-le : (test : ℕ → ℕ → Bool) (query : Query) (from to last : ℕ) (found : MatchValue)
     → from ≤ found.start → found.start < to → found.start < last
     → pairs_between test (length query.patterns) from found.start + pairs_at_up_to test query found.start found.pattern
     + pairs_between test (length query.patterns) to last ≤ pairs_between test (length query.patterns) from last
@@ -93,7 +93,7 @@ module _ (query : Query) (haystack : List ℕ) (from : ℕ) (old new : Counts) (
   hashed_of : Counts → ℕ
   hashed_of c = c.hashed
 
-  pub spends_some : (found : MatchValue) → found.start < found.end
+  spends_some : (found : MatchValue) → found.start < found.end
       → IsLeftmostMatch query false haystack (rest_from haystack from) found
       → new ≡ counts_after old query haystack (rest_from haystack from) (Some found)
       → SpendsAtMost query haystack from found.end old new
@@ -127,7 +127,7 @@ module _ (query : Query) (haystack : List ℕ) (from : ℕ) (old new : Counts) (
         };
       }
 
-  pub spends_none : NothingOccurs patterns false haystack (rest_from haystack from)
+  spends_none : NothingOccurs patterns false haystack (rest_from haystack from)
       → new ≡ counts_after old query haystack (rest_from haystack from) None
       → SpendsAtMost query haystack from (length haystack) old new
   spends_none nothing is =

@@ -7,7 +7,7 @@ use Rattle.std.proofs.lemmas.List.{length_push}
 use Rattle.literal_packed.specs.Sum.{weighted, sum_of, power_of}
 
 -- one more byte on the right
-pub weighted-push : (w : List ℕ) (b : ℕ) → weighted (w ++ b ∷ []) ≡ weighted w * 2 + b
+weighted-push : (w : List ℕ) (b : ℕ) → weighted (w ++ b ∷ []) ≡ weighted w * 2 + b
 weighted-push [] b =
     let one : b * 2 ^ 0 ≡ b = omega arith in
     omega arith

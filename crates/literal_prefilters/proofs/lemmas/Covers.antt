@@ -36,7 +36,7 @@ if_some_at : (o : Option ℕ) (n j : ℕ) → o ≡ Some n → j ≤ n → IfSom
 if_some_at o n j e below =
     let P : Option ℕ → Type 0 = λ o. IfSome o (λ d. j ≤ d) in subst P (sym e) below
 
-pub start_bytes-covers : (c : Bool) (ps : List (List ℕ)) (i : ℕ) → i < length ps → 0 < length (get_or ps i [])
+start_bytes-covers : (c : Bool) (ps : List (List ℕ)) (i : ℕ) → i < length ps → 0 < length (get_or ps i [])
     → Covers (start_bytes c ps) c (get_or ps i [])
 start_bytes-covers c ps i below some v bytes same =
     let p = get_or ps i [] in
@@ -55,7 +55,7 @@ start_bytes-covers c ps i below some v bytes same =
     (λ j. IfSome (distance_of (start_bytes c ps) (slice_index v j)) (λ d. j ≤ d)) in
     subst P (sym at_first) (if_some_at (distance_of (start_bytes c ps) (slice_index v 0)) 0 0 value (omega arith))
 
-pub rare_bytes-covers : (c : Bool) (ps : List (List ℕ)) (i : ℕ) → i < length ps → 0 < length (get_or ps i [])
+rare_bytes-covers : (c : Bool) (ps : List (List ℕ)) (i : ℕ) → i < length ps → 0 < length (get_or ps i [])
     → Covers (rare_bytes c ps) c (get_or ps i [])
 rare_bytes-covers c ps i below some v bytes same =
     let p = get_or ps i [] in

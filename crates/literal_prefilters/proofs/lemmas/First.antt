@@ -18,7 +18,7 @@ position_is p xs i below here before =
     ap (λ j. cond (ltb j (length xs)) (Some j) None) (position_or_len_is p xs i 0 (omega arith) before (λ _. here))
     ∙ cond-true _ _ _ (lt-ltb _ _ below)
 
-pub position_none : (p : ℕ → Bool) (xs : List ℕ) → ((k : ℕ) → k < length xs → p (get_or xs k 0) ≡ false)
+position_none : (p : ℕ → Bool) (xs : List ℕ) → ((k : ℕ) → k < length xs → p (get_or xs k 0) ≡ false)
     → position p xs ≡ None
 position_none p xs none =
     ap (λ j. cond (ltb j (length xs)) (Some j) None)

@@ -7,7 +7,7 @@ use Rattle.literal_base.specs.Occurs.{same_byte}
 use Rattle.std.specs.List.{All}
 use Rattle.literal_prefilters.specs.Tables.{offset_below, largest_offset}
 
-pub offset_below-le : (c : Bool) (b : ℕ) (p : List ℕ) (n : ℕ) → offset_below c b p n ≤ n
+offset_below-le : (c : Bool) (b : ℕ) (p : List ℕ) (n : ℕ) → offset_below c b p n ≤ n
 offset_below-le c b p zero = omega arith
 offset_below-le c b p (suc n) =
     ⊎_elim
@@ -55,7 +55,7 @@ raised_twice false true n old one new first second = omega arith
 raised_twice false false n old one new first second = omega arith
 
 -- the offset is below the length, where there is one
-pub offset_below-lt : (c : Bool) (b : ℕ) (p : List ℕ) (n : ℕ) → offset_below c b p n ≤ n - 1
+offset_below-lt : (c : Bool) (b : ℕ) (p : List ℕ) (n : ℕ) → offset_below c b p n ≤ n - 1
 offset_below-lt c b p zero = omega arith
 offset_below-lt c b p (suc n) =
     ⊎_elim

@@ -14,14 +14,14 @@ matches_at-requires-clause-is_pattern c =
     let here = look_up_in c.args.patterns.now c.args.self.now c.args.haystack.now c.args.at c.value-sum.result
     c.requires.made (c.value-sum.ensures ∙ c.requires.sum) in
     (entry_of_pattern here c.loop-k.k c.entry-entry_sum.result
-    (record { after = omega arith; before = grind (arith, common_steps); is = c.entry-entry_sum.ensures.entry })).1
+    (record { before = grind (arith, common_steps); is = c.entry-entry_sum.ensures.entry })).1
 
 pub returns-then-matches_at-clause-best : goal.returns-then-matches_at-clause-best
 returns-then-matches_at-clause-best c =
     let here = look_up_in c.args.patterns.now c.args.self.now c.args.haystack.now c.args.at c.value-sum.result
     c.requires.made (c.value-sum.ensures ∙ c.requires.sum) in
     best_found here c.loop-k.k c.entry-entry_sum.result
-    (record { after = omega arith; before = grind (arith, common_steps); is = c.entry-entry_sum.ensures.entry })
+    (record { before = grind (arith, common_steps); is = c.entry-entry_sum.ensures.entry })
     c.loop-k.invariant.none (c.if-matches_at.ensures.stands.0 refl)
 
 pub returns-then-matches_at-clause-counted : goal.returns-then-matches_at-clause-counted
@@ -30,7 +30,7 @@ returns-then-matches_at-clause-counted c =
     c.requires.made (c.value-sum.ensures ∙ c.requires.sum) in
     counts_found here c.loop-k.k c.entry-entry_sum.result c.args.tally.now c.loop-k.tally c.entry-entry_sum.new.tally
     c.matches_at.new.tally
-    (record { after = omega arith; before = grind (arith, common_steps); is = c.entry-entry_sum.ensures.entry })
+    (record { before = grind (arith, common_steps); is = c.entry-entry_sum.ensures.entry })
     c.if-entry_sum-sum.true c.loop-k.invariant.counted c.entry-entry_sum.ensures.counted c.if-matches_at.ensures.counted
 
 pub loop-k-preserved : goal.loop-k-preserved
@@ -40,8 +40,8 @@ loop-k-preserved c =
     let k = c.loop-k.k in
     let x = c.entry-entry_sum.result in
     let entries = bucket_at c.args.self.now (c.value-sum.result % 64) in
-    let read : IsRead entries 0 (length entries) k x =
-    record { after = omega arith; before = grind (arith, common_steps); is = c.entry-entry_sum.ensures.entry } in
+    let read : IsRead entries k x =
+    record { before = grind (arith, common_steps); is = c.entry-entry_sum.ensures.entry } in
     elim c.else-entry_sum-sum.branch [
       | else-entry_sum-sum-via-then-entry_sum-sum+else-matches_at w ↦ record {
         none = none_more here k x read c.loop-k.invariant.none
@@ -61,11 +61,11 @@ pub returns-clause-best : goal.returns-clause-best
 returns-clause-best c =
     let here = look_up_in c.args.patterns.now c.args.self.now c.args.haystack.now c.args.at c.value-sum.result
     c.requires.made (c.value-sum.ensures ∙ c.requires.sum) in
-    none_found here c.loop-k.k (omega arith) (grind (arith, common_steps)) c.loop-k.invariant.none
+    none_found here c.loop-k.k (grind (arith, common_steps)) c.loop-k.invariant.none
 
 pub returns-clause-counted : goal.returns-clause-counted
 returns-clause-counted c =
     let here = look_up_in c.args.patterns.now c.args.self.now c.args.haystack.now c.args.at c.value-sum.result
     c.requires.made (c.value-sum.ensures ∙ c.requires.sum) in
-    counts_none here c.loop-k.k c.args.tally.now c.loop-k.tally (omega arith) (λ _. grind (arith, common_steps))
+    counts_none here c.loop-k.k c.args.tally.now c.loop-k.tally (grind (arith, common_steps))
     (grind (arith, common_steps)) c.loop-k.invariant.counted

@@ -7,11 +7,11 @@ use Rattle.literal_packed.proofs.rabinkarp.RabinKarp.look_up.Given as goal
 -- none of the entries so far stands there, and each was read once and compared where its sum is that of the window
 abbrev pub invariant-loop-k : goal.invariant-loop-k
 invariant-loop-k l =
-    let done = take (l.k - 0) (bucket_of l.patterns l.bucket) in
+    let done = take l.k (bucket_of l.patterns l.bucket) in
     record {
       none : All (λ e. ¬ StandsAt false (pattern_at l.patterns.patterns e.1) l.haystack l.at) done;
       counted : l.tally ≡ record l.initial.tally {
-        entries = l.initial.tally.entries + (l.k - 0);
+        entries = l.initial.tally.entries + l.k;
         compared = l.initial.tally.compared + count_by (λ e. eqb e.0 l.sum) done;
       };
     }
