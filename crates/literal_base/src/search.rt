@@ -54,7 +54,7 @@ impl<'h> Input<'h> {
         }
     }
 
-    /// The same search between the bounds of the span. Its end has to be at most the haystack's
+    /// The search, now between the bounds of the span. Its end has to be at most the haystack's
     /// length, and its start at most one beyond its end.
     pub fn span(mut self, span: Span) -> Input<'h>
         requires { AreBounds self.haystack span.start span.end }
@@ -64,7 +64,7 @@ impl<'h> Input<'h> {
         self
     }
 
-    /// The same search between the bounds of the range. Its end has to be at most the haystack's
+    /// The search, now between the bounds of the range. Its end has to be at most the haystack's
     /// length, and its start at most one beyond its end.
     pub fn range(mut self, range: Range<usize>) -> Input<'h>
         requires { AreBounds self.haystack range.start range.end }
@@ -74,7 +74,7 @@ impl<'h> Input<'h> {
         self
     }
 
-    /// The same search from the byte at `first` up to and including that at `last`, both of them
+    /// The search, now from the byte at `first` up to and including the byte at `last`, both
     /// offsets. `last` has to lie below the haystack's length, and `first` at most two beyond `last`.
     pub fn range_inclusive(mut self, first: usize, last: usize) -> Input<'h>
         requires { AreBounds self.haystack first (last + 1) }
@@ -84,7 +84,7 @@ impl<'h> Input<'h> {
         self
     }
 
-    /// The same search, anchored or not.
+    /// The search, now anchored or not.
     pub fn anchored(mut self, mode: Anchored) -> Input<'h>
         ensures { result ≡ record self.entry { anchored = mode } }
     {
@@ -92,7 +92,7 @@ impl<'h> Input<'h> {
         self
     }
 
-    /// The same search, which is to end as soon as any match is known where `yes` is true.
+    /// The search, which now is to end as soon as any match is known where `yes` is true.
     pub fn earliest(mut self, yes: bool) -> Input<'h>
         ensures { result ≡ record self.entry { earliest = yes } }
     {
@@ -100,7 +100,7 @@ impl<'h> Input<'h> {
         self
     }
 
-    /// Sets both bounds to those of the span. Its end has to be at most the haystack's length, and
+    /// Sets both bounds to the bounds of the span. Its end has to be at most the haystack's length, and
     /// its start at most one beyond its end.
     pub fn set_span(&mut self, span: Span)
         requires { AreBounds self.old.haystack span.start span.end }
@@ -109,7 +109,7 @@ impl<'h> Input<'h> {
         self.bounds = span;
     }
 
-    /// Sets both bounds to those of the range. Its end has to be at most the haystack's length, and
+    /// Sets both bounds to the bounds of the range. Its end has to be at most the haystack's length, and
     /// its start at most one beyond its end.
     pub fn set_range(&mut self, range: Range<usize>)
         requires { AreBounds self.old.haystack range.start range.end }
@@ -227,7 +227,7 @@ impl<'h> Input<'h> {
     }
 }
 
-/// The same search of the same haystack. A clone takes no memory, and always succeeds.
+/// An equal search of the haystack. A clone takes no memory, and always succeeds.
 impl Clone for Input<'_> {
     ghost is_clone = { λ input copy. copy ≡ input };
 
@@ -257,7 +257,7 @@ pub struct Span {
 impl Span {
     ghost use Rattle.literal_base.specs.Occurs.{IsValidSpan};
 
-    /// The same bounds as a range.
+    /// The bounds of the span as a range.
     pub fn range(&self) -> Range<usize>
         ensures { result ≡ record { start = self.now.start; end = self.now.end } }
     {
@@ -346,7 +346,7 @@ impl fmt::Debug for Span {
     }
 }
 
-/// The same bounds.
+/// The span with the bounds of a range.
 impl From<Range<usize>> for Span {
     ghost from_gives = { λ range span. span ≡ record { start = range.start; end = range.end } };
 
@@ -358,7 +358,7 @@ impl From<Range<usize>> for Span {
     }
 }
 
-/// The same bounds.
+/// The range with the bounds of a span.
 impl From<Span> for Range<usize> {
     ghost from_gives = { λ span range. range ≡ record { start = span.start; end = span.end } };
 
@@ -496,7 +496,7 @@ impl Match {
 pub enum MatchKind {
     /// Each as soon as it is seen, whatever else begins at its place or before it.
     Standard,
-    /// Of the occurrences that begin earliest, that of the pattern that was added first.
+    /// Of the occurrences that begin earliest, the one of the pattern that was added first.
     LeftmostFirst,
     /// Of the occurrences that begin earliest the longest, and among equal lengths that of the
     /// pattern that was added first.

@@ -8,7 +8,7 @@ pub trait U8 {
     /// The number that a value is.
     ghost number: { Self → ℕ };
 
-    /// The number.
+    /// The number as it is, in the other type.
     fn as_usize(self) -> usize
         ensures { result ≡ number self };
 }
@@ -26,7 +26,7 @@ pub trait U16 {
     /// The number that a value is.
     ghost number: { Self → ℕ };
 
-    /// The number.
+    /// The number as it is, in the other type.
     fn as_usize(self) -> usize
         ensures { result ≡ number self };
 
@@ -60,7 +60,7 @@ pub trait U32 {
     /// The number that a value is.
     ghost number: { Self → ℕ };
 
-    /// The number.
+    /// The number as it is, in the other type.
     fn as_usize(self) -> usize
         ensures { result ≡ number self };
 
@@ -102,7 +102,7 @@ pub trait U64 {
     /// The number that a value is.
     ghost number: { Self → ℕ };
 
-    /// The number.
+    /// The number as it is, in the other type.
     fn as_usize(self) -> usize
         ensures { result ≡ number self };
 
@@ -275,7 +275,7 @@ pub trait Usize {
         requires { number self < 2 ^ 32 }
         ensures { result ≡ number self };
 
-    /// The number.
+    /// The number as it is, in the other type.
     fn as_u64(self) -> u64
         ensures { result ≡ number self };
 }

@@ -1,8 +1,10 @@
 -- What holds of a builder that is lent to a call, which lends it back where it succeeds.
-use Rattle.std.specs.Prelude.{ℕ, List, Option, Result}
+use Rattle.std.specs.Prelude.{ℕ, ◌⊎◌, List, [], Option, Some, Result}
 use Rattle.std.specs.Borrow.{Bor, MutBor, Fml, RestsIfErr}
 use Rattle.std.specs.Iterator.{Count, Drains, IsFinite, Yields}
-use Rattle.literal_packed.specs.BuilderValue.{BuilderValue, AddsAll}
+use Rattle.literal_packed.specs.BuilderValue.{AddsAll, BuilderValue, IsBuildable, builder_of, pattern_limit}
+use Rattle.literal_packed.specs.ConfigValue.{default_config}
+use Rattle.literal_packed.specs.State.{WouldKeep}
 use Rattle.literal_packed.specs.declared.api.Lent.{Lent}
 use Rattle.literal_packed.specs.contracts.api.Builder.{the_row}
 
@@ -27,7 +29,23 @@ module _ {U T : Type 0} (becomes : U → T → Type 0) (steps : T → Option (Bo
   abbrev pub HoldsAll : Type 0
   HoldsAll = (it : T) × (xs : List (Bor (List ℕ))) × becomes patterns it × AddsAll old xs new × Drains steps it xs
 
-  -- the items that the iterator gave before the refusal were added, in their order
-  abbrev pub HoldsTaken : Type 0
-  HoldsTaken = (it : T) × (xs : List (Bor (List ℕ))) × becomes patterns it × AddsAll old xs new
-      × ((t : T) × Yields steps it xs t)
+  -- the items that the iterator gave before the refused one were added, in their order, and the builder would keep that one
+  pub record HoldsTaken : Type 0 where
+    pub iterator : T
+    pub items : List (Bor (List ℕ))
+    pub refused : Bor (List ℕ)
+    pub before : T
+    pub after : T
+    pub is_iterator : becomes patterns iterator
+    pub gave : Yields steps iterator items before
+    pub gives : steps before (Some refused) after
+    pub adds : AddsAll old items new
+    pub would_keep : WouldKeep pattern_limit new.state refused.now
+
+module _ {U T : Type 0} (becomes : U → T → Type 0) (steps : T → Option (Bor (List ℕ)) → T → Type 0) (patterns : U) where
+  -- memory was refused where a new builder takes the items of an iterator and builds: for an item that it would keep,
+  -- or after all items, where a searcher can be built
+  pub record RefusedItems : Type 0 where
+    pub builder : BuilderValue
+    pub why : HoldsTaken becomes steps patterns (builder_of default_config []) builder
+        ⊎ (HoldsAll becomes steps patterns (builder_of default_config []) builder × IsBuildable builder)

@@ -1,19 +1,18 @@
 //! The configuration, the builder, and the searcher.
-ghost use Rattle.std.specs.Prelude.{◌≡◌, ◌<◌, ◌⊎◌, ◌∷◌, [], length, Ok, Err, false, IsOk, IfOk, IfErr, OnOk, OnErr, IfSome, MatchResult};
+ghost use Rattle.std.specs.Prelude.{◌≡◌, ◌<◌, ◌⊎◌, ◌∷◌, [], length, Ok, Err, false, IsOk, IfOk, OnOk, OnErr, IfSome, MatchResult};
 ghost use Rattle.std.specs.Borrow.{sem};
-ghost use Rattle.std.specs.Iterator.{ExtendsWithItems};
 ghost use Rattle.literal_base.specs.Occurs.{IsValidSpan, whole_of};
 ghost use Rattle.literal_base.specs.Leftmost.{IsLeftmost};
 ghost use Rattle.literal_base.specs.Greedy.{IsGreedy};
 ghost use Rattle.literal_base.specs.Counts.{none_yet};
-ghost use Rattle.literal_packed.specs.PatternsValue.{IsInOrder, minimum_len_of};
-ghost use Rattle.literal_packed.specs.BuilderValue.{AddsAll, BuildsItems, IsBuildable, builder_of, pattern_limit, searcher_of, with_added};
+ghost use Rattle.literal_packed.specs.PatternsValue.{minimum_len_of};
+ghost use Rattle.literal_packed.specs.BuilderValue.{BuildsItems, IsBuildable, builder_of, pattern_limit, searcher_of, with_added};
 ghost use Rattle.literal_packed.specs.ConfigValue.{default_config};
 ghost use Rattle.literal_packed.specs.State.{WouldKeep, kept_of};
 ghost use Rattle.literal_packed.specs.Pairs.{counts_after};
 ghost use Rattle.literal_packed.specs.FindIterValue.{FindsNext, bytes_left};
 ghost use Rattle.literal_packed.specs.Spending.{SpendsWithin, counts_after_all};
-ghost use Rattle.literal_packed.specs.Lending.{CanBeTaken, RestsAtErr, LentRestsAtErr, HoldsTaken, HoldsAll};
+ghost use Rattle.literal_packed.specs.Lending.{CanBeTaken, RestsAtErr, LentRestsAtErr, HoldsTaken, HoldsAll, RefusedItems};
 
 use crate::pattern::Patterns;
 use crate::rabinkarp::RabinKarp;
@@ -183,13 +182,14 @@ impl Builder {
     }
 
     /// Adds the patterns that the iterator gives, each as [`Builder::add`] does. The iterator has to
-    /// end. Where memory is refused, the patterns before the refused one stay added.
+    /// end. Where memory is refused, the patterns before the refused one stay added. None is asked for where
+    /// an item is not kept.
     pub fn extend<'a, I: IntoIterator<Item = &'a [u8]>>(
         &mut self,
         patterns: I,
     ) -> Result<&mut Builder, AllocError>
         requires { CanBeTaken I.into_iter_gives I.IntoIter.can_next I.IntoIter.remaining patterns }
-        // After an error the builder has the patterns before the refused one.
+        // After an error the builder has the patterns before the refused one, which it would keep.
         ensures* taken { sem 𝓛 (RestsAtErr (HoldsTaken I.into_iter_gives I.IntoIter.next_gives patterns self.old) self.entry result) }
         ensures same { IfOk result (λ b. b.ghost_name ≡ self.entry.ghost_name) }
         ensures ok { IfOk result (λ b. HoldsAll I.into_iter_gives I.IntoIter.next_gives patterns self.old b.now) }
@@ -216,7 +216,8 @@ impl Builder {
         patterns: I,
     ) -> Result<(), AllocError>
         requires { CanBeTaken I.into_iter_gives I.IntoIter.can_next I.IntoIter.remaining patterns }
-        ensures { ExtendsWithItems I.into_iter_gives I.IntoIter.next_gives AddsAll patterns self.old self.new result }
+        ensures ok { OnOk result (HoldsAll I.into_iter_gives I.IntoIter.next_gives patterns self.old self.new) }
+        ensures err { OnErr result (HoldsTaken I.into_iter_gives I.IntoIter.next_gives patterns self.old self.new) }
     {
         for bytes in patterns {
             self.put(bytes)?;
@@ -307,7 +308,8 @@ impl Searcher {
         patterns: I,
     ) -> Result<Option<Searcher>, AllocError>
         requires { CanBeTaken I.into_iter_gives I.IntoIter.can_next I.IntoIter.remaining patterns }
-        ensures { IfOk result (BuildsItems I.into_iter_gives I.IntoIter.next_gives patterns) }
+        ensures ok { IfOk result (BuildsItems I.into_iter_gives I.IntoIter.next_gives patterns) }
+        ensures no_memory { OnErr result (RefusedItems I.into_iter_gives I.IntoIter.next_gives patterns) }
     {
         let mut builder = Builder::new(alloc);
         builder.put_all(patterns)?;
@@ -344,7 +346,7 @@ impl Searcher {
 
     /// The leftmost match in a span of the haystack: of the occurrences of patterns that lie whole
     /// in the span the one that begins first, and of those that begin there the one that the match
-    /// kind prefers. Offsets, those of the answer too, are in the whole haystack. The span has to be
+    /// kind prefers. Offsets, in the answer too, are in the whole haystack. The span has to be
     /// valid: its `start` at most its `end`, and that at most the haystack's length.
     pub fn find_in(&self, haystack: &[u8], span: Span) -> Option<Match>
         requires { IsValidSpan haystack.now span }
@@ -355,8 +357,8 @@ impl Searcher {
         self.find_in_counted(haystack, span, &mut tally)
     }
 
-    /// The same, with the steps that it takes added to a tally. No byte is scanned and no place
-    /// tried.
+    /// Answers as [`Searcher::find_in`], and adds the steps that it takes to a tally. No byte is
+    /// scanned and no place tried.
     pub fn find_in_counted(&self, haystack: &[u8], span: Span, tally: &mut Tally) -> Option<Match>
         requires { IsValidSpan haystack.now span }
         ensures leftmost { IsLeftmost self.now false haystack.now span result }

@@ -1,7 +1,7 @@
 //! Laws of the definitions that contracts cite, and of the searches. Each is the contract of a
 //! function: of one that does nothing where the law is about definitions, and else of one that makes
 //! the calls that the law is about.
-ghost use Rattle.std.specs.Prelude.{◌≡◌, ◌≤◌, ◌+◌, ◌-◌, ◌*◌, ◌^◌, ◌%◌, ◌↔◌, ℕ, List, [], ◌∷◌, length, map, sum, slice_index, codes, true, false, IsTrue, IsNone, Option, Some, None, IfOk};
+ghost use Rattle.std.specs.Prelude.{◌≡◌, ◌≤◌, ◌-◌, ◌*◌, ◌^◌, ◌%◌, ◌↔◌, ℕ, List, [], ◌∷◌, length, map, sum, slice_index, codes, true, false, IsTrue, IsNone, Option, Some, None, IfOk};
 ghost use Rattle.std.specs.List.{range_with_len};
 ghost use Rattle.literal_base.specs.declared.packed.MatchKind.{MatchKind};
 ghost use Rattle.literal_base.specs.declared.packed.MatchKind.TheVariants.{LeftmostFirst, LeftmostLongest};
@@ -23,7 +23,7 @@ use literal_base::laws::{greedy_is_unique, leftmost_is_unique};
 use literal_base::{Match, Span};
 use std::alloc::{AllocError, Global};
 
-/// The sum of a window is that of its bytes, each times 2 to the power of how many follow it, modulo
+/// The sum of a window is the sum of its bytes, each times 2 to the power of how many follow it, modulo
 /// 2 to the power of 64.
 pub fn sum_is_by_index()
     ensures { (w : List ℕ) → sum_of w ≡ sum (map (λ k. slice_index w k * 2 ^ (length w - 1 - k)) (range_with_len 0 (length w))) % 2 ^ 64 }
@@ -43,7 +43,7 @@ pub fn greedy_lists_lie_apart()
         → LieApart query.patterns haystack at all }
 {}
 
-/// A search of the whole haystack is that of the span that is all of it.
+/// A search of the whole haystack answers as a search of the span that is all of it.
 pub fn find_is_find_in(searcher: &Searcher, haystack: &[u8]) -> (Option<Match>, Option<Match>)
     ensures same { result.0 ≡ result.1 }
     ensures leftmost { IsLeftmost searcher.now false haystack.now (whole_of haystack.now) result.0 }

@@ -144,7 +144,7 @@ fn found_at(patterns: &Patterns, id: PatternID, at: usize) -> Match
 }
 
 /// The patterns by the sums of their first bytes, as many as the shortest pattern has: each stands
-/// in one of 64 buckets, that of its sum modulo 64, in match order. It holds no pattern itself: each
+/// in one of 64 buckets, the one of its sum modulo 64, in match order. It holds no pattern itself: each
 /// search is given the patterns that it was made for. Contracts see the length of the window and the
 /// entries of each bucket.
 #[derive(Drop)]
@@ -251,7 +251,7 @@ impl RabinKarp {
     }
 
     /// The leftmost match that begins at `at`, in bytes from the beginning of the haystack, or after
-    /// it. Offsets, those of the answer too, are in the whole haystack. `at` may be no more than the
+    /// it. Offsets, in the answer too, are in the whole haystack. `at` may be no more than the
     /// haystack's length, and the patterns have to be those that this was made for. The steps are
     /// added to the tally.
     pub fn find_at(

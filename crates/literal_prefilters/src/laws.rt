@@ -1,5 +1,5 @@
 //! Laws of tables and prefilters. Each function does nothing, and its contract is the law.
-ghost use Rattle.std.specs.Prelude.{◌≡◌, ◌↔◌, ◌≤◌, ◌<◌, ℕ, Bool, List, Option, None, false, slice_index, length};
+ghost use Rattle.std.specs.Prelude.{◌≡◌, ◌↔◌, ◌≤◌, ◌<◌, ℕ, Bool, List, Option, None, false, slice_index};
 ghost use Rattle.std.specs.List.{All};
 ghost use Rattle.literal_base.specs.Query.{Query};
 ghost use Rattle.literal_base.specs.declared.search.Span.{Span};

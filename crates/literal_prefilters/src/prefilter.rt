@@ -1,6 +1,6 @@
 //! Prefilters: they pass over parts of a haystack in which no pattern occurs, and propose places at
 //! which one may begin. All offsets are in bytes, from the beginning of the whole haystack.
-ghost use Rattle.std.specs.Prelude.{◌≡◌, ◌≤◌, ◌∷◌, ℕ, Bool, List, [], Some, length, IsOk, OnOk, OnErr, IfOk, IfSome, false};
+ghost use Rattle.std.specs.Prelude.{◌≡◌, ◌≤◌, ◌∷◌, ℕ, List, [], Some, IsOk, OnOk, OnErr, IfOk, IfSome, false};
 ghost use Rattle.literal_base.specs.Occurs.{IsValidSpan};
 ghost use Rattle.literal_prefilters.specs.Answers.{start_of, candidate_of};
 ghost use Rattle.literal_prefilters.specs.Choice.{IsBuiltFor, pick, takes_start};
@@ -35,7 +35,7 @@ pub struct Prefilter {
     finder: Finder,
 }
 
-/// By how much the ranks of a start table may sum to more than those of a rare table.
+/// By how much the ranks of a start table may sum to more than the ranks of a rare table.
 const NEARLY_AS_RARE: u16 = 50;
 
 /// The kinds of prefilter.
@@ -66,6 +66,8 @@ impl Prefilter {
     /// What may occur in the span, which has to be a valid span of the haystack: where an occurrence
     /// of the builder's patterns may begin in it, or `None` where none occurs. A possible start lies
     /// in the span, and no occurrence in the span begins before it.
+    ///
+    /// [`PrefilterI::find_in`], which generic code calls, has the same name and takes a tally.
     pub fn find_in(&self, haystack: &[u8], span: Span) -> Candidate
         requires { IsValidSpan haystack.now span }
         ensures step { result ≡ candidate_of (step self.now haystack.now span) }
@@ -74,8 +76,8 @@ impl Prefilter {
         self.find_in_counted(haystack, span, &mut Tally::new())
     }
 
-    /// The same as [`Prefilter::find_in`], counted: it scans the bytes of the span up to the first
-    /// that it looks for, or all.
+    /// Answers as [`Prefilter::find_in`], and adds the steps that it takes to a tally: it scans the
+    /// bytes of the span up to the first that it looks for, or all.
     pub fn find_in_counted(&self, haystack: &[u8], span: Span, tally: &mut Tally) -> Candidate
         requires { IsValidSpan haystack.now span }
         ensures sound { PassesOverNone (CoversAll self.now) haystack.now span result }
@@ -228,7 +230,7 @@ impl Builder {
     ///
     /// It looks for the bytes of [`ByteTable::start`] or of [`ByteTable::rare`], where there is just
     /// one of these tables for that one. Of two it takes the start table if that has fewer bytes, or
-    /// if its sum of ranks is at most 50 more than that of the other.
+    /// if its sum of ranks is at most 50 more than the sum of the rare one.
     pub fn build(&self) -> Result<Option<Prefilter>, AllocError>
         ensures no_memory { IsOk result }
         ensures pick { IfOk result (λ built. built ≡ pick self.now) }

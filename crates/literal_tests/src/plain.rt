@@ -1,7 +1,6 @@
 //! A plain search: every place of the span from its start, and at each place every pattern. It
 //! shares nothing with the searches that are compared with it but the definitions.
-ghost use Rattle.std.specs.Prelude.{◌≡◌, ◌+◌, ◌<◌, ◌≤◌, ◌⊎◌, ◌↔◌, List, ℕ, length, map, Some, IsTrue, IfOk};
-ghost use Rattle.std.specs.List.{All};
+ghost use Rattle.std.specs.Prelude.{◌≡◌, ◌+◌, ◌<◌, ◌≤◌, ◌⊎◌, ◌↔◌, length, map, Some, IsTrue, IfOk};
 ghost use Rattle.literal_base.specs.Occurs.{NoneIsEmpty, Occurs, Same, IsValidSpan, pattern_at};
 ghost use Rattle.literal_base.specs.Leftmost.{IsBetter, IsLeftmost};
 ghost use Rattle.literal_base.specs.Greedy.{IsGreedy};

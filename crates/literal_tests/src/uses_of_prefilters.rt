@@ -1,11 +1,11 @@
 //! Callers of prefilters that rely on contracts alone.
-ghost use Rattle.std.specs.Prelude.{◌≡◌, ◌≤◌, ℕ, Bool, List, MatchOption, IfOk, IfSome};
+ghost use Rattle.std.specs.Prelude.{◌≤◌, ℕ, Bool, MatchOption, IfOk, IfSome};
 ghost use Rattle.literal_base.specs.declared.packed.MatchKind.{MatchKind};
 ghost use Rattle.literal_base.specs.Occurs.{IsValidSpan, Occurs, NothingOccurs};
 ghost use Rattle.literal_base.specs.Query.{Query};
 ghost use Rattle.literal_packed.specs.State.{kept_of};
 ghost use Rattle.literal_prefilters.specs.Choice.{Serves};
-ghost use Rattle.literal_prefilters.specs.Sound.{Sound, KeepsReach};
+ghost use Rattle.literal_prefilters.specs.Sound.{Sound};
 
 use literal_prefilters::Span;
 use literal_prefilters::count::Tally;

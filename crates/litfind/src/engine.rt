@@ -1,7 +1,7 @@
 //! The engine: the words and the whole input in, the whole text out.
 ghost use Rattle.std.specs.Prelude.{◌≡◌, ◌≢◌, ◌⊎◌, ◌↔◌, true, false, map, Some, None, IfOk, IfErr, OnOk, OnErr, MatchOption, IsErrOf, string_bytes};
 ghost use Rattle.std.specs.List.{flat_map};
-ghost use Rattle.std.specs.Io.KnownBytes.{Appends, Consumes};
+ghost use Rattle.std.specs.Io.KnownBytes.{Appends};
 ghost use Rattle.literal_packed.specs.BuilderValue.{searcher_of};
 ghost use Rattle.litfind.specs.Lines.{line_of};
 ghost use Rattle.litfind.specs.Query.{HasNoSearcher, builder_for, mode_kind, query_asked};

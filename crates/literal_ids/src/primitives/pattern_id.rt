@@ -68,7 +68,7 @@ impl PatternID {
         }
     }
 
-    /// The number.
+    /// The identifier as a `usize`.
     pub fn as_usize(&self) -> usize
         ensures value { result ≡ self.now }
         ensures limit { self.now < PatternID.LIMIT }
@@ -76,7 +76,7 @@ impl PatternID {
         self.index.as_usize()
     }
 
-    /// The number.
+    /// The identifier as a `u64`.
     pub fn as_u64(&self) -> u64
         ensures value { result ≡ self.now }
         ensures limit { self.now < PatternID.LIMIT }
@@ -84,7 +84,7 @@ impl PatternID {
         self.index.as_u64()
     }
 
-    /// The number.
+    /// The identifier as a `u32`.
     pub fn as_u32(&self) -> u32
         ensures value { result ≡ self.now }
         ensures limit { self.now < PatternID.LIMIT }
@@ -92,7 +92,7 @@ impl PatternID {
         self.index.as_u32()
     }
 
-    /// The number.
+    /// The identifier as a `i32`.
     pub fn as_i32(&self) -> i32
         ensures value { result ≡ pos self.now }
         ensures limit { self.now < PatternID.LIMIT }

@@ -68,7 +68,7 @@ impl SmallIndex {
         }
     }
 
-    /// The number.
+    /// The index as a `usize`.
     pub fn as_usize(&self) -> usize
         ensures value { result ≡ self.now }
         ensures limit { self.now < SmallIndex.LIMIT }
@@ -76,7 +76,7 @@ impl SmallIndex {
         self.value.as_usize()
     }
 
-    /// The number.
+    /// The index as a `u64`.
     pub fn as_u64(&self) -> u64
         ensures value { result ≡ self.now }
         ensures limit { self.now < SmallIndex.LIMIT }
@@ -84,7 +84,7 @@ impl SmallIndex {
         u64::from(self.value)
     }
 
-    /// The number.
+    /// The index as a `u32`.
     pub fn as_u32(&self) -> u32
         ensures value { result ≡ self.now }
         ensures limit { self.now < SmallIndex.LIMIT }
@@ -92,7 +92,7 @@ impl SmallIndex {
         self.value
     }
 
-    /// The number.
+    /// The index as a `i32`.
     pub fn as_i32(&self) -> i32
         ensures value { result ≡ pos self.now }
         ensures limit { self.now < SmallIndex.LIMIT }

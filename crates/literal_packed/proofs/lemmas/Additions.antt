@@ -1,7 +1,8 @@
 -- The state of a builder, addition after addition.
 -- For `Builder::put_all` and `Searcher::new`.
 use Rattle.std.proofs.Common.{◌≡◌, ℕ, ◌++◌, Bool, true, false, cond, List, [], ◌∷◌, length, map, Option, Some, None}
-use Rattle.std.proofs.Common.{Result, Ok, Err, IfOk, ltb, refl, sym, ap, ◌∙◌, append_assoc, append-nil, arith}
+use Rattle.std.proofs.Common.{Result, Ok, Err, IsOk, IfOk, OnErr, ltb, ◌⊎◌, inl, inr, subst, refl, sym, ap, ◌∙◌}
+use Rattle.std.proofs.Common.{append_assoc, append-nil, arith}
 use Rattle.std.specs.List.{list_all}
 use Rattle.std.specs.Borrow.{Bor}
 use Rattle.std.proofs.lemmas.Bool.Decides.{nat_tests}
@@ -10,8 +11,9 @@ use Rattle.std.proofs.lemmas.List.Folds.{list_all-append}
 use Rattle.literal_packed.specs.State.{may_keep, state_of, state_after}
 use Rattle.literal_base.specs.Query.{Query}
 use Rattle.literal_packed.specs.ConfigValue.{ConfigValue, default_config}
-use Rattle.literal_packed.specs.Lending.{HoldsAll}
-use Rattle.literal_packed.specs.BuilderValue.{AddsAll, BuilderValue, BuildsItems, builder_of, pattern_limit}
+use Rattle.literal_packed.specs.Lending.{HoldsAll, RefusedItems}
+use Rattle.literal_packed.specs.BuilderValue.{AddsAll, BuilderValue, BuildsItems, IsBuildable, builder_of}
+use Rattle.literal_packed.specs.BuilderValue.{pattern_limit}
 use Rattle.literal_packed.specs.BuilderValue.{searcher_of, with_added}
 
 abbrev is_some : List ℕ → Bool
@@ -77,3 +79,13 @@ builds_items becomes steps patterns start new (Ok answer) starts (it, items, is_
     ∙ added_more default_config [] (map (λ p. p.now) items)) in
     (it, items, is_iterator, drains, is ∙ ap searcher_of all)
 builds_items becomes steps patterns start new (Err error) starts holds is = tt
+
+-- and where that is refused memory
+pub refuses_items : {U T A E : Type 0} (becomes : U → T → Type 0) (steps : T → Option (Bor (List ℕ)) → T → Type 0)
+    (patterns : U) (start new : BuilderValue) (built : Result A E) → start ≡ builder_of default_config []
+    → HoldsAll becomes steps patterns start new → IsOk built ⊎ IsBuildable new
+    → OnErr built (RefusedItems becomes steps patterns)
+refuses_items becomes steps patterns start new (Ok answer) starts holds why = tt
+refuses_items becomes steps patterns start new (Err error) starts holds why =
+    let all = subst (λ b. HoldsAll becomes steps patterns b new) starts holds in
+    elim why [ inl succeeded ↦ cc | inr able ↦ record { builder = new; why = inr (all, able) } ]

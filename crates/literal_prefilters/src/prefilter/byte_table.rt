@@ -144,7 +144,7 @@ impl ByteTable {
         Some(found.place)
     }
 
-    /// The same place, with its byte's distance.
+    /// The first place of the span whose byte is in the table, with the byte's distance.
     fn find(&self, haystack: &[u8], span: Span, tally: &mut Tally) -> Option<TableByte>
         requires { IsValidSpan haystack.now span }
         ensures place { option_map (λ f. f.place) result ≡ first self.now haystack.now span }

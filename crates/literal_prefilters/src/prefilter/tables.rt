@@ -1,10 +1,9 @@
 //! The tables of a list of patterns: by the bytes with which they begin, and by a rare byte of each.
-ghost use Rattle.std.specs.Prelude.{◌≡◌, ◌==◌, ◌||◌, ◌<◌, ◌≤◌, ◌↔◌, ℕ, max, true, length, slice_index, if◌then◌else◌, IsTrue, IfSome, nat_le};
+ghost use Rattle.std.specs.Prelude.{◌≡◌, ◌==◌, ◌||◌, ◌<◌, ◌≤◌, ◌↔◌, ℕ, max, true, length, slice_index, if◌then◌else◌, IsTrue, nat_le};
 ghost use Rattle.std.specs.List.{All, list_any, list_all};
 ghost use Rattle.literal_base.specs.Bytes.{contains};
 ghost use Rattle.literal_base.specs.Occurs.{NoneIsEmpty, pattern_at, same_byte};
-ghost use Rattle.literal_prefilters.specs.Table.{reach_of, Covers};
-ghost use Rattle.literal_prefilters.specs.Tables.{start_table, rare_table, rarest, is_start_byte, is_rare_byte, offset_below, largest_offset, table_of, if_small};
+ghost use Rattle.literal_prefilters.specs.Tables.{rarest, is_start_byte, is_rare_byte, offset_below, largest_offset, table_of, if_small};
 
 use super::ByteTable;
 use literal_base::alphabet::{ByteSet, opposite_ascii_case};
