@@ -343,15 +343,15 @@ def signatures(sources):
     """What a function of the searches takes and gives is a haystack, a tally, or of plain types."""
     known = set(tables.PLAIN_TYPES) | declared_types(sources)
     for function in search_functions(sources):
-        haystacks = tallies_ = 0
+        haystacks = lent = 0
         for param in function.item.params:
             kind = kind_of(param)
             haystacks += kind == "haystack"
-            tallies_ += kind == "tally"
+            lent += kind == "tally"
             if kind == "odd" or (kind == "other" and not is_plain(function, param, known)):
                 yield f"{function} takes {' '.join(texts(param))}"
         yield from odd_result(function, known)
-        yield from odd_counts(function, haystacks, tallies_)
+        yield from odd_counts(function, haystacks, lent)
 
 
 def kind_of(param):
@@ -391,18 +391,18 @@ def odd_result(function, known):
         yield f"{function} has a type parameter"
 
 
-def odd_counts(function, haystacks, tallies_):
+def odd_counts(function, haystacks, lent):
     """A haystack stands with a tally, and both only where that is listed."""
     key = function.key
     if haystacks and key not in list(COUNTED) + list(UNCOUNTED) + list(LAWS):
         yield f"{function} takes a haystack"
-    if haystacks > 1 or tallies_ > 1:
+    if haystacks > 1 or lent > 1:
         yield f"{function} takes two of them"
-    if key in COUNTED and not (haystacks and tallies_):
+    if key in COUNTED and not (haystacks and lent):
         yield f"{function} has no haystack or no tally"
-    if key in UNCOUNTED and tallies_:
+    if key in UNCOUNTED and lent:
         yield f"{function} takes a tally"
-    if tallies_ and key not in list(COUNTED) + list(TALLY_TAKERS) + list(LAWS):
+    if lent and key not in list(COUNTED) + list(TALLY_TAKERS) + list(LAWS):
         yield f"{function} takes a tally"
 
 
@@ -493,12 +493,12 @@ def is_argument(function, body, at):
 def enclosing(body, at):
     """Where the innermost bracket opens that a place lies in."""
     depth = 0
-    for place_ in range(at - 1, -1, -1):
-        if body[place_].kind == "sign" and body[place_].text in CLOSES:
+    for back in range(at - 1, -1, -1):
+        if body[back].kind == "sign" and body[back].text in CLOSES:
             depth += 1
-        elif body[place_].kind == "sign" and body[place_].text in OPENING:
+        elif body[back].kind == "sign" and body[back].text in OPENING:
             if depth == 0:
-                return place_
+                return back
             depth -= 1
     return None
 

@@ -3,3 +3,4 @@ pub mod FaultText
 pub mod Lines
 pub mod Query
 pub mod Run
+pub mod Status

@@ -119,7 +119,7 @@ fn read_to_end<R: Source>(alloc: Global, reader: &mut R) -> Result<Vec<u8>, Faul
 }
 
 /// Writes the text, and flushes.
-fn write_whole<W: Sink>(writer: &mut W, text: &[u8]) -> Result<(), Failed>
+pub fn write_whole<W: Sink>(writer: &mut W, text: &[u8]) -> Result<(), Failed>
     requires { W.failed writer.old ≡ false }
     ensures ok { OnOk result (Appends (W.contents writer.old) (W.contents writer.new) text.now) }
     ensures flushed { OnOk result (W.flushed writer.new ≡ true) }

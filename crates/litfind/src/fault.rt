@@ -21,6 +21,23 @@ pub enum Fault {
     WriteFailed,
 }
 
+impl Fault {
+    ghost use Rattle.litfind.specs.FaultText.{fault_line};
+
+    /// The line that the fault prints.
+    pub fn line(&self) -> &'static str
+        ensures { result.now ≡ fault_line self.now }
+    {
+        match self {
+            Fault::Usage => "litfind: usage: litfind MODE PATTERN...\n",
+            Fault::NoSearcher => "litfind: no searcher for these patterns\n",
+            Fault::OutOfMemory => "litfind: out of memory\n",
+            Fault::ReadFailed => "litfind: read failed\n",
+            Fault::WriteFailed => "litfind: write failed\n",
+        }
+    }
+}
+
 /// The line that the fault prints, without the line feed.
 impl fmt::Display for Fault {
     ghost use Rattle.std.specs.Prelude.{Some};
