@@ -248,6 +248,8 @@ READS = [
     ("search_in_no_tally", "reads", [in_find_in("        let _ = self.find_in(haystack, span);")]),
     ("whole_search_in_no_tally", "reads", [in_find_in("        let _ = self.find(haystack);")]),
     ("iteration_in_no_tally", "reads", [before(API, ALL, "        for _ in self.find_iter(haystack) {}")]),
+    ("search_of_other_bytes", "reads", [in_look_up('if self.searcher.find(b"a").is_some() { return None; }')]),
+    ("search_in_a_helper", "reads", [helper("fn peek(searcher: &Searcher) -> Option<Match> {\n    searcher.find(b\"a\")\n}")]),
     ("law_as_a_search", "reads", [in_find_in("        let _ = none_if_nothing_occurs(self, haystack, span);")]),
     ("law_is_named", "laws", [replace(API, "use crate::pattern::Patterns;", "use crate::laws::none_if_nothing_occurs;\nuse crate::pattern::Patterns;")]),
     ("law_is_exported", "laws", [append(LIB, "\npub use laws::none_if_nothing_occurs;\n")]),
@@ -355,6 +357,8 @@ ENTRIES = [
     ("uncounted_entries", "entries", [replace(RABIN_KARP, ENTRY, "            let (entry_sum, id) = self.buckets[bucket][k];")]),
     ("buckets_taken_apart", "entries", [in_look_up("let RabinKarp { buckets, .. } = self;")]),
     ("other_field_taken_apart", "entries", [in_look_up("let RabinKarp { minimum_len, .. } = self;")]),
+    ("searcher_taken_apart", "entries", [public_search(
+        "    fn peek(&self) {\n        let Searcher { rabin_karp, .. } = self;\n    }\n")]),
     ("patterns_taken_apart", "entries", [append(PATTERN, "\nfn peek(patterns: &Patterns) -> usize {\n    let Patterns { minimum_len, .. } = patterns;\n    *minimum_len\n}\n")]),
     ("patterns_taken_apart_below", "entries", [in_look_up("if let Patterns { order, .. } = patterns {}")]),
     ("free_try_clone", "entries", [helper("fn try_clone(rabin_karp: &RabinKarp) -> usize {\n    rabin_karp.buckets.iter().count()\n}")]),

@@ -424,6 +424,23 @@ def reads(sources):
         if uses:
             for word in set(texts(body)) & set(tables.NOT_IN_A_SEARCH):
                 yield f"{function} calls {word}"
+        if function.key not in BODIES and function.key not in LAWS:
+            yield from uncounted_calls(function, body)
+
+
+def uncounted_calls(function, body):
+    """Calls of searches that are given no tally, of whatever bytes."""
+    for at in range(2, len(body)):
+        if body[at].text == "(" and body[at - 1].text in TAKERS and body[at - 2].text in (".", "::"):
+            if not has_tally(function, body, at):
+                yield f"{function} searches in no tally: {line_of(body, at)}"
+
+
+def has_tally(function, body, opening):
+    """Whether the last argument of a call is the tally."""
+    arguments = [texts(part) for part in split(body[opening + 1 : closing(body, opening)])]
+    wanted = words("&mut self.tally") if function.key in FIELD_READERS else ("tally",)
+    return arguments[-1:] == [wanted]
 
 
 def held_places(function):
@@ -482,12 +499,10 @@ def is_argument(function, body, at):
     if opening is None or body[opening].text != "(" or opening < 2:
         return False
     name, before = body[opening - 1], body[opening - 2].text
-    arguments = [texts(part) for part in split(body[opening + 1 : closing(body, opening)])]
     if function.key in LAWS:
         law_names = {law for _, _, law in LAWS}
         return (name.text in TAKERS and before == ".") or (name.text in law_names and before not in (".", "::"))
-    last = words("&mut self.tally") if function.key in FIELD_READERS else ("tally",)
-    return name.text in TAKERS and before == "." and arguments[-1] == last
+    return name.text in TAKERS and before == "." and has_tally(function, body, opening)
 
 
 def enclosing(body, at):

@@ -223,6 +223,7 @@ MAKERS = {
     "FindIter": [(API, "impl Searcher", "find_iter")],
     "RabinKarp": [(RABIN_KARP, "impl RabinKarp", "new"), (RABIN_KARP, "impl RabinKarp", "try_clone")],
     "Rolling": [(RABIN_KARP, "impl Rolling", "new")],
+    "Searcher": [(API, "impl Builder", "build"), (API, "impl Searcher", "try_clone")],
     "Patterns": [(PATTERN, "impl Patterns", "new"), (PATTERN, "impl Patterns", "try_clone")],
 }
 
