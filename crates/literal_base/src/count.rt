@@ -73,35 +73,3 @@ impl Tally {
         Self {}
     }
 }
-
-#[cfg(test)]
-mod tests {
-    use super::*;
-
-    /// A tick of each kind.
-    fn tick_each(tally: &mut Tally)
-        ensures { tally.new ≡ record { hashed = tally.old.hashed + 1; entries = tally.old.entries + 1; compared = tally.old.compared + 1; scanned = tally.old.scanned + 1; tried = tally.old.tried + 1 } }
-    {
-        tally.tick_hashed();
-        tally.tick_entries();
-        tally.tick_compared();
-        tally.tick_scanned();
-        tally.tick_tried();
-    }
-
-    /// A new tally, ticked.
-    fn ticked() -> Tally
-        ensures { result ≡ record { hashed = 1; entries = 1; compared = 1; scanned = 1; tried = 1 } }
-    {
-        let mut tally = Tally::new();
-        tick_each(&mut tally);
-        tally
-    }
-
-    #[test]
-    fn takes_no_bytes(rt: HostRuntime) {
-        let tally = ticked();
-        assert_eq!(rt; size_of::<Tally>(), 0);
-        let _ = tally;
-    }
-}

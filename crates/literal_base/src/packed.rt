@@ -20,14 +20,3 @@ impl Default for MatchKind {
         MatchKind::LeftmostFirst
     }
 }
-
-#[cfg(test)]
-mod tests {
-    use super::*;
-
-    #[test]
-    fn takes_the_first_by_default(rt: HostRuntime) {
-        assert_eq!(rt; MatchKind::default(), MatchKind::LeftmostFirst);
-        assert!(rt; MatchKind::default() != MatchKind::LeftmostLongest);
-    }
-}

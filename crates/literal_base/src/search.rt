@@ -572,6 +572,3 @@ impl Default for StartKind {
         StartKind::Unanchored
     }
 }
-
-#[cfg(test)]
-mod tests;

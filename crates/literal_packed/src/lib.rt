@@ -5,8 +5,6 @@ mod api;
 pub mod laws;
 pub mod pattern;
 pub mod rabinkarp;
-#[cfg(test)]
-mod tests;
 
 pub use api::{Builder, Config, FindIter, Searcher};
 pub use literal_base::packed::MatchKind;

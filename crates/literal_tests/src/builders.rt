@@ -1,166 +1,247 @@
 //! Builders, their configuration, and what they build.
+use crate::made::{Place, add_all, built, place, searcher};
 use literal_prefilters::packed::{Builder, Config, MatchKind, Searcher};
-use literal_prefilters::{Match, PatternID};
-use std::alloc::{AllocError, Global};
+use std::alloc::Global;
 use std::process::Abort;
 use std::test::Fail;
 
-/// A builder with so many patterns, of two equal bytes each.
-fn with_patterns(alloc: Global, count: u8) -> Result<Builder, AllocError> {
-    let mut builder = Builder::new(alloc);
-    for i in 0..count {
-        builder.add(&[i, i])?;
-    }
-    Ok(builder)
-}
+/// How many patterns a builder keeps, the length of the shortest, and whether it builds a searcher.
+type State = (usize, usize, bool);
 
-fn inert(rt: &impl Abort, builder: &Builder) -> Result<(), Fail> {
-    assert_eq!(rt; builder.len(), 0);
-    assert_eq!(rt; builder.minimum_len(), usize::MAX);
-    assert!(rt; builder.build()?.is_none());
+const INERT: State = (0, usize::MAX, false);
+
+fn assert_state(rt: &impl Abort, builder: &Builder, wanted: State, case: &str) -> Result<(), Fail> {
+    let builds = builder.build()?.is_some();
+    assert_eq!(rt;
+        (builder.len(), builder.minimum_len(), builds),
+        wanted,
+        "{case}"
+    );
     Ok(())
 }
 
+/// Whatever is added to it, and to a copy.
+fn assert_stays_inert(rt: &impl Abort, builder: &mut Builder, case: &str) -> Result<(), Fail> {
+    assert_state(rt, builder, INERT, case)?;
+    builder.add(b"more")?;
+    assert_state(rt, builder, INERT, case)?;
+    let mut copy = builder.try_clone()?;
+    assert_state(rt, &copy, INERT, case)?;
+    copy.add(b"more")?;
+    assert_state(rt, &copy, INERT, case)
+}
+
+fn assert_finds(
+    rt: &impl Abort,
+    searcher: &Searcher,
+    haystack: &[u8],
+    wanted: Option<Place>,
+    case: &str,
+) {
+    assert_eq!(rt; searcher.find(haystack).map(place), wanted, "{case}");
+}
+
+/// 128 patterns, of two equal bytes each, and one more.
 #[test]
 fn keeps_up_to_128_patterns(rt: HostRuntime) -> Result<(), Fail> {
-    let mut builder = with_patterns(rt.alloc(), 128)?;
-    assert_eq!(rt; builder.len(), 128);
-    assert_eq!(rt; builder.minimum_len(), 2);
-    let searcher = builder.build()?.ok_or("128 patterns build nothing")?;
-    let found = searcher.find(b"\x7f\x7f").ok_or("the last is not found")?;
-    assert_eq!(rt; found.pattern(), PatternID::must(127));
+    let mut builder = Builder::new(rt.alloc());
+    for i in 0..128u8 {
+        builder.add(&[i, i])?;
+    }
+    assert_state(&rt, &builder, (128, 2, true), "128 patterns")?;
+    assert_finds(
+        &rt,
+        &built(&builder)?,
+        b"\x7f\x7f",
+        Some((127, 0, 2)),
+        "the last",
+    );
     builder.add(b"one more")?;
-    inert(&rt, &builder)?;
-    builder.add(b"and another")?;
-    inert(&rt, &builder)?;
-    inert(&rt, &builder.try_clone()?)
+    assert_stays_inert(&rt, &mut builder, "129 patterns")
 }
+
+/// Where the empty pattern stands, and the patterns.
+static WITH_EMPTY: [(&str, [&[u8]; 3]); 3] = [
+    ("first", [b"", b"foo", b"bar"]),
+    ("second", [b"foo", b"", b"bar"]),
+    ("third", [b"foo", b"bar", b""]),
+];
 
 #[test]
 fn keeps_no_empty_pattern(rt: HostRuntime) -> Result<(), Fail> {
-    inert(&rt, &Builder::new(rt.alloc()))?;
-    let lists: [[&[u8]; 3]; 3] = [
-        [b"", b"foo", b"bar"],
-        [b"foo", b"", b"bar"],
-        [b"foo", b"bar", b""],
-    ];
-    for patterns in lists {
+    assert_state(&rt, &Builder::new(rt.alloc()), INERT, "no pattern")?;
+    for (case, patterns) in &WITH_EMPTY {
         let mut builder = Builder::new(rt.alloc());
-        for pattern in patterns {
-            builder.add(pattern)?;
-        }
-        inert(&rt, &builder)?;
-        builder.add(b"more")?;
-        inert(&rt, &builder)?;
-        let mut copy = builder.try_clone()?;
-        copy.add(b"more")?;
-        inert(&rt, &copy)?;
-        let mut extended = Builder::new(rt.alloc());
-        extended.extend(patterns)?;
-        inert(&rt, &extended)?;
-        assert!(rt; Searcher::new(rt.alloc(), patterns)?.is_none());
+        add_all(&mut builder, patterns)?;
+        assert_stays_inert(&rt, &mut builder, case)?;
     }
     Ok(())
 }
 
 #[test]
-fn extends_by_all_items(rt: HostRuntime) -> Result<(), Fail> {
-    let patterns: [&[u8]; 2] = [b"foo", b"bar"];
-    let mut builder = Searcher::builder(rt.alloc());
-    builder.extend(patterns)?;
-    assert_eq!(rt; builder.len(), 2);
-    assert_eq!(rt; builder.minimum_len(), 3);
-    let built = builder.build()?.ok_or("two patterns build nothing")?;
-    let made = Searcher::new(rt.alloc(), patterns)?.ok_or("two patterns make nothing")?;
-    for searcher in [&built, &made] {
-        let found = searcher.find(b"xbar").ok_or("bar is not found")?;
-        assert_eq!(rt; found.pattern(), PatternID::must(1));
-        assert_eq!(rt; found.span().range(), 1..4);
+fn extends_by_no_empty_pattern(rt: HostRuntime) -> Result<(), Fail> {
+    for (case, patterns) in &WITH_EMPTY {
+        let mut builder = Builder::new(rt.alloc());
+        builder.extend(*patterns)?;
+        assert_stays_inert(&rt, &mut builder, case)?;
+        assert!(rt; Searcher::new(rt.alloc(), *patterns)?.is_none(), "{case}");
     }
     Ok(())
+}
+
+const TWO: [&[u8]; 2] = [b"foo", b"bar"];
+
+#[test]
+fn extends_by_all_items(rt: HostRuntime) -> Result<(), Fail> {
+    let mut builder = Searcher::builder(rt.alloc());
+    builder.extend(TWO)?;
+    assert_state(&rt, &builder, (2, 3, true), "extended")?;
+    assert_finds(&rt, &built(&builder)?, b"xbar", Some((1, 1, 4)), "extended");
+    Ok(())
+}
+
+#[test]
+fn searchers_are_made_of_all_items(rt: HostRuntime) -> Result<(), Fail> {
+    let made = Searcher::new(rt.alloc(), TWO)?.ok_or("two patterns make nothing")?;
+    assert_finds(&rt, &made, b"xbar", Some((1, 1, 4)), "made");
+    Ok(())
+}
+
+/// What stands in a haystack, the haystack, and what is found in it.
+type Row = (&'static str, &'static [u8], Option<Place>);
+
+static BY_AB: [Row; 4] = [
+    ("ab", b"xab", Some((0, 1, 3))),
+    ("a", b"xa", None),
+    ("c", b"xc", None),
+    ("nothing", b"", None),
+];
+
+static BY_AB_A_AND_C: [Row; 4] = [
+    ("ab", b"xab", Some((0, 1, 3))),
+    ("a", b"xa", Some((1, 1, 2))),
+    ("c", b"xc", Some((2, 1, 2))),
+    ("nothing", b"", None),
+];
+
+fn assert_finds_all(rt: &impl Abort, searcher: &Searcher, rows: &[Row]) {
+    for (case, haystack, wanted) in rows {
+        assert_finds(rt, searcher, haystack, *wanted, case);
+    }
 }
 
 #[test]
 fn builds_more_than_once(rt: HostRuntime) -> Result<(), Fail> {
     let mut builder = Builder::new(rt.alloc());
     builder.add(b"ab")?;
-    let one = builder.build()?.ok_or("one pattern builds nothing")?;
-    let another = builder.build()?.ok_or("it builds once")?;
+    let one = built(&builder)?;
+    let another = built(&builder)?;
     builder.add(b"a")?;
-    assert_eq!(rt; builder.len(), 2);
-    assert_eq!(rt; builder.minimum_len(), 1);
+    assert_finds_all(&rt, &one, &BY_AB);
+    assert_finds_all(&rt, &another, &BY_AB);
+    Ok(())
+}
+
+#[test]
+fn builds_from_a_copy(rt: HostRuntime) -> Result<(), Fail> {
+    let mut builder = Builder::new(rt.alloc());
+    add_all(&mut builder, &[b"ab", b"a"])?;
+    assert_state(&rt, &builder, (2, 1, true), "before")?;
     let mut copy = builder.try_clone()?;
     copy.add(b"c")?;
-    assert_eq!(rt; builder.len(), 2);
-    assert_eq!(rt; copy.len(), 3);
-    let more = copy.build()?.ok_or("a copy builds nothing")?;
-    for haystack in [b"xab".as_slice(), b"xa", b"xc", b""] {
-        assert_eq!(rt; one.find(haystack), another.find(haystack));
-        assert_eq!(rt; one.find(haystack).is_some(), haystack == b"xab".as_slice());
-        assert_eq!(rt; more.find(haystack).is_some(), !haystack.is_empty());
+    assert_state(&rt, &builder, (2, 1, true), "the copied one")?;
+    assert_state(&rt, &copy, (3, 1, true), "the copy")?;
+    assert_finds_all(&rt, &built(&copy)?, &BY_AB_A_AND_C);
+    Ok(())
+}
+
+/// What builders of a configuration find of `a` and `ab`.
+fn found_by(config: &Config, alloc: Global) -> Result<Option<Place>, Fail> {
+    let mut builder = config.builder(alloc);
+    add_all(&mut builder, &[b"a", b"ab"])?;
+    Ok(built(&builder)?.find(b"ab").map(place))
+}
+
+const FIRST: Option<Place> = Some((0, 0, 1));
+
+const LONGEST: Option<Place> = Some((1, 0, 2));
+
+#[test]
+fn takes_the_first_by_default(rt: HostRuntime) -> Result<(), Fail> {
+    for config in [Config::new(), Config::default(), Searcher::config()] {
+        assert_eq!(rt; found_by(&config, rt.alloc())?, FIRST);
     }
     Ok(())
 }
 
-/// What builders of a configuration find, of `a` and `ab`.
-fn found_by(config: &Config, alloc: Global) -> Result<Option<Match>, Fail> {
-    let searcher = config.builder(alloc).add(b"a")?.add(b"ab")?.build()?;
-    let searcher = searcher.ok_or("two patterns build nothing")?;
-    Ok(searcher.find(b"ab"))
-}
-
 #[test]
 fn is_configured(rt: HostRuntime) -> Result<(), Fail> {
-    let first = found_by(&Config::new(), rt.alloc())?.ok_or("nothing is found")?;
-    assert_eq!(rt; first.span().range(), 0..1);
-    for config in [Config::default(), Searcher::config()] {
-        assert_eq!(rt; found_by(&config, rt.alloc())?, Some(first));
-    }
     let mut config = Config::new();
     config.match_kind(MatchKind::LeftmostLongest);
     config.only_rabin_karp(false);
-    let longest = found_by(&config, rt.alloc())?.ok_or("nothing is found")?;
-    assert_eq!(rt; longest.span().range(), 0..2);
+    assert_eq!(rt; found_by(&config, rt.alloc())?, LONGEST, "step by step");
     config.only_rabin_karp(true);
-    assert_eq!(rt; found_by(&config, rt.alloc())?, Some(longest));
-    let chained = found_by(
-        Config::new()
-            .match_kind(MatchKind::LeftmostLongest)
-            .only_rabin_karp(true),
-        rt.alloc(),
-    )?;
-    assert_eq!(rt; chained, Some(longest));
-    let old = config.builder(rt.alloc());
+    assert_eq!(rt;
+        found_by(&config, rt.alloc())?,
+        LONGEST,
+        "by the one algorithm"
+    );
+    let mut config = Config::new();
+    config
+        .match_kind(MatchKind::LeftmostLongest)
+        .only_rabin_karp(true);
+    assert_eq!(rt; found_by(&config, rt.alloc())?, LONGEST, "in a chain");
     config.match_kind(MatchKind::LeftmostFirst);
-    assert_eq!(rt; found_by(&config, rt.alloc())?, Some(first));
+    assert_eq!(rt; found_by(&config, rt.alloc())?, FIRST, "anew");
+    Ok(())
+}
+
+#[test]
+fn keeps_the_configuration_of_its_making(rt: HostRuntime) -> Result<(), Fail> {
+    let mut config = Config::new();
+    config.match_kind(MatchKind::LeftmostLongest);
+    let mut old = config.builder(rt.alloc());
+    config.match_kind(MatchKind::LeftmostFirst);
     assert_eq!(rt; old.len(), 0);
+    add_all(&mut old, &[b"a", b"ab"])?;
+    assert_finds(&rt, &built(&old)?, b"ab", LONGEST, "configured before");
     Ok(())
 }
 
 #[test]
 fn tells_about_a_searcher(rt: HostRuntime) -> Result<(), Fail> {
-    for kind in [MatchKind::LeftmostFirst, MatchKind::LeftmostLongest] {
-        let mut builder = Config::new().match_kind(kind).builder(rt.alloc());
-        builder.add(b"a")?.add(b"ab")?;
-        let searcher = builder.build()?.ok_or("two patterns build nothing")?;
+    for (case, kind, wanted) in [
+        ("first", MatchKind::LeftmostFirst, (0, 1, 2)),
+        ("longest", MatchKind::LeftmostLongest, (1, 1, 3)),
+    ] {
+        let searcher = searcher(rt.alloc(), kind, &[b"a", b"ab"])?;
+        assert_eq!(rt;
+            (*searcher.match_kind(), searcher.minimum_len()),
+            (kind, 0),
+            "{case}"
+        );
+        assert_finds(&rt, &searcher, b"xab", Some(wanted), case);
         let copy = searcher.try_clone()?;
-        assert_eq!(rt; *searcher.match_kind(), kind);
-        assert_eq!(rt; *copy.match_kind(), kind);
-        assert_eq!(rt; searcher.minimum_len(), 0);
-        assert_eq!(rt; copy.find(b"xab"), searcher.find(b"xab"));
-        assert!(rt; searcher.find(b"xab").is_some());
+        assert_eq!(rt; *copy.match_kind(), kind, "{case}, of the copy");
+        assert_finds(&rt, &copy, b"xab", Some(wanted), case);
     }
     Ok(())
 }
 
 #[test]
 fn prints_something(rt: HostRuntime) -> Result<(), Fail> {
-    let alloc = rt.alloc();
-    let config = Config::new();
-    assert!(rt; !format!(in alloc; "{config:?}")?.is_empty());
-    let builder = with_patterns(alloc, 2)?;
-    assert!(rt; !format!(in alloc; "{builder:?}")?.is_empty());
-    let searcher = builder.build()?.ok_or("two patterns build nothing")?;
-    assert!(rt; !format!(in alloc; "{searcher:?}")?.is_empty());
+    let mut builder = Builder::new(rt.alloc());
+    add_all(&mut builder, &TWO)?;
+    let text = format!(in rt.alloc(); "{:?}", Config::new())?;
+    assert!(rt; !text.is_empty(), "of a configuration");
+    let text = format!(in rt.alloc(); "{builder:?}")?;
+    assert!(rt; !text.is_empty(), "of a builder");
+    Ok(())
+}
+
+#[test]
+fn searchers_print_something(rt: HostRuntime) -> Result<(), Fail> {
+    let searcher = searcher(rt.alloc(), MatchKind::LeftmostFirst, &TWO)?;
+    assert!(rt; !format!(in rt.alloc(); "{searcher:?}")?.is_empty());
     Ok(())
 }

@@ -81,50 +81,64 @@ pub fn next_after_all(bytes: &mut ByteClassElements<'_>) -> Option<u8>
 mod tests {
     use super::*;
     use literal_base::alphabet::{ByteSet, opposite_ascii_case};
+    use std::process::Abort;
     use std::test::Fail;
 
-    /// Ranges, the length of the alphabet, the stride and its exponent, and the classes of some bytes.
+    /// What a case shows, its ranges, the length of the alphabet, the stride and its exponent, and the
+    /// classes of some bytes.
     type Row = (
+        &'static str,
         &'static [(u8, u8)],
         (usize, usize, usize),
         &'static [(u8, u8)],
     );
 
     static ROWS: [Row; 5] = [
-        (&[], (1, 1, 0), &[(0, 0), (255, 0)]),
-        (&[(0, 255)], (1, 1, 0), &[(0, 0), (255, 0)]),
+        ("no range", &[], (1, 1, 0), &[(0, 0), (255, 0)]),
+        ("all bytes", &[(0, 255)], (1, 1, 0), &[(0, 0), (255, 0)]),
         (
+            "three ranges",
             &[(b'b', b'd'), (b'g', b'm'), (b'z', b'z')],
             (7, 8, 3),
             &[(b'a', 0), (b'd', 1), (b'e', 2), (b'f', 2), (b'z', 5)],
         ),
         (
+            "one byte between",
             &[(0, 2), (4, 6)],
             (4, 4, 2),
             &[(0, 0), (2, 0), (3, 1), (4, 2), (6, 2), (7, 3), (255, 3)],
         ),
         (
+            "one range",
             &[(b'a', b'z')],
             (3, 4, 2),
             &[(0x60, 0), (b'a', 1), (b'z', 1), (0x7B, 2)],
         ),
     ];
 
+    /// The length of the alphabet, the stride and its exponent.
+    fn sizes(classes: &ByteClasses) -> (usize, usize, usize) {
+        (classes.alphabet_len(), classes.stride(), classes.stride2())
+    }
+
+    /// The classes of a copy of the set in which ranges are marked.
+    fn classes_by_copy(ranges: &[(u8, u8)]) -> Result<ByteClasses, AllocError> {
+        let mut set = ByteClassSet::default();
+        for (first, last) in ranges {
+            if first <= last {
+                set.set_range(*first, *last);
+            }
+        }
+        Ok(copied(&set)?.byte_classes())
+    }
+
     #[test]
     fn tells_ranges_apart(rt: HostRuntime) -> Result<(), Fail> {
-        for (ranges, (len, stride, stride2), bytes) in &ROWS {
-            let mut set = ByteClassSet::default();
-            for (first, last) in *ranges {
-                if first <= last {
-                    set.set_range(*first, *last);
-                }
-            }
-            let classes = copied(&set)?.byte_classes();
-            assert_eq!(rt; classes.alphabet_len(), *len);
-            assert_eq!(rt; classes.stride(), *stride);
-            assert_eq!(rt; classes.stride2(), *stride2);
-            for (byte, class) in *bytes {
-                assert_eq!(rt; classes.get(*byte), *class);
+        for (case, ranges, wanted, bytes) in ROWS {
+            let classes = classes_by_copy(ranges)?;
+            assert_eq!(rt; sizes(&classes), wanted, "{case}");
+            for (byte, class) in bytes {
+                assert_eq!(rt; classes.get(*byte), *class, "{case}, of {byte}");
             }
         }
         Ok(())
@@ -137,9 +151,7 @@ mod tests {
             set.set_range(byte, byte);
         }
         for classes in [ByteClasses::singletons(), set.byte_classes()] {
-            assert_eq!(rt; classes.alphabet_len(), 256);
-            assert_eq!(rt; classes.stride2(), 8);
-            assert_eq!(rt; classes.stride(), 256);
+            assert_eq!(rt; sizes(&classes), (256, 256, 8));
             assert!(rt; classes.is_singleton());
             assert_eq!(rt; classes.get(b'a'), b'a');
             let bytes = elements_taken(rt.alloc(), &classes, b'a')?;
@@ -148,56 +160,69 @@ mod tests {
         Ok(())
     }
 
+    const THREE: [(u8, u8); 3] = [(b'b', b'd'), (b'g', b'm'), (b'z', b'z')];
+
     #[test]
-    fn lists_classes_and_bytes(rt: HostRuntime) -> Result<(), Fail> {
-        let classes = classes_of(&[(b'b', b'd'), (b'g', b'm'), (b'z', b'z')]);
-        assert_eq!(rt; count_of_classes(&classes), 7);
-        assert_eq!(rt; count_of_elements(&classes, 0), 98);
-        assert_eq!(rt; count_of_elements(&classes, 6), 133);
+    fn lists_bytes(rt: HostRuntime) -> Result<(), Fail> {
+        let classes = classes_of(&THREE);
+        for (class, count) in [(0, 98), (6, 133)] {
+            assert_eq!(rt; count_of_elements(&classes, class), count, "of {class}");
+        }
         let bytes = elements_taken(rt.alloc(), &classes, 2)?;
         assert_eq!(rt; bytes.as_slice(), b"ef".as_slice());
         let mut fifth = classes.elements(5);
-        assert_eq!(rt; fifth.next(), Some(b'z'));
-        assert_eq!(rt; next_after_all(&mut fifth), None);
-        assert_eq!(rt; fifth.next(), None);
+        let taken = (fifth.next(), next_after_all(&mut fifth), fifth.next());
+        assert_eq!(rt; taken, (Some(b'z'), None, None));
+        Ok(())
+    }
+
+    #[test]
+    fn lists_classes(rt: HostRuntime) {
+        let classes = classes_of(&THREE);
+        assert_eq!(rt; count_of_classes(&classes), 7);
         let mut all = classes.iter();
         for class in 0..7 {
             assert_eq!(rt; all.next(), Some(class));
         }
-        assert_eq!(rt; all.next(), None);
-        assert_eq!(rt; all.next(), None);
+        assert_eq!(rt; (all.next(), all.next()), (None, None));
+    }
+
+    #[test]
+    fn has_one_class(rt: HostRuntime) -> Result<(), Fail> {
+        let empty = ByteClasses::empty();
+        assert_eq!(rt; sizes(&empty), (1, 1, 0));
+        assert!(rt; !empty.is_singleton());
+        assert_eq!(rt; count_of_elements(&empty, 0), 256);
+        let whole = runs_collected(rt.alloc(), &empty, 0)?;
+        assert_eq!(rt; whole.as_slice(), [(0, 255)].as_slice());
         Ok(())
     }
 
     #[test]
     fn sets_single_classes(rt: HostRuntime) -> Result<(), Fail> {
-        let alloc = rt.alloc();
-        let empty = ByteClasses::empty();
-        assert_eq!(rt; empty.alphabet_len(), 1);
-        assert!(rt; !empty.is_singleton());
-        assert_eq!(rt; count_of_elements(&empty, 0), 256);
-        let whole = runs_collected(alloc, &empty, 0)?;
-        assert_eq!(rt; whole.as_slice(), [(0, 255)].as_slice());
-        let mut classes = empty;
+        let mut classes = ByteClasses::empty();
         classes.set(5, 1);
         assert_eq!(rt; classes.alphabet_len(), 1);
-        let bytes = elements_taken(alloc, &classes, 1)?;
+        let bytes = elements_taken(rt.alloc(), &classes, 1)?;
         assert_eq!(rt; bytes.as_slice(), [5].as_slice());
         let mut runs = classes.element_ranges(0);
-        assert_eq!(rt; runs.next(), Some((0, 4)));
-        assert_eq!(rt; runs.next(), Some((6, 255)));
-        assert_eq!(rt; runs.next(), None);
-        assert_eq!(rt; runs.next(), None);
-        classes = empty;
-        classes.set(255, 9);
-        assert_eq!(rt; classes.alphabet_len(), 10);
-        assert_eq!(rt; classes.stride(), 16);
+        for run in [Some((0, 4)), Some((6, 255)), None, None] {
+            assert_eq!(rt; runs.next(), run);
+        }
         Ok(())
     }
 
     #[test]
-    fn holds_bytes(rt: HostRuntime) -> Result<(), Fail> {
-        let alloc = rt.alloc();
+    fn sets_the_last_class(rt: HostRuntime) {
+        let empty = ByteClasses::empty();
+        let mut classes = empty;
+        classes.set(255, 9);
+        assert_eq!(rt; sizes(&classes), (10, 16, 4));
+        assert_eq!(rt; sizes(&empty), (1, 1, 0));
+    }
+
+    #[test]
+    fn holds_bytes(rt: HostRuntime) {
         let mut set = ByteSet::empty();
         assert_eq!(rt; set, ByteSet::default());
         set.add(0);
@@ -212,13 +237,21 @@ mod tests {
             (b'A', false),
             (255, true),
         ] {
-            assert_eq!(rt; set.contains(byte), is_in);
+            assert_eq!(rt; set.contains(byte), is_in, "{byte}");
         }
-        assert!(rt; !copy.contains(255));
-        assert!(rt; copy != set);
-        assert!(rt; format!(in alloc; "{set:?}")?.len() > 0);
-        assert!(rt; format!(in alloc; "{:?}", ByteClassSet::empty())?.len() > 0);
-        assert!(rt; format!(in alloc; "{:?}", ByteClasses::empty())?.len() > 0);
+        assert!(rt; !copy.contains(255) && copy != set);
+    }
+
+    /// A text that is printed has a byte.
+    fn assert_text(rt: &impl Abort, text: &str) {
+        assert!(rt; text.len() > 0);
+    }
+
+    #[test]
+    fn prints_something(rt: HostRuntime) -> Result<(), Fail> {
+        assert_text(&rt, &format!(in rt.alloc(); "{:?}", ByteSet::empty())?);
+        assert_text(&rt, &format!(in rt.alloc(); "{:?}", ByteClassSet::empty())?);
+        assert_text(&rt, &format!(in rt.alloc(); "{:?}", ByteClasses::empty())?);
         Ok(())
     }
 
@@ -235,7 +268,7 @@ mod tests {
             (b'{', b'{'),
             (0xE9, 0xE9),
         ] {
-            assert_eq!(rt; opposite_ascii_case(byte), other);
+            assert_eq!(rt; opposite_ascii_case(byte), other, "of {byte}");
         }
     }
 }

@@ -2,9 +2,10 @@
 //! a search by sums: `a`, `b`, and the grave accent, which comes just before `a`, so that different
 //! texts of one length have equal sums, as `ab` and `b` with a grave accent; and `!` and `a`, which
 //! are 64 apart, so that all texts of one length share a bucket.
+use crate::made::{Place, places, searcher};
 use crate::plain::{greedy_plainly, leftmost_plainly, none_is_empty};
 use literal_prefilters::Span;
-use literal_prefilters::packed::{Config, MatchKind, Searcher};
+use literal_prefilters::packed::{MatchKind, Searcher};
 use std::process::Abort;
 use std::test::Fail;
 
@@ -128,43 +129,61 @@ fn finds_what_is_found_plainly(rt: HostRuntime) -> Result<(), Fail> {
             Family::OneBucket => 2815,
         };
         for kind in [MatchKind::LeftmostFirst, MatchKind::LeftmostLongest] {
-            let mut builder = Config::new().match_kind(kind).builder(rt.alloc());
-            builder.extend(patterns.iter().copied())?;
-            let searcher = builder.build()?.ok_or("there is no searcher")?;
-            assert_eq!(rt; compare(&rt, &searcher, family, patterns, kind), cases);
+            let searcher = searcher(rt.alloc(), kind, patterns)?;
+            assert_eq!(rt;
+                compare(&rt, &searcher, family, patterns, kind),
+                cases,
+                "{patterns:?}"
+            );
         }
     }
     Ok(())
 }
 
-/// Patterns, whether case is ignored, a haystack, and the matches in it.
+/// What a case shows, its patterns, whether case is ignored, a haystack, and the matches in it.
 type Row = (
+    &'static str,
     &'static [&'static [u8]],
     bool,
     &'static [u8],
-    &'static [(usize, usize, usize)],
+    &'static [Place],
 );
 
 /// With the first pattern taken at a place.
 static GREEDY: [Row; 5] = [
-    (&[b"abc"], false, b"zazabcz", &[(0, 3, 6)]),
-    (&[b"a"], false, b"aa", &[(0, 0, 1), (0, 1, 2)]),
-    (&[b"aa"], false, b"aaaaa", &[(0, 0, 2), (0, 2, 4)]),
-    (&[b"foo", b"Bar"], true, b"FoObarx", &[(0, 0, 3), (1, 3, 6)]),
-    (&[b"foo", b"Bar"], false, b"FoObarx", &[]),
+    ("inside", &[b"abc"], false, b"zazabcz", &[(0, 3, 6)]),
+    ("each byte", &[b"a"], false, b"aa", &[(0, 0, 1), (0, 1, 2)]),
+    (
+        "with no overlap",
+        &[b"aa"],
+        false,
+        b"aaaaa",
+        &[(0, 0, 2), (0, 2, 4)],
+    ),
+    (
+        "in either case",
+        &[b"foo", b"Bar"],
+        true,
+        b"FoObarx",
+        &[(0, 0, 3), (1, 3, 6)],
+    ),
+    (
+        "in the other case",
+        &[b"foo", b"Bar"],
+        false,
+        b"FoObarx",
+        &[],
+    ),
 ];
 
 #[test]
 fn finds_all_plainly(rt: HostRuntime) -> Result<(), Fail> {
-    for (patterns, ignore_case, haystack, wanted) in GREEDY {
-        assert!(rt; patterns.len() <= 2 && none_is_empty(patterns));
+    for (case, patterns, ignore_case, haystack, wanted) in GREEDY {
+        assert!(rt; patterns.len() <= 2 && none_is_empty(patterns), "{case}");
         let kind = MatchKind::LeftmostFirst;
         let all = greedy_plainly(rt.alloc(), patterns, kind, ignore_case, haystack)?;
-        let all = all
-            .iter()
-            .map(|it| (it.pattern().as_usize(), it.start(), it.end()))
-            .collect::<Vec<(usize, usize, usize)>>(rt.alloc())?;
-        assert_eq!(rt; all.as_slice(), wanted, "in {haystack:?}");
+        let all = places(rt.alloc(), &all)?;
+        assert_eq!(rt; all.as_slice(), wanted, "{case}");
     }
     Ok(())
 }

@@ -42,6 +42,7 @@ pub fn copy_of_config(config: &Config) -> Result<Config, AllocError>
 #[cfg(test)]
 mod tests {
     use super::*;
+    use crate::made::built;
     use literal_prefilters::packed::MatchKind;
     use literal_prefilters::packed::pattern::Patterns;
     use literal_prefilters::{PatternID, Span};
@@ -53,15 +54,25 @@ mod tests {
         assert_eq!(rt; copy.into_option(), Some(3));
         let copy = copy_of_input(&Input::new(b"foobar").span(Span { start: 1, end: 4 }))?;
         assert_eq!(rt; copy.get_span(), Span { start: 1, end: 4 });
+        Ok(())
+    }
+
+    #[test]
+    fn copies_of_patterns_are_equal(rt: HostRuntime) -> Result<(), Fail> {
         let mut patterns = Patterns::new(rt.alloc());
         patterns.add(b"foo")?;
         let copy = copy_of_pattern(&patterns.get(PatternID::ZERO))?;
         assert_eq!(rt; copy.bytes(), b"foo".as_slice());
+        Ok(())
+    }
+
+    #[test]
+    fn copies_of_configurations_are_equal(rt: HostRuntime) -> Result<(), Fail> {
         let mut config = Config::new();
         config.match_kind(MatchKind::LeftmostLongest);
         let mut builder = copy_of_config(&config)?.builder(rt.alloc());
-        let searcher = builder.add(b"foo")?.build()?.ok_or("there is no searcher")?;
-        assert_eq!(rt; *searcher.match_kind(), MatchKind::LeftmostLongest);
+        builder.add(b"foo")?;
+        assert_eq!(rt; *built(&builder)?.match_kind(), MatchKind::LeftmostLongest);
         Ok(())
     }
 }

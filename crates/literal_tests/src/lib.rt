@@ -8,7 +8,12 @@ pub mod classes;
 #[cfg(test)]
 mod compared;
 pub mod copies;
+pub mod counts;
+#[cfg(test)]
+mod identifiers;
 pub mod inputs;
+#[cfg(test)]
+mod made;
 #[cfg(test)]
 mod paths;
 #[cfg(test)]
@@ -17,9 +22,13 @@ pub mod plain;
 #[cfg(test)]
 mod prefilters;
 #[cfg(test)]
+mod rabin_karp;
+#[cfg(test)]
 mod ranks;
 #[cfg(test)]
 mod rows;
+#[cfg(test)]
+mod spans;
 pub mod steps;
 #[cfg(test)]
 mod tables;

@@ -1,5 +1,6 @@
 //! Each public path, named once: every item at the path of its module, and the items of `primitives`
 //! and `search` at the root too, where they are the same types.
+use crate::made::place;
 use literal_prefilters::packed::pattern::{Pattern, PatternIter, Patterns};
 use literal_prefilters::packed::rabinkarp::{RabinKarp, Rolling};
 use literal_prefilters::packed::{self, Builder, Config, FindIter, Searcher};
@@ -88,19 +89,29 @@ fn bytes_stand_in_their_modules(rt: HostRuntime) {
 
 #[test]
 fn prefilters_stand_in_their_module(rt: HostRuntime) -> Result<(), Fail> {
-    let mut builder: prefilter::Builder = prefilter::Builder::new(
-        rt.alloc(),
-        search::MatchKind::Standard,
-    );
+    let kind = search::MatchKind::Standard;
+    let mut builder: prefilter::Builder = prefilter::Builder::new(rt.alloc(), kind);
     builder.add(b"ob")?;
     let pre: prefilter::Prefilter = builder.build()?.ok_or("there is no prefilter")?;
     let span = search::Span { start: 0, end: 6 };
     let candidate: prefilter::Candidate = pre.find_in(b"foobar", span);
     assert!(rt; candidate.into_option().is_some());
+    let by_trait = PrefilterI::find_in(&pre, b"foobar", span, &mut count::Tally::new());
+    assert!(rt; by_trait.into_option().is_some());
+    Ok(())
+}
+
+#[test]
+fn tables_stand_beside_prefilters(rt: HostRuntime) -> Result<(), Fail> {
     let mut patterns: Patterns = Patterns::new(rt.alloc());
     patterns.add(b"ob")?;
     let table: Option<prefilter::ByteTable> = prefilter::ByteTable::start(&patterns, false);
     assert!(rt; table.is_some());
+    Ok(())
+}
+
+#[test]
+fn kinds_of_prefilters_stand_beside_them(rt: HostRuntime) {
     // the builder alone makes these
     let starts: (
         Option<StartBytesOne>,
@@ -113,9 +124,6 @@ fn prefilters_stand_in_their_module(rt: HostRuntime) -> Result<(), Fail> {
         Option<RareBytesThree>,
     ) = (None, None, None);
     assert!(rt; starts.0.is_none() && rares.0.is_none());
-    let by_trait = PrefilterI::find_in(&pre, b"foobar", span, &mut count::Tally::new());
-    assert!(rt; by_trait.into_option().is_some());
-    Ok(())
 }
 
 #[test]
@@ -134,23 +142,30 @@ fn search_stands_at_the_root(rt: HostRuntime) {
 
 #[test]
 fn packed_stands_at_its_path(rt: HostRuntime) -> Result<(), Fail> {
+    let mut builder: Builder = Config::new().builder(rt.alloc());
+    builder.add(b"ob")?;
+    let searcher: Searcher = builder.build()?.ok_or("no searcher")?;
+    let mut matches: FindIter<'_, '_> = searcher.find_iter(b"foobar");
+    assert_eq!(rt; matches.next().map(place), Some((0, 2, 4)));
+    Ok(())
+}
+
+#[test]
+fn parts_of_packed_stand_in_their_modules(rt: HostRuntime) -> Result<(), Fail> {
     let mut tally = count::Tally::new();
     let mut patterns: Patterns = Patterns::new(rt.alloc());
     patterns.add(b"ob")?;
     let items: PatternIter<'_> = patterns.iter();
     let (id, pattern): (primitives::PatternID, Pattern<'_>) = items.last().ok_or("no pattern")?;
+    assert_eq!(rt; (id, pattern.len()), (primitives::PatternID::ZERO, 2));
     let found = RabinKarp::new(&patterns, &mut tally)?.find_at(&patterns, b"foobar", 0, &mut tally);
-    assert_eq!(rt;
-        found,
-        Some(search::Match::new(id, search::Span { start: 2, end: 4 }))
-    );
-    let mut rolling = Rolling::new(pattern.len());
-    rolling.push(b'o', &mut tally);
-    assert_eq!(rt; rolling.value(), 111);
-    let mut builder: Builder = Config::new().builder(rt.alloc());
-    builder.add(pattern.bytes())?;
-    let searcher: Searcher = builder.build()?.ok_or("no searcher")?;
-    let mut matches: FindIter<'_, '_> = searcher.find_iter(b"foobar");
-    assert_eq!(rt; matches.next(), found);
+    assert_eq!(rt; found.map(place), Some((0, 2, 4)));
     Ok(())
+}
+
+#[test]
+fn sums_stand_in_their_module(rt: HostRuntime) {
+    let mut rolling = Rolling::new(2);
+    rolling.push(b'o', &mut count::Tally::new());
+    assert_eq!(rt; rolling.value(), 111);
 }

@@ -4,7 +4,7 @@ ghost use Rattle.std.specs.Prelude.{◌≡◌, length, IfOk};
 use literal_prefilters::PatternIDError;
 use literal_prefilters::count::Tally;
 use literal_prefilters::packed::MatchKind;
-use literal_prefilters::packed::pattern::{Pattern, PatternIter, Patterns};
+use literal_prefilters::packed::pattern::{Pattern, Patterns};
 use literal_prefilters::primitives::{self, PatternID};
 use std::alloc::{AllocError, Global};
 use std::process::Abort;
@@ -22,37 +22,48 @@ fn four(alloc: Global) -> Result<Patterns, AllocError>
     Ok(patterns)
 }
 
-/// The identifiers of the items that are left.
-fn order(alloc: Global, items: PatternIter<'_>) -> Result<Vec<usize>, AllocError> {
-    let mut order = Vec::new(alloc);
-    for (id, _) in items {
-        order.push(id.as_usize())?;
+/// How many there are, the length of the shortest, that of all together, and whether there is none.
+type Counts = (usize, usize, u128, bool);
+
+fn counts(patterns: &Patterns) -> Counts {
+    (
+        patterns.len(),
+        patterns.minimum_len(),
+        patterns.total_pattern_bytes(),
+        patterns.is_empty(),
+    )
+}
+
+const OF_NONE: Counts = (0, usize::MAX, 0, true);
+
+#[test]
+fn counts_patterns(rt: HostRuntime) -> Result<(), Fail> {
+    let mut patterns = Patterns::new(rt.alloc());
+    assert_eq!(rt; counts(&patterns), OF_NONE);
+    for (bytes, wanted) in [
+        (b"abc".as_slice(), (1, 3, 3, false)),
+        (b"a", (2, 1, 4, false)),
+        (b"ab", (3, 1, 6, false)),
+    ] {
+        patterns.add(bytes)?;
+        assert_eq!(rt; counts(&patterns), wanted, "with {bytes:?}");
     }
-    Ok(order)
+    Ok(())
 }
 
 /// What a new collection answers.
 fn is_as_new(rt: &impl Abort, patterns: &Patterns) {
-    assert_eq!(rt; patterns.len(), 0);
-    assert!(rt; patterns.is_empty());
-    assert_eq!(rt; patterns.minimum_len(), usize::MAX);
-    assert_eq!(rt; patterns.total_pattern_bytes(), 0);
+    assert_eq!(rt; counts(patterns), OF_NONE);
     assert_eq!(rt; *patterns.match_kind(), MatchKind::LeftmostFirst);
     assert!(rt; patterns.iter().next().is_none());
 }
 
 #[test]
-fn counts_patterns(rt: HostRuntime) -> Result<(), Fail> {
+fn begins_anew(rt: HostRuntime) -> Result<(), Fail> {
     let mut patterns = Patterns::new(rt.alloc());
     is_as_new(&rt, &patterns);
-    patterns.add(b"abc")?;
-    assert_eq!(rt; patterns.minimum_len(), 3);
     patterns.add(b"a")?;
-    patterns.add(b"ab")?;
-    assert_eq!(rt; patterns.len(), 3);
-    assert!(rt; !patterns.is_empty());
-    assert_eq!(rt; patterns.minimum_len(), 1);
-    assert_eq!(rt; patterns.total_pattern_bytes(), 6);
+    patterns.add(b"abc")?;
     patterns.set_match_kind(MatchKind::LeftmostLongest)?;
     assert_eq!(rt; *patterns.match_kind(), MatchKind::LeftmostLongest);
     patterns.reset();
@@ -62,42 +73,48 @@ fn counts_patterns(rt: HostRuntime) -> Result<(), Fail> {
     Ok(())
 }
 
+/// The identifiers come in this order.
+fn assert_order(
+    rt: &impl Abort,
+    alloc: Global,
+    patterns: &Patterns,
+    wanted: &[usize],
+    case: &str,
+) -> Result<(), AllocError> {
+    let mut order = Vec::new(alloc);
+    for (id, _) in patterns.iter() {
+        order.push(id.as_usize())?;
+    }
+    assert_eq!(rt; order.as_slice(), wanted, "{case}");
+    Ok(())
+}
+
 #[test]
 fn goes_over_patterns_in_order(rt: HostRuntime) -> Result<(), Fail> {
     let alloc = rt.alloc();
     let mut patterns = four(alloc)?;
-    assert_eq!(rt;
-        order(alloc, patterns.iter())?.as_slice(),
-        [0, 1, 2, 3].as_slice()
-    );
+    assert_order(&rt, alloc, &patterns, &[0, 1, 2, 3], "as added")?;
     patterns.set_match_kind(MatchKind::LeftmostLongest)?;
-    assert_eq!(rt;
-        order(alloc, patterns.iter())?.as_slice(),
-        [1, 3, 0, 2].as_slice()
-    );
+    assert_order(&rt, alloc, &patterns, &[1, 3, 0, 2], "longest")?;
+    patterns.add(b"abcd")?;
+    assert_order(&rt, alloc, &patterns, &[1, 3, 0, 2, 4], "with one more")?;
+    patterns.set_match_kind(MatchKind::LeftmostLongest)?;
+    assert_order(&rt, alloc, &patterns, &[4, 1, 3, 0, 2], "longest again")?;
+    patterns.set_match_kind(MatchKind::LeftmostFirst)?;
+    assert_order(&rt, alloc, &patterns, &[0, 1, 2, 3, 4], "first")?;
+    Ok(())
+}
+
+#[test]
+fn copies_keep_their_order(rt: HostRuntime) -> Result<(), Fail> {
+    let mut patterns = four(rt.alloc())?;
+    patterns.set_match_kind(MatchKind::LeftmostLongest)?;
     let copy = patterns.try_clone()?;
     patterns.add(b"abcd")?;
-    assert_eq!(rt;
-        order(alloc, patterns.iter())?.as_slice(),
-        [1, 3, 0, 2, 4].as_slice()
-    );
-    patterns.set_match_kind(MatchKind::LeftmostLongest)?;
-    assert_eq!(rt;
-        order(alloc, patterns.iter())?.as_slice(),
-        [4, 1, 3, 0, 2].as_slice()
-    );
     patterns.set_match_kind(MatchKind::LeftmostFirst)?;
-    assert_eq!(rt;
-        order(alloc, patterns.iter())?.as_slice(),
-        [0, 1, 2, 3, 4].as_slice()
-    );
-    assert_eq!(rt;
-        order(alloc, copy.iter())?.as_slice(),
-        [1, 3, 0, 2].as_slice()
-    );
+    assert_order(&rt, rt.alloc(), &copy, &[1, 3, 0, 2], "the copy")?;
     assert_eq!(rt; *copy.match_kind(), MatchKind::LeftmostLongest);
-    assert_eq!(rt; copy.minimum_len(), 1);
-    assert_eq!(rt; copy.total_pattern_bytes(), 9);
+    assert_eq!(rt; counts(&copy), (4, 1, 9, false));
     Ok(())
 }
 
@@ -105,10 +122,11 @@ fn goes_over_patterns_in_order(rt: HostRuntime) -> Result<(), Fail> {
 fn stays_at_its_end(rt: HostRuntime) -> Result<(), Fail> {
     let patterns = four(rt.alloc())?;
     let mut items = patterns.iter();
-    for wanted in 0..4 {
-        let (id, pattern) = items.next().ok_or("it ends early")?;
-        assert_eq!(rt; id.as_usize(), wanted);
-        assert_eq!(rt; pattern.len(), [2, 3, 1, 3][wanted]);
+    for wanted in [(0, 2), (1, 3), (2, 1), (3, 3)] {
+        let next = items
+            .next()
+            .map(|(id, pattern)| (id.as_usize(), pattern.len()));
+        assert_eq!(rt; next, Some(wanted));
     }
     assert!(rt; items.next().is_none());
     assert!(rt; items.next().is_none());
@@ -128,16 +146,11 @@ fn compares_at_a_place(rt: HostRuntime) -> Result<(), Fail> {
         (5, false, false),
         (7, false, false),
     ] {
-        assert_eq!(rt;
+        let found = (
             patterns.matches_at(abc, haystack, at, false, &mut tally),
-            kept,
-            "at {at}"
-        );
-        assert_eq!(rt;
             patterns.matches_at(abc, haystack, at, true, &mut tally),
-            ignored,
-            "at {at}"
         );
+        assert_eq!(rt; found, (kept, ignored), "at {at}, case kept and ignored");
     }
     Ok(())
 }
@@ -148,10 +161,14 @@ fn tells_about_a_pattern(rt: HostRuntime) -> Result<(), Fail> {
     let pattern: Pattern<'_> = patterns.get(PatternID::must(1));
     assert_eq!(rt; pattern.len(), 3);
     assert_eq!(rt; pattern.bytes(), b"abc".as_slice());
-    assert!(rt; pattern.is_prefix(b"abc"));
-    assert!(rt; pattern.is_prefix(b"abcd"));
-    assert!(rt; !pattern.is_prefix(b"ab"));
-    assert!(rt; !pattern.is_prefix(b"xabc"));
+    for (haystack, is_prefix) in [
+        (b"abc".as_slice(), true),
+        (b"abcd", true),
+        (b"ab", false),
+        (b"xabc", false),
+    ] {
+        assert_eq!(rt; pattern.is_prefix(haystack), is_prefix, "of {haystack:?}");
+    }
     assert!(rt; !format!(in rt.alloc(); "{pattern:?}")?.is_empty());
     Ok(())
 }

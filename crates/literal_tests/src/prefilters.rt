@@ -4,11 +4,13 @@ use literal_prefilters::prefilter::{Builder, Candidate, Prefilter, PrefilterI};
 use literal_prefilters::search::{Match, Span};
 use literal_prefilters::{MatchKind, PatternID};
 use std::alloc::Global;
+use std::process::Abort;
 use std::test::Fail;
 
-/// Patterns, whether case is ignored, a haystack, the start of a span that goes to the haystack's end,
-/// and the place that is proposed.
+/// What a case shows, its patterns, whether case is ignored, a haystack, the start of a span that goes
+/// to the haystack's end, and the place that is proposed.
 type Row = (
+    &'static str,
     &'static [&'static [u8]],
     bool,
     &'static [u8],
@@ -18,6 +20,7 @@ type Row = (
 
 static ROWS: [Row; 18] = [
     (
+        "back from the rare byte",
         &[b"Sherlock", b"lockjaw"],
         false,
         b"I am lockjaw",
@@ -25,28 +28,73 @@ static ROWS: [Row; 18] = [
         Some(1),
     ),
     (
+        "back to the start of the span",
         &[b"Sherlock", b"lockjaw"],
         false,
         b"I am lockjaw",
         3,
         Some(3),
     ),
-    (&[b"Sherlock", b"lockjaw"], false, b"I am lockjaw", 9, None),
-    (&[b"Sherlock", b"lockjaw"], true, b"ShLOCKJAW", 0, Some(0)),
     (
+        "past the rare byte",
+        &[b"Sherlock", b"lockjaw"],
+        false,
+        b"I am lockjaw",
+        9,
+        None,
+    ),
+    (
+        "back to the start of the haystack",
+        &[b"Sherlock", b"lockjaw"],
+        true,
+        b"ShLOCKJAW",
+        0,
+        Some(0),
+    ),
+    (
+        "two rare bytes, at the second",
         &[b"lockjaw", b"Sherlock"],
         false,
         b"I am lockjaw",
         0,
         Some(1),
     ),
-    (&[b"lockjaw", b"Sherlock"], false, b"I am a jaw", 0, Some(3)),
-    (&[b"foo", b"bar"], false, b"xxbafoo", 0, Some(2)),
-    (&[b"foo", b"fab"], false, b"xxbafoo", 0, Some(4)),
-    (&[b"foo"], true, b"xxFOO", 0, Some(2)),
-    (&[b"foo"], true, b"", 0, None),
-    (&[b"ax", b"by", b"cz"], false, b"qqby", 0, Some(2)),
     (
+        "two rare bytes, at the first",
+        &[b"lockjaw", b"Sherlock"],
+        false,
+        b"I am a jaw",
+        0,
+        Some(3),
+    ),
+    (
+        "a start byte of the second",
+        &[b"foo", b"bar"],
+        false,
+        b"xxbafoo",
+        0,
+        Some(2),
+    ),
+    (
+        "one start byte",
+        &[b"foo", b"fab"],
+        false,
+        b"xxbafoo",
+        0,
+        Some(4),
+    ),
+    ("the other case", &[b"foo"], true, b"xxFOO", 0, Some(2)),
+    ("no byte", &[b"foo"], true, b"", 0, None),
+    (
+        "three rare bytes",
+        &[b"ax", b"by", b"cz"],
+        false,
+        b"qqby",
+        0,
+        Some(2),
+    ),
+    (
+        "three words",
         &[b"apple", b"maple", b"Snapple"],
         false,
         b"in an apple",
@@ -54,17 +102,39 @@ static ROWS: [Row; 18] = [
         Some(3),
     ),
     (
+        "past the last rare byte of three words",
         &[b"apple", b"maple", b"Snapple"],
         false,
         b"in an apple",
         9,
         None,
     ),
-    (&[b"aa"], false, b"baa", 0, Some(1)),
-    (&[b"sherlock"], true, b"xxSHERLOCK", 0, Some(2)),
-    (&[b"["], true, b"`{@[", 0, Some(3)),
-    (&[b"@"], true, b"`{@[", 0, Some(2)),
-    (&[b"\xC0"], true, b"\xE0\xC0", 0, Some(1)),
+    ("one byte twice", &[b"aa"], false, b"baa", 0, Some(1)),
+    (
+        "a word in the other case",
+        &[b"sherlock"],
+        true,
+        b"xxSHERLOCK",
+        0,
+        Some(2),
+    ),
+    (
+        "what comes after the letters",
+        &[b"["],
+        true,
+        b"`{@[",
+        0,
+        Some(3),
+    ),
+    (
+        "what comes before the letters",
+        &[b"@"],
+        true,
+        b"`{@[",
+        0,
+        Some(2),
+    ),
+    ("no character", &[b"\xC0"], true, b"\xE0\xC0", 0, Some(1)),
 ];
 
 fn builder(
@@ -80,47 +150,53 @@ fn builder(
     Ok(builder)
 }
 
-fn prefilter(
-    alloc: Global,
-    kind: MatchKind,
-    ignore_case: bool,
-    patterns: &[&[u8]],
-) -> Result<Option<Prefilter>, Fail> {
-    Ok(builder(alloc, kind, ignore_case, patterns)?.build()?)
+/// The prefilter of patterns in the case in which they are given.
+fn prefilter(alloc: Global, patterns: &[&[u8]]) -> Result<Option<Prefilter>, Fail> {
+    Ok(builder(alloc, MatchKind::Standard, false, patterns)?.build()?)
 }
 
 /// The place that a prefilter by single bytes proposes.
-fn place(candidate: Candidate) -> Result<Option<usize>, Fail> {
+fn place(candidate: Candidate) -> Result<Option<usize>, &'static str> {
     match candidate {
         Candidate::None => Ok(None),
         Candidate::PossibleStartOfMatch(start) => Ok(Some(start)),
-        Candidate::Match(_) => Err("a table of bytes confirms no match".into()),
+        Candidate::Match(_) => Err("a table of bytes confirms no match"),
     }
 }
 
+/// All three calls propose the same place of the haystack from a start on.
+fn assert_proposes(
+    rt: &impl Abort,
+    pre: &Prefilter,
+    haystack: &[u8],
+    start: usize,
+    wanted: Option<usize>,
+    case: &str,
+) {
+    let end = haystack.len();
+    assert!(rt; start <= end, "{case}");
+    let (span, tally) = (Span { start, end }, &mut Tally::new());
+    assert_eq!(rt; place(pre.find_in(haystack, span)), Ok(wanted), "{case}");
+    let counted = place(pre.find_in_counted(haystack, span, tally));
+    assert_eq!(rt; counted, Ok(wanted), "{case}, counted");
+    let by_trait = place(PrefilterI::find_in(pre, haystack, span, tally));
+    assert_eq!(rt; by_trait, Ok(wanted), "{case}, by the trait");
+}
+
+const KINDS: [MatchKind; 3] = [
+    MatchKind::Standard,
+    MatchKind::LeftmostFirst,
+    MatchKind::LeftmostLongest,
+];
+
 #[test]
 fn proposes_places(rt: HostRuntime) -> Result<(), Fail> {
-    let kinds = [
-        MatchKind::Standard,
-        MatchKind::LeftmostFirst,
-        MatchKind::LeftmostLongest,
-    ];
-    for (patterns, ignore_case, haystack, start, wanted) in ROWS {
-        assert!(rt; start <= haystack.len());
-        let span = Span {
-            start,
-            end: haystack.len(),
-        };
-        for kind in kinds {
-            let pre = prefilter(rt.alloc(), kind, ignore_case, patterns)?.ok_or(
-                "there is no prefilter",
-            )?;
-            assert_eq!(rt; place(pre.find_in(haystack, span))?, wanted, "{patterns:?}");
-            let counted = pre.find_in_counted(haystack, span, &mut Tally::new());
-            assert_eq!(rt; place(counted)?, wanted, "{patterns:?}, counted");
-            let by_trait = PrefilterI::find_in(&pre, haystack, span, &mut Tally::new());
-            assert_eq!(rt; place(by_trait)?, wanted, "{patterns:?}, by the trait");
-            assert!(rt; format!(in rt.alloc(); "{pre:?}")?.len() > 0);
+    for (case, patterns, ignore_case, haystack, start, wanted) in ROWS {
+        for kind in KINDS {
+            let builder = builder(rt.alloc(), kind, ignore_case, patterns)?;
+            let pre = builder.build()?.ok_or("there is no prefilter")?;
+            assert_proposes(&rt, &pre, haystack, start, wanted, case);
+            assert!(rt; format!(in rt.alloc(); "{pre:?}")?.len() > 0, "{case}");
         }
     }
     Ok(())
@@ -132,15 +208,14 @@ fn goes_back_254_bytes_at_most(rt: HostRuntime) -> Result<(), Fail> {
     long[0] = 0xC0;
     long[254] = b'Q';
     long[255] = b'Q';
-    let span = Span { start: 0, end: 255 };
     let of_255: &[u8] = &long[..255];
-    let pre = prefilter(rt.alloc(), MatchKind::Standard, false, &[of_255, b"\xC0Q"])?.ok_or(
-        "there is no prefilter",
-    )?;
-    assert_eq!(rt; place(pre.find_in(of_255, span))?, Some(0));
+    let pre = prefilter(rt.alloc(), &[of_255, b"\xC0Q"])?.ok_or("there is no prefilter")?;
+    assert_proposes(&rt, &pre, of_255, 0, Some(0), "255 bytes");
     let of_256: &[u8] = &long;
-    let none = prefilter(rt.alloc(), MatchKind::Standard, false, &[of_256, b"\xC0Q"])?;
-    assert!(rt; none.is_none());
+    assert!(rt;
+        prefilter(rt.alloc(), &[of_256, b"\xC0Q"])?.is_none(),
+        "256 bytes"
+    );
     Ok(())
 }
 
@@ -154,24 +229,25 @@ fn proposes_for_129_patterns(rt: HostRuntime) -> Result<(), Fail> {
         }
     }
     let pre = builder.build()?.ok_or("there is no prefilter")?;
-    let span = Span { start: 0, end: 5 };
-    assert_eq!(rt; place(pre.find_in(b"zzb07", span))?, Some(2));
+    assert_proposes(&rt, &pre, b"zzb07", 0, Some(2), "129 patterns");
     Ok(())
 }
 
+/// What a case shows, and its patterns.
+static OF_NOTHING: [(&str, &[&[u8]]); 5] = [
+    ("no pattern", &[]),
+    ("four bytes of each kind", &[b"a", b"b", b"c", b"d"]),
+    ("an empty one first", &[b"", b"foo"]),
+    ("an empty one second", &[b"foo", b"", b"bar"]),
+    ("an empty one last", &[b"foo", b""]),
+];
+
 #[test]
 fn builds_nothing_where_nothing_suits(rt: HostRuntime) -> Result<(), Fail> {
-    let lists: [&[&[u8]]; 5] = [
-        &[],
-        &[b"a", b"b", b"c", b"d"],
-        &[b"", b"foo"],
-        &[b"foo", b"", b"bar"],
-        &[b"foo", b""],
-    ];
-    for patterns in lists {
+    for (case, patterns) in OF_NOTHING {
         let builder = builder(rt.alloc(), MatchKind::Standard, false, patterns)?;
-        assert!(rt; builder.build()?.is_none(), "{patterns:?}");
-        assert!(rt; format!(in rt.alloc(); "{builder:?}")?.len() > 0);
+        assert!(rt; builder.build()?.is_none(), "{case}");
+        assert!(rt; format!(in rt.alloc(); "{builder:?}")?.len() > 0, "{case}");
     }
     Ok(())
 }

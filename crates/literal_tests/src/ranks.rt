@@ -58,8 +58,8 @@ fn ranks_each_byte(rt: HostRuntime) {
     for (high, line) in RANKS.iter().enumerate() {
         for (low, rank) in line.iter().enumerate() {
             let byte = 16 * high + low;
-            assert_eq!(rt; freq_rank(byte as u8), *rank);
-            assert_eq!(rt; BYTE_FREQUENCIES[byte], *rank);
+            let ranks = (freq_rank(byte as u8), BYTE_FREQUENCIES[byte]);
+            assert_eq!(rt; ranks, (*rank, *rank), "of {byte}");
         }
     }
 }

@@ -1,8 +1,11 @@
 //! Worked cases of searches.
+use crate::made::{Place, place, places, searcher};
+use literal_packed::laws::{iteration_is_greedy, none_is_for_good};
 use literal_prefilters::count::Tally;
-use literal_prefilters::packed::{Config, MatchKind, Searcher};
-use literal_prefilters::search::{Match, Span};
+use literal_prefilters::packed::{MatchKind, Searcher};
+use literal_prefilters::search::Span;
 use std::alloc::Global;
+use std::process::Abort;
 use std::test::Fail;
 
 const FIRST: &[MatchKind] = &[MatchKind::LeftmostFirst];
@@ -16,28 +19,20 @@ const LONG: &[u8] = b"aaaaaaaaaaaaaaaaaaaaaaaaaaaaaaaaaaaaaaaaaaaaaaaaaaaaaaaaaa
 /// The same after an `x`.
 const AFTER_X: &[u8] = b"xaaaaaaaaaaaaaaaaaaaaaaaaaaaaaaaaaaaaaaaaaaaaaaaaaaaaaaaaaaaaaaaaaaaaab";
 
-/// The number of a pattern, and the offsets from which and up to which it stands.
-type Place = Option<(usize, usize, usize)>;
-
-/// Patterns, match kinds, a haystack, a span, and what is found with each of the kinds.
+/// What a case shows, its patterns, match kinds, a span of a haystack, and what is found there with
+/// each of the kinds.
 type SpanRow = (
+    &'static str,
     &'static [&'static [u8]],
     &'static [MatchKind],
     &'static [u8],
     (usize, usize),
-    Place,
+    Option<Place>,
 );
 
-/// The same of the whole haystack.
-type Row = (
-    &'static [&'static [u8]],
-    &'static [MatchKind],
-    &'static [u8],
-    Place,
-);
-
-static IN_SPANS: [SpanRow; 14] = [
+static IN_SPANS: [SpanRow; 5] = [
     (
+        "the longer one, which is first",
         &[b"foobar", b"foo"],
         FIRST,
         b"foofoobar",
@@ -45,48 +40,17 @@ static IN_SPANS: [SpanRow; 14] = [
         Some((0, 3, 9)),
     ),
     (
+        "the longer one does not fit",
         &[b"foobar", b"foo"],
         FIRST,
         b"foofoobar",
         (3, 8),
         Some((1, 3, 6)),
     ),
-    (&[b"abc"], BOTH, b"xabc", (0, 3), None),
-    (&[b"abc"], BOTH, b"xabc", (4, 4), None),
-    (&[b"abc"], BOTH, b"xabc", (0, 4), Some((0, 1, 4))),
-    (&[b"abc"], BOTH, b"", (0, 0), None),
-    (&[LONG], BOTH, AFTER_X, (0, 71), Some((0, 1, 71))),
-    (&[b"ab"], BOTH, b"\x62\x60\x61\x62", (0, 4), Some((0, 2, 4))),
+    ("cut off at the end", &[b"abc"], BOTH, b"xabc", (0, 3), None),
+    ("no byte", &[b"abc"], BOTH, b"xabc", (4, 4), None),
     (
-        &[b"\x00\x00\x01", b"\x00\x00\x00"],
-        BOTH,
-        b"\x00\x00\x00",
-        (0, 3),
-        Some((1, 0, 3)),
-    ),
-    (
-        &[b"Samwise", b"Sam"],
-        BOTH,
-        b"Samwise",
-        (0, 7),
-        Some((0, 0, 7)),
-    ),
-    (
-        &[b"Sam", b"Samwise"],
-        FIRST,
-        b"Samwise",
-        (0, 7),
-        Some((0, 0, 3)),
-    ),
-    (
-        &[b"Sam", b"Samwise"],
-        LONGEST,
-        b"Samwise",
-        (0, 7),
-        Some((1, 0, 7)),
-    ),
-    (&[b"abcd", b"b"], BOTH, b"abcdef", (0, 6), Some((0, 0, 4))),
-    (
+        "a better one does not fit",
         &[b"b", b"abcd", b"abc"],
         BOTH,
         b"abcd",
@@ -95,80 +59,233 @@ static IN_SPANS: [SpanRow; 14] = [
     ),
 ];
 
-static IN_WHOLE: [Row; 9] = [
+/// What a case shows, its patterns, match kinds, a haystack, and all matches with each of the kinds.
+type Row = (
+    &'static str,
+    &'static [&'static [u8]],
+    &'static [MatchKind],
+    &'static [u8],
+    &'static [Place],
+);
+
+static IN_WHOLE: [Row; 25] = [
+    ("at the end", &[b"abc"], BOTH, b"xabc", &[(0, 1, 4)]),
+    ("no byte", &[b"abc"], BOTH, b"", &[]),
+    ("no byte, for two", &[b"ab", b"ba"], BOTH, b"", &[]),
+    ("past the word size", &[LONG], BOTH, AFTER_X, &[(0, 1, 71)]),
     (
+        "after a text of the same sum",
+        &[b"ab"],
+        BOTH,
+        b"\x62\x60\x61\x62",
+        &[(0, 2, 4)],
+    ),
+    (
+        "zeros",
+        &[b"\x00\x00\x01", b"\x00\x00\x00"],
+        BOTH,
+        b"\x00\x00\x00",
+        &[(1, 0, 3)],
+    ),
+    (
+        "the longer one, which is first",
+        &[b"Samwise", b"Sam"],
+        BOTH,
+        b"Samwise",
+        &[(0, 0, 7)],
+    ),
+    (
+        "the shorter one, which is first",
+        &[b"Sam", b"Samwise"],
+        FIRST,
+        b"Samwise",
+        &[(0, 0, 3)],
+    ),
+    (
+        "the longer one, which is last",
+        &[b"Sam", b"Samwise"],
+        LONGEST,
+        b"Samwise",
+        &[(1, 0, 7)],
+    ),
+    (
+        "the one that begins first",
+        &[b"abcd", b"b"],
+        BOTH,
+        b"abcdef",
+        &[(0, 0, 4)],
+    ),
+    (
+        "the first of four",
         &[b"ab", b"abc", b"abd", b"abc"],
         FIRST,
         b"abc",
-        Some((0, 0, 2)),
+        &[(0, 0, 2)],
     ),
     (
+        "the first of the longest",
         &[b"ab", b"abc", b"abd", b"abc"],
         LONGEST,
         b"abc",
-        Some((1, 0, 3)),
+        &[(1, 0, 3)],
     ),
-    (&[b"a", b"ab"], FIRST, b"ab", Some((0, 0, 1))),
-    (&[b"a", b"ab"], LONGEST, b"ab", Some((1, 0, 2))),
-    (&[b"ab", b"a"], BOTH, b"ab", Some((0, 0, 2))),
-    (&[b"foo", b"foo"], BOTH, b"foobarfoo", Some((0, 0, 3))),
+    ("a front", &[b"a", b"ab"], FIRST, b"ab", &[(0, 0, 1)]),
+    ("a whole", &[b"a", b"ab"], LONGEST, b"ab", &[(1, 0, 2)]),
     (
+        "a whole before its front",
+        &[b"ab", b"a"],
+        BOTH,
+        b"ab",
+        &[(0, 0, 2)],
+    ),
+    (
+        "the longest of each place",
+        &[b"a", b"ab"],
+        LONGEST,
+        b"xayabbbz",
+        &[(0, 1, 2), (1, 3, 5)],
+    ),
+    (
+        "the first of equal patterns",
+        &[b"foo", b"foo"],
+        BOTH,
+        b"foobarfoo",
+        &[(0, 0, 3), (0, 6, 9)],
+    ),
+    (
+        "one that nearly stands before",
+        &[b"z", b"abcdefghi", b"hz", b"abcdefgh"],
+        BOTH,
+        b"abcdefghz",
+        &[(3, 0, 8), (0, 8, 9)],
+    ),
+    (
+        "the first, and one across it",
         &[b"a", b"abcdefghi", b"hz", b"abcdefgh"],
         FIRST,
         b"abcdefghz",
-        Some((0, 0, 1)),
+        &[(0, 0, 1), (2, 7, 9)],
     ),
     (
+        "the longest, and none across it",
         &[b"a", b"abcdefghi", b"hz", b"abcdefgh"],
         LONGEST,
         b"abcdefghz",
-        Some((3, 0, 8)),
+        &[(3, 0, 8)],
     ),
     (
+        "one at the end of another",
+        &[b"ab", b"ba"],
+        BOTH,
+        b"abababa",
+        &[(0, 0, 2), (0, 2, 4), (0, 4, 6)],
+    ),
+    (
+        "words of a sentence",
         &[b"apple", b"maple", b"Snapple"],
         BOTH,
         b"Nobody likes maple in their apple flavored Snapple.",
-        Some((1, 13, 18)),
+        &[(1, 13, 18), (0, 28, 33), (2, 43, 50)],
+    ),
+    (
+        "each occurrence",
+        &[b"abc"],
+        BOTH,
+        b"abcdefghijklmnopqrstuvwxyzabcdefghijk",
+        &[(0, 0, 3), (0, 26, 29)],
+    ),
+    (
+        "a front where the whole is not",
+        &[b"foobar", b"foo"],
+        FIRST,
+        b"foobar fooba foofoo",
+        &[(0, 0, 6), (1, 7, 10), (1, 13, 16), (1, 16, 19)],
+    ),
+    (
+        "inside a longer one",
+        &[b"abcd", b"b", b"bce", b"ce"],
+        FIRST,
+        b"abce",
+        &[(1, 1, 2), (3, 2, 4)],
     ),
 ];
 
-fn searcher(alloc: Global, patterns: &[&[u8]], kind: MatchKind) -> Result<Searcher, Fail> {
-    let mut builder = Config::new().match_kind(kind).builder(alloc);
-    builder.extend(patterns.iter().copied())?;
-    Ok(builder.build()?.ok_or("there is no searcher")?)
-}
-
-fn place(found: Option<Match>) -> Place {
-    found.map(|it| (it.pattern().as_usize(), it.start(), it.end()))
+/// Both searches of a span find the same.
+fn assert_finds_in(
+    rt: &impl Abort,
+    searcher: &Searcher,
+    haystack: &[u8],
+    span: Span,
+    wanted: Option<Place>,
+    case: &str,
+) {
+    assert!(rt;
+        span.start <= span.end && span.end <= haystack.len(),
+        "{case}"
+    );
+    let found = searcher.find_in(haystack, span).map(place);
+    assert_eq!(rt; found, wanted, "{case}");
+    let found = searcher.find_in_counted(haystack, span, &mut Tally::new());
+    assert_eq!(rt; found.map(place), wanted, "{case}, counted");
 }
 
 #[test]
 fn finds_in_spans(rt: HostRuntime) -> Result<(), Fail> {
-    for (patterns, kinds, haystack, (start, end), wanted) in IN_SPANS {
-        assert!(rt; start <= end && end <= haystack.len());
+    for (case, patterns, kinds, haystack, (start, end), wanted) in IN_SPANS {
         for kind in kinds {
-            let searcher = searcher(rt.alloc(), patterns, *kind)?;
-            let span = Span { start, end };
+            let searcher = searcher(rt.alloc(), *kind, patterns)?;
+            assert_finds_in(&rt, &searcher, haystack, Span { start, end }, wanted, case);
+        }
+    }
+    Ok(())
+}
+
+/// The list of all matches, and the matches that an iteration gives.
+fn assert_gives(
+    rt: &impl Abort,
+    alloc: Global,
+    searcher: &Searcher,
+    haystack: &[u8],
+    wanted: &[Place],
+    case: &str,
+) -> Result<(), Fail> {
+    let listed = searcher.find_all(haystack, &mut Tally::new())?;
+    let listed = places(alloc, &listed)?;
+    assert_eq!(rt; listed.as_slice(), wanted, "{case}, listed");
+    let given = iteration_is_greedy(alloc, searcher, haystack)?;
+    let given = places(alloc, &given)?;
+    assert_eq!(rt; given.as_slice(), wanted, "{case}, given");
+    Ok(())
+}
+
+#[test]
+fn finds_in_whole_haystacks(rt: HostRuntime) -> Result<(), Fail> {
+    for (case, patterns, kinds, haystack, wanted) in IN_WHOLE {
+        let span = Span {
+            start: 0,
+            end: haystack.len(),
+        };
+        for kind in kinds {
+            let searcher = searcher(rt.alloc(), *kind, patterns)?;
+            let first = wanted.first().copied();
+            assert_finds_in(&rt, &searcher, haystack, span, first, case);
             assert_eq!(rt;
-                place(searcher.find_in(haystack, span)),
-                wanted,
-                "in {haystack:?}"
+                searcher.find(haystack).map(place),
+                first,
+                "{case}, anywhere"
             );
-            let mut tally = Tally::new();
-            let counted = searcher.find_in_counted(haystack, span, &mut tally);
-            assert_eq!(rt; place(counted), wanted, "in {haystack:?}, counted");
+            assert_gives(&rt, rt.alloc(), &searcher, haystack, wanted, case)?;
         }
     }
     Ok(())
 }
 
 #[test]
-fn finds_in_whole_haystacks(rt: HostRuntime) -> Result<(), Fail> {
-    for (patterns, kinds, haystack, wanted) in IN_WHOLE {
-        for kind in kinds {
-            let searcher = searcher(rt.alloc(), patterns, *kind)?;
-            assert_eq!(rt; place(searcher.find(haystack)), wanted, "in {haystack:?}");
-        }
-    }
+fn answers_none_for_good(rt: HostRuntime) -> Result<(), Fail> {
+    let searcher = searcher(rt.alloc(), MatchKind::LeftmostFirst, &[b"ab", b"ba"])?;
+    let copy = searcher.try_clone()?;
+    let mut matches = copy.find_iter(b"abababa");
+    while matches.next().is_some() {}
+    assert!(rt; none_is_for_good(&mut matches, 3));
     Ok(())
 }

@@ -27,6 +27,7 @@ mod tests {
     use literal_prefilters::packed::pattern::Patterns;
     use literal_prefilters::prefilter::{Builder, ByteTable, Candidate, Prefilter};
     use literal_prefilters::{MatchKind, Span, packed};
+    use std::alloc::Global;
     use std::process::Abort;
     use std::test::Fail;
 
@@ -102,26 +103,48 @@ mod tests {
         spans
     }
 
+    /// The table of a list, the start table or the rare one.
+    fn table_of(
+        alloc: Global,
+        list: &[&[u8]],
+        ignore_case: bool,
+        is_start: bool,
+    ) -> Result<ByteTable, Fail> {
+        let mut patterns = Patterns::new(alloc);
+        for bytes in list {
+            if bytes.is_empty() || patterns.len() >= 3 {
+                return Err("no such list is meant".into());
+            }
+            patterns.add(bytes)?;
+        }
+        let table = if is_start {
+            ByteTable::start(&patterns, ignore_case)
+        } else {
+            ByteTable::rare(&patterns, ignore_case)
+        };
+        Ok(table.ok_or("there is no table")?)
+    }
+
+    fn prefilter_of(alloc: Global, list: &[&[u8]], ignore_case: bool) -> Result<Prefilter, Fail> {
+        let mut builder = Builder::new(alloc, MatchKind::Standard).ascii_case_insensitive(
+            ignore_case,
+        );
+        for bytes in list {
+            builder.add(bytes)?;
+        }
+        Ok(builder.build()?.ok_or("there is no prefilter")?)
+    }
+
     #[test]
     fn steps_as_is_found_plainly(rt: HostRuntime) -> Result<(), Fail> {
         for (list, ignore_case, is_start) in LISTS {
-            let mut patterns = Patterns::new(rt.alloc());
-            let mut builder = Builder::new(rt.alloc(), MatchKind::Standard).ascii_case_insensitive(
-                ignore_case,
+            let table = table_of(rt.alloc(), list, ignore_case, is_start)?;
+            let pre = prefilter_of(rt.alloc(), list, ignore_case)?;
+            assert_eq!(rt;
+                compare(&rt, &pre, &table, (list, ignore_case)),
+                15625,
+                "{list:?}"
             );
-            for bytes in list {
-                assert!(rt; !bytes.is_empty() && patterns.len() < 3);
-                patterns.add(bytes)?;
-                builder.add(bytes)?;
-            }
-            let table = if is_start {
-                ByteTable::start(&patterns, ignore_case)
-            } else {
-                ByteTable::rare(&patterns, ignore_case)
-            };
-            let table = table.ok_or("there is no table")?;
-            let pre = builder.build()?.ok_or("there is no prefilter")?;
-            assert_eq!(rt; compare(&rt, &pre, &table, (list, ignore_case)), 15625);
         }
         Ok(())
     }

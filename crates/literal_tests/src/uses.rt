@@ -144,29 +144,43 @@ pub fn count_of_matches(searcher: &Searcher, haystack: &[u8]) -> usize
 #[cfg(test)]
 mod tests {
     use super::*;
+    use crate::made::{Place, places};
+    use std::process::Abort;
     use std::test::Fail;
+
+    /// Of `ab` and `a` it finds `ab` in `xab`.
+    fn assert_finds_ab(rt: &impl Abort, built: Option<Searcher>, case: &str) {
+        let found = built.and_then(|it| it.find(b"xab"));
+        assert_eq!(rt; found.map(|it| it.span().range()), Some(1..3), "{case}");
+    }
+
+    const AB_AND_A: [&[u8]; 2] = [b"ab", b"a"];
 
     #[test]
     fn builds_as_its_callers_say(rt: HostRuntime) -> Result<(), Fail> {
         let alloc = rt.alloc();
-        let longest = MatchKind::LeftmostLongest;
+        assert_finds_ab(&rt, built_of_two(alloc, b"ab", b"a")?, "two");
+        let longest = built_by_kind(alloc, MatchKind::LeftmostLongest, b"a", b"ab")?;
+        assert_finds_ab(&rt, longest, "by kind");
+        assert_finds_ab(&rt, built_of_items(alloc, AB_AND_A)?, "items");
+        Ok(())
+    }
+
+    #[test]
+    fn builds_of_words(rt: HostRuntime) -> Result<(), Fail> {
+        let alloc = rt.alloc();
         let words = vec![in alloc;
             String::from_str(alloc, "ab")?,
             String::from_str(alloc, "a")?,
         ]?;
-        let items: [&[u8]; 2] = [b"ab", b"a"];
-        for built in [
-            built_of_two(alloc, b"ab", b"a")?,
-            built_by_kind(alloc, longest, b"a", b"ab")?,
-            built_of_words(alloc, &words)?,
-            built_of_items(alloc, items)?,
-        ] {
-            let searcher = built.ok_or("two patterns build nothing")?;
-            let found = searcher.find(b"xab").ok_or("nothing is found")?;
-            assert_eq!(rt; found.span().range(), 1..3);
-        }
-        let mut builder = Builder::new(alloc);
-        extend_and_add(&mut builder, items, b"c")?;
+        assert_finds_ab(&rt, built_of_words(alloc, &words)?, "words");
+        Ok(())
+    }
+
+    #[test]
+    fn extends_as_its_callers_say(rt: HostRuntime) -> Result<(), Fail> {
+        let mut builder = Builder::new(rt.alloc());
+        extend_and_add(&mut builder, AB_AND_A, b"c")?;
         assert_eq!(rt; builder.len(), 3);
         Ok(())
     }
@@ -179,27 +193,46 @@ mod tests {
         patterns.set_match_kind(MatchKind::LeftmostLongest)?;
         assert_eq!(rt; count_of(&patterns), 2);
         let order = order_of(rt.alloc(), &patterns)?;
-        assert_eq!(rt;
-            order.as_slice(),
-            [PatternID::must(1), PatternID::ZERO].as_slice()
-        );
-        let nothing = Patterns::new(rt.alloc());
-        let mut items = nothing.iter();
-        assert!(rt; next_at_end(&mut items).is_none());
-        assert!(rt; next_at_end(&mut items).is_none());
+        let wanted = [PatternID::must(1), PatternID::ZERO];
+        assert_eq!(rt; order.as_slice(), wanted.as_slice());
         Ok(())
     }
 
     #[test]
-    fn goes_over_matches(rt: HostRuntime) -> Result<(), Fail> {
-        let alloc = rt.alloc();
-        let searcher = built_of_two(alloc, b"ab", b"ba")?.ok_or("two patterns build nothing")?;
-        let haystack = b"abababa";
-        let taken = taken_in_turn(alloc, &searcher, haystack)?;
-        let collected = collected(alloc, &searcher, haystack)?;
-        assert_eq!(rt; taken.as_slice(), collected.as_slice());
-        assert_eq!(rt; taken.len(), 3);
-        assert_eq!(rt; count_of_matches(&searcher, haystack), 3);
+    fn ends_for_ever(rt: HostRuntime) {
+        let nothing = Patterns::new(rt.alloc());
+        let mut items = nothing.iter();
+        assert!(rt; next_at_end(&mut items).is_none());
+        assert!(rt; next_at_end(&mut items).is_none());
+    }
+
+    const WANTED: [Place; 3] = [(0, 0, 2), (0, 2, 4), (0, 4, 6)];
+
+    fn of_two(alloc: Global) -> Result<Searcher, Fail> {
+        let built = built_of_two(alloc, b"ab", b"ba")?;
+        Ok(built.ok_or("two patterns build nothing")?)
+    }
+
+    #[test]
+    fn takes_matches(rt: HostRuntime) -> Result<(), Fail> {
+        let taken = taken_in_turn(rt.alloc(), &of_two(rt.alloc())?, b"abababa")?;
+        assert_eq!(rt; places(rt.alloc(), &taken)?.as_slice(), WANTED.as_slice());
+        Ok(())
+    }
+
+    #[test]
+    fn collects_matches(rt: HostRuntime) -> Result<(), Fail> {
+        let collected = collected(rt.alloc(), &of_two(rt.alloc())?, b"abababa")?;
+        assert_eq!(rt;
+            places(rt.alloc(), &collected)?.as_slice(),
+            WANTED.as_slice()
+        );
+        Ok(())
+    }
+
+    #[test]
+    fn counts_matches(rt: HostRuntime) -> Result<(), Fail> {
+        assert_eq!(rt; count_of_matches(&of_two(rt.alloc())?, b"abababa"), 3);
         Ok(())
     }
 }

@@ -1,4 +1,9 @@
-use super::*;
+//! Spans, matches and what a search is asked for: worked cases.
+use literal_base::search::{Anchored, Input, Match, MatchKind, Span, StartKind};
+use literal_ids::PatternID;
+use literal_packed as packed;
+use std::ops::Range;
+use std::process::Abort;
 use std::test::Fail;
 
 #[test]
@@ -91,7 +96,8 @@ fn spans_contain_their_offsets(rt: HostRuntime) {
         (5, 5, 5, false),
     ];
     for (start, end, offset, contained) in cases {
-        assert_eq!(rt; Span { start, end }.contains(offset), contained);
+        let contains = Span { start, end }.contains(offset);
+        assert_eq!(rt; contains, contained, "{offset} in {start}..{end}");
     }
     assert_eq!(rt;
         Span { start: 3, end: 1 }.offset(4),
@@ -160,4 +166,13 @@ fn kinds_tell_what_they_are(rt: HostRuntime) {
     assert_eq!(rt; MatchKind::default(), MatchKind::Standard);
     assert_eq!(rt; StartKind::default(), StartKind::Unanchored);
     assert!(rt; StartKind::Both != StartKind::Anchored);
+}
+
+#[test]
+fn is_the_first_by_default(rt: HostRuntime) {
+    assert_eq!(rt;
+        packed::MatchKind::default(),
+        packed::MatchKind::LeftmostFirst
+    );
+    assert!(rt; packed::MatchKind::default() != packed::MatchKind::LeftmostLongest);
 }

@@ -1,0 +1,33 @@
+//! Rolling sums, and the search by buckets at their own paths.
+use crate::made::place;
+use literal_prefilters::count::Tally;
+use literal_prefilters::packed::pattern::Patterns;
+use literal_prefilters::packed::rabinkarp::{RabinKarp, Rolling};
+use std::test::Fail;
+
+#[test]
+fn rolls(rt: HostRuntime) {
+    let mut tally = Tally::new();
+    let mut rolling = Rolling::new(2);
+    rolling.push(0x62, &mut tally);
+    rolling.push(0x60, &mut tally);
+    assert_eq!(rt; rolling.value(), 292);
+    rolling.roll(0x62, 0x61, &mut tally);
+    assert_eq!(rt; rolling.value(), 289);
+    rolling.roll(0x60, 0x62, &mut tally);
+    assert_eq!(rt; rolling.value(), 292);
+}
+
+#[test]
+fn finds_at(rt: HostRuntime) -> Result<(), Fail> {
+    let mut tally = Tally::new();
+    let mut patterns = Patterns::new(rt.alloc());
+    patterns.add(b"ab")?;
+    let rabin_karp = RabinKarp::new(&patterns, &mut tally)?.try_clone()?;
+    let haystack = b"\x62\x60\x61\x62";
+    for (at, wanted) in [(0, Some((0, 2, 4))), (3, None)] {
+        let found = rabin_karp.find_at(&patterns, haystack, at, &mut tally);
+        assert_eq!(rt; found.map(place), wanted, "from {at}");
+    }
+    Ok(())
+}
