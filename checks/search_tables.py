@@ -11,6 +11,7 @@ PATTERN = "crates/literal_packed/src/pattern.rt"
 RABIN_KARP = "crates/literal_packed/src/rabinkarp.rt"
 PACKED_LAWS = "crates/literal_packed/src/laws.rt"
 PREFILTER = "crates/literal_prefilters/src/prefilter.rt"
+PREFILTER_LAWS = "crates/literal_prefilters/src/laws.rt"
 BYTE_TABLE = "crates/literal_prefilters/src/prefilter/byte_table.rt"
 KINDS = "crates/literal_prefilters/src/prefilter/kinds.rt"
 TABLES = "crates/literal_prefilters/src/prefilter/tables.rt"
@@ -55,13 +56,14 @@ UNCOUNTED = {
 
 # Laws take a haystack too, and may call any search. No search may call a law in turn: outside of the
 # files of laws, the modules of laws of these crates are not named.
-LAW_FILES = (PACKED_LAWS, "crates/literal_prefilters/src/laws.rt")
+LAW_FILES = (PACKED_LAWS, PREFILTER_LAWS)
 LAWS = {
     (PACKED_LAWS, "", "find_is_find_in"): "compares two searches",
     (PACKED_LAWS, "", "none_if_nothing_occurs"): "says when a search answers nothing",
     (PACKED_LAWS, "", "iteration_is_greedy"): "collects an iteration",
     (PACKED_LAWS, "", "iteration_is_bounded"): "goes through an iteration",
     (PACKED_LAWS, "", "list_is_iteration"): "compares a list and an iteration",
+    (PREFILTER_LAWS, "", "none_without_a_byte"): "says when a prefilter answers nothing",
 }
 
 # What no function that takes a haystack calls: a copy reads all bucket entries.

@@ -1,6 +1,7 @@
 -- Lemmas that several proofs share, by topic.
 pub mod Additions
 pub mod Buckets
+pub mod Callers
 pub mod CutHaystack
 pub mod Dealing
 pub mod Given

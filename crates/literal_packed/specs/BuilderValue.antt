@@ -1,7 +1,8 @@
 -- A builder, as contracts see it, and what it builds.
-use Rattle.std.specs.Prelude.{◌≡◌, ℕ, ◌<◌, List, length, Option, Some, None, nat_lt, if◌then◌else◌, map}
+use Rattle.std.specs.Prelude.{◌≡◌, ℕ, ◌<◌, ◌≤◌, List, length, Option, Some, None, nat_lt, if◌then◌else◌, map}
 use Rattle.std.specs.Borrow.{Bor}
 use Rattle.std.specs.Iterator.{Drains}
+use Rattle.literal_base.specs.Occurs.{NoneIsEmpty}
 use Rattle.literal_base.specs.Query.{Query}
 use Rattle.literal_packed.specs.ConfigValue.{ConfigValue, default_config}
 use Rattle.literal_packed.specs.State.{kept_of, state_of, state_after}
@@ -32,6 +33,12 @@ abbrev pub searcher_of : BuilderValue → Option Query
 searcher_of b =
     if nat_lt 0 (length (kept_of b.state)) then Some
     (record { kind = b.config.kind; patterns = kept_of b.state }) else None
+
+-- what a searcher searches for: one pattern up to the limit, none of them empty
+pub record IsSearcher (query : Query) : Type 0 where
+  pub some : 0 < length query.patterns
+  pub few : length query.patterns ≤ pattern_limit
+  pub not_empty : NoneIsEmpty query.patterns
 
 -- after an addition of references to patterns
 abbrev pub AddsAll : BuilderValue → List (Bor (List ℕ)) → BuilderValue → Type 0

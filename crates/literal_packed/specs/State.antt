@@ -1,7 +1,7 @@
 -- The patterns of a builder: those that were added, as long as none of them is empty and there are not too many.
 -- These words serve every builder, each with its own limit.
 use Rattle.std.specs.Prelude.{ℕ, ◌<◌, Bool, ◌&&◌, nat_lt, nat_le, if◌then◌else◌, List, [], ◌∷◌, ◌++◌, length, Option}
-use Rattle.std.specs.Prelude.{Some, None, IsSomeAnd, unwrap_or}
+use Rattle.std.specs.Prelude.{Some, None, IfSome, IsSomeAnd, IsTrue, unwrap_or}
 use Rattle.std.specs.List.{list_all}
 
 -- none of the patterns is empty, and there are no more than the limit
@@ -22,6 +22,10 @@ abbrev pub state_after : ℕ → Option (List (List ℕ)) → List (List ℕ) �
 state_after limit state [] = state
 state_after limit None (first ∷ more) = None
 state_after limit (Some kept) (first ∷ more) = state_of limit (kept ++ first ∷ more)
+
+-- the patterns that a builder in a state keeps may be kept
+abbrev pub IsState : ℕ → Option (List (List ℕ)) → Type 0
+IsState limit state = IfSome state (λ kept. IsTrue (may_keep limit kept))
 
 -- in this state a pattern would be kept, and only then its addition takes memory
 abbrev pub WouldKeep : ℕ → Option (List (List ℕ)) → List ℕ → Type 0

@@ -6,9 +6,9 @@ ghost use Rattle.literal_base.specs.Leftmost.{IsLeftmost};
 ghost use Rattle.literal_base.specs.Greedy.{IsGreedy};
 ghost use Rattle.literal_base.specs.Counts.{none_yet};
 ghost use Rattle.literal_packed.specs.PatternsValue.{minimum_len_of};
-ghost use Rattle.literal_packed.specs.BuilderValue.{BuildsItems, IsBuildable, builder_of, pattern_limit, searcher_of, with_added};
+ghost use Rattle.literal_packed.specs.BuilderValue.{IsSearcher, BuildsItems, IsBuildable, builder_of, pattern_limit, searcher_of, with_added};
 ghost use Rattle.literal_packed.specs.ConfigValue.{default_config};
-ghost use Rattle.literal_packed.specs.State.{WouldKeep, kept_of};
+ghost use Rattle.literal_packed.specs.State.{IsState, WouldKeep, kept_of};
 ghost use Rattle.literal_packed.specs.Pairs.{counts_after};
 ghost use Rattle.literal_packed.specs.FindIterValue.{FindsNext, bytes_left};
 ghost use Rattle.literal_packed.specs.Spending.{SpendsWithin, counts_after_all};
@@ -227,7 +227,8 @@ impl Builder {
 
     /// The number of patterns that are kept, 0 where the builder is inert.
     pub fn len(&self) -> usize
-        ensures { result ≡ length (kept_of self.now.state) }
+        ensures len { result ≡ length (kept_of self.now.state) }
+        ensures kept { IsState pattern_limit self.now.state }
     {
         self.patterns.len()
     }
@@ -291,13 +292,15 @@ pub struct Searcher {
 
 impl Model for Searcher {
     ghost use Rattle.literal_base.specs.Query.{Query};
+    ghost use Rattle.std.specs.Prelude.{◌≤◌, length};
+    ghost use Rattle.literal_packed.specs.BuilderValue.{pattern_limit};
     ghost use Rattle.literal_packed.specs.RabinKarpValue.{IsMadeFor};
 
     ghost Value = { Query };
 
     ghost view = { λ a. record { kind = a.patterns.kind; patterns = a.patterns.patterns } };
 
-    ghost invariant = { λ a. IsMadeFor a.patterns a.rabin_karp };
+    ghost invariant = { λ a. IsMadeFor a.patterns a.rabin_karp × (length a.patterns.patterns ≤ pattern_limit) };
 }
 
 impl Searcher {
@@ -406,8 +409,10 @@ impl Searcher {
 
     /// Which occurrence is the match.
     pub fn match_kind(&self) -> &MatchKind
-        ensures { result.now ≡ self.now.kind }
+        ensures kind { result.now ≡ self.now.kind }
+        ensures patterns { IsSearcher self.now }
     {
+        let _ = self.patterns.len(); // (its contract says that no pattern is empty)
         self.patterns.match_kind()
     }
 

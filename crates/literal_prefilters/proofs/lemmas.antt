@@ -6,6 +6,7 @@ pub mod Offsets
 pub mod Ranks
 pub mod Rare
 pub mod RareSet
+pub mod Rarest
 pub mod Reach
 pub mod Sizes
 pub mod Sound

@@ -3,6 +3,7 @@ pub mod Choice
 pub mod Inside
 pub mod Kinds
 pub mod PrefilterBuilderValue
+pub mod Rarest
 pub mod Sound
 pub mod Table
 pub mod Tables

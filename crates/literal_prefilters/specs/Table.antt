@@ -1,5 +1,5 @@
 -- A table of bytes: for each of the 256 bytes its distance, if it has one.
-use Rattle.std.specs.Prelude.{ℕ, ◌+◌, ◌-◌, ◌≤◌, max, unwrap_or, Bool, List, Option, None, Some, IfSome, MatchOption}
+use Rattle.std.specs.Prelude.{◌≡◌, ℕ, ◌+◌, ◌-◌, ◌<◌, ◌≤◌, true, false, max, unwrap_or, Bool, List, Option, None, Some, IfSome, MatchOption}
 use Rattle.std.specs.Prelude.{is_some, option_map, position, fold, sum_by, count_by, slice_index, slice_index_or}
 use Rattle.std.specs.Prelude.{slice_range, if◌then◌else◌}
 use Rattle.std.specs.List.{enumerate_from}
@@ -40,6 +40,13 @@ reach_of table = fold (λ most o. max most (unwrap_or o 0)) 0 table
 abbrev pub first : List (Option ℕ) → List ℕ → Span → Option ℕ
 first table haystack span =
     option_map (λ k. span.start + k) (position (is_in table) (slice_range haystack span.start span.end))
+
+-- the place is the least of the span whose byte is in the table
+pub record IsFirst (table : List (Option ℕ)) (haystack : List ℕ) (span : Span) (place : ℕ) : Type 0 where
+  pub after_start : span.start ≤ place
+  pub before_end : place < span.end
+  pub here : is_in table (slice_index haystack place) ≡ true
+  pub none_before : (k : ℕ) → span.start ≤ k → k < place → is_in table (slice_index haystack k) ≡ false
 
 -- the greater of the start and the place less its byte's distance
 abbrev pub step_back : List (Option ℕ) → List ℕ → ℕ → ℕ → ℕ

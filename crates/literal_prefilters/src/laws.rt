@@ -1,5 +1,6 @@
-//! Laws of tables and prefilters. Each function does nothing, and its contract is the law.
-ghost use Rattle.std.specs.Prelude.{◌≡◌, ◌↔◌, ◌≤◌, ◌<◌, ℕ, Bool, List, Option, None, false, slice_index};
+//! Laws of tables and prefilters. Each is the contract of a function: of one that does nothing where
+//! the law is about definitions, and else of one that makes the call that the law is about.
+ghost use Rattle.std.specs.Prelude.{◌≡◌, ◌↔◌, ◌≤◌, ◌<◌, ◌++◌, ◌∷◌, [], ℕ, Bool, List, Option, None, Some, IfSome, false, true, slice_index, length};
 ghost use Rattle.std.specs.List.{All};
 ghost use Rattle.literal_base.specs.Query.{Query};
 ghost use Rattle.literal_base.specs.declared.search.Span.{Span};
@@ -7,8 +8,13 @@ ghost use Rattle.literal_base.specs.Occurs.{NoneIsEmpty, IsValidSpan};
 ghost use Rattle.literal_prefilters.specs.Answers.{candidate_of};
 ghost use Rattle.literal_base.specs.Bytes.{AreBytes};
 ghost use Rattle.literal_prefilters.specs.Sound.{Sound};
-ghost use Rattle.literal_prefilters.specs.Table.{Covers, is_in, step};
+ghost use Rattle.literal_prefilters.specs.Rarest.{IsRarest};
+ghost use Rattle.literal_prefilters.specs.Table.{Covers, IsFirst, first, is_in, reach_of, step};
+ghost use Rattle.literal_prefilters.specs.Tables.{if_small, is_rare_byte, is_start_byte, rarest, start_bytes, start_table, with_rarest};
 ghost use Rattle.literal_prefilters.specs.Variants.{StartsVariants, IsLargestOffset};
+
+use crate::prefilter::{Candidate, Prefilter};
+use literal_base::search::Span;
 
 /// What a table proposes passes over no occurrence of patterns that it covers: in every haystack and
 /// every valid span of it, and for both leftmost kinds.
@@ -42,3 +48,59 @@ pub fn distances_are_the_largest_offsets()
     ensures { (ignore_case : Bool) (patterns : List (List ℕ)) (byte : ℕ)
         → IsLargestOffset ignore_case patterns byte }
 {}
+
+/// The first place of a table in a span is the least one whose byte is in the table.
+pub fn first_is_the_least_place()
+    ensures { (table : List (Option ℕ)) (haystack : List ℕ) (span : Span) (place : ℕ)
+        → IsValidSpan haystack span
+        → (first table haystack span ≡ Some place) ↔ IsFirst table haystack span place }
+{}
+
+/// There is a start table only where the bytes with which the patterns begin are all at most 0x7F, and
+/// then where they are one to three.
+pub fn start_bytes_are_at_most_0x7f()
+    ensures none { (ignore_case : Bool) (patterns : List (List ℕ)) (byte : ℕ)
+        → 127 < byte → byte < 256 → is_start_byte ignore_case patterns byte ≡ true
+        → start_table ignore_case patterns ≡ None }
+    ensures otherwise { (ignore_case : Bool) (patterns : List (List ℕ))
+        → ((byte : ℕ) → 127 < byte → byte < 256 → is_start_byte ignore_case patterns byte ≡ false)
+        → start_table ignore_case patterns ≡ if_small (start_bytes ignore_case patterns) }
+{}
+
+/// A start table proposes the place of its byte: its reach is 0.
+pub fn start_tables_reach_nowhere()
+    ensures { (ignore_case : Bool) (patterns : List (List ℕ))
+        → IfSome (start_table ignore_case patterns) (λ table. reach_of table ≡ 0) }
+{}
+
+/// The byte that a pattern gives to the rare set stands in it, no byte of the pattern has a lower rank,
+/// and each one before it has a higher one.
+pub fn rarest_bytes_are_earliest_of_least_rank()
+    ensures { (pattern : List ℕ) → 0 < length pattern → IsRarest pattern (rarest pattern) }
+{}
+
+/// The rare set of no pattern is empty; with one pattern more it is what the pattern makes of the set
+/// before.
+pub fn rare_sets_come_pattern_by_pattern()
+    ensures none { (ignore_case : Bool) (byte : ℕ) → is_rare_byte ignore_case [] byte ≡ false }
+    ensures one_more { (ignore_case : Bool) (patterns : List (List ℕ)) (pattern : List ℕ) (byte : ℕ)
+        → is_rare_byte ignore_case (patterns ++ pattern ∷ []) byte
+        ≡ with_rarest ignore_case (is_rare_byte ignore_case patterns) pattern byte }
+{}
+
+/// A prefilter reads at most 254 bytes past a place that it proposes.
+pub fn prefilters_reach_254_bytes(pre: &Prefilter)
+    ensures { reach_of pre.now ≤ 254 }
+{
+    let _ = pre.find_in(&[], Span { start: 0, end: 0 });
+}
+
+/// A prefilter by single bytes answers nothing exactly if the span holds no byte of its table.
+pub fn none_without_a_byte(pre: &Prefilter, haystack: &[u8], span: Span) -> Candidate
+    requires { IsValidSpan haystack.now span }
+    ensures { (result ≡ Candidate.None)
+        ↔ ((place : ℕ) → span.start ≤ place → place < span.end → is_in pre.now (slice_index haystack.now place) ≡ false) }
+{
+    nothing_is_proposed_without_a_byte();
+    pre.find_in(haystack, span)
+}

@@ -71,6 +71,7 @@ impl Prefilter {
     pub fn find_in(&self, haystack: &[u8], span: Span) -> Candidate
         requires { IsValidSpan haystack.now span }
         ensures step { result ≡ candidate_of (step self.now haystack.now span) }
+        ensures near { reach_of self.now ≤ 254 }
         ensures sound { PassesOverNone (CoversAll self.now) haystack.now span result }
     {
         self.find_in_counted(haystack, span, &mut Tally::new())

@@ -13,7 +13,7 @@ use literal_prefilters::{Match, PatternID};
 use std::alloc::{AllocError, Global};
 
 /// Builds for two patterns in a chain of calls.
-#[tactic(auto, using(literal_packed::proofs::lemmas::Additions::added_two))]
+#[tactic(auto, using(literal_packed::proofs::lemmas::Callers::added_two))]
 pub fn built_of_two(alloc: Global, a: &[u8], b: &[u8]) -> Result<Option<Searcher>, AllocError>
     ensures { IfOk result (λ built. built ≡ searcher_of (builder_of default_config (a.now ∷ b.now ∷ []))) }
 {
@@ -21,7 +21,7 @@ pub fn built_of_two(alloc: Global, a: &[u8], b: &[u8]) -> Result<Option<Searcher
 }
 
 /// The same for a match kind.
-#[tactic(auto, using(literal_packed::proofs::lemmas::Additions::added_two))]
+#[tactic(auto, using(literal_packed::proofs::lemmas::Callers::added_two))]
 pub fn built_by_kind(
     alloc: Global,
     kind: MatchKind,
@@ -81,7 +81,7 @@ pub fn extend_and_add<'a, I: IntoIterator<Item = &'a [u8]>>(
 }
 
 /// The number of items of an iteration over all patterns.
-#[tactic(auto, using(crate::proofs::lemmas::InOrder::length_in_order))]
+#[tactic(auto, using(literal_packed::proofs::lemmas::Callers::length_in_order))]
 pub fn count_of(patterns: &Patterns) -> usize
     ensures { result ≡ length patterns.now.patterns }
 {

@@ -49,13 +49,6 @@ pub added_more : (config : ConfigValue) (a b : List (List ℕ))
     → with_added (builder_of config a) b ≡ builder_of config (a ++ b)
 added_more config a b = ap (λ s. record { config = config; state = s }) (state_after-state_of pattern_limit a b)
 
--- a builder with no pattern to which two are added in turn is the builder of both
-pub added_two : (config : ConfigValue) (a b : List ℕ) (mid new : BuilderValue)
-    → mid ≡ with_added (builder_of config []) (a ∷ [])
-    → new ≡ with_added mid (b ∷ []) → new ≡ builder_of config (a ∷ b ∷ [])
-added_two config a b mid new first second =
-    second ∙ (ap (λ m. with_added m (b ∷ [])) first ∙ added_more config (a ∷ []) (b ∷ []))
-
 -- one item more of an iterator
 pub added_all_more : (old now new : BuilderValue) (items : List (Bor (List ℕ))) (item : Bor (List ℕ))
     → AddsAll old items now

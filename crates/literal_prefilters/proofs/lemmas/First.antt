@@ -10,7 +10,7 @@ use Rattle.std.proofs.lemmas.List.Quantifiers.{position-Some}
 use Rattle.std.proofs.lemmas.List.Sums.{position_or_len_is, fails_before_first}
 use Rattle.literal_base.specs.declared.search.Span.{Span}
 use Rattle.literal_base.specs.Occurs.{IsValidSpan}
-use Rattle.literal_prefilters.specs.Table.{is_in, first, step, step_back}
+use Rattle.literal_prefilters.specs.Table.{IsFirst, is_in, first, step, step_back}
 
 pub position_is : (p : ℕ → Bool) (xs : List ℕ) (i : ℕ) → i < length xs → p (get_or xs i 0) ≡ true
     → ((k : ℕ) → k < i → p (get_or xs k 0) ≡ false) → position p xs ≡ Some i
@@ -33,13 +33,6 @@ position-None p xs e k below =
     (let s : position p xs ≡ Some (position_or_len p xs) = cond-true _ _ _ (lt-ltb _ _ inside) in cc))
     (λ (past : length xs ≤ position_or_len p xs). fails_before_first p xs k 0 (omega arith))
     (cases_lt (position_or_len p xs) (length xs))
-
--- the place is the first of the span whose byte is in the table
-pub record IsFirst (table : List (Option ℕ)) (haystack : List ℕ) (span : Span) (place : ℕ) : Type 0 where
-  pub after_start : span.start ≤ place
-  pub before_end : place < span.end
-  pub here : is_in table (slice_index haystack place) ≡ true
-  pub none_before : (k : ℕ) → span.start ≤ k → k < place → is_in table (slice_index haystack k) ≡ false
 
 -- no byte of the span is in the table
 pub record IsFree (table : List (Option ℕ)) (haystack : List ℕ) (start end : ℕ) : Type 0 where

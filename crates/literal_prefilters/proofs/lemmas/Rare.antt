@@ -1,9 +1,10 @@
 -- The set of rare bytes, one pattern more.
 -- For `rare_set`.
-use Rattle.std.proofs.Common.{◌≡◌, ℕ, ◌+◌, ◌<◌, ◌||◌, ◌&&◌, not, Bool, true, false, List, [], ◌∷◌, length, get_or, take}
+use Rattle.std.proofs.Common.{◌≡◌, ℕ, ◌+◌, ◌++◌, ◌<◌, ◌||◌, ◌&&◌, not, Bool, true, false, List, [], ◌∷◌, length, get_or}
+use Rattle.std.proofs.Common.{take}
 use Rattle.std.proofs.Common.{refl, sym, ap, ◌∙◌, eq-eqb, ⊎_elim, ◌≤◌, arith}
 use Rattle.std.specs.List.{list_any}
-use Rattle.std.proofs.lemmas.List.Sums.{fold_more}
+use Rattle.std.proofs.lemmas.List.Sums.{fold_more, fold_push}
 use Rattle.std.proofs.lemmas.List.Folds.{list_any_none}
 use Rattle.std.proofs.lemmas.Bool.{cases_lt}
 use Rattle.literal_base.specs.Occurs.{same_byte}
@@ -63,3 +64,8 @@ some_before c ps i f each p held =
     let none : list_any f p ≡ false = list_any_none f p
     (λ k d below. each (get_or p k d) ∙ ap (λ i. is_rare_byte c (take i ps) (get_or p k d)) zero) in cc))
     (cases_lt 0 i)
+
+-- the set after one pattern more
+pub is_rare_byte-push : (c : Bool) (ps : List (List ℕ)) (p : List ℕ) (b : ℕ)
+    → is_rare_byte c (ps ++ p ∷ []) b ≡ with_rarest c (is_rare_byte c ps) p b
+is_rare_byte-push c ps p b = ap (λ f. f b) (fold_push (with_rarest c) (λ (_ : ℕ). false) ps p)

@@ -2,7 +2,7 @@ use Rattle.std.proofs.Common.{false, List, sym, subst}
 use Rattle.std.proofs.lemmas.Result.{IfOk-weaker}
 use Rattle.literal_base.specs.MatchValue.{MatchValue}
 use Rattle.literal_base.specs.Greedy.{IsGreedy}
-use Rattle.literal_tests.proofs.lemmas.Taken.{greedy_from_run}
+use Rattle.literal_packed.proofs.lemmas.Callers.{greedy_from_run}
 use Rattle.literal_tests.proofs.uses.collected.Goals as goal
 
 pub returns : goal.returns

@@ -1,7 +1,7 @@
 use Rattle.std.proofs.Common.{ℕ, List, ◌∙◌}
 use Rattle.std.proofs.lemmas.Iterator.Consumers.{count_from_yields_List, YieldsList-from_first}
 use Rattle.literal_packed.specs.PatternsValue.{in_order}
-use Rattle.literal_tests.proofs.lemmas.InOrder.{length_in_order}
+use Rattle.literal_packed.proofs.lemmas.Callers.{length_in_order}
 use Rattle.literal_tests.proofs.uses.count_of.Goals as goal
 
 pub returns : goal.returns

@@ -1,4 +1,4 @@
-use Rattle.literal_tests.proofs.lemmas.Taken.{greedy_from_run}
+use Rattle.literal_packed.proofs.lemmas.Callers.{greedy_from_run}
 use Rattle.literal_tests.proofs.uses.count_of_matches.Goals as goal
 
 pub returns : goal.returns

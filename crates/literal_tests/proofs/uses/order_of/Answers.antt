@@ -1,6 +1,6 @@
 use Rattle.std.proofs.Common.{◌≡◌, ◌++◌, ℕ, List, map, append-nil, sym, ap, ◌∙◌}
 use Rattle.literal_packed.specs.PatternsValue.{in_order}
-use Rattle.literal_tests.proofs.lemmas.InOrder.{map_in_order}
+use Rattle.literal_packed.proofs.lemmas.Callers.{map_in_order}
 use Rattle.literal_tests.proofs.uses.order_of.Goals as goal
 
 pub returns : goal.returns

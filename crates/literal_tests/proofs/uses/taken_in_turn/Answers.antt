@@ -1,7 +1,7 @@
 use Rattle.std.proofs.Common.{false, List, sym, subst}
 use Rattle.literal_base.specs.MatchValue.{MatchValue}
 use Rattle.literal_base.specs.Greedy.{IsGreedy}
-use Rattle.literal_tests.proofs.lemmas.Taken.{greedy_from_run}
+use Rattle.literal_packed.proofs.lemmas.Callers.{greedy_from_run}
 use Rattle.literal_tests.proofs.uses.taken_in_turn.Goals as goal
 
 pub returns : goal.returns
