@@ -40,14 +40,12 @@ const OF_NONE: Counts = (0, usize::MAX, 0, true);
 fn counts_patterns(rt: HostRuntime) -> Result<(), Fail> {
     let mut patterns = Patterns::new(rt.alloc());
     assert_eq!(rt; counts(&patterns), OF_NONE);
-    for (bytes, wanted) in [
-        (b"abc".as_slice(), (1, 3, 3, false)),
-        (b"a", (2, 1, 4, false)),
-        (b"ab", (3, 1, 6, false)),
-    ] {
-        patterns.add(bytes)?;
-        assert_eq!(rt; counts(&patterns), wanted, "with {bytes:?}");
-    }
+    patterns.add(b"abc")?;
+    assert_eq!(rt; counts(&patterns), (1, 3, 3, false), "with abc");
+    patterns.add(b"a")?;
+    assert_eq!(rt; counts(&patterns), (2, 1, 4, false), "with a");
+    patterns.add(b"ab")?;
+    assert_eq!(rt; counts(&patterns), (3, 1, 6, false), "with ab");
     Ok(())
 }
 
