@@ -7,9 +7,10 @@ use std::alloc::Global;
 use std::process::Abort;
 use std::test::Fail;
 
-/// What a case shows, its patterns, whether case is ignored, a haystack, the start of a span that goes
+/// What a case shows, the kind that is built, its patterns, whether case is ignored, a haystack, the start of a span that goes
 /// to the haystack's end, and the place that is proposed.
 type Row = (
+    &'static str,
     &'static str,
     &'static [&'static [u8]],
     bool,
@@ -18,9 +19,10 @@ type Row = (
     Option<usize>,
 );
 
-static ROWS: [Row; 18] = [
+static ROWS: [Row; 19] = [
     (
         "back from the rare byte",
+        "Prefilter(RareBytesOne)",
         &[b"Sherlock", b"lockjaw"],
         false,
         b"I am lockjaw",
@@ -29,6 +31,7 @@ static ROWS: [Row; 18] = [
     ),
     (
         "back to the start of the span",
+        "Prefilter(RareBytesOne)",
         &[b"Sherlock", b"lockjaw"],
         false,
         b"I am lockjaw",
@@ -37,6 +40,7 @@ static ROWS: [Row; 18] = [
     ),
     (
         "past the rare byte",
+        "Prefilter(RareBytesOne)",
         &[b"Sherlock", b"lockjaw"],
         false,
         b"I am lockjaw",
@@ -45,6 +49,7 @@ static ROWS: [Row; 18] = [
     ),
     (
         "back to the start of the haystack",
+        "Prefilter(RareBytesTwo)",
         &[b"Sherlock", b"lockjaw"],
         true,
         b"ShLOCKJAW",
@@ -53,6 +58,7 @@ static ROWS: [Row; 18] = [
     ),
     (
         "two rare bytes, at the second",
+        "Prefilter(RareBytesTwo)",
         &[b"lockjaw", b"Sherlock"],
         false,
         b"I am lockjaw",
@@ -61,6 +67,7 @@ static ROWS: [Row; 18] = [
     ),
     (
         "two rare bytes, at the first",
+        "Prefilter(RareBytesTwo)",
         &[b"lockjaw", b"Sherlock"],
         false,
         b"I am a jaw",
@@ -69,6 +76,7 @@ static ROWS: [Row; 18] = [
     ),
     (
         "a start byte of the second",
+        "Prefilter(StartBytesTwo)",
         &[b"foo", b"bar"],
         false,
         b"xxbafoo",
@@ -77,16 +85,34 @@ static ROWS: [Row; 18] = [
     ),
     (
         "one start byte",
+        "Prefilter(StartBytesOne)",
         &[b"foo", b"fab"],
         false,
         b"xxbafoo",
         0,
         Some(4),
     ),
-    ("the other case", &[b"foo"], true, b"xxFOO", 0, Some(2)),
-    ("no byte", &[b"foo"], true, b"", 0, None),
+    (
+        "the other case",
+        "Prefilter(StartBytesTwo)",
+        &[b"foo"],
+        true,
+        b"xxFOO",
+        0,
+        Some(2),
+    ),
+    (
+        "no byte",
+        "Prefilter(StartBytesTwo)",
+        &[b"foo"],
+        true,
+        b"",
+        0,
+        None,
+    ),
     (
         "three rare bytes",
+        "Prefilter(RareBytesThree)",
         &[b"ax", b"by", b"cz"],
         false,
         b"qqby",
@@ -95,6 +121,7 @@ static ROWS: [Row; 18] = [
     ),
     (
         "three words",
+        "Prefilter(RareBytesOne)",
         &[b"apple", b"maple", b"Snapple"],
         false,
         b"in an apple",
@@ -103,15 +130,25 @@ static ROWS: [Row; 18] = [
     ),
     (
         "past the last rare byte of three words",
+        "Prefilter(RareBytesOne)",
         &[b"apple", b"maple", b"Snapple"],
         false,
         b"in an apple",
         9,
         None,
     ),
-    ("one byte twice", &[b"aa"], false, b"baa", 0, Some(1)),
+    (
+        "one byte twice",
+        "Prefilter(StartBytesOne)",
+        &[b"aa"],
+        false,
+        b"baa",
+        0,
+        Some(1),
+    ),
     (
         "a word in the other case",
+        "Prefilter(RareBytesTwo)",
         &[b"sherlock"],
         true,
         b"xxSHERLOCK",
@@ -120,6 +157,7 @@ static ROWS: [Row; 18] = [
     ),
     (
         "what comes after the letters",
+        "Prefilter(StartBytesOne)",
         &[b"["],
         true,
         b"`{@[",
@@ -128,13 +166,31 @@ static ROWS: [Row; 18] = [
     ),
     (
         "what comes before the letters",
+        "Prefilter(StartBytesOne)",
         &[b"@"],
         true,
         b"`{@[",
         0,
         Some(2),
     ),
-    ("no character", &[b"\xC0"], true, b"\xE0\xC0", 0, Some(1)),
+    (
+        "three start bytes",
+        "Prefilter(StartBytesThree)",
+        &[b"a", b"b", b"c"],
+        false,
+        b"zzb",
+        0,
+        Some(2),
+    ),
+    (
+        "no character",
+        "Prefilter(RareBytesOne)",
+        &[b"\xC0"],
+        true,
+        b"\xE0\xC0",
+        0,
+        Some(1),
+    ),
 ];
 
 fn builder(
@@ -191,12 +247,16 @@ const KINDS: [MatchKind; 3] = [
 
 #[test]
 fn proposes_places(rt: HostRuntime) -> Result<(), Fail> {
-    for (case, patterns, ignore_case, haystack, start, wanted) in ROWS {
+    for (case, built, patterns, ignore_case, haystack, start, wanted) in ROWS {
         for kind in KINDS {
             let builder = builder(rt.alloc(), kind, ignore_case, patterns)?;
             let pre = builder.build()?.ok_or("there is no prefilter")?;
             assert_proposes(&rt, &pre, haystack, start, wanted, case);
-            assert!(rt; format!(in rt.alloc(); "{pre:?}")?.len() > 0, "{case}");
+            assert_eq!(rt;
+                format!(in rt.alloc(); "{pre:?}")?.as_str(),
+                built,
+                "{case}"
+            );
         }
     }
     Ok(())
@@ -204,14 +264,16 @@ fn proposes_places(rt: HostRuntime) -> Result<(), Fail> {
 
 #[test]
 fn goes_back_254_bytes_at_most(rt: HostRuntime) -> Result<(), Fail> {
-    let mut long = [b'e'; 256];
-    long[0] = 0xC0;
-    long[254] = b'Q';
-    long[255] = b'Q';
-    let of_255: &[u8] = &long[..255];
+    let mut of_255 = [b'e'; 255];
+    of_255[0] = 0xC0;
+    of_255[254] = b'Q';
+    let of_255: &[u8] = &of_255;
     let pre = prefilter(rt.alloc(), &[of_255, b"\xC0Q"])?.ok_or("there is no prefilter")?;
     assert_proposes(&rt, &pre, of_255, 0, Some(0), "255 bytes");
-    let of_256: &[u8] = &long;
+    let mut of_256 = [b'e'; 256];
+    of_256[0] = 0xC0;
+    of_256[255] = b'Q';
+    let of_256: &[u8] = &of_256;
     assert!(rt;
         prefilter(rt.alloc(), &[of_256, b"\xC0Q"])?.is_none(),
         "256 bytes"
