@@ -308,7 +308,7 @@ BODIES = {
         for _ in 0..BUCKETS { buckets.push(Vec::new(alloc))?; }
         Ok(buckets)""",
     (RABIN_KARP, "impl Rolling", "new"): """
-        let power = if window <= 64 { 1 << (window - 1) } else { 0 };
+        let power = if window <= usize::BITS as usize { 1 << (window - 1) } else { 0 };
         Rolling { window, value: 0, power, }""",
     (RABIN_KARP, "impl Rolling", "push"): """
         tally.tick_hashed();

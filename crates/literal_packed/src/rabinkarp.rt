@@ -51,7 +51,7 @@ impl Rolling {
         ensures { result ≡ record { window = window; sum = 0 } }
     {
         // Past 64 bytes the first byte's weight is a multiple of 2 to the power of 64.
-        let power = if window <= 64 { 1 << (window - 1) } else { 0 };
+        let power = if window <= usize::BITS as usize { 1 << (window - 1) } else { 0 };
         Rolling {
             window,
             value: 0,
