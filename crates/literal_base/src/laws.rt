@@ -1,18 +1,27 @@
 //! Laws of the definitions that contracts cite. Each function does nothing, and its contract is the
 //! law.
-ghost use Rattle.std.specs.Prelude.{◌≡◌, ◌+◌, ◌-◌, ◌<◌, ◌≤◌, ◌↔◌, [], ◌∷◌, ◌++◌, List, ℕ, Bool, Option, IsTrue, length};
+ghost use Rattle.std.specs.Prelude.{◌≡◌, ◌+◌, ◌-◌, ◌<◌, ◌≤◌, ◌↔◌, ◌⊎◌, [], ◌∷◌, ◌++◌, List, ℕ, Bool, Option, IsTrue, length, slice_index};
 ghost use Rattle.std.specs.List.{All, Contains};
-ghost use Rattle.literal_base.specs.Bytes.{no_bytes, opposite_case};
-ghost use Rattle.literal_base.specs.Classes.{AreRuns, NonePart, class_of, marks_of, with_range_marked};
+ghost use Rattle.std.specs.Char.{to_ascii_lowercase};
+ghost use Rattle.std.specs.Hash.{u32, usize};
+ghost use Rattle.literal_base.specs.Bytes.{by_byte, contains, no_bytes, opposite_case};
+ghost use Rattle.literal_base.specs.Classes.{AreRuns, NonePart, alphabet_len_of, class_of, marks_of, with_range_marked};
+ghost use Rattle.literal_base.specs.declared.packed.MatchKind.{MatchKind as PackedMatchKind};
 ghost use Rattle.literal_base.specs.declared.packed.MatchKind.TheVariants.{LeftmostFirst, LeftmostLongest};
+ghost use Rattle.literal_base.specs.declared.search.Anchored.{Anchored};
+ghost use Rattle.literal_base.specs.declared.search.MatchKind.{MatchKind};
 ghost use Rattle.literal_base.specs.declared.search.Span.{Span};
+ghost use Rattle.literal_base.specs.declared.search.StartKind.{StartKind};
+ghost use Rattle.literal_ids.specs.Iteration.{GivesEachThenNone};
 ghost use Rattle.literal_base.specs.MatchValue.{MatchValue};
 ghost use Rattle.literal_base.specs.Leftmost.{IsLeftmost, IsLeftmostMatch};
 ghost use Rattle.literal_base.specs.Occurs.{NoneIsEmpty, Occurs, pattern_at};
 ghost use Rattle.literal_base.specs.Greedy.{IsGreedy};
 ghost use Rattle.literal_base.specs.Query.{Query};
 
-use crate::search::{Match, Span};
+use crate::alphabet::{ByteClassElementRanges, ByteClassElements, ByteClassIter, ByteSet};
+use crate::packed;
+use crate::search::{self, Anchored, Match, Span, StartKind};
 use std::hash::Hash;
 
 /// Every search has a leftmost answer.
@@ -105,4 +114,54 @@ pub fn runs_are_maximal()
 /// The other case of the other case is the byte itself.
 pub fn opposite_case_is_its_own_inverse()
     ensures { (b : ℕ) → opposite_case (opposite_case b) ≡ b }
+{}
+
+/// The list with a value for each byte has that value at each byte, and no more values.
+pub fn by_byte_gives_each_value()
+    ensures number { (f : ℕ → ℕ) (b : ℕ) → b < 256 → slice_index (by_byte f) b ≡ f b }
+    ensures truth { (f : ℕ → Bool) (b : ℕ) → b < 256 → contains (by_byte f) b ≡ f b }
+    ensures numbers { (f : ℕ → ℕ) → length (by_byte f) ≡ 256 }
+    ensures truths { (f : ℕ → Bool) → length (by_byte f) ≡ 256 }
+{}
+
+/// The class of each byte is below the length of the alphabet, where the classes come from marks.
+pub fn classes_are_below_the_alphabet_len()
+    ensures { (marked : List Bool) (b : ℕ) → b < 256
+        → slice_index (by_byte (class_of marked)) b < alphabet_len_of (by_byte (class_of marked)) }
+{}
+
+/// Every iteration over classes, bytes or runs gives each of what is left in turn, then nothing for
+/// ever.
+pub fn iterations_end()
+    ensures classes { GivesEachThenNone (λ class. class) ⟦<ByteClassIter<'static> as Iterator>⟧.next_gives }
+    ensures elements { GivesEachThenNone (λ byte. byte) ⟦<ByteClassElements<'static> as Iterator>⟧.next_gives }
+    ensures runs { GivesEachThenNone (λ run. run) ⟦<ByteClassElementRanges<'static> as Iterator>⟧.next_gives }
+{}
+
+/// Two bytes are the same up to case exactly if they are equal or one is the other case of the other.
+pub fn cases_make_the_same_pairs()
+    ensures { (a b : ℕ) → a < 256 → b < 256
+        → (to_ascii_lowercase a ≡ to_ascii_lowercase b) ↔ ((a ≡ b) ⊎ (opposite_case a ≡ b)) }
+{}
+
+/// Spans, matches and sets of bytes are equal exactly if contracts see the same of them.
+pub fn values_are_compared_by_all_their_parts()
+    ensures span { (a b : Span) → IsTrue (⟦<Span as PartialEq>⟧.eq a b) ↔ (a ≡ b) }
+    ensures found { (a b : MatchValue) → IsTrue (⟦<Match as PartialEq>⟧.eq a b) ↔ (a ≡ b) }
+    ensures set { (a b : List Bool) → IsTrue (⟦<ByteSet as PartialEq>⟧.eq a b) ↔ (a ≡ b) }
+{}
+
+/// Kinds are equal exactly if they are the same variant.
+pub fn kinds_are_compared_by_variant()
+    ensures anchored { (a b : Anchored) → IsTrue (⟦<Anchored as PartialEq>⟧.eq a b) ↔ (a ≡ b) }
+    ensures matches { (a b : MatchKind) → IsTrue (⟦<search::MatchKind as PartialEq>⟧.eq a b) ↔ (a ≡ b) }
+    ensures starts { (a b : StartKind) → IsTrue (⟦<StartKind as PartialEq>⟧.eq a b) ↔ (a ≡ b) }
+    ensures packed { (a b : PackedMatchKind) → IsTrue (⟦<packed::MatchKind as PartialEq>⟧.eq a b) ↔ (a ≡ b) }
+{}
+
+/// Spans and matches write all their parts to a hasher, one after another, and nothing else.
+pub fn values_hash_all_their_parts()
+    ensures span { (span : Span) → ⟦<Span as Hash>⟧.hash_input span ≡ usize span.start ++ usize span.end }
+    ensures found { (found : MatchValue)
+        → ⟦<Match as Hash>⟧.hash_input found ≡ u32 found.pattern ++ usize found.start ++ usize found.end }
 {}

@@ -175,6 +175,7 @@ impl<'h> Input<'h> {
     pub fn start(&self) -> usize
         ensures start { result ≡ self.now.start }
         ensures bounds { AreBounds self.now.haystack self.now.start self.now.end }
+        ensures room { self.now.end + 1 < 2 ^ 64 }
     {
         self.get_span().start
     }
@@ -183,6 +184,7 @@ impl<'h> Input<'h> {
     pub fn end(&self) -> usize
         ensures end { result ≡ self.now.end }
         ensures bounds { AreBounds self.now.haystack self.now.start self.now.end }
+        ensures room { self.now.end + 1 < 2 ^ 64 }
     {
         self.get_span().end
     }
@@ -191,7 +193,9 @@ impl<'h> Input<'h> {
     pub fn get_span(&self) -> Span
         ensures span { result ≡ record { start = self.now.start; end = self.now.end } }
         ensures bounds { AreBounds self.now.haystack self.now.start self.now.end }
+        ensures room { self.now.end + 1 < 2 ^ 64 }
     {
+        prove!(self.bounds.end <= self.haystack.len());
         self.bounds
     }
 
@@ -199,6 +203,7 @@ impl<'h> Input<'h> {
     pub fn get_range(&self) -> Range<usize>
         ensures range { result ≡ record { start = self.now.start; end = self.now.end } }
         ensures bounds { AreBounds self.now.haystack self.now.start self.now.end }
+        ensures room { self.now.end + 1 < 2 ^ 64 }
     {
         self.get_span().range()
     }

@@ -1,5 +1,5 @@
 //! Callers of inputs that rely on contracts alone.
-ghost use Rattle.std.specs.Prelude.{◌≡◌, ◌+◌, ◌≤◌, ◌↔◌, IfSome, IsSome, slice_range};
+ghost use Rattle.std.specs.Prelude.{◌≡◌, ◌+◌, ◌≤◌, ◌<◌, ◌↔◌, IfSome, IsSome, IsTrue, slice_range};
 
 use literal_prefilters::Input;
 
@@ -26,6 +26,19 @@ pub fn from_next_byte<'h>(input: &Input<'h>) -> Option<Input<'h>>
     Some(next)
 }
 
+/// Moves the start of the search one byte on, unless the search is done, and tells whether it did.
+pub fn step_on(input: &mut Input<'_>) -> bool
+    ensures stepped { IsTrue result ↔ (input.old.start ≤ input.old.end) }
+    ensures next { input.old.start ≤ input.old.end → input.new ≡ record input.old { start = input.old.start + 1 } }
+    ensures done { input.old.end < input.old.start → input.new ≡ input.old }
+{
+    if input.is_done() {
+        return false;
+    }
+    input.set_start(input.start() + 1);
+    true
+}
+
 #[cfg(test)]
 mod tests {
     use super::*;
@@ -43,5 +56,15 @@ mod tests {
         assert!(rt; bytes_to_search(&done).is_empty() && done.is_done());
         assert!(rt; from_next_byte(&done).is_none());
         Ok(())
+    }
+
+    #[test]
+    fn steps_on_in_place(rt: HostRuntime) {
+        let mut input = Input::new(b"ab");
+        assert_eq!(rt; [step_on(&mut input), step_on(&mut input)], [true, true]);
+        assert_eq!(rt; input.start(), 2);
+        assert!(rt; step_on(&mut input) && input.is_done());
+        assert!(rt; !step_on(&mut input));
+        assert_eq!(rt; (input.start(), input.end()), (3, 2));
     }
 }

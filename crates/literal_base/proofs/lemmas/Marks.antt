@@ -1,14 +1,16 @@
 -- The marks of ranges of bytes.
 -- For `ByteClassSet::set_range` and the laws on marks.
 use Rattle.std.proofs.Common.{◌≡◌, ◌==◌, ℕ, ◌+◌, ◌-◌, ◌<◌, ◌≤◌, ◌||◌, ◌↔◌, Bool, true, false, List, [], ◌∷◌, ◌++◌}
-use Rattle.std.proofs.Common.{length, get_or, sym, refl, ap, ⊎_elim, ◌∙◌, arith}
+use Rattle.std.proofs.Common.{length, get_or, slice_index, take, zero, suc, cond, sym, refl, ap, subst, ⊎_elim, ◌∙◌, arith}
 use Rattle.std.proofs.lemmas.Bool.{eq-eqb, ne_eqb, cases_eq, cases_Bool, both_ways}
 use Rattle.std.proofs.lemmas.Bool.Decides.{nat_tests}
 use Rattle.std.specs.List.{All, list_any}
 use Rattle.std.proofs.lemmas.List.Folds.{list_any-append, list_any_at, list_any_none}
-use Rattle.std.proofs.lemmas.List.Sums.{count_by_more_no, count_by_more_yes}
-use Rattle.literal_base.specs.Bytes.{contains}
-use Rattle.literal_base.specs.Classes.{holds, is_marked_by, with_range_marked, marks_of, class_of, NonePart}
+use Rattle.std.proofs.lemmas.List.Sums.{count_by_more_no, count_by_more_yes, sum_by-take-le}
+use Rattle.std.specs.Prelude.{count_by}
+use Rattle.literal_base.specs.Bytes.{by_byte, contains}
+use Rattle.literal_base.specs.Classes.{holds, is_marked_by, with_range_marked, marks_of, class_of, alphabet_len_of}
+use Rattle.literal_base.specs.Classes.{NonePart}
 use Rattle.literal_base.proofs.lemmas.ByByte.{by_byte_is, by_byte_agree, get_or-by_byte, length-by_byte}
 
 or_exchanged : (a b c : Bool) → ((a || b) || c) ≡ (a || (c || b))
@@ -97,4 +99,27 @@ share_a_class ranges b ordered below =
     (omega arith) in (
       λ same. none_marks ranges b ordered (sym is ∙ told.0 same),
       λ none. told.1 (is ∙ none_part ranges b ordered none),
+    )
+
+take_of_take : (b c : ℕ) (marked : List Bool) → b ≤ c → take b (take c marked) ≡ take b marked
+take_of_take zero c marked ordered = refl
+take_of_take (suc b) zero marked ordered = absurd (omega arith)
+take_of_take (suc b) (suc c) [] ordered = refl
+take_of_take (suc b) (suc c) (m ∷ more) ordered = ap (λ ms. m ∷ ms) (take_of_take b c more (omega arith))
+
+-- a later byte has no smaller class
+class_of-le : (marked : List Bool) (b c : ℕ) → b ≤ c → class_of marked b ≤ class_of marked c
+class_of-le marked b c ordered =
+    subst (λ ms. count_by (λ m. m) ms ≤ class_of marked c) (take_of_take b c marked ordered)
+    (sum_by-take-le (λ m. cond m 1 0) (take c marked) b)
+
+-- byte 255 has the greatest class
+pub class_below_len : (marked : List Bool) (b : ℕ) → b < 256
+    → slice_index (by_byte (class_of marked)) b < alphabet_len_of (by_byte (class_of marked))
+class_below_len marked b below =
+    omega (
+      arith,
+      get_or-by_byte (class_of marked) b 0 below,
+      get_or-by_byte (class_of marked) 255 0 (omega arith),
+      class_of-le marked b 255 (omega arith),
     )
