@@ -1,9 +1,11 @@
 //! Sets of bytes, and classes of bytes.
-ghost use Rattle.std.specs.Prelude.{◌≡◌, ◌==◌, ◌||◌, ◌+◌, ◌^◌, ◌≤◌, ◌↔◌, ℕ, true, false, IsTrue, length, slice_index, slice_set};
+ghost use Rattle.std.specs.Prelude.{◌≡◌, ◌==◌, ◌||◌, ◌+◌, ◌^◌, ◌≤◌, ◌↔◌, ℕ, true, false, IsTrue, length, slice_index};
+ghost use Rattle.std.specs.Prelude.{slice_set};
 ghost use Rattle.std.specs.Iterator.{YieldsFirst, item_count};
 ghost use Rattle.std.specs.List.{range_with_len};
 ghost use Rattle.literal_base.specs.Bytes.{by_byte, contains, no_bytes, opposite_case};
-ghost use Rattle.literal_base.specs.Classes.{with_range_marked, class_of, alphabet_len_of, IsStride2, elements_of, AreRuns};
+ghost use Rattle.literal_base.specs.Classes.{with_range_marked, class_of, alphabet_len_of, IsStride2, elements_of};
+ghost use Rattle.literal_base.specs.Classes.{AreRuns};
 
 use std::marker::Model;
 

@@ -68,7 +68,8 @@ impl Tally {
 
     // One proof by hand serves all ticks. The numbers stand in the order of the counts.
     fn plus(&self, hashed: u64, entries: u64, compared: u64, scanned: u64, tried: u64) -> Tally
-        ensures { result ≡ plus self.now (record { hashed = hashed; entries = entries; compared = compared; scanned = scanned; tried = tried }) }
+        ensures { result ≡ plus self.now
+            (record { hashed = hashed; entries = entries; compared = compared; scanned = scanned; tried = tried }) }
     {
         Self {}
     }

@@ -1,6 +1,7 @@
 //! Laws of the definitions that contracts cite. Each function does nothing, and its contract is the
 //! law.
-ghost use Rattle.std.specs.Prelude.{◌≡◌, ◌+◌, ◌-◌, ◌<◌, ◌≤◌, ◌↔◌, ◌⊎◌, [], ◌∷◌, ◌++◌, List, ℕ, Bool, Option, IsTrue, length, slice_index};
+ghost use Rattle.std.specs.Prelude.{◌≡◌, ◌+◌, ◌-◌, ◌<◌, ◌≤◌, ◌↔◌, ◌⊎◌, [], ◌∷◌, ◌++◌, List, ℕ, Bool, Option, IsTrue};
+ghost use Rattle.std.specs.Prelude.{length, slice_index};
 ghost use Rattle.std.specs.List.{All, Contains};
 ghost use Rattle.std.specs.Char.{to_ascii_lowercase};
 ghost use Rattle.std.specs.Hash.{u32, usize};
@@ -76,12 +77,14 @@ pub fn first_answers_the_first_added()
 
 /// Equal spans hash alike: they make the same writes to every hasher.
 pub fn equal_spans_hash_alike()
-    ensures { (a b : Span) → IsTrue (⟦<Span as PartialEq>⟧.eq a b) → ⟦<Span as Hash>⟧.hash_input a ≡ ⟦<Span as Hash>⟧.hash_input b }
+    ensures { (a b : Span) → IsTrue (⟦<Span as PartialEq>⟧.eq a b)
+        → ⟦<Span as Hash>⟧.hash_input a ≡ ⟦<Span as Hash>⟧.hash_input b }
 {}
 
 /// Equal matches hash alike: they make the same writes to every hasher.
 pub fn equal_matches_hash_alike()
-    ensures { (a b : MatchValue) → IsTrue (⟦<Match as PartialEq>⟧.eq a b) → ⟦<Match as Hash>⟧.hash_input a ≡ ⟦<Match as Hash>⟧.hash_input b }
+    ensures { (a b : MatchValue) → IsTrue (⟦<Match as PartialEq>⟧.eq a b)
+        → ⟦<Match as Hash>⟧.hash_input a ≡ ⟦<Match as Hash>⟧.hash_input b }
 {}
 
 /// Neighbouring bytes are of one class exactly if no range that was marked holds just one of them.

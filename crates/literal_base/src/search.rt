@@ -1,6 +1,7 @@
 //! Spans of a haystack, matches in it, and what a search is asked for. All offsets are in bytes, from
 //! the beginning of the whole haystack.
-ghost use Rattle.std.specs.Prelude.{◌≡◌, ◌≤◌, ◌<◌, ◌+◌, ◌-◌, ◌^◌, ◌++◌, ◌↔◌, ◌⊎◌, IsTrue, IsCharBoundary, ⊤, Some, codes, false, length, slice_range};
+ghost use Rattle.std.specs.Prelude.{◌≡◌, ◌≤◌, ◌<◌, ◌+◌, ◌-◌, ◌^◌, ◌++◌, ◌↔◌, ◌⊎◌, IsTrue, IsCharBoundary, ⊤, Some};
+ghost use Rattle.std.specs.Prelude.{codes, false, length, slice_range};
 ghost use Rattle.std.specs.Borrow.{u8};
 ghost use Rattle.std.specs.Fmt.{decimal};
 ghost use Rattle.std.specs.Ptr.{as_mut_ptr, ptr_add};
@@ -31,7 +32,13 @@ impl<'h> Model for Input<'h> {
 
     ghost Value = { InputValue };
 
-    ghost view = { λ i. record { haystack = i.haystack.now; start = i.bounds.start; end = i.bounds.end; anchored = i.anchored; earliest = i.earliest } };
+    ghost view = { λ i. record {
+      haystack = i.haystack.now;
+      start = i.bounds.start;
+      end = i.bounds.end;
+      anchored = i.anchored;
+      earliest = i.earliest;
+    } };
 
     ghost invariant = { λ i. AreBounds i.haystack.now i.bounds.start i.bounds.end };
 }
@@ -41,7 +48,13 @@ impl<'h> Input<'h> {
 
     /// A search of the whole haystack that is neither anchored nor to end early.
     pub fn new(haystack: &'h [u8]) -> Input<'h>
-        ensures { result ≡ record { haystack = haystack.now; start = 0; end = length haystack.now; anchored = Anchored.No; earliest = false } }
+        ensures { result ≡ record {
+          haystack = haystack.now;
+          start = 0;
+          end = length haystack.now;
+          anchored = Anchored.No;
+          earliest = false;
+        } }
     {
         Input {
             haystack,

@@ -67,6 +67,8 @@ pub fn iterations_end<T: 'static>()
     ensures small_index { GivesEachThenNone (λ index. index) ⟦<SmallIndexIter as Iterator>⟧.next_gives }
     ensures pattern_id { GivesEachThenNone (λ id. id) ⟦<PatternIDIter as Iterator>⟧.next_gives }
     ensures state_id { GivesEachThenNone (λ id. id) ⟦<StateIDIter as Iterator>⟧.next_gives }
-    ensures with_pattern_ids { GivesEachThenNone (λ pair. (pair.0, pair.1.now)) ⟦<WithPatternIDIter<'static, T> as Iterator>⟧.next_gives }
-    ensures with_state_ids { GivesEachThenNone (λ pair. (pair.0, pair.1.now)) ⟦<WithStateIDIter<'static, T> as Iterator>⟧.next_gives }
+    ensures with_pattern_ids { GivesEachThenNone (λ pair. (pair.0, pair.1.now))
+        ⟦<WithPatternIDIter<'static, T> as Iterator>⟧.next_gives }
+    ensures with_state_ids { GivesEachThenNone (λ pair. (pair.0, pair.1.now))
+        ⟦<WithStateIDIter<'static, T> as Iterator>⟧.next_gives }
 {}

@@ -1,18 +1,21 @@
 //! The configuration, the builder, and the searcher.
-ghost use Rattle.std.specs.Prelude.{◌≡◌, ◌<◌, ◌⊎◌, ◌∷◌, [], length, Ok, Err, false, IsOk, IfOk, OnOk, OnErr, IfSome, MatchResult};
+ghost use Rattle.std.specs.Prelude.{◌≡◌, ◌<◌, ◌⊎◌, ◌∷◌, [], length, Ok, Err, false, IsOk, IfOk, OnOk, OnErr, IfSome};
+ghost use Rattle.std.specs.Prelude.{MatchResult};
 ghost use Rattle.std.specs.Borrow.{sem};
 ghost use Rattle.literal_base.specs.Occurs.{IsValidSpan, whole_of};
 ghost use Rattle.literal_base.specs.Leftmost.{IsLeftmost};
 ghost use Rattle.literal_base.specs.Greedy.{IsGreedy};
 ghost use Rattle.literal_base.specs.Counts.{none_yet};
 ghost use Rattle.literal_packed.specs.PatternsValue.{minimum_len_of};
-ghost use Rattle.literal_packed.specs.BuilderValue.{IsSearcher, BuildsItems, IsBuildable, builder_of, pattern_limit, searcher_of, with_added};
+ghost use Rattle.literal_packed.specs.BuilderValue.{IsSearcher, BuildsItems, IsBuildable, builder_of, pattern_limit};
+ghost use Rattle.literal_packed.specs.BuilderValue.{searcher_of, with_added};
 ghost use Rattle.literal_packed.specs.ConfigValue.{default_config};
 ghost use Rattle.literal_packed.specs.State.{IsState, WouldKeep, kept_of};
 ghost use Rattle.literal_packed.specs.Pairs.{counts_after};
 ghost use Rattle.literal_packed.specs.FindIterValue.{FindsNext, bytes_left};
 ghost use Rattle.literal_packed.specs.Spending.{SpendsWithin, counts_after_all};
-ghost use Rattle.literal_packed.specs.Lending.{CanBeTaken, RestsAtErr, LentRestsAtErr, HoldsTaken, HoldsAll, RefusedItems};
+ghost use Rattle.literal_packed.specs.Lending.{CanBeTaken, RestsAtErr, LentRestsAtErr, HoldsTaken, HoldsAll};
+ghost use Rattle.literal_packed.specs.Lending.{RefusedItems};
 
 use crate::pattern::Patterns;
 use crate::rabinkarp::RabinKarp;
@@ -190,7 +193,8 @@ impl Builder {
     ) -> Result<&mut Builder, AllocError>
         requires { CanBeTaken I.into_iter_gives I.IntoIter.can_next I.IntoIter.remaining patterns }
         // After an error the builder has the patterns before the refused one, which it would keep.
-        ensures* taken { sem 𝓛 (RestsAtErr (HoldsTaken I.into_iter_gives I.IntoIter.next_gives patterns self.old) self.entry result) }
+        ensures* taken { sem 𝓛 (RestsAtErr (HoldsTaken I.into_iter_gives I.IntoIter.next_gives patterns self.old)
+            self.entry result) }
         ensures same { IfOk result (λ b. b.ghost_name ≡ self.entry.ghost_name) }
         ensures ok { IfOk result (λ b. HoldsAll I.into_iter_gives I.IntoIter.next_gives patterns self.old b.now) }
     {
@@ -203,9 +207,11 @@ impl Builder {
         patterns: I,
     ) -> Result<Lent<'_>, AllocError>
         requires { CanBeTaken I.into_iter_gives I.IntoIter.can_next I.IntoIter.remaining patterns }
-        ensures* taken { sem 𝓛 (LentRestsAtErr (HoldsTaken I.into_iter_gives I.IntoIter.next_gives patterns self.old) self.entry result) }
+        ensures* taken { sem 𝓛 (LentRestsAtErr
+            (HoldsTaken I.into_iter_gives I.IntoIter.next_gives patterns self.old) self.entry result) }
         ensures same { IfOk result (λ l. l.builder.ghost_name ≡ self.entry.ghost_name) }
-        ensures ok { IfOk result (λ l. HoldsAll I.into_iter_gives I.IntoIter.next_gives patterns self.old l.builder.now) }
+        ensures ok { IfOk result (λ l.
+            HoldsAll I.into_iter_gives I.IntoIter.next_gives patterns self.old l.builder.now) }
     {
         self.put_all(patterns)?;
         Ok(Lent { builder: self })

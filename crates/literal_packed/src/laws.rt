@@ -1,7 +1,8 @@
 //! Laws of the definitions that contracts cite, and of the searches. Each is the contract of a
 //! function: of one that does nothing where the law is about definitions, and else of one that makes
 //! the calls that the law is about.
-ghost use Rattle.std.specs.Prelude.{◌≡◌, ◌≤◌, ◌-◌, ◌*◌, ◌^◌, ◌%◌, ◌↔◌, ℕ, List, [], ◌∷◌, length, map, sum, slice_index, codes, true, false, IsTrue, IsNone, Option, Some, None, IfOk};
+ghost use Rattle.std.specs.Prelude.{◌≡◌, ◌≤◌, ◌-◌, ◌*◌, ◌^◌, ◌%◌, ◌↔◌, ℕ, List, [], ◌∷◌, length, map, sum, slice_index};
+ghost use Rattle.std.specs.Prelude.{codes, true, false, IsTrue, IsNone, Option, Some, None, IfOk};
 ghost use Rattle.std.specs.List.{range_with_len};
 ghost use Rattle.literal_base.specs.declared.packed.MatchKind.{MatchKind};
 ghost use Rattle.literal_base.specs.declared.packed.MatchKind.TheVariants.{LeftmostFirst, LeftmostLongest};
@@ -26,12 +27,14 @@ use std::alloc::{AllocError, Global};
 /// The sum of a window is the sum of its bytes, each times 2 to the power of how many follow it, modulo
 /// 2 to the power of 64.
 pub fn sum_is_by_index()
-    ensures { (w : List ℕ) → sum_of w ≡ sum (map (λ k. slice_index w k * 2 ^ (length w - 1 - k)) (range_with_len 0 (length w))) % 2 ^ 64 }
+    ensures { (w : List ℕ) → sum_of w ≡ sum (map (λ k. slice_index w k * 2 ^ (length w - 1 - k))
+        (range_with_len 0 (length w))) % 2 ^ 64 }
 {}
 
 /// The test of which pattern is better tells just that.
 pub fn better_is_tested()
-    ensures { (kind : MatchKind) (patterns : List (List ℕ)) (i j : ℕ) → (is_better kind patterns i j ≡ true) ↔ IsBetter kind patterns i j }
+    ensures { (kind : MatchKind) (patterns : List (List ℕ)) (i j : ℕ)
+        → (is_better kind patterns i j ≡ true) ↔ IsBetter kind patterns i j }
 {}
 
 /// The matches of a greedy list are non-empty, in order, and don't overlap, and no pattern occurs
@@ -126,7 +129,8 @@ pub fn none_ends_an_iteration()
 
 /// An iterator that stands at the end of the haystack answers `None`, and stays there.
 pub fn none_at_the_end()
-    ensures { (old new : FindIterValue) (answer : Option MatchValue) → StandsAtEnd old → FindsNext old answer new → IsNone answer × StandsAtEnd new }
+    ensures { (old new : FindIterValue) (answer : Option MatchValue) → StandsAtEnd old → FindsNext old answer new
+        → IsNone answer × StandsAtEnd new }
 {}
 
 /// Whether a `None` of an iterator is followed by nothing but `None`, in so many calls more. It is.
@@ -149,12 +153,16 @@ pub fn none_is_for_good(matches: &mut FindIter<'_, '_>, more: usize) -> bool
 /// hashed, since the rest of one byte is shorter than the window. The bytes `!` and `a` share a
 /// bucket, and their sums differ.
 pub fn worked_counts()
-    ensures equal_sums { counts_after none_yet (record { kind = LeftmostFirst; patterns = codes "ab" ∷ [] }) (0x62 ∷ 0x60 ∷ 0x61 ∷ 0x62 ∷ []) (whole_of (0x62 ∷ 0x60 ∷ 0x61 ∷ 0x62 ∷ []))
+    ensures equal_sums { counts_after none_yet (record { kind = LeftmostFirst; patterns = codes "ab" ∷ [] })
+        (0x62 ∷ 0x60 ∷ 0x61 ∷ 0x62 ∷ []) (whole_of (0x62 ∷ 0x60 ∷ 0x61 ∷ 0x62 ∷ []))
         (Some (record { pattern = 0; start = 2; end = 4 }))
         ≡ record { hashed = 4; entries = 2; compared = 2; scanned = 0; tried = 0 } }
-    ensures iteration { counts_after_all none_yet (record { kind = LeftmostFirst; patterns = codes "ab" ∷ codes "ba" ∷ [] }) (codes "abababa") 0
-        (record { pattern = 0; start = 0; end = 2 } ∷ record { pattern = 0; start = 2; end = 4 } ∷ record { pattern = 0; start = 4; end = 6 } ∷ [])
+    ensures iteration { counts_after_all none_yet
+        (record { kind = LeftmostFirst; patterns = codes "ab" ∷ codes "ba" ∷ [] }) (codes "abababa") 0
+        (record { pattern = 0; start = 0; end = 2 } ∷ record { pattern = 0; start = 2; end = 4 } ∷ record
+        { pattern = 0; start = 4; end = 6 } ∷ [])
         ≡ record { hashed = 6; entries = 3; compared = 3; scanned = 0; tried = 0 } }
-    ensures shared_bucket { counts_after none_yet (record { kind = LeftmostLongest; patterns = codes "a" ∷ [] }) (codes "!!!!") (whole_of (codes "!!!!")) None
+    ensures shared_bucket { counts_after none_yet (record { kind = LeftmostLongest; patterns = codes "a" ∷ [] })
+        (codes "!!!!") (whole_of (codes "!!!!")) None
         ≡ record { hashed = 4; entries = 4; compared = 0; scanned = 0; tried = 0 } }
 {}

@@ -7,7 +7,8 @@ ghost use Rattle.literal_base.specs.declared.packed.MatchKind.TheVariants.{Leftm
 ghost use Rattle.literal_base.specs.Occurs.{StandsAt, pattern_at};
 ghost use Rattle.literal_base.specs.Leftmost.{IsBetter};
 ghost use Rattle.literal_packed.specs.Inside.Longest.{bytes_of, longest_cmp};
-ghost use Rattle.literal_packed.specs.PatternsValue.{PatternsValue, no_patterns, with_pattern, minimum_len_of, total_len, in_order, IsInOrder, IsWellFormed};
+ghost use Rattle.literal_packed.specs.PatternsValue.{PatternsValue, no_patterns, with_pattern, minimum_len_of};
+ghost use Rattle.literal_packed.specs.PatternsValue.{total_len, in_order, IsInOrder, IsWellFormed};
 
 use literal_base::count::Tally;
 use literal_base::packed::MatchKind;

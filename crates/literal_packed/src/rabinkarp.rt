@@ -1,6 +1,7 @@
 //! Rabin and Karp's search: a sum over a window of the haystack, which moves on byte by byte, tells
 //! which patterns can stand at a place.
-ghost use Rattle.std.specs.Prelude.{◌≡◌, ℕ, ◌≤◌, ◌<◌, ◌+◌, ◌*◌, ◌^◌, List, [], ◌∷◌, ◌++◌, false, length, take, IfOk, OnOk, MatchOption, Some, slice_get};
+ghost use Rattle.std.specs.Prelude.{◌≡◌, ℕ, ◌≤◌, ◌<◌, ◌+◌, ◌*◌, ◌^◌, List, [], ◌∷◌, ◌++◌, false, length, take, IfOk};
+ghost use Rattle.std.specs.Prelude.{OnOk, MatchOption, Some, slice_get};
 ghost use Rattle.std.specs.List.{All};
 ghost use Rattle.literal_base.specs.Occurs.{pattern_at, rest_from};
 ghost use Rattle.literal_base.specs.Leftmost.{IsLeftmost};
@@ -51,7 +52,11 @@ impl Rolling {
         ensures { result ≡ record { window = window; sum = 0 } }
     {
         // Past 64 bytes the first byte's weight is a multiple of 2 to the power of 64.
-        let power = if window <= usize::BITS as usize { 1 << (window - 1) } else { 0 };
+        let power = if window <= usize::BITS as usize {
+            1 << (window - 1)
+        } else {
+            0
+        };
         Rolling {
             window,
             value: 0,
@@ -235,8 +240,10 @@ impl RabinKarp {
             (NoneStandsAt patterns.now.patterns false haystack.now at)
             (IsBestAt (query_of patterns.now) false haystack.now at) }
         ensures counted { tally.new ≡ record tally.old {
-          entries = tally.old.entries + pairs_answered (has_equal_bucket patterns.now.patterns haystack.now) (query_of patterns.now) at result;
-          compared = tally.old.compared + pairs_answered (has_equal_sum patterns.now.patterns haystack.now) (query_of patterns.now) at result;
+          entries = tally.old.entries + pairs_answered (has_equal_bucket patterns.now.patterns haystack.now)
+              (query_of patterns.now) at result;
+          compared = tally.old.compared + pairs_answered (has_equal_sum patterns.now.patterns haystack.now)
+              (query_of patterns.now) at result;
         } }
     {
         let sum = rolling.value();
@@ -264,7 +271,8 @@ impl RabinKarp {
         requires made { IsMadeFor patterns.now self.now }
         requires in_haystack { at ≤ length haystack.now }
         ensures leftmost { IsLeftmost (query_of patterns.now) false haystack.now (rest_from haystack.now at) result }
-        ensures exact { tally.new ≡ counts_after tally.old (query_of patterns.now) haystack.now (rest_from haystack.now at) result }
+        ensures exact { tally.new ≡ counts_after tally.old (query_of patterns.now) haystack.now
+            (rest_from haystack.now at) result }
     {
         let end = haystack.len();
         let minimum_len = self.minimum_len;

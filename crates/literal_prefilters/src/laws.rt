@@ -1,6 +1,7 @@
 //! Laws of tables and prefilters. Each is the contract of a function: of one that does nothing where
 //! the law is about definitions, and else of one that makes the call that the law is about.
-ghost use Rattle.std.specs.Prelude.{◌≡◌, ◌↔◌, ◌≤◌, ◌<◌, ◌++◌, ◌∷◌, [], ℕ, Bool, List, Option, None, Some, IfSome, false, true, slice_index, length};
+ghost use Rattle.std.specs.Prelude.{◌≡◌, ◌↔◌, ◌≤◌, ◌<◌, ◌++◌, ◌∷◌, [], ℕ, Bool, List, Option, None, Some, IfSome};
+ghost use Rattle.std.specs.Prelude.{false, true, slice_index, length};
 ghost use Rattle.std.specs.List.{All};
 ghost use Rattle.literal_base.specs.Query.{Query};
 ghost use Rattle.literal_base.specs.declared.search.Span.{Span};
@@ -10,7 +11,8 @@ ghost use Rattle.literal_base.specs.Bytes.{AreBytes};
 ghost use Rattle.literal_prefilters.specs.Sound.{Sound};
 ghost use Rattle.literal_prefilters.specs.Rarest.{IsRarest};
 ghost use Rattle.literal_prefilters.specs.Table.{Covers, IsFirst, first, is_in, reach_of, step};
-ghost use Rattle.literal_prefilters.specs.Tables.{if_small, is_rare_byte, is_start_byte, rarest, start_bytes, start_table, with_rarest};
+ghost use Rattle.literal_prefilters.specs.Tables.{if_small, is_rare_byte, is_start_byte, rarest, start_bytes};
+ghost use Rattle.literal_prefilters.specs.Tables.{start_table, with_rarest};
 ghost use Rattle.literal_prefilters.specs.Variants.{StartsVariants, IsLargestOffset};
 
 use crate::prefilter::{Candidate, Prefilter};
@@ -99,7 +101,8 @@ pub fn prefilters_reach_254_bytes(pre: &Prefilter)
 pub fn none_without_a_byte(pre: &Prefilter, haystack: &[u8], span: Span) -> Candidate
     requires { IsValidSpan haystack.now span }
     ensures { (result ≡ Candidate.None)
-        ↔ ((place : ℕ) → span.start ≤ place → place < span.end → is_in pre.now (slice_index haystack.now place) ≡ false) }
+        ↔ ((place : ℕ) → span.start ≤ place → place < span.end
+        → is_in pre.now (slice_index haystack.now place) ≡ false) }
 {
     nothing_is_proposed_without_a_byte();
     pre.find_in(haystack, span)

@@ -5,7 +5,13 @@ use literal_base::count::Tally;
 
 /// A tick of each kind.
 pub fn tick_each(tally: &mut Tally)
-    ensures { tally.new ≡ record { hashed = tally.old.hashed + 1; entries = tally.old.entries + 1; compared = tally.old.compared + 1; scanned = tally.old.scanned + 1; tried = tally.old.tried + 1 } }
+    ensures { tally.new ≡ record {
+      hashed = tally.old.hashed + 1;
+      entries = tally.old.entries + 1;
+      compared = tally.old.compared + 1;
+      scanned = tally.old.scanned + 1;
+      tried = tally.old.tried + 1;
+    } }
 {
     tally.tick_hashed();
     tally.tick_entries();

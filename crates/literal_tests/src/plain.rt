@@ -82,7 +82,8 @@ fn best_at(
     requires valid { IsValidSpan haystack.now span }
     requires after_start { span.start ≤ at }
     requires before_end { at ≤ span.end }
-    ensures { IsBestIfAny (record { kind = kind; patterns = map (λ p. p.now) patterns.now }) ignore_case haystack.now span at (length patterns.now) result }
+    ensures { IsBestIfAny (record { kind = kind; patterns = map (λ p. p.now) patterns.now }) ignore_case haystack.now
+        span at (length patterns.now) result }
 {
     let mut best = None;
     for i in 0..patterns.len() {
@@ -108,7 +109,8 @@ pub fn leftmost_plainly(
 ) -> Option<Match>
     requires numbered { length patterns.now ≤ PatternID.LIMIT }
     requires valid { IsValidSpan haystack.now span }
-    ensures { IsLeftmost (record { kind = kind; patterns = map (λ p. p.now) patterns.now }) ignore_case haystack.now span result }
+    ensures { IsLeftmost (record { kind = kind; patterns = map (λ p. p.now) patterns.now }) ignore_case haystack.now
+        span result }
 {
     for at in span.start..span.end + 1 {
         if let Some(i) = best_at(patterns, kind, ignore_case, haystack, span, at) {
@@ -142,7 +144,8 @@ pub fn greedy_plainly(
 ) -> Result<Vec<Match>, AllocError>
     requires numbered { length patterns.now ≤ PatternID.LIMIT }
     requires not_empty { NoneIsEmpty (map (λ p. p.now) patterns.now) }
-    ensures { IfOk result (λ all. IsGreedy (record { kind = kind; patterns = map (λ p. p.now) patterns.now }) ignore_case haystack.now 0 all.items) }
+    ensures { IfOk result (λ all. IsGreedy (record { kind = kind; patterns = map (λ p. p.now) patterns.now })
+        ignore_case haystack.now 0 all.items) }
 {
     let mut all = Vec::new(alloc);
     let mut at = 0;

@@ -40,7 +40,8 @@ pub fn candidate_of(
     requires { IsValidSpan haystack.now span }
     ensures { IfOk result (λ answer. IfSome answer (λ candidate. (kind : MatchKind)
         → Serves builder.now.kind kind
-        → Sound (record { kind = kind; patterns = kept_of builder.now.state }) builder.now.ignore_case haystack.now span candidate)) }
+        → Sound (record { kind = kind; patterns = kept_of builder.now.state }) builder.now.ignore_case haystack.now span
+        candidate)) }
 {
     match builder.build()? {
         Some(pre) => Ok(Some(pre.find_in(haystack, span))),

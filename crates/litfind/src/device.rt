@@ -88,7 +88,12 @@ impl<T> Model for Checked<T> {
 
     ghost Value = { Device T };
 
-    ghost view = { λ c. record { inner = c.inner; has_failed = c.has_failed; has_ended = c.has_ended; is_flushed = c.is_flushed } };
+    ghost view = { λ c. record {
+      inner = c.inner;
+      has_failed = c.has_failed;
+      has_ended = c.has_ended;
+      is_flushed = c.is_flushed;
+    } };
 }
 
 impl<T> Checked<T> {

@@ -1,5 +1,6 @@
 //! The engine: the words and the whole input in, the whole text out.
-ghost use Rattle.std.specs.Prelude.{◌≡◌, ◌≢◌, ◌⊎◌, ◌↔◌, true, false, map, Some, None, IfOk, IfErr, OnOk, OnErr, MatchOption, IsErrOf, string_bytes};
+ghost use Rattle.std.specs.Prelude.{◌≡◌, ◌≢◌, ◌⊎◌, ◌↔◌, true, false, map, Some, None, IfOk, IfErr, OnOk, OnErr};
+ghost use Rattle.std.specs.Prelude.{MatchOption, IsErrOf, string_bytes};
 ghost use Rattle.std.specs.List.{flat_map};
 ghost use Rattle.std.specs.Io.KnownBytes.{Appends};
 ghost use Rattle.literal_packed.specs.BuilderValue.{searcher_of};
@@ -58,7 +59,8 @@ fn build(
     kind: MatchKind,
     patterns: &[String],
 ) -> Result<Option<Searcher>, AllocError>
-    ensures { IfOk result (λ built. built ≡ searcher_of (builder_for (record { kind = kind; patterns = map string_bytes patterns.now }))) }
+    ensures { IfOk result (λ built. built ≡ searcher_of
+        (builder_for (record { kind = kind; patterns = map string_bytes patterns.now }))) }
 {
     let mut builder = Config::new().match_kind(kind).builder(alloc);
     for pattern in patterns {

@@ -1,7 +1,8 @@
 -- The marks of ranges of bytes.
 -- For `ByteClassSet::set_range` and the laws on marks.
 use Rattle.std.proofs.Common.{◌≡◌, ◌==◌, ℕ, ◌+◌, ◌-◌, ◌<◌, ◌≤◌, ◌||◌, ◌↔◌, Bool, true, false, List, [], ◌∷◌, ◌++◌}
-use Rattle.std.proofs.Common.{length, get_or, slice_index, take, zero, suc, cond, sym, refl, ap, subst, ⊎_elim, ◌∙◌, arith}
+use Rattle.std.proofs.Common.{length, get_or, slice_index, take, zero, suc, cond, sym, refl, ap, subst, ⊎_elim, ◌∙◌}
+use Rattle.std.proofs.Common.{arith}
 use Rattle.std.proofs.lemmas.Bool.{eq-eqb, ne_eqb, cases_eq, cases_Bool, both_ways}
 use Rattle.std.proofs.lemmas.Bool.Decides.{nat_tests}
 use Rattle.std.specs.List.{All, list_any}

@@ -239,7 +239,8 @@ impl PatternIDError {
 
 /// As `failed to create PatternID from 2147483647, which exceeds PatternID(2147483646)`.
 impl fmt::Display for PatternIDError {
-    ghost output = { λ error. Some (codes "failed to create PatternID from " ++ decimal error ++ codes ", which exceeds PatternID(2147483646)") };
+    ghost output = { λ error. Some (codes "failed to create PatternID from " ++ decimal error
+        ++ codes ", which exceeds PatternID(2147483646)") };
 
     fn fmt<W: fmt::Write>(&self, f: &mut fmt::Formatter<W>) -> fmt::Result {
         let attempted = self.attempted();

@@ -210,7 +210,8 @@ impl SmallIndexError {
 
 /// As `failed to create small index from 2147483647, which exceeds SmallIndex(2147483646)`.
 impl fmt::Display for SmallIndexError {
-    ghost output = { λ error. Some (codes "failed to create small index from " ++ decimal error ++ codes ", which exceeds SmallIndex(2147483646)") };
+    ghost output = { λ error. Some (codes "failed to create small index from " ++ decimal error
+        ++ codes ", which exceeds SmallIndex(2147483646)") };
 
     fn fmt<W: fmt::Write>(&self, f: &mut fmt::Formatter<W>) -> fmt::Result {
         let attempted = self.attempted;

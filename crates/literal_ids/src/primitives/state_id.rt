@@ -239,7 +239,8 @@ impl StateIDError {
 
 /// As `failed to create StateID from 2147483647, which exceeds StateID(2147483646)`.
 impl fmt::Display for StateIDError {
-    ghost output = { λ error. Some (codes "failed to create StateID from " ++ decimal error ++ codes ", which exceeds StateID(2147483646)") };
+    ghost output = { λ error. Some (codes "failed to create StateID from " ++ decimal error
+        ++ codes ", which exceeds StateID(2147483646)") };
 
     fn fmt<W: fmt::Write>(&self, f: &mut fmt::Formatter<W>) -> fmt::Result {
         let attempted = self.attempted();

@@ -4,7 +4,8 @@ ghost use Rattle.std.specs.Prelude.{◌≡◌, ◌+◌, ◌≤◌, length, Some,
 ghost use Rattle.literal_base.specs.Occurs.{IsValidSpan};
 ghost use Rattle.literal_prefilters.specs.Kinds.{CoversAll, IsStep};
 ghost use Rattle.literal_prefilters.specs.Sound.{PassesOverNone, KeepsReach};
-ghost use Rattle.literal_prefilters.specs.Table.{AreDistances, Covers, size, rank_sum_of, distance_of, reach_of, first, bytes_scanned};
+ghost use Rattle.literal_prefilters.specs.Table.{AreDistances, Covers, size, rank_sum_of, distance_of, reach_of, first};
+ghost use Rattle.literal_prefilters.specs.Table.{bytes_scanned};
 ghost use Rattle.literal_prefilters.specs.Tables.{if_small, start_table, rare_table};
 
 use super::tables;
@@ -148,8 +149,10 @@ impl ByteTable {
     fn find(&self, haystack: &[u8], span: Span, tally: &mut Tally) -> Option<TableByte>
         requires { IsValidSpan haystack.now span }
         ensures place { option_map (λ f. f.place) result ≡ first self.now haystack.now span }
-        ensures distance { IfSome result (λ f. distance_of self.now (slice_index haystack.now f.place) ≡ Some f.distance) }
-        ensures scanned { tally.new ≡ record tally.old { scanned = tally.old.scanned + bytes_scanned span (option_map (λ f. f.place) result) } }
+        ensures distance { IfSome result (λ f. distance_of self.now (slice_index haystack.now f.place)
+            ≡ Some f.distance) }
+        ensures scanned { tally.new ≡ record tally.old
+            { scanned = tally.old.scanned + bytes_scanned span (option_map (λ f. f.place) result) } }
     {
         for place in span.start..span.end {
             tally.tick_scanned();

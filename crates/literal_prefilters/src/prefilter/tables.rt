@@ -1,9 +1,11 @@
 //! The tables of a list of patterns: by the bytes with which they begin, and by a rare byte of each.
-ghost use Rattle.std.specs.Prelude.{◌≡◌, ◌==◌, ◌||◌, ◌<◌, ◌≤◌, ◌↔◌, ℕ, max, true, length, slice_index, if◌then◌else◌, IsTrue, nat_le};
+ghost use Rattle.std.specs.Prelude.{◌≡◌, ◌==◌, ◌||◌, ◌<◌, ◌≤◌, ◌↔◌, ℕ, max, true, length, slice_index, if◌then◌else◌};
+ghost use Rattle.std.specs.Prelude.{IsTrue, nat_le};
 ghost use Rattle.std.specs.List.{All, list_any, list_all};
 ghost use Rattle.literal_base.specs.Bytes.{contains};
 ghost use Rattle.literal_base.specs.Occurs.{NoneIsEmpty, pattern_at, same_byte};
-ghost use Rattle.literal_prefilters.specs.Tables.{rarest, is_start_byte, is_rare_byte, offset_below, largest_offset, table_of, if_small};
+ghost use Rattle.literal_prefilters.specs.Tables.{rarest, is_start_byte, is_rare_byte, offset_below, largest_offset};
+ghost use Rattle.literal_prefilters.specs.Tables.{table_of, if_small};
 
 use super::ByteTable;
 use literal_base::alphabet::{ByteSet, opposite_ascii_case};
@@ -94,7 +96,8 @@ pub(super) fn rare_set(patterns: &Patterns, ignore_case: bool) -> ByteSet
 }
 
 fn raise(offsets: &mut [u8; 256], byte: u8, offset: u8)
-    ensures { (b : ℕ) → slice_index offsets.new b ≡ (if b == byte then max (slice_index offsets.old b) offset else slice_index offsets.old b) }
+    ensures { (b : ℕ) → slice_index offsets.new b ≡
+        (if b == byte then max (slice_index offsets.old b) offset else slice_index offsets.old b) }
 {
     let at = byte as usize;
     if offsets[at] < offset {
@@ -106,7 +109,8 @@ fn raise(offsets: &mut [u8; 256], byte: u8, offset: u8)
 /// its last place.
 fn raise_all(offsets: &mut [u8; 256], pattern: &[u8], ignore_case: bool)
     requires { length pattern.now ≤ 255 }
-    ensures { (b : ℕ) → slice_index offsets.new b ≡ max (slice_index offsets.old b) (offset_below ignore_case b pattern.now (length pattern.now)) }
+    ensures { (b : ℕ) → slice_index offsets.new b ≡ max (slice_index offsets.old b)
+        (offset_below ignore_case b pattern.now (length pattern.now)) }
 {
     for (offset, byte) in pattern.iter().enumerate() {
         raise(offsets, *byte, offset as u8);
