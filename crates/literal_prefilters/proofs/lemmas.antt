@@ -2,6 +2,7 @@
 pub mod Case
 pub mod Covers
 pub mod First
+pub mod Lists
 pub mod Offsets
 pub mod Ranks
 pub mod Rare

@@ -84,12 +84,6 @@ module _ (query : Query) (haystack : List ℕ) (from : ℕ) (old new : Counts) (
   abbrev last : ℕ
   last = length haystack + 1 - minimum_len_of patterns
 
-  abbrev by_bucket : ℕ → ℕ → Bool
-  by_bucket = has_equal_bucket patterns haystack
-
-  abbrev by_sum : ℕ → ℕ → Bool
-  by_sum = has_equal_sum patterns haystack
-
   hashed_of : Counts → ℕ
   hashed_of c = c.hashed
 
@@ -105,15 +99,19 @@ module _ (query : Query) (haystack : List ℕ) (from : ℕ) (old new : Counts) (
       let hashed : new.hashed ≡ old.hashed + (found.start + minimum_len_of patterns - from) = ap
       (λ (c : Counts). c.hashed) is in
       let entries : new.entries ≡ old.entries +
-      (pairs_between by_bucket (length patterns) from found.start + pairs_at_up_to by_bucket query found.start
+      (pairs_between (has_equal_bucket patterns haystack) (length patterns) from found.start + pairs_at_up_to
+      (has_equal_bucket patterns haystack) query found.start
       found.pattern) = ap (λ (c : Counts). c.entries) is in
       let compared : new.compared ≡ old.compared +
-      (pairs_between by_sum (length patterns) from found.start + pairs_at_up_to by_sum query found.start
+      (pairs_between (has_equal_sum patterns haystack) (length patterns) from found.start + pairs_at_up_to
+      (has_equal_sum patterns haystack) query found.start
       found.pattern) = ap (λ (c : Counts). c.compared) is in
       let others : Counts → Counts = λ c. record old { hashed = c.hashed; entries = c.entries; compared = c.compared }
       in
-      let of_buckets = pairs_up_to-le by_bucket query from found.end last found after (omega arith) (omega arith) in
-      let of_sums = pairs_up_to-le by_sum query from found.end last found after (omega arith) (omega arith) in
+      let of_buckets = pairs_up_to-le (has_equal_bucket patterns haystack) query from found.end last found after
+      (omega arith) (omega arith) in
+      let of_sums = pairs_up_to-le (has_equal_sum patterns haystack) query from found.end last found after (omega arith)
+      (omega arith) in
       record {
         hashed = omega arith;
         entries = omega (arith, entries, of_buckets);
@@ -135,16 +133,28 @@ module _ (query : Query) (haystack : List ℕ) (from : ℕ) (old new : Counts) (
       let some = minimum_len_of_some patterns (none_empty patterns haystack from within nothing) in
       let n = length haystack in
       let hashed : new.hashed ≡ old.hashed + cond (ltb (n - from) m) 0 (n - from) = ap (λ (c : Counts). c.hashed) is in
-      let entries : new.entries ≡ old.entries + pairs_between by_bucket (length patterns) from last = ap
+      let entries : new.entries ≡ old.entries + pairs_between (has_equal_bucket patterns haystack)
+      (length patterns) from last = ap
       (λ (c : Counts). c.entries) is in
-      let compared : new.compared ≡ old.compared + pairs_between by_sum (length patterns) from last = ap
+      let compared : new.compared ≡ old.compared + pairs_between (has_equal_sum patterns haystack)
+      (length patterns) from last = ap
       (λ (c : Counts). c.compared) is in
       let others : Counts → Counts = λ c. record old { hashed = c.hashed; entries = c.entries; compared = c.compared }
       in
       record {
         hashed = omega (arith, hashed_at_most (n - from) m);
-        entries = omega (arith, entries, pairs_between-none by_bucket (length patterns) n last (omega arith));
-        compared = omega (arith, compared, pairs_between-none by_sum (length patterns) n last (omega arith));
+        entries = omega (
+          arith,
+          entries,
+          pairs_between-none (has_equal_bucket patterns haystack)
+              (length patterns) n last (omega arith),
+        );
+        compared = omega (
+          arith,
+          compared,
+          pairs_between-none (has_equal_sum patterns haystack) (length patterns) n last
+              (omega arith),
+        );
         counts_on = record {
           hashed = omega arith;
           entries = omega arith;

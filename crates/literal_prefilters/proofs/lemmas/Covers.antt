@@ -13,7 +13,7 @@ use Rattle.literal_base.specs.Occurs.{NoneIsEmpty, same_byte}
 use Rattle.literal_prefilters.specs.Table.{distance_of, is_in, reach_of, size, Covers}
 use Rattle.literal_prefilters.specs.Tables.{if_small, is_start_byte, start_bytes, start_table, is_rare_byte}
 use Rattle.literal_prefilters.specs.Tables.{largest_offset, rare_bytes, rare_table}
-use Rattle.literal_prefilters.proofs.lemmas.First.{position_is, position-None}
+use Rattle.literal_prefilters.proofs.lemmas.Lists.{position_is, position-None}
 use Rattle.literal_prefilters.proofs.lemmas.Offsets.{offset-le-offset_below}
 use Rattle.literal_prefilters.proofs.lemmas.Reach.{reach_of-start_bytes}
 use Rattle.literal_prefilters.proofs.lemmas.RareSet.{rare_closed, rare_reached, offset-le-largest_offset}

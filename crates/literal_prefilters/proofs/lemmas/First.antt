@@ -1,38 +1,14 @@
 -- The first place of a span whose byte is in a table, by what is at each place.
 -- For `ByteTable::find`.
-use Rattle.std.proofs.Common.{◌≡◌, ◌↔◌, ℕ, ◌+◌, ◌-◌, ◌<◌, ◌≤◌, Bool, true, false, cond, List, length, get_or, Option}
-use Rattle.std.proofs.Common.{Some, None, option_map, position, slice_range, slice_index, ltb, refl, sym, ap, ◌∙◌}
-use Rattle.std.proofs.Common.{⊎_elim, arith}
-use Rattle.std.specs.List.{position_or_len}
-use Rattle.std.proofs.lemmas.Bool.{cond-true, cond-false, lt-ltb, le-ltb, cases_lt}
+use Rattle.std.proofs.Common.{◌≡◌, ◌↔◌, ℕ, ◌+◌, ◌-◌, ◌<◌, ◌≤◌, false, List, length, get_or, Option}
+use Rattle.std.proofs.Common.{Some, None, option_map, position, slice_range, slice_index, refl, sym, ap, ◌∙◌}
+use Rattle.std.proofs.Common.{arith}
 use Rattle.std.proofs.lemmas.List.Edits.{length-between, get_or-between}
 use Rattle.std.proofs.lemmas.List.Quantifiers.{position-Some}
-use Rattle.std.proofs.lemmas.List.Sums.{position_or_len_is, fails_before_first}
+use Rattle.literal_prefilters.proofs.lemmas.Lists.{position_is, position_none, position-None}
 use Rattle.literal_base.specs.declared.search.Span.{Span}
 use Rattle.literal_base.specs.Occurs.{IsValidSpan}
 use Rattle.literal_prefilters.specs.Table.{IsFirst, is_in, first, step, step_back}
-
-pub position_is : (p : ℕ → Bool) (xs : List ℕ) (i : ℕ) → i < length xs → p (get_or xs i 0) ≡ true
-    → ((k : ℕ) → k < i → p (get_or xs k 0) ≡ false) → position p xs ≡ Some i
-position_is p xs i below here before =
-    ap (λ j. cond (ltb j (length xs)) (Some j) None) (position_or_len_is p xs i 0 (omega arith) before (λ _. here))
-    ∙ cond-true _ _ _ (lt-ltb _ _ below)
-
-position_none : (p : ℕ → Bool) (xs : List ℕ) → ((k : ℕ) → k < length xs → p (get_or xs k 0) ≡ false)
-    → position p xs ≡ None
-position_none p xs none =
-    ap (λ j. cond (ltb j (length xs)) (Some j) None)
-    (position_or_len_is p xs (length xs) 0 (omega arith) none (λ h. absurd (omega arith)))
-    ∙ cond-false _ _ _ (le-ltb (length xs) (length xs) (omega arith))
-
-pub position-None : (p : ℕ → Bool) (xs : List ℕ) → position p xs ≡ None → (k : ℕ) → k < length xs
-    → p (get_or xs k 0) ≡ false
-position-None p xs e k below =
-    ⊎_elim
-    (λ (inside : position_or_len p xs < length xs). absurd
-    (let s : position p xs ≡ Some (position_or_len p xs) = cond-true _ _ _ (lt-ltb _ _ inside) in cc))
-    (λ (past : length xs ≤ position_or_len p xs). fails_before_first p xs k 0 (omega arith))
-    (cases_lt (position_or_len p xs) (length xs))
 
 -- no byte of the span is in the table
 pub record IsFree (table : List (Option ℕ)) (haystack : List ℕ) (start end : ℕ) : Type 0 where

@@ -7,18 +7,9 @@ use Rattle.std.specs.List.{list_any}
 use Rattle.std.proofs.lemmas.List.Sums.{fold_more, fold_push}
 use Rattle.std.proofs.lemmas.List.Folds.{list_any_none}
 use Rattle.std.proofs.lemmas.Bool.{cases_lt}
+use Rattle.literal_prefilters.proofs.lemmas.Lists.{or_false, list_any_agree}
 use Rattle.literal_base.specs.Occurs.{same_byte}
 use Rattle.literal_prefilters.specs.Tables.{rarest, with_rarest, is_rare_byte}
-
-or_false : (x : Bool) → (x || false) ≡ x
-or_false true = refl
-or_false false = refl
-
-list_any_agree : {X : Type 0} (p q : X → Bool) → ((x : X) → p x ≡ q x) → (xs : List X)
-    → list_any p xs ≡ list_any q xs
-list_any_agree p q same [] = refl
-list_any_agree p q same (x ∷ xs) =
-    ap (λ t. t || list_any p xs) (same x) ∙ ap (λ t. q x || t) (list_any_agree p q same xs)
 
 with_rarest-kept : (c : Bool) (f : ℕ → Bool) (p : List ℕ) (b : ℕ) → list_any f p ≡ true → with_rarest c f p b ≡ f b
 with_rarest-kept c f p b held =
