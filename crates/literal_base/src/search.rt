@@ -208,8 +208,9 @@ impl<'h> Input<'h> {
         ensures bounds { AreBounds self.now.haystack self.now.start self.now.end }
         ensures room { self.now.end + 1 < 2 ^ 64 }
     {
-        prove!(self.bounds.end <= self.haystack.len());
-        self.bounds
+        let bounds = self.bounds;
+        prove!(bounds.end <= self.haystack.len());
+        bounds
     }
 
     /// Both bounds as a range.

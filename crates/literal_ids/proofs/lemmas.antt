@@ -1,3 +1,4 @@
 -- Lemmas that several proofs share, by topic.
 pub mod Bits
+pub mod Callers
 pub mod Counting

@@ -1,10 +1,11 @@
 //! Sets, classes and ranks of bytes: callers that rely on contracts alone, and worked cases.
-ghost use Rattle.std.specs.Prelude.{◌≡◌, ◌<◌, ◌≤◌, ◌+◌, ◌↔◌, ℕ, [], Ok, IfOk, IsNone, length, slice_index};
+ghost use Rattle.std.specs.Prelude.{◌≡◌, ◌<◌, ◌≤◌, ◌+◌, ◌↔◌, ℕ, [], Ok, IfOk, IsNone, IsTrue, length, slice_index};
 ghost use Rattle.std.specs.List.{All};
 ghost use Rattle.literal_base.specs.Bytes.{by_byte};
 ghost use Rattle.literal_base.specs.Classes.{AreRuns, NonePart, alphabet_len_of, class_of, elements_of, marks_of};
 
 use literal_base::alphabet::{ByteClassElements, ByteClassSet, ByteClasses};
+use literal_base::laws;
 use std::alloc::{AllocError, Global};
 
 /// Classes that tell the bytes of each range from all others.
@@ -55,6 +56,34 @@ pub fn elements_taken(
         bytes.push(byte)?;
     }
     Ok(bytes)
+}
+
+/// Whether each byte that a `for` takes of a class has that class, which is so.
+pub fn have_their_class(classes: &ByteClasses, class: u8) -> bool
+    ensures { IsTrue result }
+{
+    for byte in classes.elements(class) {
+        if classes.get(byte) != class {
+            return false;
+        }
+    }
+    true
+}
+
+/// For each class below the length of the alphabet the last byte of that class. The classes come from
+/// marks, so that each byte's class has a place.
+pub fn last_bytes(alloc: Global, set: &ByteClassSet) -> Result<Vec<u8>, AllocError>
+    ensures { IfOk result (λ last. length last.items ≡ alphabet_len_of (by_byte (class_of set.now))) }
+{
+    let classes = set.byte_classes();
+    laws::classes_are_below_the_alphabet_len();
+    let mut last = Vec::new(alloc);
+    last.resize(classes.alphabet_len(), 0)?;
+    for byte in 0..256usize {
+        let class = classes.get(byte as u8);
+        last[class as usize] = byte as u8;
+    }
+    Ok(last)
 }
 
 /// The runs of a class's bytes, which are collected.
@@ -170,6 +199,11 @@ mod tests {
         }
         let bytes = elements_taken(rt.alloc(), &classes, 2)?;
         assert_eq!(rt; bytes.as_slice(), b"ef".as_slice());
+        assert!(rt; have_their_class(&classes, 2) && have_their_class(&classes, 9));
+        let mut set = ByteClassSet::empty();
+        set.set_range(b'a', b'z');
+        let last = last_bytes(rt.alloc(), &set)?;
+        assert_eq!(rt; last.as_slice(), [b'`', b'z', 255].as_slice());
         let mut fifth = classes.elements(5);
         let taken = (fifth.next(), next_after_all(&mut fifth), fifth.next());
         assert_eq!(rt; taken, (Some(b'z'), None, None));

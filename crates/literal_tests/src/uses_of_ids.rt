@@ -1,5 +1,5 @@
 //! Callers of identifiers and conversions that rely on contracts alone.
-ghost use Rattle.std.specs.Prelude.{◌≡◌, ◌<◌, ◌≤◌, ◌/◌, ◌%◌, ◌^◌, ◌↔◌, [], length, IsTrue, IfOk, IsNone};
+ghost use Rattle.std.specs.Prelude.{◌≡◌, ◌<◌, ◌≤◌, ◌/◌, ◌%◌, ◌^◌, ◌↔◌, [], length, slice_index, IsTrue, IfOk, IfSome, IsNone};
 ghost use Rattle.std.specs.List.{enumerate_from, range_with_len};
 ghost use Rattle.literal_ids.specs.Identifier.{IsCheckedNumber};
 
@@ -167,6 +167,19 @@ pub fn words_with_states(alloc: Global, words: &[u16]) -> Result<Vec<(StateID, u
     Ok(all)
 }
 
+/// The identifier of a place where this word stands. Each place is looked up by its identifier.
+pub fn place_of(words: &[u16], word: u16) -> Option<PatternID>
+    requires { length words.now ≤ PatternID.LIMIT }
+    ensures { IfSome result (λ id. (id < length words.now) × (slice_index words.now id ≡ word)) }
+{
+    for id in PatternID::iter(words.len()) {
+        if words[id.as_usize()] == word {
+            return Some(id);
+        }
+    }
+    None
+}
+
 /// The number of pairs of patterns and elements.
 pub fn count_of_pairs<T>(items: &[T]) -> usize
     requires { length items.now ≤ PatternID.LIMIT }
@@ -249,6 +262,8 @@ mod tests {
             [(states[0], 10), (states[1], 20)].as_slice()
         );
         assert_eq!(rt; [count_of(7), count_of_pairs(&[10, 20])], [7, 2]);
+        assert_eq!(rt; place_of(&[10, 20], 20), Some(PatternID::must(1)));
+        assert_eq!(rt; place_of(&[10, 20], 30), None);
         Ok(())
     }
 

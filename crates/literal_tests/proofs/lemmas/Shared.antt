@@ -4,8 +4,7 @@ use Rattle.std.proofs.Common.{◌≡◌, ℕ, ◌+◌, ◌<◌, ◌≤◌, ◌�
 use Rattle.std.specs.List.{All}
 use Rattle.literal_base.specs.Bytes.{by_byte}
 use Rattle.literal_base.specs.Classes.{NonePart, class_of, marks_of}
-use Rattle.literal_base.proofs.lemmas.ByByte.{get_or-by_byte}
-use Rattle.literal_base.proofs.lemmas.Marks.{share_a_class}
+use Rattle.literal_base.proofs.lemmas.Callers.{get_or-by_byte, share_a_class}
 
 pub share_by_byte : (ranges : List (ℕ × ℕ)) (classes : List ℕ) → classes ≡ by_byte (class_of (marks_of ranges))
     → All (λ range. range.0 ≤ range.1) ranges → (b : ℕ) → b < 255

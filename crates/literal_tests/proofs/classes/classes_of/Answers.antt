@@ -2,7 +2,7 @@ use Rattle.std.proofs.Common.{take, get_or, sym, ap, ◌∙◌}
 use Rattle.std.proofs.lemmas.List.{take_more, take_all}
 use Rattle.literal_base.specs.Bytes.{by_byte}
 use Rattle.literal_base.specs.Classes.{class_of, marks_of, with_range_marked}
-use Rattle.literal_base.proofs.lemmas.Marks.{marks_of-push}
+use Rattle.literal_base.proofs.lemmas.Callers.{marks_of-push}
 use Rattle.literal_tests.proofs.lemmas.Shared.{share_by_byte}
 use Rattle.literal_tests.proofs.classes.classes_of.Goals as goal
 
