@@ -1,4 +1,5 @@
 -- Lemmas that several proofs share, by topic.
+pub mod Callers
 pub mod Case
 pub mod Covers
 pub mod First

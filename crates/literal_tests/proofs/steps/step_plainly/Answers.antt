@@ -1,6 +1,6 @@
 use Rattle.std.proofs.Common.{◌≡◌, Some, is_some, option_map, unwrap_or, slice_index, sym, ap, ◌∙◌, arith}
 use Rattle.literal_prefilters.specs.Table.{distance_of, step_back}
-use Rattle.literal_prefilters.proofs.lemmas.First.{first_is, first_none}
+use Rattle.literal_prefilters.proofs.lemmas.Callers.{first_is, first_none}
 use Rattle.literal_tests.proofs.steps.step_plainly.Goals as goal
 
 pub returns-in-Some : goal.returns-in-Some

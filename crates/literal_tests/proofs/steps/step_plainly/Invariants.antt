@@ -1,4 +1,4 @@
-use Rattle.literal_prefilters.proofs.lemmas.First.{IsFree}
+use Rattle.literal_prefilters.proofs.lemmas.Callers.{IsFree}
 use Rattle.literal_tests.proofs.steps.step_plainly.Given as goal
 
 -- no byte of the table stands before
