@@ -1,7 +1,9 @@
 -- Lemmas that several proofs share, by topic.
 pub mod Callers
 pub mod Case
+pub mod Choice
 pub mod Covers
+pub mod Exact
 pub mod First
 pub mod Lists
 pub mod Offsets

@@ -1,5 +1,6 @@
 -- What a prefilter answers.
 use Rattle.std.specs.Prelude.{ℕ, Option, None, Some}
+use Rattle.literal_base.specs.MatchValue.{MatchValue}
 use Rattle.literal_prefilters.specs.declared.prefilter.Candidate.{Candidate}
 use Rattle.literal_prefilters.specs.declared.prefilter.Candidate.TheVariants as candidate
 
@@ -13,3 +14,9 @@ start_of (candidate.PossibleStartOfMatch start) = Some start
 abbrev pub candidate_of : Option ℕ → Candidate
 candidate_of None = candidate.None
 candidate_of (Some start) = candidate.PossibleStartOfMatch start
+
+-- the match, if the answer is one
+abbrev pub match_of : Candidate → Option MatchValue
+match_of candidate.None = None
+match_of (candidate.Match found) = Some found
+match_of (candidate.PossibleStartOfMatch start) = None

@@ -1,29 +1,76 @@
 -- Which prefilter is built for a list of patterns.
-use Rattle.std.specs.Prelude.{◌≡◌, ⊤, ℕ, ◌+◌, ◌||◌, Bool, List, Option, None, Some, nat_lt, nat_le, if◌then◌else◌}
+use Rattle.std.specs.Prelude.{◌≡◌, ◌==◌, ⊤, ℕ, ◌+◌, ◌||◌, ◌&&◌, not, Bool, false, List, length, Option, None, Some}
+use Rattle.std.specs.Prelude.{is_some, option_map, nat_lt, nat_le, if◌then◌else◌}
+use Rattle.std.specs.Option.{option_or}
 use Rattle.literal_base.specs.declared.search.MatchKind as root
 use Rattle.literal_base.specs.declared.search.MatchKind.TheVariants as root_kind
 use Rattle.literal_base.specs.declared.packed.MatchKind.{MatchKind}
 use Rattle.literal_base.specs.declared.packed.MatchKind.TheVariants.{LeftmostFirst, LeftmostLongest}
+use Rattle.literal_base.specs.Kinds.{packed_kind_of}
+use Rattle.literal_base.specs.Occurs.{pattern_at}
+use Rattle.literal_packed.specs.PatternsValue.{minimum_len_of}
 use Rattle.literal_packed.specs.State.{kept_of}
-use Rattle.literal_prefilters.specs.Kinds.{CoversAll}
 use Rattle.literal_prefilters.specs.PrefilterBuilderValue.{PrefilterBuilderValue}
+use Rattle.literal_prefilters.specs.PrefilterValue.{PrefilterValue, by_table, by_pattern, by_search, CoveredBy}
 use Rattle.literal_prefilters.specs.Table.{size, rank_sum_of}
 use Rattle.literal_prefilters.specs.Tables.{start_table, rare_table}
 
--- the start table is taken before the rare one: it has fewer bytes, or they are nearly as rare
-abbrev pub takes_start : List (Option ℕ) → List (Option ℕ) → Bool
-takes_start start rare =
-    nat_lt (size start) (size rare) || nat_le (rank_sum_of start) (rank_sum_of rare + 50)
+-- case is kept, and there is one pattern
+abbrev pub is_one_pattern : PrefilterBuilderValue → Bool
+is_one_pattern b = not b.ignore_case && length (kept_of b.state) == 1
 
--- of two tables the one that is chosen; the only one, where there is one
-abbrev pub chosen_table : Option (List (Option ℕ)) → Option (List (Option ℕ)) → Option (List (Option ℕ))
-chosen_table None rare = rare
-chosen_table (Some start) None = Some start
-chosen_table (Some start) (Some rare) = if takes_start start rare then Some start else Some rare
+-- a packed search finds just the matches that are wanted: case is kept, and the kind of match is a leftmost one
+abbrev pub suits_packed : PrefilterBuilderValue → Bool
+suits_packed b = not b.ignore_case && is_some (packed_kind_of b.kind)
 
--- the table of the prefilter that is built for the patterns of a builder, if one is. Without a pattern there is none
-abbrev pub pick : PrefilterBuilderValue → Option (List (Option ℕ))
-pick b = chosen_table (start_table b.ignore_case (kept_of b.state)) (rare_table b.ignore_case (kept_of b.state))
+-- the packed search for the patterns
+abbrev pub packed_search : PrefilterBuilderValue → Option PrefilterValue
+packed_search b =
+    option_map (λ kind. by_search (record { kind = kind; patterns = kept_of b.state })) (packed_kind_of b.kind)
+
+-- there is a table, and each that there is has three bytes
+abbrev pub are_full : Option (List (Option ℕ)) → Option (List (Option ℕ)) → Bool
+are_full None None = false
+are_full (Some start) None = size start == 3
+are_full None (Some rare) = size rare == 3
+are_full (Some start) (Some rare) = size start == 3 && size rare == 3
+
+-- at most 16 patterns, none shorter than two bytes, with a packed search that suits, and full tables
+abbrev pub is_short_list : PrefilterBuilderValue → Option (List (Option ℕ)) → Option (List (Option ℕ)) → Bool
+is_short_list b start rare =
+    suits_packed b
+    && (nat_le (length (kept_of b.state)) 16 && nat_le 2 (minimum_len_of (kept_of b.state)))
+    && are_full start rare
+
+-- there are both tables, and the start table has fewer bytes
+abbrev pub has_fewer_start_bytes : Option (List (Option ℕ)) → Option (List (Option ℕ)) → Bool
+has_fewer_start_bytes (Some start) (Some rare) = nat_lt (size start) (size rare)
+has_fewer_start_bytes _ _ = false
+
+-- there are both tables, and the ranks of the start bytes sum to at most 50 more than those of the rare bytes
+abbrev pub is_start_nearly_as_rare : Option (List (Option ℕ)) → Option (List (Option ℕ)) → Bool
+is_start_nearly_as_rare (Some start) (Some rare) = nat_le (rank_sum_of start) (rank_sum_of rare + 50)
+is_start_nearly_as_rare _ _ = false
+
+-- a packed search suits, and there are no more patterns than one is built for
+abbrev pub is_last_resort : PrefilterBuilderValue → Bool
+is_last_resort b = suits_packed b && nat_le (length (kept_of b.state)) 128
+
+-- the prefilter that is built for the patterns of a builder, if one is: the first case that it is decides
+abbrev pub pick : PrefilterBuilderValue → Option PrefilterValue
+pick b =
+    let patterns = kept_of b.state in
+    let start = start_table b.ignore_case patterns in
+    let rare = rare_table b.ignore_case patterns in
+    if length patterns == 0 then None
+    else if is_one_pattern b then Some (by_pattern (pattern_at patterns 0))
+    else if is_short_list b start rare then packed_search b
+    else if has_fewer_start_bytes start rare then option_map by_table start
+    else if is_start_nearly_as_rare start rare then option_map by_table start
+    else if is_some start && is_some rare then option_map by_table rare
+    else if is_some start || is_some rare then option_map by_table (option_or start rare)
+    else if is_last_resort b then packed_search b
+    else None
 
 -- a prefilter built for the one kind of match serves a search for the other: for standard semantics it serves both
 abbrev pub Serves : root.MatchKind → MatchKind → Type 0
@@ -31,8 +78,8 @@ Serves root_kind.Standard kind = ⊤
 Serves root_kind.LeftmostFirst kind = kind ≡ LeftmostFirst
 Serves root_kind.LeftmostLongest kind = kind ≡ LeftmostLongest
 
--- the table covers the patterns of the builder, for each kind of match that its prefilter serves
-abbrev pub IsBuiltFor : PrefilterBuilderValue → List (Option ℕ) → Type 0
-IsBuiltFor b table =
-    (kind : MatchKind) → Serves b.kind kind → CoversAll table
+-- the prefilter covers the patterns of the builder, for each kind of match that it serves
+abbrev pub IsBuiltFor : PrefilterBuilderValue → PrefilterValue → Type 0
+IsBuiltFor b built =
+    (kind : MatchKind) → Serves b.kind kind → CoveredBy built
     (record { kind = kind; patterns = kept_of b.state }) b.ignore_case

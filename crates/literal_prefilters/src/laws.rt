@@ -1,13 +1,17 @@
 //! Laws of tables and prefilters. Each is the contract of a function: of one that does nothing where
 //! the law is about definitions, and else of one that makes the call that the law is about.
 ghost use Rattle.std.specs.Prelude.{◌≡◌, ◌↔◌, ◌≤◌, ◌<◌, ◌++◌, ◌∷◌, [], ℕ, Bool, List, Option, None, Some, IfSome};
-ghost use Rattle.std.specs.Prelude.{false, true, slice_index, length};
+ghost use Rattle.std.specs.Prelude.{false, true, is_some, slice_index, length};
 ghost use Rattle.std.specs.List.{All};
 ghost use Rattle.literal_base.specs.Query.{Query};
 ghost use Rattle.literal_base.specs.declared.search.Span.{Span};
-ghost use Rattle.literal_base.specs.Occurs.{NoneIsEmpty, IsValidSpan};
+ghost use Rattle.literal_base.specs.Occurs.{NoneIsEmpty, NothingOccurs, IsValidSpan};
 ghost use Rattle.literal_prefilters.specs.Answers.{candidate_of};
 ghost use Rattle.literal_base.specs.Bytes.{AreBytes};
+ghost use Rattle.literal_packed.specs.State.{kept_of};
+ghost use Rattle.literal_prefilters.specs.Choice.{pick, suits_packed};
+ghost use Rattle.literal_prefilters.specs.PrefilterBuilderValue.{PrefilterBuilderValue};
+ghost use Rattle.literal_prefilters.specs.PrefilterValue.{exact_query, prefilter_reach, table_of};
 ghost use Rattle.literal_prefilters.specs.Sound.{Sound};
 ghost use Rattle.literal_prefilters.specs.Rarest.{IsRarest};
 ghost use Rattle.literal_prefilters.specs.Table.{Covers, IsFirst, first, is_in, reach_of, step};
@@ -92,7 +96,7 @@ pub fn rare_sets_come_pattern_by_pattern()
 
 /// A prefilter reads at most 254 bytes past a place that it proposes.
 pub fn prefilters_reach_254_bytes(pre: &Prefilter)
-    ensures { reach_of pre.now ≤ 254 }
+    ensures { prefilter_reach pre.now ≤ 254 }
 {
     pre.keeps_its_reach();
 }
@@ -100,10 +104,29 @@ pub fn prefilters_reach_254_bytes(pre: &Prefilter)
 /// A prefilter by single bytes answers nothing exactly if the span holds no byte of its table.
 pub fn none_without_a_byte(pre: &Prefilter, haystack: &[u8], span: Span) -> Candidate
     requires { IsValidSpan haystack.now span }
-    ensures { (result ≡ Candidate.None)
+    ensures { IfSome (table_of pre.now) (λ table. (result ≡ Candidate.None)
         ↔ ((place : ℕ) → span.start ≤ place → place < span.end
-        → is_in pre.now (slice_index haystack.now place) ≡ false) }
+        → is_in table (slice_index haystack.now place) ≡ false)) }
 {
     nothing_is_proposed_without_a_byte();
     pre.find_in(haystack, span)
 }
+
+/// An exact prefilter answers nothing exactly if nothing occurs in the span.
+pub fn none_without_an_occurrence(pre: &Prefilter, haystack: &[u8], span: Span) -> Candidate
+    requires { IsValidSpan haystack.now span }
+    ensures { IfSome (exact_query pre.now) (λ query. (result ≡ Candidate.None)
+        ↔ NothingOccurs query.patterns false haystack.now span) }
+{
+    pre.find_in(haystack, span)
+}
+
+/// For a leftmost kind of match, with case kept, there is a prefilter for each list of 1 to 128
+/// patterns, want of memory aside.
+pub fn up_to_128_patterns_have_a_prefilter()
+    ensures { (builder : PrefilterBuilderValue)
+        → suits_packed builder ≡ true
+        → 0 < length (kept_of builder.state)
+        → length (kept_of builder.state) ≤ 128
+        → is_some (pick builder) ≡ true }
+{}

@@ -1,21 +1,27 @@
 //! Prefilters: they pass over parts of a haystack in which no pattern occurs, and propose places at
 //! which one may begin. All offsets are in bytes, from the beginning of the whole haystack.
-ghost use Rattle.std.specs.Prelude.{◌≡◌, ◌≤◌, ◌∷◌, ℕ, List, [], Some, IsOk, OnOk, OnErr, IfOk, IfSome, false};
+ghost use Rattle.std.specs.Prelude.{◌≡◌, ◌≤◌, ◌<◌, ◌∷◌, ℕ, List, [], length, Some, OnOk, OnErr, IfOk, IfSome, false};
+ghost use Rattle.std.specs.Prelude.{IsSomeAnd, IsTrue, ◌||◌, if◌then◌else◌};
+ghost use Rattle.std.specs.Option.{option_copied};
 ghost use Rattle.literal_base.specs.Occurs.{IsValidSpan};
 ghost use Rattle.literal_prefilters.specs.Answers.{start_of, candidate_of};
-ghost use Rattle.literal_prefilters.specs.Choice.{IsBuiltFor, pick, takes_start};
+ghost use Rattle.literal_prefilters.specs.Choice.{IsBuiltFor, has_fewer_start_bytes, is_last_resort, is_one_pattern};
+ghost use Rattle.literal_prefilters.specs.Choice.{is_short_list, is_start_nearly_as_rare, packed_search, pick, suits_packed};
+ghost use Rattle.literal_prefilters.specs.PrefilterValue.{CoveredBy, IsAnswer, IsCountedAnswer, TakesMemory};
+ghost use Rattle.literal_prefilters.specs.PrefilterValue.{by_table, prefilter_reach};
 ghost use Rattle.literal_prefilters.specs.PrefilterBuilderValue.{PrefilterBuilderValue, pattern_limit, with_added};
-ghost use Rattle.literal_packed.specs.State.{WouldKeep};
-ghost use Rattle.literal_prefilters.specs.Kinds.{CoversAll, IsStep};
-ghost use Rattle.literal_prefilters.specs.Table.{reach_of, step};
-ghost use Rattle.literal_prefilters.specs.Inside.Prefilter.{table_of_finder};
+ghost use Rattle.literal_packed.specs.State.{WouldKeep, kept_of};
+ghost use Rattle.literal_prefilters.specs.Table.{reach_of};
+ghost use Rattle.literal_prefilters.specs.Inside.Prefilter.{value_of_finder};
 ghost use Rattle.literal_prefilters.specs.Sound.{Coverage, PassesOverNone, KeepsReach};
 
 mod byte_table;
+mod exact;
 mod kinds;
 mod tables;
 
 pub use byte_table::ByteTable;
+pub use exact::{Memmem, Packed};
 pub use kinds::{
     RareBytes, RareBytesOne, RareBytesThree, RareBytesTwo, StartBytes, StartBytesOne,
     StartBytesThree, StartBytesTwo,
@@ -29,7 +35,8 @@ use std::fmt;
 use std::marker::Model;
 
 /// Finds where in a span an occurrence of some patterns may begin, and passes over the rest. A
-/// [`Builder`] makes it; contracts see its table of bytes.
+/// [`Builder`] makes it; contracts see whether it goes by a table of bytes, by one pattern, or by a
+/// packed search, and what it looks for.
 #[derive(Drop)]
 pub struct Prefilter {
     finder: Finder,
@@ -38,9 +45,20 @@ pub struct Prefilter {
 /// By how much the ranks of a start table may sum to more than the ranks of a rare table.
 const NEARLY_AS_RARE: u16 = 50;
 
+/// How many patterns a list has at most for which a packed search is better than full tables.
+const SHORT_LIST: usize = 16;
+
+/// How many patterns a packed search is built for at most.
+const PACKED_LIMIT: usize = 128;
+
+/// How many bytes a table has at most.
+const MOST_BYTES: usize = 3;
+
 /// The kinds of prefilter.
 #[derive(Drop)]
 enum Finder {
+    Memmem(Memmem),
+    Packed(Packed),
     StartBytesOne(StartBytesOne),
     StartBytesTwo(StartBytesTwo),
     StartBytesThree(StartBytesThree),
@@ -50,42 +68,45 @@ enum Finder {
 }
 
 impl Model for Prefilter {
-    ghost use Rattle.std.specs.Prelude.{◌≤◌, ℕ, List, Option};
-    ghost use Rattle.literal_prefilters.specs.Table.{reach_of};
+    ghost use Rattle.std.specs.Prelude.{◌≤◌};
+    ghost use Rattle.literal_prefilters.specs.PrefilterValue.{PrefilterValue, prefilter_reach};
 
-    ghost Value = { List (Option ℕ) };
+    ghost Value = { PrefilterValue };
 
-    ghost use Rattle.literal_prefilters.specs.Inside.Prefilter.{table_of_finder};
+    ghost use Rattle.literal_prefilters.specs.Inside.Prefilter.{value_of_finder};
 
-    ghost view = { λ pre. table_of_finder pre.finder };
+    ghost view = { λ pre. value_of_finder pre.finder };
 
-    ghost invariant = { λ pre. reach_of (table_of_finder pre.finder) ≤ 254 };
+    ghost invariant = { λ pre. prefilter_reach (value_of_finder pre.finder) ≤ 254 };
 }
 
 impl Prefilter {
-    /// What may occur in the span, which has to be a valid span of the haystack: where an occurrence
-    /// of the builder's patterns may begin in it, or `None` where none occurs. A possible start lies
-    /// in the span, and no occurrence in the span begins before it.
+    /// What may occur in the span, which has to be a valid span of the haystack: the leftmost match, a
+    /// place at which an occurrence of the builder's patterns may begin, or `None` where none occurs. A
+    /// possible start lies in the span, and no occurrence in the span begins before it.
     ///
     /// [`PrefilterI::find_in`], which generic code calls, has the same name and takes a tally.
     pub fn find_in(&self, haystack: &[u8], span: Span) -> Candidate
         requires { IsValidSpan haystack.now span }
-        ensures step { result ≡ candidate_of (step self.now haystack.now span) }
-        ensures sound { PassesOverNone (CoversAll self.now) haystack.now span result }
+        ensures answer { IsAnswer self.now haystack.now span result }
+        ensures sound { PassesOverNone (CoveredBy self.now) haystack.now span result }
     {
         self.find_in_counted(haystack, span, &mut Tally::new())
     }
 
-    /// Answers as [`Prefilter::find_in`], and adds the steps that it takes to a tally: it scans the
-    /// bytes of the span up to the first that it looks for, or all.
+    /// Answers as [`Prefilter::find_in`], and adds the steps that it takes to a tally: by a table it
+    /// scans the bytes of the span up to the first that it looks for, or all, and an exact search
+    /// counts as one of a [`Searcher`](literal_packed::Searcher).
     pub fn find_in_counted(&self, haystack: &[u8], span: Span, tally: &mut Tally) -> Candidate
         requires { IsValidSpan haystack.now span }
-        ensures sound { PassesOverNone (CoversAll self.now) haystack.now span result }
-        ensures reach { KeepsReach (reach_of self.now) span result tally.old tally.new }
-        ensures near { reach_of self.now ≤ 254 }
-        ensures step { IsStep self.now haystack.now span result tally.old tally.new }
+        ensures sound { PassesOverNone (CoveredBy self.now) haystack.now span result }
+        ensures reach { KeepsReach (prefilter_reach self.now) span result tally.old tally.new }
+        ensures near { prefilter_reach self.now ≤ 254 }
+        ensures answer { IsCountedAnswer self.now haystack.now span result tally.old tally.new }
     {
         match &self.finder {
+            Finder::Memmem(pre) => pre.find_in(haystack, span, tally),
+            Finder::Packed(pre) => pre.find_in(haystack, span, tally),
             Finder::StartBytesOne(pre) => pre.find_in(haystack, span, tally),
             Finder::StartBytesTwo(pre) => pre.find_in(haystack, span, tally),
             Finder::StartBytesThree(pre) => pre.find_in(haystack, span, tally),
@@ -94,23 +115,39 @@ impl Prefilter {
             Finder::RareBytesThree(pre) => pre.find_in(haystack, span, tally),
         }
     }
-}
 
-impl Prefilter {
+    /// A copy, which looks for the same. It takes memory only where patterns are kept.
+    pub fn try_clone(&self) -> Result<Prefilter, AllocError>
+        ensures ok { IfOk result (λ copy. copy ≡ self.now) }
+        ensures no_memory { OnErr result (TakesMemory self.now) }
+    {
+        let finder = match &self.finder {
+            Finder::Memmem(pre) => Finder::Memmem(pre.try_clone()?),
+            Finder::Packed(pre) => Finder::Packed(pre.try_clone()?),
+            Finder::StartBytesOne(pre) => Finder::StartBytesOne(pre.copy()),
+            Finder::StartBytesTwo(pre) => Finder::StartBytesTwo(pre.copy()),
+            Finder::StartBytesThree(pre) => Finder::StartBytesThree(pre.copy()),
+            Finder::RareBytesOne(pre) => Finder::RareBytesOne(pre.copy()),
+            Finder::RareBytesTwo(pre) => Finder::RareBytesTwo(pre.copy()),
+            Finder::RareBytesThree(pre) => Finder::RareBytesThree(pre.copy()),
+        };
+        Ok(Prefilter { finder })
+    }
+
     /// What every value keeps, for the law that says so.
     pub(crate) fn keeps_its_reach(&self)
-        ensures { reach_of self.now ≤ 254 }
+        ensures { prefilter_reach self.now ≤ 254 }
     {
         let _ = &self.finder; // (a read, after which the proof has what the fields keep)
     }
 }
 
 impl PrefilterI for Prefilter {
-    ghost covers = { CoversAll };
+    ghost covers = { CoveredBy };
 
-    ghost reach = { reach_of };
+    ghost reach = { prefilter_reach };
 
-    ghost answers = { IsStep };
+    ghost answers = { IsCountedAnswer };
 
     fn find_in(&self, haystack: &[u8], span: Span, tally: &mut Tally) -> Candidate {
         self.find_in_counted(haystack, span, tally)
@@ -121,6 +158,8 @@ impl PrefilterI for Prefilter {
 impl fmt::Debug for Prefilter {
     fn fmt<W: fmt::Write>(&self, f: &mut fmt::Formatter<W>) -> fmt::Result {
         f.write_str(match &self.finder {
+            Finder::Memmem(_) => "Prefilter(Memmem)",
+            Finder::Packed(_) => "Prefilter(Packed)",
             Finder::StartBytesOne(_) => "Prefilter(StartBytesOne)",
             Finder::StartBytesTwo(_) => "Prefilter(StartBytesTwo)",
             Finder::StartBytesThree(_) => "Prefilter(StartBytesThree)",
@@ -189,6 +228,7 @@ pub trait PrefilterI {
 /// pattern, and builds no prefilter, whatever is added later.
 #[derive(Drop)]
 pub struct Builder {
+    alloc: Global,
     kind: MatchKind,
     ascii_case_insensitive: bool,
     enabled: bool,
@@ -214,6 +254,7 @@ impl Builder {
         ensures { result ≡ record { kind = kind; ignore_case = false; state = Some [] } }
     {
         Builder {
+            alloc,
             kind,
             ascii_case_insensitive: false,
             enabled: true,
@@ -233,34 +274,98 @@ impl Builder {
         }
     }
 
-    /// The prefilter that suits the patterns, and `None` where none does: there is no pattern, the
-    /// builder is disabled, or too many bytes would have to be looked for. The builder stays as it
-    /// is. No memory is asked for.
+    /// The prefilter that suits the patterns, and `None` where none does. The builder stays as it is.
     ///
-    /// It looks for the bytes of [`ByteTable::start`] or of [`ByteTable::rare`], where there is just
-    /// one of these tables for that one. Of two it takes the start table if that has fewer bytes, or
-    /// if its sum of ranks is at most 50 more than the sum of the rare one.
+    /// The first of these cases decides. There is no pattern, or the builder is disabled: none. Case is
+    /// kept and there is one pattern: a search for it. Case is kept, the kind is a leftmost one, there are
+    /// at most 16 patterns of two bytes or more, and of [`ByteTable::start`] and [`ByteTable::rare`] there
+    /// is one at least, and each that there is has three bytes: a packed search. There are both tables: the start table
+    /// if it has fewer bytes, or if its ranks sum to at most 50 more than those of the rare one, and the
+    /// rare table otherwise. There is one table: that one. Case is kept, the kind is a leftmost one, and
+    /// there are at most 128 patterns: a packed search. Otherwise there is none.
+    ///
+    /// Memory is asked for only where patterns are searched for, and not bytes of a table.
     pub fn build(&self) -> Result<Option<Prefilter>, AllocError>
-        ensures no_memory { IsOk result }
         ensures pick { IfOk result (λ built. built ≡ pick self.now) }
+        ensures no_memory { OnErr result (IsSomeAnd (pick self.now) TakesMemory) }
         ensures covers { IfOk result (λ built. IfSome built (IsBuiltFor self.now)) }
     {
-        let ignore_case = self.ascii_case_insensitive;
-        let start = ByteTable::start(&self.patterns, ignore_case);
-        let rare = ByteTable::rare(&self.patterns, ignore_case);
-        let finder = match (start, rare) {
-            (Some(start), Some(rare)) => {
-                if takes_start(&start, &rare) {
-                    Finder::start(start)
-                } else {
-                    Finder::rare(rare)
-                }
-            }
-            (Some(start), None) => Finder::start(start),
-            (None, Some(rare)) => Finder::rare(rare),
-            (None, None) => return Ok(None),
+        if self.patterns.is_empty() {
+            return Ok(None);
+        }
+        if self.is_one_pattern() {
+            // What is hashed of the pattern itself is no step of a search.
+            let memmem = Memmem::new(&self.patterns, &mut Tally::new())?;
+            return Ok(Some(Prefilter {
+                finder: Finder::Memmem(memmem),
+            }));
+        }
+        let start = ByteTable::start(&self.patterns, self.ascii_case_insensitive);
+        let rare = ByteTable::rare(&self.patterns, self.ascii_case_insensitive);
+        if self.is_short_list(start.as_ref(), rare.as_ref()) {
+            return self.packed();
+        }
+        match (start, rare) {
+            (Some(start), Some(rare)) => Ok(Some(Prefilter::of_both(start, rare))),
+            (Some(start), None) => Ok(Some(Prefilter::start(start))),
+            (None, Some(rare)) => Ok(Some(Prefilter::rare(rare))),
+            (None, None) if self.is_last_resort() => self.packed(),
+            (None, None) => Ok(None),
+        }
+    }
+
+    fn is_one_pattern(&self) -> bool
+        ensures { result ≡ is_one_pattern self.now }
+    {
+        !self.ascii_case_insensitive && self.patterns.len() == 1
+    }
+
+    /// Whether a packed search finds just the matches that are wanted.
+    fn suits_packed(&self) -> bool
+        ensures { result ≡ suits_packed self.now }
+    {
+        !self.ascii_case_insensitive && self.kind.as_packed().is_some()
+    }
+
+    /// Whether a packed search is better than each of these tables.
+    fn is_short_list(&self, start: Option<&ByteTable>, rare: Option<&ByteTable>) -> bool
+        ensures { result ≡ is_short_list self.now (option_copied start.entry) (option_copied rare.entry) }
+    {
+        let is_full = |table: &ByteTable| table.count() == MOST_BYTES;
+        self.suits_packed()
+            && self.patterns.len() <= SHORT_LIST
+            && self.patterns.minimum_len() >= 2
+            && (start.is_some() || rare.is_some())
+            && start.is_none_or(is_full)
+            && rare.is_none_or(is_full)
+    }
+
+    /// Whether a packed search is better than nothing.
+    fn is_last_resort(&self) -> bool
+        ensures { result ≡ is_last_resort self.now }
+    {
+        self.suits_packed() && self.patterns.len() <= PACKED_LIMIT
+    }
+
+    /// The packed search for the patterns.
+    fn packed(&self) -> Result<Option<Prefilter>, AllocError>
+        requires picked { pick self.now ≡ packed_search self.now }
+        requires suits { IsTrue (suits_packed self.now) }
+        requires few { length (kept_of self.now.state) ≤ 128 }
+        requires some { 0 < length (kept_of self.now.state) }
+        ensures pick { IfOk result (λ built. built ≡ pick self.now) }
+        ensures no_memory { OnErr result (IsSomeAnd (pick self.now) TakesMemory) }
+        ensures covers { IfOk result (λ built. IfSome built (IsBuiltFor self.now)) }
+    {
+        let Some(kind) = self.kind.as_packed() else {
+            return Ok(None);
         };
-        Ok(Some(Prefilter { finder }))
+        let Some(packed) = Packed::new(self.alloc, &self.patterns, kind)? else {
+            return Ok(None);
+        };
+        Ok(Some(Prefilter {
+            finder: Finder::Packed(packed),
+        }))
     }
 
     /// Adds a copy of a pattern, unless the builder is disabled. An empty pattern, and one more than
@@ -297,37 +402,43 @@ impl fmt::Debug for Builder {
     }
 }
 
-/// Whether the start table is taken before the rare one: it has fewer bytes, or they are nearly as
-/// rare.
-fn takes_start(start: &ByteTable, rare: &ByteTable) -> bool
-    ensures { result ≡ takes_start start.now rare.now }
-{
-    start.count() < rare.count() || start.rank_sum() <= rare.rank_sum() + NEARLY_AS_RARE
-}
-
-impl Finder {
-    /// The kind that looks for the bytes with which patterns begin.
-    fn start(table: ByteTable) -> Finder
-        requires { reach_of table ≡ 0 }
-        ensures table { table_of_finder result ≡ table }
-        ensures near { reach_of table ≤ 254 }
+impl Prefilter {
+    /// Of the two tables by the start table if it has fewer bytes or its bytes are nearly as rare, and
+    /// otherwise by the rare one.
+    fn of_both(start: ByteTable, rare: ByteTable) -> Prefilter
+        requires { reach_of start ≡ 0 }
+        ensures { result ≡ by_table (if (has_fewer_start_bytes (Some start) (Some rare)
+            || is_start_nearly_as_rare (Some start) (Some rare)) then start else rare) }
     {
-        match table.count() {
-            1 => Finder::StartBytesOne(StartBytes(table)),
-            2 => Finder::StartBytesTwo(StartBytes(table)),
-            _ => Finder::StartBytesThree(StartBytes(table)),
+        if start.count() < rare.count() || start.rank_sum() <= rare.rank_sum() + NEARLY_AS_RARE {
+            Prefilter::start(start)
+        } else {
+            Prefilter::rare(rare)
         }
     }
 
-    /// The kind that looks for rare bytes.
-    fn rare(table: ByteTable) -> Finder
-        ensures table { table_of_finder result ≡ table }
-        ensures near { reach_of table ≤ 254 }
+    /// By the bytes with which patterns begin.
+    fn start(table: ByteTable) -> Prefilter
+        requires { reach_of table ≡ 0 }
+        ensures { result ≡ by_table table }
     {
-        match table.count() {
+        let finder = match table.count() {
+            1 => Finder::StartBytesOne(StartBytes(table)),
+            2 => Finder::StartBytesTwo(StartBytes(table)),
+            _ => Finder::StartBytesThree(StartBytes(table)),
+        };
+        Prefilter { finder }
+    }
+
+    /// By rare bytes.
+    fn rare(table: ByteTable) -> Prefilter
+        ensures { result ≡ by_table table }
+    {
+        let finder = match table.count() {
             1 => Finder::RareBytesOne(RareBytes(table)),
             2 => Finder::RareBytesTwo(RareBytes(table)),
             _ => Finder::RareBytesThree(RareBytes(table)),
-        }
+        };
+        Prefilter { finder }
     }
 }

@@ -1,23 +1,27 @@
 -- The fields of `Prefilter` and of its builder.
-use Rattle.std.specs.Prelude.{◌≡◌, ℕ, List, [], Option, Some, None, false, if◌then◌else◌}
+use Rattle.std.specs.Prelude.{◌≡◌, [], Some, None, false, if◌then◌else◌}
 use Rattle.literal_base.specs.declared.packed.MatchKind.TheVariants.{LeftmostFirst}
 use Rattle.literal_packed.specs.PatternsValue.{IsInOrder}
 use Rattle.literal_prefilters.specs.declared.prefilter.Finder.{Finder}
-use Rattle.literal_prefilters.specs.declared.prefilter.Finder.TheVariants.{StartBytesOne, StartBytesTwo}
-use Rattle.literal_prefilters.specs.declared.prefilter.Finder.TheVariants.{StartBytesThree, RareBytesOne, RareBytesTwo}
+use Rattle.literal_prefilters.specs.declared.prefilter.Finder.TheVariants.{Memmem, Packed, StartBytesOne}
+use Rattle.literal_prefilters.specs.declared.prefilter.Finder.TheVariants.{StartBytesTwo, StartBytesThree}
+use Rattle.literal_prefilters.specs.declared.prefilter.Finder.TheVariants.{RareBytesOne, RareBytesTwo}
 use Rattle.literal_prefilters.specs.declared.prefilter.Finder.TheVariants.{RareBytesThree}
 use Rattle.literal_prefilters.specs.declared.prefilter.Builder.TheInside.{Inside}
 use Rattle.literal_packed.specs.State.{state_of}
 use Rattle.literal_prefilters.specs.PrefilterBuilderValue.{PrefilterBuilderValue, pattern_limit}
+use Rattle.literal_prefilters.specs.PrefilterValue.{PrefilterValue, by_table, by_pattern, by_search}
 
--- the table of a prefilter, whichever kind it is
-abbrev pub table_of_finder : Finder → List (Option ℕ)
-table_of_finder (StartBytesOne pre) = pre
-table_of_finder (StartBytesTwo pre) = pre
-table_of_finder (StartBytesThree pre) = pre
-table_of_finder (RareBytesOne pre) = pre
-table_of_finder (RareBytesTwo pre) = pre
-table_of_finder (RareBytesThree pre) = pre
+-- what a caller sees of a prefilter, whichever kind it is
+abbrev pub value_of_finder : Finder → PrefilterValue
+value_of_finder (Memmem pre) = by_pattern pre
+value_of_finder (Packed pre) = by_search pre
+value_of_finder (StartBytesOne pre) = by_table pre
+value_of_finder (StartBytesTwo pre) = by_table pre
+value_of_finder (StartBytesThree pre) = by_table pre
+value_of_finder (RareBytesOne pre) = by_table pre
+value_of_finder (RareBytesTwo pre) = by_table pre
+value_of_finder (RareBytesThree pre) = by_table pre
 
 -- what a caller sees of a builder
 abbrev pub builder_value : Inside → PrefilterBuilderValue

@@ -107,6 +107,17 @@ impl ByteTable {
         })
     }
 
+    /// A copy, of the same distances.
+    pub(super) fn copy(&self) -> ByteTable
+        ensures { result ≡ self.now }
+    {
+        ByteTable {
+            distances: self.distances,
+            count: self.count,
+            rank_sum: self.rank_sum,
+        }
+    }
+
     /// The number of its bytes, 1 to 3.
     pub fn count(&self) -> usize
         ensures count { result ≡ size self.now }

@@ -1,5 +1,7 @@
 //! The kinds of prefilter that look for single bytes: for one to three bytes with which the patterns
 //! begin, or for one to three rare bytes, of which each pattern holds one.
+ghost use Rattle.std.specs.Prelude.{◌≡◌};
+
 use crate::prefilter::{ByteTable, Candidate, PrefilterI};
 use literal_base::count::Tally;
 use literal_base::search::Span;
@@ -18,6 +20,15 @@ impl<const COUNT: usize> Model for StartBytes<COUNT> {
     ghost view = { λ pre. pre.0 };
 
     ghost invariant = { λ pre. HasBytes COUNT pre.0 × ReachesNowhere pre.0 };
+}
+
+impl<const COUNT: usize> StartBytes<COUNT> {
+    /// A copy, with the same table.
+    pub(super) fn copy(&self) -> StartBytes<COUNT>
+        ensures { result ≡ self.now }
+    {
+        StartBytes(self.0.copy())
+    }
 }
 
 impl<const COUNT: usize> PrefilterI for StartBytes<COUNT> {
@@ -59,6 +70,15 @@ impl<const COUNT: usize> Model for RareBytes<COUNT> {
     ghost view = { λ pre. pre.0 };
 
     ghost invariant = { λ pre. HasBytes COUNT pre.0 };
+}
+
+impl<const COUNT: usize> RareBytes<COUNT> {
+    /// A copy, with the same table.
+    pub(super) fn copy(&self) -> RareBytes<COUNT>
+        ensures { result ≡ self.now }
+    {
+        RareBytes(self.0.copy())
+    }
 }
 
 impl<const COUNT: usize> PrefilterI for RareBytes<COUNT> {

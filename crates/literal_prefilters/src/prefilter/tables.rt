@@ -19,7 +19,7 @@ const LONGEST: usize = 255;
 
 /// The pattern of an identifier: the tables take the patterns by rising identifier, in whatever order
 /// they are tried at a place.
-fn bytes_of(patterns: &Patterns, id: usize) -> &[u8]
+pub(super) fn bytes_of(patterns: &Patterns, id: usize) -> &[u8]
     requires { id < length patterns.now.patterns }
     ensures bytes { result.now ≡ pattern_at patterns.now.patterns id }
     ensures some { 0 < length result.now }

@@ -1,0 +1,60 @@
+-- A prefilter, as contracts see it.
+use Rattle.std.specs.Prelude.{◌≡◌, ⊤, ℕ, List, Option, None, Some}
+use Rattle.literal_base.specs.declared.search.Span.{Span}
+use Rattle.literal_base.specs.Counts.{Counts}
+use Rattle.literal_base.specs.Query.{Query}
+use Rattle.literal_prefilters.specs.declared.prefilter.Candidate.{Candidate}
+use Rattle.literal_prefilters.specs.Answers.{candidate_of}
+use Rattle.literal_prefilters.specs.Exact.{query_of_one, CoversPattern, CoversQuery, IsExact, IsExactStep}
+use Rattle.literal_prefilters.specs.Kinds.{CoversAll, IsStep}
+use Rattle.literal_prefilters.specs.Sound.{Coverage}
+use Rattle.literal_prefilters.specs.Table.{reach_of, step}
+
+-- which of three it is, and what it looks for: the bytes of a table, one pattern, or some patterns by a packed search
+pub data PrefilterValue : Type 0 where
+  by_table : List (Option ℕ) → PrefilterValue
+  by_pattern : List ℕ → PrefilterValue
+  by_search : Query → PrefilterValue
+
+-- what it covers
+abbrev pub CoveredBy : PrefilterValue → Coverage
+CoveredBy (by_table table) = CoversAll table
+CoveredBy (by_pattern pattern) = CoversPattern pattern
+CoveredBy (by_search query) = CoversQuery query
+
+-- how many bytes past a place that it proposes it may read
+abbrev pub prefilter_reach : PrefilterValue → ℕ
+prefilter_reach (by_table table) = reach_of table
+prefilter_reach (by_pattern pattern) = 0
+prefilter_reach (by_search query) = 0
+
+-- what it answers: the step of its table as a possible start, or the leftmost match as such
+abbrev pub IsAnswer : PrefilterValue → List ℕ → Span → Candidate → Type 0
+IsAnswer (by_table table) haystack span answer = answer ≡ candidate_of (step table haystack span)
+IsAnswer (by_pattern pattern) haystack span answer = IsExact (query_of_one pattern) haystack span answer
+IsAnswer (by_search query) haystack span answer = IsExact query haystack span answer
+
+-- what it answers, and what that counts: as a scan by its table, or as one search in the span
+abbrev pub IsCountedAnswer : PrefilterValue → List ℕ → Span → Candidate → Counts → Counts → Type 0
+IsCountedAnswer (by_table table) haystack span answer old new = IsStep table haystack span answer old new
+IsCountedAnswer (by_pattern pattern) haystack span answer old new =
+    IsExactStep (query_of_one pattern) haystack span answer old new
+IsCountedAnswer (by_search query) haystack span answer old new = IsExactStep query haystack span answer old new
+
+-- the table, if it goes by one
+abbrev pub table_of : PrefilterValue → Option (List (Option ℕ))
+table_of (by_table table) = Some table
+table_of (by_pattern pattern) = None
+table_of (by_search query) = None
+
+-- it holds patterns, so that to make it takes memory
+abbrev pub TakesMemory : PrefilterValue → Type 0
+TakesMemory (by_table table) = ⊥
+TakesMemory (by_pattern pattern) = ⊤
+TakesMemory (by_search query) = ⊤
+
+-- what is searched for, if it searches exactly
+abbrev pub exact_query : PrefilterValue → Option Query
+exact_query (by_table table) = None
+exact_query (by_pattern pattern) = Some (query_of_one pattern)
+exact_query (by_search query) = Some query

@@ -1,0 +1,163 @@
+//! The kinds of prefilter that search exactly: each answers a match or nothing, and never a mere
+//! place at which one may begin.
+ghost use Rattle.std.specs.Prelude.{◌≡◌, ◌∷◌, [], length, IfOk, false};
+ghost use Rattle.literal_base.specs.Leftmost.{IsLeftmost};
+ghost use Rattle.literal_base.specs.Occurs.{IsValidSpan, pattern_at};
+ghost use Rattle.literal_base.specs.declared.packed.MatchKind.TheVariants.{LeftmostFirst};
+ghost use Rattle.literal_packed.specs.BuilderValue.{builder_of, searcher_of};
+ghost use Rattle.literal_packed.specs.Pairs.{counts_after};
+ghost use Rattle.literal_packed.specs.PatternsValue.{IsInOrder};
+ghost use Rattle.literal_prefilters.specs.Exact.{query_of_one};
+
+use super::tables;
+use crate::prefilter::{Candidate, PrefilterI};
+use literal_base::count::Tally;
+use literal_base::packed::MatchKind;
+use literal_base::search::{Match, Span};
+use literal_packed::pattern::Patterns;
+use literal_packed::rabinkarp::RabinKarp;
+use literal_packed::{Config, Searcher};
+use std::alloc::{AllocError, Global};
+use std::marker::Model;
+
+/// Finds one pattern, by its rolling sum. Contracts see the pattern.
+#[derive(Drop)]
+pub struct Memmem {
+    patterns: Patterns,
+    rabin_karp: RabinKarp,
+}
+
+impl Model for Memmem {
+    ghost use Rattle.std.specs.Prelude.{◌≡◌, ℕ, List};
+    ghost use Rattle.literal_base.specs.Occurs.{pattern_at};
+    ghost use Rattle.literal_packed.specs.PatternsValue.{query_of};
+    ghost use Rattle.literal_packed.specs.RabinKarpValue.{IsMadeFor};
+    ghost use Rattle.literal_prefilters.specs.Exact.{query_of_one};
+
+    ghost Value = { List ℕ };
+
+    ghost view = { λ pre. pattern_at pre.patterns.patterns 0 };
+
+    ghost invariant = { λ pre. IsMadeFor pre.patterns pre.rabin_karp
+        × (query_of pre.patterns ≡ query_of_one (pattern_at pre.patterns.patterns 0)) };
+}
+
+impl Memmem {
+    /// Finds the one pattern of a list. What is hashed of it goes into the tally.
+    pub(super) fn new(patterns: &Patterns, tally: &mut Tally) -> Result<Memmem, AllocError>
+        requires one { length patterns.now.patterns ≡ 1 }
+        requires first { patterns.now.kind ≡ LeftmostFirst }
+        requires in_order { IsInOrder patterns.now }
+        ensures { IfOk result (λ built. built ≡ pattern_at patterns.now.patterns 0) }
+    {
+        let patterns = patterns.try_clone()?;
+        let rabin_karp = RabinKarp::new(&patterns, tally)?;
+        Ok(Memmem {
+            patterns,
+            rabin_karp,
+        })
+    }
+
+    /// A copy, for the same pattern.
+    pub(super) fn try_clone(&self) -> Result<Memmem, AllocError>
+        ensures { IfOk result (λ copy. copy ≡ self.now) }
+    {
+        Ok(Memmem {
+            patterns: self.patterns.try_clone()?,
+            rabin_karp: self.rabin_karp.try_clone()?,
+        })
+    }
+
+    /// The first place in the span where the pattern occurs whole.
+    fn find(&self, haystack: &[u8], span: Span, tally: &mut Tally) -> Option<Match>
+        requires { IsValidSpan haystack.now span }
+        ensures leftmost { IsLeftmost (query_of_one self.now) false haystack.now span result }
+        ensures exact { tally.new ≡ counts_after tally.old (query_of_one self.now) haystack.now span result }
+    {
+        // `find_at` searches to the end of its haystack, which is the end of the span.
+        let haystack = &haystack[..span.end];
+        self.rabin_karp
+            .find_at(&self.patterns, haystack, span.start, tally)
+    }
+}
+
+impl PrefilterI for Memmem {
+    ghost use Rattle.std.specs.Prelude.{ℕ, List};
+    ghost use Rattle.literal_prefilters.specs.Exact.{query_of_one, CoversPattern, IsExactStep};
+
+    ghost covers = { CoversPattern };
+
+    ghost reach = { λ _. 0 };
+
+    ghost answers = { λ pattern. IsExactStep (query_of_one pattern) };
+
+    fn find_in(&self, haystack: &[u8], span: Span, tally: &mut Tally) -> Candidate {
+        match self.find(haystack, span, tally) {
+            Some(found) => Candidate::Match(found),
+            None => Candidate::None,
+        }
+    }
+}
+
+/// Finds some patterns, by a packed search. Contracts see what is searched for.
+#[derive(Drop)]
+pub struct Packed {
+    searcher: Searcher,
+}
+
+impl Model for Packed {
+    ghost use Rattle.literal_base.specs.Query.{Query};
+
+    ghost Value = { Query };
+
+    ghost view = { λ pre. pre.searcher };
+}
+
+impl Packed {
+    /// Finds these patterns with this kind of match, if a searcher can be built for them: there are
+    /// 1 to 128.
+    pub(super) fn new(
+        alloc: Global,
+        patterns: &Patterns,
+        kind: MatchKind,
+    ) -> Result<Option<Packed>, AllocError>
+        ensures { IfOk result (λ built. built ≡ searcher_of (builder_of (record { kind = kind }) patterns.now.patterns)) }
+    {
+        let mut config = Config::new();
+        config.match_kind(kind);
+        let mut builder = config.builder(alloc);
+        for id in 0..patterns.len() {
+            builder.add(tables::bytes_of(patterns, id))?;
+        }
+        let Some(searcher) = builder.build()? else {
+            return Ok(None);
+        };
+        Ok(Some(Packed { searcher }))
+    }
+
+    /// A copy, for the same search.
+    pub(super) fn try_clone(&self) -> Result<Packed, AllocError>
+        ensures { IfOk result (λ copy. copy ≡ self.now) }
+    {
+        Ok(Packed {
+            searcher: self.searcher.try_clone()?,
+        })
+    }
+}
+
+impl PrefilterI for Packed {
+    ghost use Rattle.literal_prefilters.specs.Exact.{CoversQuery, IsExactStep};
+
+    ghost covers = { CoversQuery };
+
+    ghost reach = { λ _. 0 };
+
+    ghost answers = { IsExactStep };
+
+    fn find_in(&self, haystack: &[u8], span: Span, tally: &mut Tally) -> Candidate {
+        match self.searcher.find_in_counted(haystack, span, tally) {
+            Some(found) => Candidate::Match(found),
+            None => Candidate::None,
+        }
+    }
+}
