@@ -4,6 +4,8 @@
 
 #[cfg(test)]
 mod builders;
+#[cfg(test)]
+mod choices;
 pub mod classes;
 #[cfg(test)]
 mod compared;

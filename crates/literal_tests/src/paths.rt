@@ -5,8 +5,8 @@ use literal_prefilters::packed::pattern::{Pattern, PatternIter, Patterns};
 use literal_prefilters::packed::rabinkarp::{RabinKarp, Rolling};
 use literal_prefilters::packed::{self, Builder, Config, FindIter, Searcher};
 use literal_prefilters::prefilter::{
-    self, PrefilterI, RareBytesOne, RareBytesThree, RareBytesTwo, StartBytesOne, StartBytesThree,
-    StartBytesTwo,
+    self, Memmem, Packed, PrefilterI, RareBytesOne, RareBytesThree, RareBytesTwo, StartBytesOne,
+    StartBytesThree, StartBytesTwo,
 };
 use literal_prefilters::{alphabet, byte_frequencies, count, int, primitives, search};
 use std::test::Fail;
@@ -123,7 +123,8 @@ fn kinds_of_prefilters_stand_beside_them(rt: HostRuntime) {
         Option<RareBytesTwo>,
         Option<RareBytesThree>,
     ) = (None, None, None);
-    assert!(rt; starts.0.is_none() && rares.0.is_none());
+    let exact: (Option<Memmem>, Option<Packed>) = (None, None);
+    assert!(rt; starts.0.is_none() && rares.0.is_none() && exact.0.is_none());
 }
 
 #[test]

@@ -19,7 +19,7 @@ type Row = (
     Option<usize>,
 );
 
-static ROWS: [Row; 19] = [
+static ROWS: [Row; 17] = [
     (
         "back from the rare byte",
         "Prefilter(RareBytesOne)",
@@ -111,15 +111,6 @@ static ROWS: [Row; 19] = [
         None,
     ),
     (
-        "three rare bytes",
-        "Prefilter(RareBytesThree)",
-        &[b"ax", b"by", b"cz"],
-        false,
-        b"qqby",
-        0,
-        Some(2),
-    ),
-    (
         "three words",
         "Prefilter(RareBytesOne)",
         &[b"apple", b"maple", b"Snapple"],
@@ -136,15 +127,6 @@ static ROWS: [Row; 19] = [
         b"in an apple",
         9,
         None,
-    ),
-    (
-        "one byte twice",
-        "Prefilter(StartBytesOne)",
-        &[b"aa"],
-        false,
-        b"baa",
-        0,
-        Some(1),
     ),
     (
         "a word in the other case",

@@ -1,0 +1,505 @@
+//! Which prefilter is built for which patterns, and what it answers: each case of the choice, and each
+//! of its limits from both sides.
+use crate::made::{Place, place};
+use crate::plain::leftmost_plainly;
+use MatchKind::{LeftmostFirst, LeftmostLongest, Standard};
+use literal_prefilters::count::Tally;
+use literal_prefilters::prefilter::{Builder, Candidate, Prefilter, PrefilterI};
+use literal_prefilters::{MatchKind, Span, packed};
+use std::alloc::Global;
+use std::process::Abort;
+use std::test::Fail;
+
+/// What a prefilter says: a match, or a place at which one may begin.
+#[derive(Clone, Copy, Debug, PartialEq, Drop)]
+enum Answer {
+    Nothing,
+    Start(usize),
+    Found(Place),
+}
+
+fn answer_of(candidate: Candidate) -> Answer {
+    match candidate {
+        Candidate::None => Answer::Nothing,
+        Candidate::Match(found) => Answer::Found(place(found)),
+        Candidate::PossibleStartOfMatch(start) => Answer::Start(start),
+    }
+}
+
+/// What a case shows, the kinds of match that it is for, the prefilter that is built, its patterns,
+/// whether case is ignored, a haystack, and what is answered for all of it.
+type Row = (
+    &'static str,
+    &'static [MatchKind],
+    &'static str,
+    &'static [&'static [u8]],
+    bool,
+    &'static [u8],
+    Answer,
+);
+
+const ANY: &[MatchKind] = &[Standard, LeftmostFirst, LeftmostLongest];
+
+const LEFTMOST: &[MatchKind] = &[LeftmostFirst, LeftmostLongest];
+
+static ROWS: [Row; 31] = [
+    (
+        "one pattern",
+        ANY,
+        "Prefilter(Memmem)",
+        &[b"abc"],
+        false,
+        b"zabc",
+        Answer::Found((0, 1, 4)),
+    ),
+    (
+        "one pattern that is not there",
+        ANY,
+        "Prefilter(Memmem)",
+        &[b"abc"],
+        false,
+        b"zabzbc",
+        Answer::Nothing,
+    ),
+    (
+        "one pattern of one byte twice",
+        ANY,
+        "Prefilter(Memmem)",
+        &[b"aa"],
+        false,
+        b"baaa",
+        Answer::Found((0, 1, 3)),
+    ),
+    (
+        "one pattern in either case",
+        ANY,
+        "Prefilter(StartBytesTwo)",
+        &[b"foo"],
+        true,
+        b"xxFOO",
+        Answer::Start(2),
+    ),
+    (
+        "a short list",
+        LEFTMOST,
+        "Prefilter(Packed)",
+        &[b"ax", b"by", b"cz"],
+        false,
+        b"qqby",
+        Answer::Found((1, 2, 4)),
+    ),
+    (
+        "a short list that is not there",
+        LEFTMOST,
+        "Prefilter(Packed)",
+        &[b"ax", b"by", b"cz"],
+        false,
+        b"qqbzaycx",
+        Answer::Nothing,
+    ),
+    (
+        "a short list with standard semantics",
+        &[Standard],
+        "Prefilter(RareBytesThree)",
+        &[b"ax", b"by", b"cz"],
+        false,
+        b"qqby",
+        Answer::Start(2),
+    ),
+    (
+        "a short list in either case",
+        LEFTMOST,
+        "Prefilter(StartBytesTwo)",
+        &[b"[x", b"[y", b"{z"],
+        true,
+        b"qq{zZ",
+        Answer::Start(2),
+    ),
+    (
+        "the first of a short list",
+        &[LeftmostFirst],
+        "Prefilter(Packed)",
+        &[b"ax", b"axy", b"by", b"cz"],
+        false,
+        b"qaxy",
+        Answer::Found((0, 1, 3)),
+    ),
+    (
+        "the longest of a short list",
+        &[LeftmostLongest],
+        "Prefilter(Packed)",
+        &[b"ax", b"axy", b"by", b"cz"],
+        false,
+        b"qaxy",
+        Answer::Found((1, 1, 4)),
+    ),
+    (
+        "16 patterns",
+        LEFTMOST,
+        "Prefilter(Packed)",
+        &[
+            b"ax", b"by", b"cz", b"ax", b"by", b"cz", b"ax", b"by", b"cz", b"ax", b"by", b"cz",
+            b"ax", b"by", b"cz", b"ax",
+        ],
+        false,
+        b"qqby",
+        Answer::Found((1, 2, 4)),
+    ),
+    (
+        "17 patterns",
+        ANY,
+        "Prefilter(RareBytesThree)",
+        &[
+            b"ax", b"by", b"cz", b"ax", b"by", b"cz", b"ax", b"by", b"cz", b"ax", b"by", b"cz",
+            b"ax", b"by", b"cz", b"ax", b"by",
+        ],
+        false,
+        b"qqby",
+        Answer::Start(2),
+    ),
+    (
+        "a pattern of one byte",
+        ANY,
+        "Prefilter(RareBytesThree)",
+        &[b"a", b"by", b"cz"],
+        false,
+        b"qqby",
+        Answer::Start(2),
+    ),
+    (
+        "two rare bytes",
+        ANY,
+        "Prefilter(RareBytesTwo)",
+        &[b"ax", b"bx", b"cy"],
+        false,
+        b"qqbx",
+        Answer::Start(2),
+    ),
+    (
+        "two start bytes",
+        ANY,
+        "Prefilter(StartBytesTwo)",
+        &[b"ax", b"ay", b"bz"],
+        false,
+        b"qqbx",
+        Answer::Start(2),
+    ),
+    (
+        "three rare bytes and no start table",
+        LEFTMOST,
+        "Prefilter(Packed)",
+        &[b"ax", b"bx", b"cy", b"dz"],
+        false,
+        b"qqdz",
+        Answer::Found((3, 2, 4)),
+    ),
+    (
+        "three rare bytes alone with standard semantics",
+        &[Standard],
+        "Prefilter(RareBytesThree)",
+        &[b"ax", b"bx", b"cy", b"dz"],
+        false,
+        b"qqdz",
+        Answer::Start(2),
+    ),
+    (
+        "two rare bytes and no start table",
+        ANY,
+        "Prefilter(RareBytesTwo)",
+        &[b"ax", b"bx", b"cy", b"dy"],
+        false,
+        b"qqdy",
+        Answer::Start(2),
+    ),
+    (
+        "ranks that sum to 50 more",
+        ANY,
+        "Prefilter(StartBytesOne)",
+        &[b"a\xB3", b"a\xB3c"],
+        false,
+        b"qa",
+        Answer::Start(1),
+    ),
+    (
+        "ranks that sum to 51 more",
+        ANY,
+        "Prefilter(RareBytesOne)",
+        &[b"a\xB8", b"a\xB8c"],
+        false,
+        b"qa",
+        Answer::Nothing,
+    ),
+    (
+        "a first byte of 0x7F",
+        ANY,
+        "Prefilter(StartBytesOne)",
+        &[b"\x7Fa", b"\x7Fb"],
+        false,
+        b"q\x7F",
+        Answer::Start(1),
+    ),
+    (
+        "a first byte of 0x80",
+        ANY,
+        "Prefilter(RareBytesOne)",
+        &[b"\x80a", b"\x80b"],
+        false,
+        b"q\x80",
+        Answer::Start(1),
+    ),
+    (
+        "no table",
+        LEFTMOST,
+        "Prefilter(Packed)",
+        &[b"a", b"b", b"c", b"d"],
+        false,
+        b"zzc",
+        Answer::Found((2, 2, 3)),
+    ),
+    (
+        "no table, and nothing there",
+        LEFTMOST,
+        "Prefilter(Packed)",
+        &[b"a", b"b", b"c", b"d"],
+        false,
+        b"zz",
+        Answer::Nothing,
+    ),
+    (
+        "the first where there is no table",
+        &[LeftmostFirst],
+        "Prefilter(Packed)",
+        &[b"a", b"ab", b"b", b"c", b"d"],
+        false,
+        b"zab",
+        Answer::Found((0, 1, 2)),
+    ),
+    (
+        "the longest where there is no table",
+        &[LeftmostLongest],
+        "Prefilter(Packed)",
+        &[b"a", b"ab", b"b", b"c", b"d"],
+        false,
+        b"zab",
+        Answer::Found((1, 1, 3)),
+    ),
+    (
+        "both tables of three bytes, one pattern of one",
+        ANY,
+        "Prefilter(StartBytesThree)",
+        &[b"a", b"b", b"c"],
+        false,
+        b"zzb",
+        Answer::Start(2),
+    ),
+    (
+        "fewer start bytes",
+        ANY,
+        "Prefilter(StartBytesTwo)",
+        &[b"foo", b"bar"],
+        false,
+        b"xxbafoo",
+        Answer::Start(2),
+    ),
+    (
+        "a rarer byte",
+        ANY,
+        "Prefilter(RareBytesOne)",
+        &[b"Sherlock", b"lockjaw"],
+        false,
+        b"I am lockjaw",
+        Answer::Start(1),
+    ),
+    (
+        "a rarer byte in either case",
+        ANY,
+        "Prefilter(RareBytesTwo)",
+        &[b"sherlock"],
+        true,
+        b"xxSHERLOCK",
+        Answer::Start(2),
+    ),
+    (
+        "no start table in either case",
+        ANY,
+        "Prefilter(RareBytesTwo)",
+        &[b"apple", b"maple", b"snapple"],
+        true,
+        b"a MAPLE",
+        Answer::Start(0),
+    ),
+];
+
+fn builder(
+    alloc: Global,
+    kind: MatchKind,
+    ignore_case: bool,
+    patterns: &[&[u8]],
+) -> Result<Builder, Fail> {
+    let mut builder = Builder::new(alloc, kind).ascii_case_insensitive(ignore_case);
+    for bytes in patterns {
+        builder.add(bytes)?;
+    }
+    Ok(builder)
+}
+
+fn built(builder: &Builder) -> Result<Prefilter, Fail> {
+    Ok(builder.build()?.ok_or("there is no prefilter")?)
+}
+
+/// All calls of a prefilter answer the same for a haystack.
+fn assert_answers(rt: &impl Abort, pre: &Prefilter, haystack: &[u8], wanted: Answer, case: &str) {
+    let end = haystack.len();
+    let (span, tally) = (Span { start: 0, end }, &mut Tally::new());
+    assert_eq!(rt; answer_of(pre.find_in(haystack, span)), wanted, "{case}");
+    let counted = answer_of(pre.find_in_counted(haystack, span, tally));
+    assert_eq!(rt; counted, wanted, "{case}, counted");
+    let by_trait = answer_of(PrefilterI::find_in(pre, haystack, span, tally));
+    assert_eq!(rt; by_trait, wanted, "{case}, by the trait");
+}
+
+/// The prefilter is of this kind.
+fn assert_kind(
+    rt: &impl Abort,
+    alloc: Global,
+    pre: &Prefilter,
+    wanted: &str,
+    case: &str,
+) -> Result<(), Fail> {
+    assert_eq!(rt; format!(in alloc; "{pre:?}")?.as_str(), wanted, "{case}");
+    Ok(())
+}
+
+/// What is built is as the row says, and so is a copy of it.
+fn assert_row(rt: &impl Abort, alloc: Global, row: &Row, kind: MatchKind) -> Result<(), Fail> {
+    let (case, _, wanted, patterns, ignore_case, haystack, answer) = row;
+    let pre = built(&builder(alloc, kind, *ignore_case, patterns)?)?;
+    assert_kind(rt, alloc, &pre, wanted, case)?;
+    assert_answers(rt, &pre, haystack, *answer, case);
+    let copy = pre.try_clone()?;
+    assert_kind(rt, alloc, &copy, wanted, case)?;
+    assert_answers(rt, &copy, haystack, *answer, case);
+    Ok(())
+}
+
+#[test]
+fn builds_what_suits(rt: HostRuntime) -> Result<(), Fail> {
+    for row in &ROWS {
+        for kind in row.1 {
+            assert_row(&rt, rt.alloc(), row, *kind)?;
+        }
+    }
+    Ok(())
+}
+
+/// A builder of so many patterns of one byte, which is their number.
+fn of_single_bytes(alloc: Global, kind: MatchKind, count: u8) -> Result<Builder, Fail> {
+    let mut builder = Builder::new(alloc, kind);
+    for byte in 0..count {
+        builder.add(&[byte])?;
+    }
+    Ok(builder)
+}
+
+#[test]
+fn searches_for_up_to_128_patterns_without_a_table(rt: HostRuntime) -> Result<(), Fail> {
+    for kind in LEFTMOST {
+        let pre = built(&of_single_bytes(rt.alloc(), *kind, 128)?)?;
+        assert_kind(&rt, rt.alloc(), &pre, "Prefilter(Packed)", "128 patterns")?;
+        assert_answers(
+            &rt,
+            &pre,
+            b"\xFF\x7F",
+            Answer::Found((127, 1, 2)),
+            "128 patterns",
+        );
+        let more = of_single_bytes(rt.alloc(), *kind, 129)?.build()?;
+        assert!(rt; more.is_none(), "129 patterns");
+    }
+    let standard = of_single_bytes(rt.alloc(), Standard, 128)?.build()?;
+    assert!(rt; standard.is_none(), "128 patterns with standard semantics");
+    Ok(())
+}
+
+/// A pattern of 256 bytes has no rare table, and its first byte no start table.
+#[test]
+fn searches_for_long_patterns(rt: HostRuntime) -> Result<(), Fail> {
+    let mut long = [b'e'; 256];
+    long[0] = 0xC0;
+    let long: &[u8] = &long;
+    for kind in LEFTMOST {
+        let pre = built(&builder(rt.alloc(), *kind, false, &[long, b"\xC0Q"])?)?;
+        assert_kind(&rt, rt.alloc(), &pre, "Prefilter(Packed)", "256 bytes")?;
+        assert_answers(&rt, &pre, long, Answer::Found((0, 0, 256)), "256 bytes");
+        let short = built(&builder(rt.alloc(), *kind, false, &[&long[1..], b"\xC0Q"])?)?;
+        assert_kind(
+            &rt,
+            rt.alloc(),
+            &short,
+            "Prefilter(RareBytesTwo)",
+            "255 bytes",
+        )?;
+    }
+    let one = built(&builder(rt.alloc(), Standard, false, &[long])?)?;
+    assert_answers(&rt, &one, long, Answer::Found((0, 0, 256)), "one pattern");
+    Ok(())
+}
+
+/// Patterns for which there are exact prefilters.
+static EXACT: [&[&[u8]]; 4] = [
+    &[b"ab"],
+    &[b"aba"],
+    &[b"aK", b"bQ", b"cb"],
+    &[b"a", b"ab", b"bb", b"c", b"KK"],
+];
+
+/// The bytes of a haystack, told by the digits of its number.
+fn bytes_of(number: usize) -> [u8; 5] {
+    let digits = b"abcKQ";
+    [
+        digits[number % 5],
+        digits[number / 5 % 5],
+        digits[number / 25 % 5],
+        digits[number / 125 % 5],
+        digits[number / 625 % 5],
+    ]
+}
+
+/// What is found plainly in a span of a haystack of five bytes.
+fn plainly(patterns: &[&[u8]], kind: packed::MatchKind, haystack: &[u8; 5], span: Span) -> Answer {
+    if patterns.len() > 5 || span.start > span.end || span.end > 5 {
+        return Answer::Start(0); // (no list and no span is so, and no exact prefilter answers this)
+    }
+    match leftmost_plainly(patterns, kind, false, haystack, span) {
+        Some(found) => Answer::Found(place(found)),
+        None => Answer::Nothing,
+    }
+}
+
+/// Compares on all haystacks of five bytes and some of their spans, and returns how many there are.
+fn compare(rt: &impl Abort, pre: &Prefilter, patterns: &[&[u8]], kind: packed::MatchKind) -> u32 {
+    let mut spans: u32 = 0;
+    for number in 0..3125 {
+        let haystack = bytes_of(number);
+        for (start, end) in [(0, 5), (1, 5), (0, 4), (2, 4), (3, 3)] {
+            let span = Span { start, end };
+            let wanted = plainly(patterns, kind, &haystack, span);
+            let found = answer_of(pre.find_in(&haystack, span));
+            assert_eq!(rt; found, wanted, "{patterns:?}: {haystack:?} in {span:?}");
+            spans = spans.wrapping_add(1);
+        }
+    }
+    spans
+}
+
+#[test]
+fn finds_what_is_found_plainly(rt: HostRuntime) -> Result<(), Fail> {
+    for patterns in EXACT {
+        for kind in LEFTMOST {
+            let pre = built(&builder(rt.alloc(), *kind, false, patterns)?)?;
+            let kind = kind.as_packed().ok_or("no leftmost kind")?;
+            assert_eq!(rt; compare(&rt, &pre, patterns, kind), 15625, "{patterns:?}");
+        }
+    }
+    Ok(())
+}
