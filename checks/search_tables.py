@@ -13,6 +13,7 @@ PACKED_LAWS = "crates/literal_packed/src/laws.rt"
 PREFILTER = "crates/literal_prefilters/src/prefilter.rt"
 PREFILTER_LAWS = "crates/literal_prefilters/src/laws.rt"
 BYTE_TABLE = "crates/literal_prefilters/src/prefilter/byte_table.rt"
+EXACT = "crates/literal_prefilters/src/prefilter/exact.rt"
 KINDS = "crates/literal_prefilters/src/prefilter/kinds.rt"
 TABLES = "crates/literal_prefilters/src/prefilter/tables.rt"
 ENGINE = "crates/litfind/src/engine.rt"
@@ -42,6 +43,9 @@ COUNTED = {
     (BYTE_TABLE, "impl ByteTable", "scan"): "hands it to `find`",
     (BYTE_TABLE, "impl ByteTable", "find"): "scans, in the words that are held below",
     (BYTE_TABLE, "impl ByteTable", "candidate"): "hands it to `find`",
+    (EXACT, "impl Memmem", "find"): "cuts the haystack at the end of the span",
+    (EXACT, "impl PrefilterI for Memmem", "find_in"): "hands it to `find`",
+    (EXACT, "impl PrefilterI for Packed", "find_in"): "hands it to the searcher",
     (KINDS, "impl<const COUNT: usize> PrefilterI for StartBytes<COUNT>", "find_in"): "hands it to the table",
     (KINDS, "impl<const COUNT: usize> PrefilterI for RareBytes<COUNT>", "find_in"): "hands it to the table",
 }
@@ -64,6 +68,7 @@ LAWS = {
     (PACKED_LAWS, "", "iteration_is_bounded"): "goes through an iteration",
     (PACKED_LAWS, "", "list_is_iteration"): "compares a list and an iteration",
     (PREFILTER_LAWS, "", "none_without_a_byte"): "says when a prefilter answers nothing",
+    (PREFILTER_LAWS, "", "none_without_an_occurrence"): "says when an exact one answers nothing",
 }
 
 # What no function that takes a haystack calls: a copy reads all bucket entries.
@@ -82,6 +87,7 @@ TALLY_MAKERS = {
     (API, "impl Searcher", "find_in"): "for one search, which nobody counts",
     (API, "impl Searcher", "find_iter"): "for one iteration",
     (PREFILTER, "impl Prefilter", "find_in"): "for one search, which nobody counts",
+    (PREFILTER, "impl Builder", "build"): "for the hash of the pattern, which is no search",
     (ENGINE, "", "run"): "for the search of a run",
 }
 
@@ -92,6 +98,7 @@ TALLY_TAKERS = {
     (RABIN_KARP, "", "sum_of_first"): "hashes the beginning of a pattern",
     (RABIN_KARP, "impl RabinKarp", "new"): "hashes the patterns",
     (RABIN_KARP, "impl RabinKarp", "entry"): "reads a bucket entry",
+    (EXACT, "impl Memmem", "new"): "hashes the pattern",
 }
 
 # Where each tick stands, once in each function.
@@ -151,6 +158,7 @@ OTHER_SIGNATURES = {
 CLOSURES = {
     (PATTERN, "", "sort_longest_first"): "compares two identifiers",
     (TABLES, "", "holds_any"): "looks up a byte of a pattern",
+    (PREFILTER, "impl Builder", "is_short_list"): "counts the bytes of a table",
 }
 
 # The types that a signature, a field or a constant of the crates of searches may name, beside those
@@ -208,6 +216,8 @@ OWN_NAMES = {
     "FindIter": API,
     "ByteTable": BYTE_TABLE,
     "TableByte": BYTE_TABLE,
+    "Memmem": EXACT,
+    "Packed": EXACT,
     "Prefilter": PREFILTER,
     "PrefilterI": PREFILTER,
 }
@@ -218,6 +228,8 @@ IMPLS = {
     "FindIter": ["impl<'s, 'h> Model for FindIter<'s, 'h>", "impl<'s, 'h> Iterator for FindIter<'s, 'h>"],
     "RabinKarp": ["impl Model for RabinKarp", "impl RabinKarp"],
     "Rolling": ["impl Model for Rolling", "impl Rolling"],
+    "Memmem": ["impl Model for Memmem", "impl Memmem", "impl PrefilterI for Memmem"],
+    "Packed": ["impl Model for Packed", "impl Packed", "impl PrefilterI for Packed"],
 }
 
 # Where a struct is made, which is the one place where its name stands before braces.
@@ -227,6 +239,8 @@ MAKERS = {
     "Rolling": [(RABIN_KARP, "impl Rolling", "new")],
     "Searcher": [(API, "impl Builder", "build"), (API, "impl Searcher", "try_clone")],
     "Patterns": [(PATTERN, "impl Patterns", "new"), (PATTERN, "impl Patterns", "try_clone")],
+    "Memmem": [(EXACT, "impl Memmem", "new"), (EXACT, "impl Memmem", "try_clone")],
+    "Packed": [(EXACT, "impl Packed", "new"), (EXACT, "impl Packed", "try_clone")],
 }
 
 # Where the field of the bucket entries is named, or a variable that becomes it.
@@ -269,6 +283,8 @@ STRUCTS = {
         minimum_len: usize, total_pattern_bytes: u128, }""",
     "Pattern": "#[derive(Clone, Drop)] pub struct Pattern<'p>(&'p [u8]);",
     "ByteTable": "#[derive(Drop)] pub struct ByteTable { distances: [Option<u8>; 256], count: usize, rank_sum: u16, }",
+    "Memmem": "#[derive(Drop)] pub struct Memmem { patterns: Patterns, rabin_karp: RabinKarp, }",
+    "Packed": "#[derive(Drop)] pub struct Packed { searcher: Searcher, }",
     "TableByte": "#[derive(Clone, Copy, Drop)] struct TableByte { place: usize, distance: u8, }",
 }
 

@@ -10,6 +10,8 @@
 #[cfg(test)]
 mod builders;
 #[cfg(test)]
+mod exact;
+#[cfg(test)]
 mod pattern_lists;
 #[cfg(test)]
 mod prefilters;

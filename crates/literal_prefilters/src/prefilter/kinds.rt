@@ -24,7 +24,7 @@ impl<const COUNT: usize> Model for StartBytes<COUNT> {
 
 impl<const COUNT: usize> StartBytes<COUNT> {
     /// A copy, with the same table.
-    pub(super) fn copy(&self) -> StartBytes<COUNT>
+    pub(super) fn copy(&self) -> Self
         ensures { result ≡ self.now }
     {
         StartBytes(self.0.copy())
@@ -74,7 +74,7 @@ impl<const COUNT: usize> Model for RareBytes<COUNT> {
 
 impl<const COUNT: usize> RareBytes<COUNT> {
     /// A copy, with the same table.
-    pub(super) fn copy(&self) -> RareBytes<COUNT>
+    pub(super) fn copy(&self) -> Self
         ensures { result ≡ self.now }
     {
         RareBytes(self.0.copy())

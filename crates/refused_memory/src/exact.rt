@@ -1,0 +1,101 @@
+//! What takes memory of exact prefilters. Each function tells whether a call was refused at first, and
+//! fails where what it needs was refused.
+use literal_prefilters::prefilter::{Builder, Prefilter};
+use literal_prefilters::{MatchKind, Span};
+use std::alloc::{AllocError, Global};
+use std::process::Abort;
+
+/// One pattern, and patterns for a packed search.
+const LISTS: [&[&[u8]]; 2] = [&[b"by"], &[b"ax", b"by", b"cz"]];
+
+fn builder(alloc: Global, patterns: &[&[u8]]) -> Result<Builder, AllocError> {
+    let mut builder = Builder::new(alloc, MatchKind::LeftmostFirst);
+    for bytes in patterns {
+        builder.add(bytes)?;
+    }
+    Ok(builder)
+}
+
+/// The prefilter finds the one occurrence.
+fn assert_finds(rt: &impl Abort, pre: &Prefilter) {
+    let span = Span { start: 0, end: 4 };
+    assert_eq!(rt; pre.find_in(b"qqby", span).into_option(), Some(2));
+}
+
+fn builds(rt: &impl Abort, builder: &Builder) -> bool {
+    let first = builder.build();
+    let refused = first.is_err();
+    let built = if refused {
+        builder.build().expect(rt, "a second request was refused")
+    } else {
+        first.expect(rt, "no request was refused")
+    };
+    assert_finds(rt, &built.expect(rt, "there is no prefilter"));
+    refused
+}
+
+fn clones(rt: &impl Abort, pre: &Prefilter) -> bool {
+    let first = pre.try_clone();
+    let refused = first.is_err();
+    assert_finds(rt, pre);
+    let copy = if refused {
+        pre.try_clone().expect(rt, "a second request was refused")
+    } else {
+        first.expect(rt, "no request was refused")
+    };
+    assert_finds(rt, &copy);
+    refused
+}
+
+fn builds_of(rt: &impl Abort, alloc: Global, list: &[&[u8]]) -> Result<bool, AllocError> {
+    Ok(builds(rt, &builder(alloc, list)?))
+}
+
+fn clones_of(rt: &impl Abort, alloc: Global, list: &[&[u8]]) -> Result<bool, AllocError> {
+    let pre = builder(alloc, list)?.build()?;
+    Ok(clones(rt, &pre.expect(rt, "there is no prefilter")))
+}
+
+#[test]
+fn refused_build_of_memmem(rt: HostRuntime) {
+    let _ = builds_of(&rt, rt.alloc(), LISTS[0]);
+}
+
+#[test]
+fn succeeds_build_of_memmem(rt: HostRuntime) -> Result<(), AllocError> {
+    assert!(rt; !builds_of(&rt, rt.alloc(), LISTS[0])?);
+    Ok(())
+}
+
+#[test]
+fn refused_build_of_packed(rt: HostRuntime) {
+    let _ = builds_of(&rt, rt.alloc(), LISTS[1]);
+}
+
+#[test]
+fn succeeds_build_of_packed(rt: HostRuntime) -> Result<(), AllocError> {
+    assert!(rt; !builds_of(&rt, rt.alloc(), LISTS[1])?);
+    Ok(())
+}
+
+#[test]
+fn refused_try_clone_of_memmem(rt: HostRuntime) {
+    let _ = clones_of(&rt, rt.alloc(), LISTS[0]);
+}
+
+#[test]
+fn succeeds_try_clone_of_memmem(rt: HostRuntime) -> Result<(), AllocError> {
+    assert!(rt; !clones_of(&rt, rt.alloc(), LISTS[0])?);
+    Ok(())
+}
+
+#[test]
+fn refused_try_clone_of_packed(rt: HostRuntime) {
+    let _ = clones_of(&rt, rt.alloc(), LISTS[1]);
+}
+
+#[test]
+fn succeeds_try_clone_of_packed(rt: HostRuntime) -> Result<(), AllocError> {
+    assert!(rt; !clones_of(&rt, rt.alloc(), LISTS[1])?);
+    Ok(())
+}
