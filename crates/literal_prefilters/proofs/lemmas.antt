@@ -1,11 +1,15 @@
 -- Lemmas that several proofs share, by topic.
+pub mod Asks
+pub mod BestAt
 pub mod Callers
 pub mod Case
 pub mod Choice
 pub mod Covers
 pub mod Exact
 pub mod First
+pub mod KeptByte
 pub mod Lists
+pub mod Near
 pub mod Offsets
 pub mod Ranks
 pub mod Rare
@@ -16,4 +20,5 @@ pub mod Sizes
 pub mod Sound
 pub mod Stands
 pub mod TableOf
+pub mod Tries
 pub mod Variants

@@ -1,3 +1,4 @@
 -- What models and private functions alone cite.
 pub mod ByteTable
+pub mod Confirming
 pub mod Prefilter

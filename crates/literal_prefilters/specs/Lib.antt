@@ -1,8 +1,10 @@
 pub mod Answers
 pub mod Choice
+pub mod Confirming
 pub mod Exact
 pub mod Inside
 pub mod Kinds
+pub mod Near
 pub mod PrefilterBuilderValue
 pub mod PrefilterValue
 pub mod Rarest

@@ -16,11 +16,14 @@ ghost use Rattle.literal_prefilters.specs.Inside.Prefilter.{value_of_finder};
 ghost use Rattle.literal_prefilters.specs.Sound.{Coverage, PassesOverNone, KeepsReach};
 
 mod byte_table;
+mod confirming;
 mod exact;
 mod kinds;
 mod tables;
 
+use byte_table::MOST_BYTES;
 pub use byte_table::ByteTable;
+pub use confirming::confirm;
 pub use exact::{Memmem, Packed};
 pub use kinds::{
     RareBytes, RareBytesOne, RareBytesThree, RareBytesTwo, StartBytes, StartBytesOne,
@@ -50,9 +53,6 @@ const SHORT_LIST: usize = 16;
 
 /// How many patterns a packed search is built for at most.
 const PACKED_LIMIT: usize = 128;
-
-/// How many bytes a table has at most.
-const MOST_BYTES: usize = 3;
 
 /// The kinds of prefilter.
 #[derive(Drop)]

@@ -1,5 +1,5 @@
 -- The patterns that an iterator gave, and those that are left.
--- For `RabinKarp::new`.
+-- For `RabinKarp::new` and confirming searches.
 use Rattle.std.proofs.Common.{◌≡◌, ℕ, ◌+◌, ◌<◌, List, [], ◌∷◌, ◌++◌, append_assoc, length, get_or, refl, sym, ap, ◌∙◌}
 use Rattle.std.proofs.Common.{arith}
 use Rattle.std.proofs.lemmas.List.{get_or-map, get_or_at, length-map, length-append}
@@ -12,13 +12,13 @@ module _ (c : PatternsValue) where
   pair : ℕ → ℕ × List ℕ
   pair i = (i, pattern_at c.patterns i)
 
-  length-order : (done left : List (ℕ × List ℕ)) → done ++ left ≡ in_order c
+  pub length-order : (done left : List (ℕ × List ℕ)) → done ++ left ≡ in_order c
       → length done + length left ≡ length c.order
   length-order done left split = sym (length-append done left)
       ∙ (ap length split ∙ length-map c.order (λ i. (i, pattern_at c.patterns i)))
 
   -- the one that is next
-  head_at : (done left : List (ℕ × List ℕ)) (x : ℕ × List ℕ) → done ++ x ∷ left ≡ in_order c
+  pub head_at : (done left : List (ℕ × List ℕ)) (x : ℕ × List ℕ) → done ++ x ∷ left ≡ in_order c
       → (length done < length c.order) × ((e : ℕ) → get_or c.order (length done) e ≡ x.0)
   head_at done left x split =
       let total = length-order done (x ∷ left) split in

@@ -81,7 +81,7 @@ module _ (table : List (Option ℕ)) (patterns : List (List ℕ)) (c : Bool) (co
       }
 
   -- the first place of the table in the span does not lead past an occurrence
-  none_before_step : (place : ℕ) → IsFirst table haystack span place → (i at : ℕ)
+  pub none_before_step : (place : ℕ) → IsFirst table haystack span place → (i at : ℕ)
       → Occurs patterns c haystack span i at → step_back table haystack span.start place ≤ at
   none_before_step place f i at o =
       let r = reached i at o in
@@ -106,7 +106,7 @@ module _ (table : List (Option ℕ)) (patterns : List (List ℕ)) (c : Bool) (co
       omega arith)
       (cases_lt place at)
 
-  nothing_from_free : IsFree table haystack span.start span.end → NothingOccurs patterns c haystack span
+  pub nothing_from_free : IsFree table haystack span.start span.end → NothingOccurs patterns c haystack span
   nothing_from_free free i at o =
       let r = reached i at o in
       let after = o.after_start in

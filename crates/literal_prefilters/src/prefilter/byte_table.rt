@@ -17,7 +17,7 @@ use literal_packed::pattern::Patterns;
 use std::marker::Model;
 
 /// How many bytes a table has at most.
-const MOST_BYTES: usize = 3;
+pub(super) const MOST_BYTES: usize = 3;
 
 /// A table of one to three bytes, each with a *distance*: from a place of the byte in a haystack, how
 /// many bytes further back an occurrence with it may begin, at most 254. Contracts see the distance
@@ -43,9 +43,9 @@ impl Model for ByteTable {
 
 /// A byte of a table in a haystack.
 #[derive(Clone, Copy, Drop)]
-struct TableByte {
-    place: usize,
-    distance: u8,
+pub(super) struct TableByte {
+    pub(super) place: usize,
+    pub(super) distance: u8,
 }
 
 impl ByteTable {
@@ -157,7 +157,7 @@ impl ByteTable {
     }
 
     /// The first place of the span whose byte is in the table, with the byte's distance.
-    fn find(&self, haystack: &[u8], span: Span, tally: &mut Tally) -> Option<TableByte>
+    pub(super) fn find(&self, haystack: &[u8], span: Span, tally: &mut Tally) -> Option<TableByte>
         requires { IsValidSpan haystack.now span }
         ensures place { option_map (λ f. f.place) result ≡ first self.now haystack.now span }
         ensures distance { IfSome result (λ f. distance_of self.now (slice_index haystack.now f.place)

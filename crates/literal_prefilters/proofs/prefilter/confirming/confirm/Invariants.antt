@@ -1,0 +1,16 @@
+use Rattle.std.proofs.Common.{ℕ, ◌≤◌, ◌-◌, ◌+◌, ◌*◌}
+use Rattle.literal_prefilters.proofs.lemmas.Asks.{NoneBefore}
+use Rattle.literal_prefilters.proofs.prefilter.confirming.confirm.Given as goal
+
+abbrev pub invariant-asks : goal.invariant-asks
+invariant-asks g l = record {
+  after_start : l.span.start ≤ l.from;
+  before_end : l.from ≤ l.span.end;
+  none : NoneBefore l.patterns.patterns l.ignore_case l.haystack l.span l.from;
+  grows : l.initial.tally.tried ≤ l.tally.tried;
+  tried : l.tally.tried ≤ l.initial.tally.tried + (l.from - l.span.start);
+  scanned : l.tally.scanned ≤ l.initial.tally.scanned + (l.from - l.span.start) + g.P.PrefilterI.reach l.pre * (l.tally.tried - l.initial.tally.tried);
+}
+
+abbrev pub decreases-asks : goal.decreases-asks
+decreases-asks g l = l.span.end - l.from

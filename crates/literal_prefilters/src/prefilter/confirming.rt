@@ -1,0 +1,161 @@
+//! The confirming search: a prefilter proposes places, and the patterns are compared there.
+ghost use Rattle.std.specs.Prelude.{◌≡◌, ◌+◌, ◌-◌, ◌*◌, ◌≤◌, length, IfSome, MatchOption, option_map, slice_index, Some};
+ghost use Rattle.std.specs.List.{All};
+ghost use Rattle.literal_base.specs.Leftmost.{IsLeftmost};
+ghost use Rattle.literal_base.specs.Occurs.{IsValidSpan};
+ghost use Rattle.literal_packed.specs.Inside.Place.{IsBestAt, NoneStandsAt};
+ghost use Rattle.literal_packed.specs.PatternsValue.{IsInOrder, query_of};
+ghost use Rattle.literal_prefilters.specs.Confirming.{CountsTries, scanned_once, tried_places};
+ghost use Rattle.literal_prefilters.specs.Inside.Confirming.{IsKept, read_to};
+ghost use Rattle.literal_prefilters.specs.Table.{Covers, distance_of, first};
+
+use super::byte_table::TableByte;
+use crate::prefilter::{ByteTable, Candidate, PrefilterI};
+use literal_base::count::Tally;
+use literal_base::search::{Match, Span};
+use literal_ids::PatternID;
+use literal_packed::pattern::Patterns;
+
+/// The first in match order of the patterns that stand at a place.
+fn best_at(
+    patterns: &Patterns,
+    ignore_case: bool,
+    haystack: &[u8],
+    at: usize,
+    tally: &mut Tally,
+) -> Option<PatternID>
+    requires in_order { IsInOrder patterns.now }
+    requires in_haystack { at ≤ length haystack.now }
+    ensures best { MatchOption result
+        (NoneStandsAt patterns.now.patterns ignore_case haystack.now at)
+        (IsBestAt (query_of patterns.now) ignore_case haystack.now at) }
+    ensures compared { tally.new.compared ≤ tally.old.compared + length patterns.now.patterns }
+    ensures grows { tally.old.compared ≤ tally.new.compared }
+    ensures others { tally.new ≡ record tally.old { compared = tally.new.compared } }
+{
+    for (id, _) in patterns.iter() {
+        if patterns.matches_at(id, haystack, at, ignore_case, tally) {
+            return Some(id);
+        }
+    }
+    None
+}
+
+/// The leftmost match in the span, by a prefilter of any kind: it is asked for a candidate, the
+/// patterns are compared at the place that it proposes, and where none stands there it is asked again
+/// from the next place on. The span has to be a valid span of the haystack, the patterns in the order
+/// of their match kind, as they are after [`Patterns::set_match_kind`], and the prefilter has to cover
+/// them for that kind, with ASCII case ignored or not.
+///
+/// At most as many places are tried as the span has bytes. At most as many bytes are scanned as the
+/// span has, and for each place tried as many more as the prefilter may read past it.
+pub fn confirm<P: PrefilterI>(
+    pre: &P,
+    patterns: &Patterns,
+    ignore_case: bool,
+    haystack: &[u8],
+    span: Span,
+    tally: &mut Tally,
+) -> Option<Match>
+    requires in_order { IsInOrder patterns.now }
+    requires covered { P.covers pre.now (query_of patterns.now) ignore_case }
+    requires valid { IsValidSpan haystack.now span }
+    ensures leftmost { IsLeftmost (query_of patterns.now) ignore_case haystack.now span result }
+    ensures grows { tally.old.tried ≤ tally.new.tried }
+    ensures tried { tally.new.tried ≤ tally.old.tried + (span.end - span.start) }
+    ensures scanned { tally.new.scanned ≤ tally.old.scanned + (span.end - span.start)
+        + P.reach pre.now * (tally.new.tried - tally.old.tried) }
+{
+    // An occurrence that runs past the end of the span is none.
+    let whole = &haystack[..span.end];
+    let mut from = span.start;
+    'asks: loop {
+        let rest = Span {
+            start: from,
+            end: span.end,
+        };
+        match pre.find_in(haystack, rest, tally) {
+            Candidate::None => return None,
+            Candidate::Match(found) => return Some(found),
+            Candidate::PossibleStartOfMatch(start) => {
+                tally.tick_tried();
+                if let Some(id) = best_at(patterns, ignore_case, whole, start, tally) {
+                    let end = start + patterns.get(id).len();
+                    return Some(Match::new(id, Span { start, end }));
+                }
+                from = start + 1;
+            }
+        }
+    }
+}
+
+/// The first byte of the table in the rest of a span that begins at `start`: the one that is kept, if
+/// it lies there. Bytes that were read before it are not read again.
+fn next_byte(
+    table: &ByteTable,
+    haystack: &[u8],
+    start: usize,
+    rest: Span,
+    kept: Option<TableByte>,
+    tally: &mut Tally,
+) -> Option<TableByte>
+    requires valid { IsValidSpan haystack.now rest }
+    requires kept { IsKept table.now haystack.now start rest.start rest.end kept }
+    ensures place { option_map (λ f. f.place) result ≡ first table.now haystack.now rest }
+    ensures distance { IfSome result (λ f. distance_of table.now (slice_index haystack.now f.place) ≡ Some f.distance) }
+    ensures scanned { tally.new ≡ record tally.old
+        { scanned = tally.old.scanned + (read_to rest.end result - read_to start kept) } }
+{
+    match kept {
+        Some(found) if rest.start <= found.place => kept,
+        _ => table.find(haystack, rest, tally),
+    }
+}
+
+/// The leftmost match in the span, by a table that covers the patterns. Each byte is scanned at most
+/// once, and only places near a byte of the table are tried.
+fn confirm_by_table(
+    table: &ByteTable,
+    patterns: &Patterns,
+    ignore_case: bool,
+    haystack: &[u8],
+    span: Span,
+    tally: &mut Tally,
+) -> Option<Match>
+    requires in_order { IsInOrder patterns.now }
+    requires covered { All (Covers table.now ignore_case) patterns.now.patterns }
+    requires valid { IsValidSpan haystack.now span }
+    ensures leftmost { IsLeftmost (query_of patterns.now) ignore_case haystack.now span result }
+    ensures scanned { tally.new.scanned ≡ tally.old.scanned + scanned_once table.now haystack.now span result }
+    ensures tried { tally.new.tried ≡ tally.old.tried + tried_places table.now haystack.now span result }
+    ensures compared { tally.new.compared ≤ tally.old.compared
+        + (tally.new.tried - tally.old.tried) * length patterns.now.patterns }
+    ensures grows { tally.old.compared ≤ tally.new.compared }
+    ensures others { tally.new ≡ record tally.old
+        { compared = tally.new.compared; scanned = tally.new.scanned; tried = tally.new.tried } }
+{
+    let whole = &haystack[..span.end];
+    let mut at = span.start;
+    let mut kept = None;
+    while let Some(found) = next_byte(
+        table,
+        haystack,
+        span.start,
+        Span {
+            start: at,
+            end: span.end,
+        },
+        kept,
+        tally,
+    ) {
+        kept = Some(found);
+        let start = at.max(found.place.saturating_sub(found.distance as usize));
+        tally.tick_tried();
+        if let Some(id) = best_at(patterns, ignore_case, whole, start, tally) {
+            let end = start + patterns.get(id).len();
+            return Some(Match::new(id, Span { start, end }));
+        }
+        at = start + 1; // (past the place that was tried)
+    }
+    None
+}
