@@ -10,3 +10,8 @@ abbrev pub packed_kind_of : MatchKind → Option packed.MatchKind
 packed_kind_of Standard = None
 packed_kind_of LeftmostFirst = Some packed_kind.LeftmostFirst
 packed_kind_of LeftmostLongest = Some packed_kind.LeftmostLongest
+
+-- the match kind of the same name
+abbrev pub root_kind_of : packed.MatchKind → MatchKind
+root_kind_of packed_kind.LeftmostFirst = LeftmostFirst
+root_kind_of packed_kind.LeftmostLongest = LeftmostLongest

@@ -4,7 +4,10 @@ use Rattle.literal_base.specs.declared.search.Span.{Span}
 use Rattle.literal_base.specs.Counts.{Counts}
 use Rattle.literal_base.specs.MatchValue.{MatchValue}
 use Rattle.literal_base.specs.Occurs.{between}
+use Rattle.literal_packed.specs.Pairs.{counts_after}
+use Rattle.literal_prefilters.specs.Exact.{query_of_one}
 use Rattle.literal_prefilters.specs.Near.{near_count}
+use Rattle.literal_prefilters.specs.PrefilterValue.{PrefilterValue, by_table, by_pattern, by_search}
 use Rattle.literal_prefilters.specs.Table.{first}
 
 -- how many bytes are scanned: each up to the first of the table from the match's start on, or the whole span
@@ -27,3 +30,13 @@ pub record CountsTries (table : List (Option ℕ)) (patterns : List (List ℕ)) 
   pub compared : new.compared ≤ old.compared + (new.tried - old.tried) * length patterns
   pub grows : old.compared ≤ new.compared
   pub others : new ≡ record old { compared = new.compared; scanned = new.scanned; tried = new.tried }
+
+-- what a confirming search counts: by a table its tries, and by an exact prefilter one search
+abbrev pub CountsConfirming : PrefilterValue → List (List ℕ) → List ℕ → Span → Option MatchValue → Counts → Counts
+    → Type 0
+CountsConfirming (by_table table) patterns haystack span answer old new =
+    CountsTries table patterns haystack span answer old new
+CountsConfirming (by_pattern pattern) patterns haystack span answer old new =
+    new ≡ counts_after old (query_of_one pattern) haystack span answer
+CountsConfirming (by_search query) patterns haystack span answer old new =
+    new ≡ counts_after old query haystack span answer

@@ -1,6 +1,7 @@
 pub mod Answers
 pub mod Choice
 pub mod Confirming
+pub mod ConfirmingValue
 pub mod Exact
 pub mod Inside
 pub mod Kinds

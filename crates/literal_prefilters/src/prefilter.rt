@@ -4,12 +4,13 @@ ghost use Rattle.std.specs.Prelude.{◌≡◌, ◌≤◌, ◌<◌, ◌∷◌, �
 ghost use Rattle.std.specs.Prelude.{IsSomeAnd, IsTrue, ◌||◌, if◌then◌else◌};
 ghost use Rattle.std.specs.Option.{option_copied};
 ghost use Rattle.literal_base.specs.Occurs.{IsValidSpan};
-ghost use Rattle.literal_prefilters.specs.Answers.{start_of, candidate_of};
+ghost use Rattle.literal_prefilters.specs.Answers.{match_of, start_of};
 ghost use Rattle.literal_prefilters.specs.Choice.{IsBuiltFor, has_fewer_start_bytes, is_last_resort, is_one_pattern};
 ghost use Rattle.literal_prefilters.specs.Choice.{is_short_list, is_start_nearly_as_rare, packed_search, pick, suits_packed};
 ghost use Rattle.literal_prefilters.specs.PrefilterValue.{CoveredBy, IsAnswer, IsCountedAnswer, TakesMemory};
-ghost use Rattle.literal_prefilters.specs.PrefilterValue.{by_table, prefilter_reach};
+ghost use Rattle.literal_prefilters.specs.PrefilterValue.{by_table, prefilter_reach, table_of};
 ghost use Rattle.literal_prefilters.specs.PrefilterBuilderValue.{PrefilterBuilderValue, pattern_limit, with_added};
+ghost use Rattle.literal_packed.specs.PatternsValue.{IsInOrder};
 ghost use Rattle.literal_packed.specs.State.{WouldKeep, kept_of};
 ghost use Rattle.literal_prefilters.specs.Table.{reach_of};
 ghost use Rattle.literal_prefilters.specs.Inside.Prefilter.{value_of_finder};
@@ -23,7 +24,7 @@ mod tables;
 
 use byte_table::MOST_BYTES;
 pub use byte_table::ByteTable;
-pub use confirming::confirm;
+pub use confirming::{ConfirmingSearch, confirm};
 pub use exact::{Memmem, Packed};
 pub use kinds::{
     RareBytes, RareBytesOne, RareBytesThree, RareBytesTwo, StartBytes, StartBytesOne,
@@ -134,6 +135,21 @@ impl Prefilter {
         Ok(Prefilter { finder })
     }
 
+    /// The table, if the prefilter goes by one.
+    fn table(&self) -> Option<&ByteTable>
+        ensures { option_copied result ≡ table_of self.now }
+    {
+        match &self.finder {
+            Finder::Memmem(_) | Finder::Packed(_) => None,
+            Finder::StartBytesOne(pre) => Some(&pre.0),
+            Finder::StartBytesTwo(pre) => Some(&pre.0),
+            Finder::StartBytesThree(pre) => Some(&pre.0),
+            Finder::RareBytesOne(pre) => Some(&pre.0),
+            Finder::RareBytesTwo(pre) => Some(&pre.0),
+            Finder::RareBytesThree(pre) => Some(&pre.0),
+        }
+    }
+
     /// What every value keeps, for the law that says so.
     pub(crate) fn keeps_its_reach(&self)
         ensures { prefilter_reach self.now ≤ 254 }
@@ -190,6 +206,16 @@ impl Candidate {
             Candidate::None => None,
             Candidate::Match(found) => Some(found.start()),
             Candidate::PossibleStartOfMatch(start) => Some(start),
+        }
+    }
+
+    /// The match, if it is one.
+    fn into_match(self) -> Option<Match>
+        ensures { result ≡ match_of self }
+    {
+        match self {
+            Candidate::Match(found) => Some(found),
+            Candidate::None | Candidate::PossibleStartOfMatch(_) => None,
         }
     }
 }
@@ -312,6 +338,17 @@ impl Builder {
             (None, None) if self.is_last_resort() => self.packed(),
             (None, None) => Ok(None),
         }
+    }
+
+    /// The patterns, in the order of a match kind.
+    fn into_patterns(self, kind: literal_base::packed::MatchKind) -> Result<Patterns, AllocError>
+        ensures patterns { IfOk result (λ patterns. patterns.patterns ≡ kept_of self.state) }
+        ensures kind { IfOk result (λ patterns. patterns.kind ≡ kind) }
+        ensures in_order { IfOk result IsInOrder }
+    {
+        let mut patterns = self.patterns;
+        patterns.set_match_kind(kind)?;
+        Ok(patterns)
     }
 
     fn is_one_pattern(&self) -> bool

@@ -1,20 +1,26 @@
 //! The confirming search: a prefilter proposes places, and the patterns are compared there.
-ghost use Rattle.std.specs.Prelude.{◌≡◌, ◌+◌, ◌-◌, ◌*◌, ◌≤◌, length, IfSome, MatchOption, option_map, slice_index, Some};
+ghost use Rattle.std.specs.Prelude.{◌≡◌, ◌+◌, ◌-◌, ◌*◌, ◌≤◌, length, IfOk, IfSome, MatchOption, option_map, slice_index, Some};
 ghost use Rattle.std.specs.List.{All};
 ghost use Rattle.literal_base.specs.Leftmost.{IsLeftmost};
 ghost use Rattle.literal_base.specs.Occurs.{IsValidSpan};
 ghost use Rattle.literal_packed.specs.Inside.Place.{IsBestAt, NoneStandsAt};
 ghost use Rattle.literal_packed.specs.PatternsValue.{IsInOrder, query_of};
-ghost use Rattle.literal_prefilters.specs.Confirming.{CountsTries, scanned_once, tried_places};
+ghost use Rattle.literal_prefilters.specs.Confirming.{CountsConfirming, scanned_once, tried_places};
+ghost use Rattle.literal_packed.specs.Lending.{CanBeTaken};
+ghost use Rattle.literal_base.specs.Kinds.{root_kind_of};
+ghost use Rattle.literal_prefilters.specs.ConfirmingValue.{BuildsConfirming, confirming_of};
 ghost use Rattle.literal_prefilters.specs.Inside.Confirming.{IsKept, read_to};
 ghost use Rattle.literal_prefilters.specs.Table.{Covers, distance_of, first};
 
 use super::byte_table::TableByte;
-use crate::prefilter::{ByteTable, Candidate, PrefilterI};
+use crate::prefilter::{Builder, ByteTable, Candidate, Prefilter, PrefilterI};
 use literal_base::count::Tally;
-use literal_base::search::{Match, Span};
+use literal_base::packed;
+use literal_base::search::{Match, MatchKind, Span};
 use literal_ids::PatternID;
 use literal_packed::pattern::Patterns;
+use std::alloc::{AllocError, Global};
+use std::marker::Model;
 
 /// The first in match order of the patterns that stand at a place.
 fn best_at(
@@ -158,4 +164,110 @@ fn confirm_by_table(
         at = start + 1; // (past the place that was tried)
     }
     None
+}
+
+/// Searches for patterns by the prefilter that suits them. Contracts see the patterns, whether case is
+/// ignored, and what the prefilter goes by.
+#[derive(Drop)]
+pub struct ConfirmingSearch {
+    patterns: Patterns,
+    ignore_case: bool,
+    prefilter: Prefilter,
+}
+
+impl Model for ConfirmingSearch {
+    ghost use Rattle.literal_prefilters.specs.ConfirmingValue.{ConfirmingValue};
+
+    ghost Value = { ConfirmingValue };
+
+    ghost use Rattle.literal_packed.specs.PatternsValue.{IsInOrder, query_of};
+    ghost use Rattle.literal_prefilters.specs.PrefilterValue.{CoveredBy};
+
+    ghost view = { λ s. record { query = query_of s.patterns; ignore_case = s.ignore_case; prefilter = s.prefilter } };
+
+    ghost invariant = { λ s. IsInOrder s.patterns × CoveredBy s.prefilter (query_of s.patterns) s.ignore_case };
+}
+
+impl ConfirmingSearch {
+    /// The search for the patterns that the iterator gives, with this kind of match and ASCII case
+    /// ignored or not, and `None` exactly where [`Builder::build`] has no prefilter for them. The
+    /// iterator has to end.
+    pub fn build<'a, I: IntoIterator<Item = &'a [u8]>>(
+        alloc: Global,
+        kind: packed::MatchKind,
+        ignore_case: bool,
+        patterns: I,
+    ) -> Result<Option<ConfirmingSearch>, AllocError>
+        requires { CanBeTaken I.into_iter_gives I.IntoIter.can_next I.IntoIter.remaining patterns }
+        ensures { IfOk result
+            (BuildsConfirming I.into_iter_gives I.IntoIter.next_gives kind ignore_case patterns) }
+    {
+        let mut builder =
+            Builder::new(alloc, root_kind(kind)).ascii_case_insensitive(ignore_case);
+        for bytes in patterns {
+            builder.add(bytes)?;
+        }
+        ConfirmingSearch::of_builder(builder, kind)
+    }
+
+    /// The search for the patterns of a builder, which is for the match kind of this name.
+    fn of_builder(
+        builder: Builder,
+        kind: packed::MatchKind,
+    ) -> Result<Option<ConfirmingSearch>, AllocError>
+        requires { builder.kind ≡ root_kind_of kind }
+        ensures { IfOk result (λ built. built ≡ confirming_of kind builder) }
+    {
+        let Some(prefilter) = builder.build()? else {
+            return Ok(None);
+        };
+        let ignore_case = builder.ascii_case_insensitive;
+        let patterns = builder.into_patterns(kind)?;
+        Ok(Some(ConfirmingSearch {
+            patterns,
+            ignore_case,
+            prefilter,
+        }))
+    }
+
+    /// The leftmost match in a span of the haystack, which has to be a valid span of it: as
+    /// [`Searcher::find_in`](literal_packed::Searcher::find_in) answers it, with ASCII case ignored
+    /// where that was asked for.
+    pub fn find_in(&self, haystack: &[u8], span: Span) -> Option<Match>
+        requires { IsValidSpan haystack.now span }
+        ensures { IsLeftmost self.now.query self.now.ignore_case haystack.now span result }
+    {
+        self.find_in_counted(haystack, span, &mut Tally::new())
+    }
+
+    /// Answers as [`ConfirmingSearch::find_in`], and adds the steps that it takes to a tally. By a table
+    /// of bytes each byte is scanned at most once, and at each place that is tried each pattern is
+    /// compared at most once; by an exact prefilter it is one search.
+    pub fn find_in_counted(&self, haystack: &[u8], span: Span, tally: &mut Tally) -> Option<Match>
+        requires { IsValidSpan haystack.now span }
+        ensures leftmost { IsLeftmost self.now.query self.now.ignore_case haystack.now span result }
+        ensures counted { CountsConfirming self.now.prefilter self.now.query.patterns haystack.now span result
+            tally.old tally.new }
+    {
+        match self.prefilter.table() {
+            Some(table) => {
+                confirm_by_table(table, &self.patterns, self.ignore_case, haystack, span, tally)
+            }
+            // An exact prefilter answers the match itself.
+            None => self
+                .prefilter
+                .find_in_counted(haystack, span, tally)
+                .into_match(),
+        }
+    }
+}
+
+/// The match kind of the same name.
+fn root_kind(kind: packed::MatchKind) -> MatchKind
+    ensures { result ≡ root_kind_of kind }
+{
+    match kind {
+        packed::MatchKind::LeftmostFirst => MatchKind::LeftmostFirst,
+        packed::MatchKind::LeftmostLongest => MatchKind::LeftmostLongest,
+    }
 }

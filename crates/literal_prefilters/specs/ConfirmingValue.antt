@@ -1,0 +1,39 @@
+-- A confirming search, as contracts see it, and what it is built from.
+use Rattle.std.specs.Prelude.{◌≡◌, ℕ, Bool, List, Option, map, option_map}
+use Rattle.std.specs.Borrow.{Bor}
+use Rattle.std.specs.Iterator.{Drains}
+use Rattle.literal_base.specs.declared.packed.MatchKind.{MatchKind}
+use Rattle.literal_base.specs.Kinds.{root_kind_of}
+use Rattle.literal_base.specs.Query.{Query}
+use Rattle.literal_packed.specs.State.{kept_of, state_of}
+use Rattle.literal_prefilters.specs.Choice.{pick}
+use Rattle.literal_prefilters.specs.PrefilterBuilderValue.{PrefilterBuilderValue, pattern_limit}
+use Rattle.literal_prefilters.specs.PrefilterValue.{PrefilterValue}
+
+-- what is searched for, whether ASCII case is ignored, and the prefilter
+pub record ConfirmingValue : Type 0 where
+  pub query : Query
+  pub ignore_case : Bool
+  pub prefilter : PrefilterValue
+
+-- the prefilter's builder for a leftmost kind of match, to which these patterns were added
+abbrev pub prefilter_builder : MatchKind → Bool → List (List ℕ) → PrefilterBuilderValue
+prefilter_builder kind ignore_case added =
+    record { kind = root_kind_of kind; ignore_case = ignore_case; state = state_of pattern_limit added }
+
+-- the confirming search for a builder's patterns, if there is a prefilter for them
+abbrev pub confirming_of : MatchKind → PrefilterBuilderValue → Option ConfirmingValue
+confirming_of kind b = option_map
+    (λ prefilter. record {
+      query = record { kind = kind; patterns = kept_of b.state };
+      ignore_case = b.ignore_case;
+      prefilter = prefilter;
+    })
+    (pick b)
+
+-- the answer is what is built from all the items of an iterator
+abbrev pub BuildsConfirming : {U T : Type 0} → (U → T → Type 0) → (T → Option (Bor (List ℕ)) → T → Type 0) → MatchKind
+    → Bool → U → Option ConfirmingValue → Type 0
+BuildsConfirming {U} {T} becomes steps kind ignore_case patterns answer =
+    (it : T) × (items : List (Bor (List ℕ))) × becomes patterns it × Drains steps it items
+    × (answer ≡ confirming_of kind (prefilter_builder kind ignore_case (map (λ p. p.now) items)))
