@@ -41,6 +41,8 @@ BUCKET_READERS = places(tables.BUCKET_READERS)
 BODIES = places(tables.BODIES)
 STATEMENTS = places(tables.STATEMENTS)
 TAKERS = {name for _, _, name in list(COUNTED) + list(UNCOUNTED)}
+FREE_TAKERS = {name for _, owner, name in COUNTED if not owner}
+GENERIC_PREFILTERS = places(tables.GENERIC_PREFILTERS)
 
 
 def is_of_searches(path):
@@ -236,7 +238,7 @@ def names(sources):
             if is_taken(path, item):
                 yield f"{path}:{item.line}: {item.kind} {item.name}"
             for token in item.generics:
-                if token.text in tables.OWN_NAMES:
+                if token.text in tables.OWN_NAMES and (item.kind, token.text) != ("fn", "PrefilterI"):
                     yield f"{path}:{item.line}: the parameter {token.text}"
     for function in sources.functions:
         if function.item.name in TAKERS and function.key not in list(COUNTED) + list(UNCOUNTED):
@@ -341,7 +343,7 @@ def declared_types(sources):
 
 def signatures(sources):
     """What a function of the searches takes and gives is a haystack, a tally, or of plain types."""
-    known = set(tables.PLAIN_TYPES) | declared_types(sources)
+    known = set(tables.PLAIN_TYPES) | set(tables.TYPE_PATHS) | declared_types(sources)
     for function in search_functions(sources):
         haystacks = lent = 0
         for param in function.item.params:
@@ -376,6 +378,8 @@ def is_plain(function, param, known):
     odd = [word for word in type_of if word not in known]
     if not odd:
         return True
+    if function.key in GENERIC_PREFILTERS and texts(param) == words("pre: &P"):
+        return texts(function.item.generics) in (words("P: PrefilterI"), words("<P: PrefilterI>"))
     return function.key in OTHER_SIGNATURES and (
         plain_name in tables.PATTERN_NAMES or (plain_name == "f" and odd == ["W"])
     ) and not {"dyn", "fn", "impl", "str", "String", "Input"} & set(odd)
@@ -431,7 +435,10 @@ def reads(sources):
 def uncounted_calls(function, body):
     """Calls of searches that are given no tally, of whatever bytes."""
     for at in range(2, len(body)):
-        if body[at].text == "(" and body[at - 1].text in TAKERS and body[at - 2].text in (".", "::"):
+        if body[at].text != "(":
+            continue
+        name, before = body[at - 1].text, body[at - 2].text
+        if (name in TAKERS and before in (".", "::")) or name in FREE_TAKERS:
             if not has_tally(function, body, at):
                 yield f"{function} searches in no tally: {line_of(body, at)}"
 
@@ -502,7 +509,8 @@ def is_argument(function, body, at):
     if function.key in LAWS:
         law_names = {law for _, _, law in LAWS}
         return (name.text in TAKERS and before == ".") or (name.text in law_names and before not in (".", "::"))
-    return name.text in TAKERS and before == "." and has_tally(function, body, opening)
+    is_call = (name.text in TAKERS and before == ".") or (name.text in FREE_TAKERS and before not in (".", "::"))
+    return is_call and has_tally(function, body, opening)
 
 
 def enclosing(body, at):

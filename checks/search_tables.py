@@ -13,6 +13,7 @@ PACKED_LAWS = "crates/literal_packed/src/laws.rt"
 PREFILTER = "crates/literal_prefilters/src/prefilter.rt"
 PREFILTER_LAWS = "crates/literal_prefilters/src/laws.rt"
 BYTE_TABLE = "crates/literal_prefilters/src/prefilter/byte_table.rt"
+CONFIRMING = "crates/literal_prefilters/src/prefilter/confirming.rt"
 EXACT = "crates/literal_prefilters/src/prefilter/exact.rt"
 KINDS = "crates/literal_prefilters/src/prefilter/kinds.rt"
 TABLES = "crates/literal_prefilters/src/prefilter/tables.rt"
@@ -43,6 +44,11 @@ COUNTED = {
     (BYTE_TABLE, "impl ByteTable", "scan"): "hands it to `find`",
     (BYTE_TABLE, "impl ByteTable", "find"): "scans, in the words that are held below",
     (BYTE_TABLE, "impl ByteTable", "candidate"): "hands it to `find`",
+    (CONFIRMING, "", "best_at"): "cuts the haystack at the end of the span, and hands it to `matches_at`",
+    (CONFIRMING, "", "confirm"): "hands it to the prefilter and to `best_at`",
+    (CONFIRMING, "", "next_byte"): "hands it to the table",
+    (CONFIRMING, "", "confirm_by_table"): "hands it to `next_byte` and to `best_at`",
+    (CONFIRMING, "impl ConfirmingSearch", "find_in_counted"): "hands it to the table's search or to the prefilter",
     (EXACT, "impl Memmem", "find"): "cuts the haystack at the end of the span",
     (EXACT, "impl PrefilterI for Memmem", "find_in"): "hands it to `find`",
     (EXACT, "impl PrefilterI for Packed", "find_in"): "hands it to the searcher",
@@ -56,6 +62,7 @@ UNCOUNTED = {
     (API, "impl Searcher", "find_in"): "one search in a tally of its own",
     (API, "impl Searcher", "find_iter"): "one iteration in a tally of its own",
     (PREFILTER, "impl Prefilter", "find_in"): "one search in a tally of its own",
+    (CONFIRMING, "impl ConfirmingSearch", "find_in"): "one search in a tally of its own",
 }
 
 # Laws take a haystack too, and may call any search. No search may call a law in turn: outside of the
@@ -88,6 +95,7 @@ TALLY_MAKERS = {
     (API, "impl Searcher", "find_iter"): "for one iteration",
     (PREFILTER, "impl Prefilter", "find_in"): "for one search, which nobody counts",
     (PREFILTER, "impl Builder", "build"): "for the hash of the pattern, which is no search",
+    (CONFIRMING, "impl ConfirmingSearch", "find_in"): "for one search, which nobody counts",
     (ENGINE, "", "run"): "for the search of a run",
 }
 
@@ -107,7 +115,7 @@ TICKS = {
     "tick_entries": [(RABIN_KARP, "impl RabinKarp", "entry")],
     "tick_compared": [(PATTERN, "impl Patterns", "matches_at")],
     "tick_scanned": [(BYTE_TABLE, "impl ByteTable", "find")],
-    "tick_tried": [],
+    "tick_tried": [(CONFIRMING, "", "confirm"), (CONFIRMING, "", "confirm_by_table")],
 }
 
 # --- Bytes of patterns, and what is generic --------------------------------------------------------
@@ -142,6 +150,8 @@ OTHER_SIGNATURES = {
     (PREFILTER, "impl fmt::Debug for Prefilter", "fmt"): "a writer",
     (PREFILTER, "impl Builder", "add"): "a pattern",
     (PREFILTER, "impl fmt::Debug for Builder", "fmt"): "a writer",
+    (CONFIRMING, "", "confirm"): "a prefilter of any kind",
+    (CONFIRMING, "impl ConfirmingSearch", "build"): "patterns by an iterator",
     (BYTE_TABLE, "impl ByteTable", "if_small"): "the distance of each byte",
     (BYTE_TABLE, "impl ByteTable", "distance"): "a byte",
     (TABLES, "", "bytes_of"): "the bytes of a pattern",
@@ -152,6 +162,11 @@ OTHER_SIGNATURES = {
     (TABLES, "", "raise_all"): "the bytes of a pattern",
     (TABLES, "", "largest_offsets"): "the offset of each byte",
     (TABLES, "", "table_of"): "the offset of each byte",
+}
+
+# The functions that take a prefilter of any kind, as `pre: &P`, and know of it what the trait says.
+GENERIC_PREFILTERS = {
+    (CONFIRMING, "", "confirm"): "asks it for places",
 }
 
 # Functions with a closure.
@@ -168,6 +183,9 @@ STD_TYPES = (
 )
 VALUE_TYPES = ("PatternID", "Match", "MatchKind", "Span", "ByteSet")
 PLAIN_TYPES = STD_TYPES + VALUE_TYPES
+
+# Modules by which such a type is named, where two types have one name.
+TYPE_PATHS = ("packed",)
 
 # --- Forms of code ---------------------------------------------------------------------------------
 
@@ -218,6 +236,7 @@ OWN_NAMES = {
     "TableByte": BYTE_TABLE,
     "Memmem": EXACT,
     "Packed": EXACT,
+    "ConfirmingSearch": CONFIRMING,
     "Prefilter": PREFILTER,
     "PrefilterI": PREFILTER,
 }
@@ -228,6 +247,7 @@ IMPLS = {
     "FindIter": ["impl<'s, 'h> Model for FindIter<'s, 'h>", "impl<'s, 'h> Iterator for FindIter<'s, 'h>"],
     "RabinKarp": ["impl Model for RabinKarp", "impl RabinKarp"],
     "Rolling": ["impl Model for Rolling", "impl Rolling"],
+    "ConfirmingSearch": ["impl Model for ConfirmingSearch", "impl ConfirmingSearch"],
     "Memmem": ["impl Model for Memmem", "impl Memmem", "impl PrefilterI for Memmem"],
     "Packed": ["impl Model for Packed", "impl Packed", "impl PrefilterI for Packed"],
 }
@@ -239,6 +259,7 @@ MAKERS = {
     "Rolling": [(RABIN_KARP, "impl Rolling", "new")],
     "Searcher": [(API, "impl Builder", "build"), (API, "impl Searcher", "try_clone")],
     "Patterns": [(PATTERN, "impl Patterns", "new"), (PATTERN, "impl Patterns", "try_clone")],
+    "ConfirmingSearch": [(CONFIRMING, "impl ConfirmingSearch", "of_builder")],
     "Memmem": [(EXACT, "impl Memmem", "new"), (EXACT, "impl Memmem", "try_clone")],
     "Packed": [(EXACT, "impl Packed", "new"), (EXACT, "impl Packed", "try_clone")],
 }
@@ -283,9 +304,11 @@ STRUCTS = {
         minimum_len: usize, total_pattern_bytes: u128, }""",
     "Pattern": "#[derive(Clone, Drop)] pub struct Pattern<'p>(&'p [u8]);",
     "ByteTable": "#[derive(Drop)] pub struct ByteTable { distances: [Option<u8>; 256], count: usize, rank_sum: u16, }",
+    "ConfirmingSearch": """#[derive(Drop)]
+        pub struct ConfirmingSearch { patterns: Patterns, ignore_case: bool, prefilter: Prefilter, }""",
     "Memmem": "#[derive(Drop)] pub struct Memmem { patterns: Patterns, rabin_karp: RabinKarp, }",
     "Packed": "#[derive(Drop)] pub struct Packed { searcher: Searcher, }",
-    "TableByte": "#[derive(Clone, Copy, Drop)] struct TableByte { place: usize, distance: u8, }",
+    "TableByte": "#[derive(Clone, Copy, Drop)] pub(super) struct TableByte { pub(super) place: usize, pub(super) distance: u8, }",
 }
 
 # The bodies that read bytes of the haystack, read bucket entries, tick, or make a tally for a search.
@@ -294,6 +317,7 @@ BODIES = {
     (API, "impl Searcher", "find_in"): "let mut tally = Tally::new(); self.find_in_counted(haystack, span, &mut tally)",
     (API, "impl Searcher", "find_iter"): "FindIter { searcher: self, haystack, at: 0, tally: Tally::new(), }",
     (PREFILTER, "impl Prefilter", "find_in"): "self.find_in_counted(haystack, span, &mut Tally::new())",
+    (CONFIRMING, "impl ConfirmingSearch", "find_in"): "self.find_in_counted(haystack, span, &mut Tally::new())",
     (PATTERN, "impl Patterns", "matches_at"): """
         tally.tick_compared();
         let bytes = self.get(id).bytes();

@@ -31,6 +31,7 @@ pub use kinds::{
     StartBytesThree, StartBytesTwo,
 };
 use literal_base::count::Tally;
+use literal_base::packed;
 use literal_base::search::{Match, MatchKind, Span};
 use literal_ids::PatternID;
 use literal_packed::pattern::Patterns;
@@ -341,7 +342,7 @@ impl Builder {
     }
 
     /// The patterns, in the order of a match kind.
-    fn into_patterns(self, kind: literal_base::packed::MatchKind) -> Result<Patterns, AllocError>
+    fn into_patterns(self, kind: packed::MatchKind) -> Result<Patterns, AllocError>
         ensures patterns { IfOk result (λ patterns. patterns.patterns ≡ kept_of self.state) }
         ensures kind { IfOk result (λ patterns. patterns.kind ≡ kind) }
         ensures in_order { IfOk result IsInOrder }

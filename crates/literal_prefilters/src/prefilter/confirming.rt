@@ -1,5 +1,5 @@
 //! The confirming search: a prefilter proposes places, and the patterns are compared there.
-ghost use Rattle.std.specs.Prelude.{◌≡◌, ◌+◌, ◌-◌, ◌*◌, ◌≤◌, length, IfOk, IfSome, MatchOption, option_map, slice_index, Some};
+ghost use Rattle.std.specs.Prelude.{◌≡◌, ◌+◌, ◌-◌, ◌*◌, ◌≤◌, length, take, IfOk, IfSome, MatchOption, option_map, slice_index, Some};
 ghost use Rattle.std.specs.List.{All};
 ghost use Rattle.literal_base.specs.Leftmost.{IsLeftmost};
 ghost use Rattle.literal_base.specs.Occurs.{IsValidSpan};
@@ -22,23 +22,28 @@ use literal_packed::pattern::Patterns;
 use std::alloc::{AllocError, Global};
 use std::marker::Model;
 
-/// The first in match order of the patterns that stand at a place.
+/// The first in match order of the patterns that stand at a place and end in the span. The place lies in
+/// it, or is its end.
 fn best_at(
     patterns: &Patterns,
     ignore_case: bool,
     haystack: &[u8],
+    span: Span,
     at: usize,
     tally: &mut Tally,
 ) -> Option<PatternID>
     requires in_order { IsInOrder patterns.now }
-    requires in_haystack { at ≤ length haystack.now }
+    requires valid { IsValidSpan haystack.now span }
+    requires in_span { at ≤ span.end }
     ensures best { MatchOption result
-        (NoneStandsAt patterns.now.patterns ignore_case haystack.now at)
-        (IsBestAt (query_of patterns.now) ignore_case haystack.now at) }
+        (NoneStandsAt patterns.now.patterns ignore_case (take span.end haystack.now) at)
+        (IsBestAt (query_of patterns.now) ignore_case (take span.end haystack.now) at) }
     ensures compared { tally.new.compared ≤ tally.old.compared + length patterns.now.patterns }
     ensures grows { tally.old.compared ≤ tally.new.compared }
     ensures others { tally.new ≡ record tally.old { compared = tally.new.compared } }
 {
+    // An occurrence that runs past the end of the span is none.
+    let haystack = &haystack[..span.end];
     for (id, _) in patterns.iter() {
         if patterns.matches_at(id, haystack, at, ignore_case, tally) {
             return Some(id);
@@ -72,8 +77,6 @@ pub fn confirm<P: PrefilterI>(
     ensures scanned { tally.new.scanned ≤ tally.old.scanned + (span.end - span.start)
         + P.reach pre.now * (tally.new.tried - tally.old.tried) }
 {
-    // An occurrence that runs past the end of the span is none.
-    let whole = &haystack[..span.end];
     let mut from = span.start;
     'asks: loop {
         let rest = Span {
@@ -85,7 +88,7 @@ pub fn confirm<P: PrefilterI>(
             Candidate::Match(found) => return Some(found),
             Candidate::PossibleStartOfMatch(start) => {
                 tally.tick_tried();
-                if let Some(id) = best_at(patterns, ignore_case, whole, start, tally) {
+                if let Some(id) = best_at(patterns, ignore_case, haystack, span, start, tally) {
                     let end = start + patterns.get(id).len();
                     return Some(Match::new(id, Span { start, end }));
                 }
@@ -140,7 +143,6 @@ fn confirm_by_table(
     ensures others { tally.new ≡ record tally.old
         { compared = tally.new.compared; scanned = tally.new.scanned; tried = tally.new.tried } }
 {
-    let whole = &haystack[..span.end];
     let mut at = span.start;
     let mut kept = None;
     while let Some(found) = next_byte(
@@ -157,7 +159,7 @@ fn confirm_by_table(
         kept = Some(found);
         let start = at.max(found.place.saturating_sub(found.distance as usize));
         tally.tick_tried();
-        if let Some(id) = best_at(patterns, ignore_case, whole, start, tally) {
+        if let Some(id) = best_at(patterns, ignore_case, haystack, span, start, tally) {
             let end = start + patterns.get(id).len();
             return Some(Match::new(id, Span { start, end }));
         }
