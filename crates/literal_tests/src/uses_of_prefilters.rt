@@ -1,16 +1,21 @@
 //! Callers of prefilters that rely on contracts alone.
-ghost use Rattle.std.specs.Prelude.{◌≤◌, ℕ, Bool, MatchOption, IfOk, IfSome};
-ghost use Rattle.literal_base.specs.declared.packed.MatchKind.{MatchKind};
+ghost use Rattle.std.specs.Prelude.{◌≡◌, ◌≤◌, ◌+◌, ◌-◌, ◌*◌, ℕ, Bool, MatchOption, IfOk, IfSome};
+ghost use Rattle.literal_base.specs.declared.packed.MatchKind as packed_kind;
+ghost use Rattle.literal_base.specs.Leftmost.{IsLeftmost};
+ghost use Rattle.literal_packed.specs.PatternsValue.{query_of};
+ghost use Rattle.literal_tests.specs.Covered.{IsCovered};
 ghost use Rattle.literal_base.specs.Occurs.{IsValidSpan, Occurs, NothingOccurs};
 ghost use Rattle.literal_base.specs.Query.{Query};
 ghost use Rattle.literal_packed.specs.State.{kept_of};
 ghost use Rattle.literal_prefilters.specs.Choice.{Serves};
 ghost use Rattle.literal_prefilters.specs.Sound.{Sound};
 
-use literal_prefilters::Span;
 use literal_prefilters::count::Tally;
-use literal_prefilters::prefilter::{Builder, Candidate, PrefilterI};
-use std::alloc::AllocError;
+use literal_prefilters::laws::prefilters_reach_254_bytes;
+use literal_prefilters::packed::{self, pattern::Patterns};
+use literal_prefilters::prefilter::{Builder, Candidate, Prefilter, PrefilterI, confirm};
+use literal_prefilters::{Match, MatchKind, PatternID, Span};
+use std::alloc::{AllocError, Global};
 
 /// From where on the span has to be searched, by a prefilter of any kind: no occurrence of what it
 /// covers begins before that place, and none at all where there is no such place.
@@ -38,7 +43,7 @@ pub fn candidate_of(
     span: Span,
 ) -> Result<Option<Candidate>, AllocError>
     requires { IsValidSpan haystack.now span }
-    ensures { IfOk result (λ answer. IfSome answer (λ candidate. (kind : MatchKind)
+    ensures { IfOk result (λ answer. IfSome answer (λ candidate. (kind : packed_kind.MatchKind)
         → Serves builder.now.kind kind
         → Sound (record { kind = kind; patterns = kept_of builder.now.state }) builder.now.ignore_case haystack.now span
         candidate)) }
@@ -47,6 +52,65 @@ pub fn candidate_of(
         Some(pre) => Ok(Some(pre.find_in(haystack, span))),
         None => Ok(None),
     }
+}
+
+/// Patterns in the order of a match kind, and a prefilter that covers them for it, if one does. `None`
+/// too where a pattern is empty, or there are too many.
+pub fn covered_patterns(
+    alloc: Global,
+    kind: packed::MatchKind,
+    ignore_case: bool,
+    list: &[&[u8]],
+) -> Result<Option<Covered>, AllocError>
+    ensures { IfOk result (λ made. IfSome made (λ covered.
+        (covered.patterns.kind ≡ kind) × IsCovered ignore_case covered.patterns covered.prefilter)) }
+{
+    let root_kind = match kind {
+        packed::MatchKind::LeftmostFirst => MatchKind::LeftmostFirst,
+        packed::MatchKind::LeftmostLongest => MatchKind::LeftmostLongest,
+    };
+    let mut builder = Builder::new(alloc, root_kind).ascii_case_insensitive(ignore_case);
+    let mut patterns = Patterns::new(alloc);
+    for bytes in list {
+        if bytes.is_empty() || patterns.len() >= PatternID::LIMIT {
+            return Ok(None);
+        }
+        patterns.add(bytes)?;
+        builder.add(bytes)?;
+    }
+    patterns.set_match_kind(kind)?;
+    let Some(prefilter) = builder.build()? else {
+        return Ok(None);
+    };
+    Ok(Some(Covered {
+        patterns,
+        prefilter,
+    }))
+}
+
+/// Patterns, and a prefilter for them.
+#[derive(Drop)]
+pub struct Covered {
+    pub patterns: Patterns,
+    pub prefilter: Prefilter,
+}
+
+/// The leftmost match in a span by the prefilter of the patterns: confirming by what a builder builds
+/// finds the leftmost, and scans at most 255 bytes for each byte of the span.
+pub fn confirm_covered(
+    covered: &Covered,
+    ignore_case: bool,
+    haystack: &[u8],
+    span: Span,
+    tally: &mut Tally,
+) -> Option<Match>
+    requires covered { IsCovered ignore_case covered.now.patterns covered.now.prefilter }
+    requires valid { IsValidSpan haystack.now span }
+    ensures leftmost { IsLeftmost (query_of covered.now.patterns) ignore_case haystack.now span result }
+    ensures scanned { tally.new.scanned ≤ tally.old.scanned + 255 * (span.end - span.start) }
+{
+    prefilters_reach_254_bytes(&covered.prefilter);
+    confirm(&covered.prefilter, &covered.patterns, ignore_case, haystack, span, tally)
 }
 
 #[cfg(test)]
