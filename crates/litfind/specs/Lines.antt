@@ -1,15 +1,26 @@
 -- What a run prints.
-use Rattle.std.specs.Prelude.{◌≡◌, ℕ, List, ◌++◌, Some, false, codes}
+use Rattle.std.specs.Prelude.{◌≡◌, ℕ, Bool, List, ◌++◌, Option, Some, false, codes}
 use Rattle.std.specs.List.{flat_map}
 use Rattle.std.specs.Fmt.{decimal}
+use Rattle.std.specs.Option.{option_to_list}
 use Rattle.literal_base.specs.MatchValue.{MatchValue}
 use Rattle.literal_base.specs.Greedy.{IsGreedy}
+use Rattle.literal_base.specs.Leftmost.{IsLeftmost}
+use Rattle.literal_base.specs.Occurs.{whole_of}
 use Rattle.literal_base.specs.Query.{Query}
-use Rattle.litfind.specs.Query.{query_asked}
+use Rattle.litfind.specs.Query.{Asked, all_matches, leftmost_match, words_ask}
 
--- the matches that are printed: those of the whole input that do not overlap, from the left
-abbrev pub AreMatches : Query → List ℕ → List MatchValue → Type 0
-AreMatches query input matches = IsGreedy query false input 0 matches
+-- the list is the leftmost match of the whole input, and empty where nothing occurs in it
+pub record IsLeftmostList (query : Query) (ignore_case : Bool) (input : List ℕ) (matches : List MatchValue) : Type 0
+    where
+  pub found : Option MatchValue
+  pub leftmost : IsLeftmost query ignore_case input (whole_of input) found
+  pub is_list : matches ≡ option_to_list found
+
+-- the matches that are printed: those of the whole input that do not overlap, from the left, or the leftmost one
+abbrev pub AreMatches : Asked → List ℕ → List MatchValue → Type 0
+AreMatches (all_matches query) input matches = IsGreedy query false input 0 matches
+AreMatches (leftmost_match query ignore_case) input matches = IsLeftmostList query ignore_case input matches
 
 -- the line of a match: the identifier of its pattern, and the offsets from which and up to which it
 -- stands, in decimal with one space between, and a line feed
@@ -17,10 +28,10 @@ abbrev pub line_of : MatchValue → List ℕ
 line_of found = decimal found.pattern ++ codes " " ++ decimal found.start ++ codes " " ++ decimal found.end ++ codes
     "\n"
 
--- the text is a line for each match of the input, for the query of the words
+-- the text is a line for each match of the input that the words ask for
 pub record AreLines (words : List (List ℕ)) (input text : List ℕ) : Type 0 where
-  pub query : Query
-  pub asked : query_asked words ≡ Some query
+  pub asked : Asked
+  pub ask : words_ask words ≡ Some asked
   pub matches : List MatchValue
-  pub found : AreMatches query input matches
+  pub found : AreMatches asked input matches
   pub lines : text ≡ flat_map line_of matches

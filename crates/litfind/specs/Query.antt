@@ -1,32 +1,49 @@
 -- What the words of a run ask for.
-use Rattle.std.specs.Prelude.{◌≡◌, ℕ, List, [], ◌∷◌, Option, Some, None, codes, if◌then◌else◌}
+use Rattle.std.specs.Prelude.{◌≡◌, ℕ, Bool, true, false, List, [], ◌∷◌, Option, Some, None, codes, if◌then◌else◌}
 use Rattle.std.specs.Option.{option_map}
 use Rattle.std.specs.Str.{bytes_eq}
 use Rattle.literal_base.specs.declared.packed.MatchKind.{MatchKind}
 use Rattle.literal_base.specs.declared.packed.MatchKind.TheVariants.{LeftmostFirst, LeftmostLongest}
 use Rattle.literal_base.specs.Query.{Query}
 use Rattle.literal_packed.specs.BuilderValue.{BuilderValue, builder_of, searcher_of}
+use Rattle.literal_prefilters.specs.ConfirmingValue.{confirming_of, prefilter_builder}
 
--- which occurrence is the match in the mode of a name, and None where the name is unknown
-abbrev pub mode_kind : List ℕ → Option MatchKind
-mode_kind name =
-    if bytes_eq name (codes "first") then Some LeftmostFirst
-    else if bytes_eq name (codes "longest") then Some LeftmostLongest
+-- what is asked for: all matches of some patterns, or the leftmost one with ASCII case ignored or not
+pub data Asked : Type 0 where
+  all_matches : Query → Asked
+  leftmost_match : Query → Bool → Asked
+
+-- what is asked for in the mode of a name, by its patterns, and None where the name is unknown
+abbrev pub mode_asks : List ℕ → List (List ℕ) → Option Asked
+mode_asks name patterns =
+    let first : Query = record { kind = LeftmostFirst; patterns = patterns } in
+    let longest : Query = record { kind = LeftmostLongest; patterns = patterns } in
+    if bytes_eq name (codes "first") then Some (all_matches first)
+    else if bytes_eq name (codes "longest") then Some (all_matches longest)
+    else if bytes_eq name (codes "confirm-first") then Some (leftmost_match first false)
+    else if bytes_eq name (codes "confirm-longest") then Some (leftmost_match longest false)
+    else if bytes_eq name (codes "nocase-first") then Some (leftmost_match first true)
+    else if bytes_eq name (codes "nocase-longest") then Some (leftmost_match longest true)
     else None
 
 -- what the words ask for: they are the name of a mode, followed by at least one pattern. Otherwise they ask for nothing
-abbrev pub query_asked : List (List ℕ) → Option Query
-query_asked [] = None
-query_asked (mode ∷ []) = None
-query_asked (mode ∷ (first ∷ more)) = option_map (λ kind. record { kind = kind; patterns = first ∷ more })
-    (mode_kind mode)
+abbrev pub words_ask : List (List ℕ) → Option Asked
+words_ask [] = None
+words_ask (mode ∷ []) = None
+words_ask (mode ∷ (first ∷ more)) = mode_asks mode (first ∷ more)
 
 -- the builder to which the patterns of a query were added
 abbrev pub builder_for : Query → BuilderValue
 builder_for query = builder_of (record { kind = query.kind }) query.patterns
 
--- the words ask for something, and no searcher can be built for its patterns
+-- there is no searcher for what is asked: a packed search or a confirming one cannot be built
+abbrev pub IsWithoutSearcher : Asked → Type 0
+IsWithoutSearcher (all_matches query) = searcher_of (builder_for query) ≡ None
+IsWithoutSearcher (leftmost_match query ignore_case) =
+    confirming_of query.kind (prefilter_builder query.kind ignore_case query.patterns) ≡ None
+
+-- the words ask for something, and there is no searcher for it
 pub record HasNoSearcher (words : List (List ℕ)) : Type 0 where
-  pub query : Query
-  pub asked : query_asked words ≡ Some query
-  pub none : searcher_of (builder_for query) ≡ None
+  pub asked : Asked
+  pub ask : words_ask words ≡ Some asked
+  pub none : IsWithoutSearcher asked

@@ -1,59 +1,82 @@
 //! The engine: the words and the whole input in, the whole text out.
 ghost use Rattle.std.specs.Prelude.{◌≡◌, ◌≢◌, ◌⊎◌, ◌↔◌, true, false, map, Some, None, IfOk, IfErr, OnOk, OnErr};
-ghost use Rattle.std.specs.Prelude.{MatchOption, IsErrOf, string_bytes};
+ghost use Rattle.std.specs.Prelude.{MatchOption, IsErrOf, List, ℕ, option_map, string_bytes};
 ghost use Rattle.std.specs.List.{flat_map};
 ghost use Rattle.std.specs.Io.KnownBytes.{Appends};
 ghost use Rattle.literal_packed.specs.BuilderValue.{searcher_of};
-ghost use Rattle.litfind.specs.Lines.{line_of};
-ghost use Rattle.litfind.specs.Query.{HasNoSearcher, builder_for, mode_kind, query_asked};
+ghost use Rattle.litfind.specs.Lines.{AreMatches, line_of};
+ghost use Rattle.litfind.specs.Inside.{asked_of, searches_for};
+ghost use Rattle.litfind.specs.Query.{HasNoSearcher, builder_for, mode_asks, words_ask};
+ghost use Rattle.literal_prefilters.specs.ConfirmingValue.{confirming_of, prefilter_builder};
 ghost use Rattle.litfind.specs.Run.{IsFront, IsWhole, ReadSome, WroteFront, WroteLines};
 
 use crate::device::{Failed, Sink, Source};
 use crate::fault::Fault;
 use crate::line::Line;
-use literal_base::Match;
+use literal_base::{Match, Span};
 use literal_base::count::Tally;
 use literal_packed::{Config, MatchKind, Searcher};
+use literal_prefilters::prefilter::ConfirmingSearch;
 use std::alloc::{AllocError, Global};
 
 /// How many bytes are asked for at once.
 const BLOCK: usize = 65536;
 
-/// What the words ask for: a mode, and the patterns.
+/// What the words ask for: how to search, and the patterns.
 #[derive(Clone, Copy)]
 struct Request<'w> {
-    kind: MatchKind,
+    mode: Mode,
     patterns: &'w [String],
 }
 
-/// Which occurrence is the match in the mode of this name.
-fn mode_kind(name: &str) -> Option<MatchKind>
-    ensures { result ≡ mode_kind name.now }
+/// How to search: for which kind of match; for all of them, or for the leftmost one by a confirming
+/// search.
+#[derive(Clone, Copy)]
+enum Mode {
+    All(MatchKind),
+    Leftmost { kind: MatchKind, ignore_case: bool },
+}
+
+/// A searcher of one of the modes.
+#[derive(Drop)]
+enum Searching {
+    All(Searcher),
+    Leftmost(ConfirmingSearch),
+}
+
+/// The mode of this name.
+fn mode_of(name: &str) -> Option<Mode>
+    ensures { (patterns : List (List ℕ)) → mode_asks name.now patterns ≡ option_map (asked_of patterns) result }
 {
-    match name {
-        "first" => Some(MatchKind::LeftmostFirst),
-        "longest" => Some(MatchKind::LeftmostLongest),
-        _ => None,
-    }
+    let (kind, ignore_case) = match name {
+        "first" => return Some(Mode::All(MatchKind::LeftmostFirst)),
+        "longest" => return Some(Mode::All(MatchKind::LeftmostLongest)),
+        "confirm-first" => (MatchKind::LeftmostFirst, false),
+        "confirm-longest" => (MatchKind::LeftmostLongest, false),
+        "nocase-first" => (MatchKind::LeftmostFirst, true),
+        "nocase-longest" => (MatchKind::LeftmostLongest, true),
+        _ => return None,
+    };
+    Some(Mode::Leftmost { kind, ignore_case })
 }
 
 /// The mode and the patterns, where the words are these.
 fn parse(words: &[String]) -> Option<Request<'_>>
-    ensures { let query = query_asked (map string_bytes words.now) in
-        MatchOption result (query ≡ None)
-        (λ request. query ≡ Some (record { kind = request.kind; patterns = map string_bytes request.patterns.now })) }
+    ensures { MatchOption result (words_ask (map string_bytes words.now) ≡ None)
+        (λ request. words_ask (map string_bytes words.now)
+        ≡ Some (asked_of (map string_bytes request.patterns.now) request.mode)) }
 {
     let (mode, patterns) = words.split_first()?;
     if patterns.is_empty() {
         return None;
     }
     Some(Request {
-        kind: mode_kind(mode.as_str())?,
+        mode: mode_of(mode.as_str())?,
         patterns,
     })
 }
 
-/// A searcher for the patterns, where one can be built.
+/// A searcher for all matches of the patterns, where one can be built.
 fn build(
     alloc: Global,
     kind: MatchKind,
@@ -69,10 +92,48 @@ fn build(
     builder.build()
 }
 
+/// A confirming search for the patterns, where one can be built.
+fn build_confirming(
+    alloc: Global,
+    kind: MatchKind,
+    ignore_case: bool,
+    patterns: &[String],
+) -> Result<Option<ConfirmingSearch>, AllocError>
+    ensures { IfOk result (λ built. built ≡ confirming_of kind
+        (prefilter_builder kind ignore_case (map string_bytes patterns.now))) }
+{
+    let mut bytes = Vec::new(alloc);
+    for pattern in patterns {
+        bytes.push(pattern.as_bytes())?;
+    }
+    ConfirmingSearch::build(alloc, kind, ignore_case, bytes)
+}
+
+impl Searching {
+    /// The matches in the whole input that the searcher is for.
+    fn matches(&self, alloc: Global, input: &[u8], tally: &mut Tally) -> Result<Vec<Match>, AllocError>
+        ensures { IfOk result (λ matches. AreMatches (searches_for self.now) input.now matches.items) }
+    {
+        let search = match self {
+            Searching::All(searcher) => return searcher.find_all(input, tally),
+            Searching::Leftmost(search) => search,
+        };
+        let span = Span {
+            start: 0,
+            end: input.len(),
+        };
+        let mut matches = Vec::new(alloc);
+        if let Some(found) = search.find_in_counted(input, span, tally) {
+            matches.push(found)?;
+        }
+        Ok(matches)
+    }
+}
+
 /// A searcher for what the words ask for.
-fn searcher(alloc: Global, words: &[String]) -> Result<Searcher, Fault>
-    ensures asked { IfOk result (λ searcher. query_asked (map string_bytes words.now) ≡ Some searcher) }
-    ensures usage { IsErrOf result Fault.Usage ↔ (query_asked (map string_bytes words.now) ≡ None) }
+fn searcher(alloc: Global, words: &[String]) -> Result<Searching, Fault>
+    ensures asked { IfOk result (λ searching. words_ask (map string_bytes words.now) ≡ Some (searches_for searching)) }
+    ensures usage { IsErrOf result Fault.Usage ↔ (words_ask (map string_bytes words.now) ≡ None) }
     ensures no_searcher { IsErrOf result Fault.NoSearcher → HasNoSearcher (map string_bytes words.now) }
     ensures not_buildable { HasNoSearcher (map string_bytes words.now)
         → IsErrOf result Fault.NoSearcher ⊎ IsErrOf result Fault.OutOfMemory }
@@ -82,9 +143,17 @@ fn searcher(alloc: Global, words: &[String]) -> Result<Searcher, Fault>
     let Some(request) = parse(words) else {
         return Err(Fault::Usage);
     };
-    match build(alloc, request.kind, request.patterns)? {
-        Some(searcher) => Ok(searcher),
-        None => Err(Fault::NoSearcher),
+    match request.mode {
+        Mode::All(kind) => match build(alloc, kind, request.patterns)? {
+            Some(searcher) => Ok(Searching::All(searcher)),
+            None => Err(Fault::NoSearcher),
+        },
+        Mode::Leftmost { kind, ignore_case } => {
+            match build_confirming(alloc, kind, ignore_case, request.patterns)? {
+                Some(search) => Ok(Searching::Leftmost(search)),
+                None => Err(Fault::NoSearcher),
+            }
+        }
     }
 }
 
@@ -138,7 +207,9 @@ pub fn write_whole<W: Sink>(writer: &mut W, text: &[u8]) -> Result<(), Failed>
 }
 
 /// Reads the whole input, and writes a line for each match of the patterns that the words ask for.
-/// The words are a mode, `first` or `longest`, and the patterns, whose bytes are searched for.
+/// The words are a mode and the patterns, whose bytes are searched for: all matches in the modes
+/// `first` and `longest`, and the leftmost one in `confirm-first` and `confirm-longest`, and with ASCII
+/// case ignored in `nocase-first` and `nocase-longest`.
 /// The answer says whether a line was written. No call of the reader or the writer is made again
 /// after it failed.
 pub fn run<R: Source, W: Sink>(
@@ -158,7 +229,7 @@ pub fn run<R: Source, W: Sink>(
     ensures flushed { OnOk result (W.flushed writer.new ≡ true) }
 
     // The words are looked at first, before any read.
-    ensures usage { IsErrOf result Fault.Usage ↔ (query_asked (map string_bytes words.now) ≡ None) }
+    ensures usage { IsErrOf result Fault.Usage ↔ (words_ask (map string_bytes words.now) ≡ None) }
     ensures no_searcher { IsErrOf result Fault.NoSearcher → HasNoSearcher (map string_bytes words.now) }
     ensures not_buildable { HasNoSearcher (map string_bytes words.now)
         → IsErrOf result Fault.NoSearcher ⊎ IsErrOf result Fault.OutOfMemory }
@@ -180,7 +251,7 @@ pub fn run<R: Source, W: Sink>(
     let searcher = searcher(alloc, words)?;
     let input = read_to_end(alloc, reader)?;
     let mut tally = Tally::new();
-    let matches = searcher.find_all(input.as_slice(), &mut tally)?;
+    let matches = searcher.matches(alloc, input.as_slice(), &mut tally)?;
     let text = lines(alloc, matches.as_slice())?;
     let bytes = text.as_bytes();
     match write_whole(writer, bytes) {

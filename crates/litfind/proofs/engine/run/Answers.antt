@@ -1,5 +1,6 @@
 use Rattle.std.proofs.Common.{string_bytes, arith, rules}
 use Rattle.std.proofs.lemmas.Grind.{common_steps}
+use Rattle.litfind.specs.Inside.{searches_for}
 use Rattle.litfind.proofs.engine.run.Goals as goal
 
 pub returns-in-Ok-clause-ok : goal.returns-in-Ok-clause-ok
@@ -9,10 +10,10 @@ returns-in-Ok-clause-ok g c =
       text = string_bytes c.in_ok-text.text;
       read = c.in_ok-input.ensures.whole;
       lines = record {
-        query = c.in_ok-searcher.searcher;
-        asked = c.in_ok-searcher.ensures.asked;
+        asked = searches_for c.in_ok-searcher.searcher;
+        ask = c.in_ok-searcher.ensures.asked;
         matches = c.in_ok-matches.matches.items;
-        found = rw c.as_slice.ensures.value at c.in_ok-matches.ensures.greedy;
+        found = rw c.as_slice.ensures.value at c.in_ok-matches.ensures;
         lines = rw c.as_slice-2.ensures.value at c.in_ok-text.ensures;
       };
       written = search (rules, c.in-Ok.ensures.ok, c.as_bytes-bytes.ensures.value);
@@ -26,10 +27,10 @@ returns-clause-front g c = λ _.
       text = string_bytes c.in_ok-text.text;
       read = c.in_ok-input.ensures.whole;
       lines = record {
-        query = c.in_ok-searcher.searcher;
-        asked = c.in_ok-searcher.ensures.asked;
+        asked = searches_for c.in_ok-searcher.searcher;
+        ask = c.in_ok-searcher.ensures.asked;
         matches = c.in_ok-matches.matches.items;
-        found = rw c.as_slice.ensures.value at c.in_ok-matches.ensures.greedy;
+        found = rw c.as_slice.ensures.value at c.in_ok-matches.ensures;
         lines = rw c.as_slice-2.ensures.value at c.in_ok-text.ensures;
       };
       written = search (rules, c.in-Err.ensures.err, c.as_bytes-bytes.ensures.value);
