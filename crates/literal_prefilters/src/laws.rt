@@ -1,6 +1,6 @@
 //! Laws of tables and prefilters. Each is the contract of a function: of one that does nothing where
 //! the law is about definitions, and else of one that makes the call that the law is about.
-ghost use Rattle.std.specs.Prelude.{◌≡◌, ◌↔◌, ◌≤◌, ◌<◌, ◌++◌, ◌∷◌, [], ℕ, Bool, List, Option, None, Some, IfSome};
+ghost use Rattle.std.specs.Prelude.{◌≡◌, ◌↔◌, ◌⊎◌, ◌≤◌, ◌<◌, ◌++◌, ◌∷◌, [], ℕ, Bool, List, Option, None, Some, IfSome};
 ghost use Rattle.std.specs.Prelude.{false, true, slice_index, length};
 ghost use Rattle.std.specs.List.{All};
 ghost use Rattle.literal_base.specs.Query.{Query};
@@ -10,7 +10,7 @@ ghost use Rattle.literal_prefilters.specs.Answers.{candidate_of};
 ghost use Rattle.literal_base.specs.Bytes.{AreBytes};
 ghost use Rattle.literal_prefilters.specs.Sound.{Sound};
 ghost use Rattle.literal_prefilters.specs.Rarest.{IsRarest};
-ghost use Rattle.literal_prefilters.specs.Table.{Covers, IsFirst, first, is_in, reach_of, step};
+ghost use Rattle.literal_prefilters.specs.Table.{Covers, IsFirst, distance_of, first, is_in, reach_of, step};
 ghost use Rattle.literal_prefilters.specs.Tables.{if_small, is_rare_byte, is_start_byte, rarest, start_bytes};
 ghost use Rattle.literal_prefilters.specs.Tables.{start_table, with_rarest};
 ghost use Rattle.literal_prefilters.specs.Variants.{StartsVariants, IsLargestOffset};
@@ -56,6 +56,14 @@ pub fn first_is_the_least_place()
     ensures { (table : List (Option ℕ)) (haystack : List ℕ) (span : Span) (place : ℕ)
         → IsValidSpan haystack span
         → (first table haystack span ≡ Some place) ↔ IsFirst table haystack span place }
+{}
+
+/// No distance of a table is beyond its reach, which is the distance of a byte, or 0 where no distance
+/// is greater.
+pub fn reach_is_the_largest_distance()
+    ensures bound { (table : List (Option ℕ)) (byte d : ℕ) → distance_of table byte ≡ Some d → d ≤ reach_of table }
+    ensures reached { (table : List (Option ℕ))
+        → (reach_of table ≡ 0) ⊎ ((byte : ℕ) × (distance_of table byte ≡ Some (reach_of table))) }
 {}
 
 /// There is a start table only where the bytes with which the patterns begin are all at most 0x7F, and
