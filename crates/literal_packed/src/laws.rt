@@ -3,6 +3,7 @@
 //! the calls that the law is about.
 ghost use Rattle.std.specs.Prelude.{◌≡◌, ◌<◌, ◌≤◌, ◌-◌, ◌*◌, ◌^◌, ◌%◌, ◌↔◌, ℕ, List, [], ◌∷◌, length, map, sum};
 ghost use Rattle.std.specs.Prelude.{slice_index, codes, true, false, IsTrue, IsNone, Option, Some, None, IfOk};
+ghost use Rattle.std.specs.Iterator.{Yields};
 ghost use Rattle.std.specs.List.{All, range_with_len};
 ghost use Rattle.literal_base.specs.declared.packed.MatchKind.{MatchKind};
 ghost use Rattle.literal_base.specs.declared.packed.MatchKind.TheVariants.{LeftmostFirst, LeftmostLongest};
@@ -132,6 +133,14 @@ pub fn list_is_iteration(
 pub fn next_is_bounded()
     ensures { (old new : FindIterValue) (answer : Option MatchValue) → old.at ≤ length old.haystack
         → FindsNext old answer new → SpendsAtMost old.query old.haystack old.at new.at old.counts new.counts }
+{}
+
+/// What an iterator counts up to its first `None` is what the searches one after another count that
+/// answer its matches and that `None`.
+pub fn iterations_count_as_lists()
+    ensures { (first last ended : FindIterValue) (all : List MatchValue) → Yields FindsNext first all last
+        → FindsNext last None ended
+        → ended.counts ≡ counts_after_all first.counts first.query first.haystack first.at all }
 {}
 
 /// After a `None` an iterator stands at the end of the haystack.

@@ -1,11 +1,15 @@
 -- A whole iteration, from its start.
 -- For the laws on iterations.
-use Rattle.std.proofs.Common.{◌≡◌, ◌≤◌, ℕ, false, List, length, Option, Some, None, IsNone, refl, sym, subst, arith}
+use Rattle.std.proofs.Common.{◌≡◌, ◌≤◌, ℕ, false, List, [], ◌∷◌, length, Option, Some, None, IsNone, refl, sym, ap, ◌∙◌}
+use Rattle.std.proofs.Common.{subst, arith}
+use Rattle.std.specs.Iterator.{Yields}
 use Rattle.literal_base.specs.Counts.{none_yet}
 use Rattle.literal_base.specs.MatchValue.{MatchValue}
 use Rattle.literal_base.specs.Query.{Query}
 use Rattle.literal_packed.specs.FindIterValue.{FindIterValue, Finds, FindsNothing, FindsNext, StandsAtEnd, after_answer}
-use Rattle.literal_packed.specs.Spending.{SpendsAtMost, SpendsWithin}
+use Rattle.literal_base.specs.Occurs.{rest_from}
+use Rattle.literal_packed.specs.Pairs.{counts_after}
+use Rattle.literal_packed.specs.Spending.{SpendsAtMost, SpendsWithin, counts_after_all}
 use Rattle.literal_base.specs.Greedy.{IsGreedy}
 use Rattle.literal_packed.proofs.lemmas.GreedyLists.{IsGreedyBefore, greedy_all}
 use Rattle.literal_packed.proofs.lemmas.Spending.{next_spends, spends_both, spends_within}
@@ -53,6 +57,16 @@ run_within query haystack now run =
     subst (λ (s : Query). SpendsWithin s haystack none_yet now.counts) run.query_is
     (subst (λ h. SpendsWithin now.query h none_yet now.counts) run.haystack_is
     (spends_within now.query now.haystack now.at none_yet now.counts run.spends))
+
+-- and what it counts, step by step
+pub counts_of_run : (first last ended : FindIterValue) (all : List MatchValue) → Yields FindsNext first all last
+    → FindsNext last None ended → ended.counts ≡ counts_after_all first.counts first.query first.haystack first.at all
+counts_of_run first last ended [] stays nothing =
+    ap (λ (f : FindIterValue). f.counts) nothing.goes_on
+    ∙ ap (λ (f : FindIterValue). counts_after f.counts f.query f.haystack (rest_from f.haystack f.at) None) (sym stays)
+counts_of_run first last ended (found ∷ more) run nothing =
+    counts_of_run run.0 last ended more run.2 nothing
+    ∙ ap (λ (f : FindIterValue). counts_after_all f.counts f.query f.haystack f.at more) run.1.goes_on
 
 -- the matches that the search gave so far are the beginning of the greedy list
 pub record IsGathering (query : Query) (haystack : List ℕ) (done : List MatchValue) (now : FindIterValue) : Type 0 where
