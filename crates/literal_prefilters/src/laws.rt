@@ -1,6 +1,6 @@
 //! Laws of tables and prefilters. Each is the contract of a function: of one that does nothing where
 //! the law is about definitions, and else of one that makes the call that the law is about.
-ghost use Rattle.std.specs.Prelude.{◌≡◌, ◌↔◌, ◌⊎◌, ◌≤◌, ◌<◌, ◌++◌, ◌∷◌, [], ℕ, Bool, List, Option, None, Some, IfSome};
+ghost use Rattle.std.specs.Prelude.{◌≡◌, ◌↔◌, ◌≤◌, ◌<◌, ◌++◌, ◌∷◌, [], ℕ, Bool, List, Option, None, Some, IfSome};
 ghost use Rattle.std.specs.Prelude.{false, true, slice_index, length};
 ghost use Rattle.std.specs.List.{All};
 ghost use Rattle.literal_base.specs.Query.{Query};
@@ -58,12 +58,11 @@ pub fn first_is_the_least_place()
         → (first table haystack span ≡ Some place) ↔ IsFirst table haystack span place }
 {}
 
-/// No distance of a table is beyond its reach, which is the distance of a byte, or 0 where no distance
-/// is greater.
+/// No distance of a table is beyond its reach, and where that is not 0 it is the distance of a byte.
 pub fn reach_is_the_largest_distance()
     ensures bound { (table : List (Option ℕ)) (byte d : ℕ) → distance_of table byte ≡ Some d → d ≤ reach_of table }
-    ensures reached { (table : List (Option ℕ))
-        → (reach_of table ≡ 0) ⊎ ((byte : ℕ) × (distance_of table byte ≡ Some (reach_of table))) }
+    ensures reached { (table : List (Option ℕ)) → 0 < reach_of table
+        → (byte : ℕ) × (distance_of table byte ≡ Some (reach_of table)) }
 {}
 
 /// There is a start table only where the bytes with which the patterns begin are all at most 0x7F, and

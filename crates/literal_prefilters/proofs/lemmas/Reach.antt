@@ -55,7 +55,7 @@ distance-le-reach_of table b d e =
     let value : unwrap_or (distance_of table b) 0 ≡ d = ap (λ o. unwrap_or o 0) e in
     omega (arith, most_at table 0 b)
 
--- the reach is 0, or the distance of a byte
+-- the largest is the start, or the distance of a byte
 most_is : (table : List (Option ℕ)) (a : ℕ)
     → (fold (λ most o. max most (unwrap_or o 0)) a table ≡ a)
     ⊎ ((byte : ℕ) × (distance_of table byte ≡ Some (fold (λ most o. max most (unwrap_or o 0)) a table)))
@@ -74,6 +74,11 @@ most_is (Some d ∷ table) a =
       ]
     ]
 
-pub reach_of-reached : (table : List (Option ℕ)) → (reach_of table ≡ 0)
-    ⊎ ((byte : ℕ) × (distance_of table byte ≡ Some (reach_of table)))
-reach_of-reached table = most_is table 0
+-- where the reach is not 0 it is the distance of a byte
+pub reach_of-reached : (table : List (Option ℕ)) → 0 < reach_of table
+    → (byte : ℕ) × (distance_of table byte ≡ Some (reach_of table))
+reach_of-reached table some =
+    elim (most_is table 0) [
+      | inr found ↦ found
+      | inl same ↦ absurd (omega (arith, same))
+    ]
