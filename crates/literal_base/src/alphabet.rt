@@ -41,8 +41,8 @@ impl ByteClasses {
         ensures { result ≡ by_byte (λ b. b) }
     {
         let mut classes = ByteClasses::empty();
-        for byte in 0..256usize {
-            classes.set(byte as u8, byte as u8);
+        for byte in 0..=255 {
+            classes.set(byte, byte);
         }
         classes
     }
@@ -287,9 +287,9 @@ impl ByteClassSet {
     {
         let mut classes = ByteClasses::empty();
         let mut class = 0usize;
-        for byte in 0..256usize {
-            classes.set(byte as u8, class as u8);
-            if self.marked.contains(byte as u8) {
+        for byte in 0..=255 {
+            classes.set(byte, class as u8);
+            if self.marked.contains(byte) {
                 class += 1;
             }
         }

@@ -1,10 +1,10 @@
 -- A search for all matches, one after another: `FindIter`, as contracts see it.
-use Rattle.std.specs.Prelude.{◌≡◌, ℕ, ◌-◌, ◌<◌, false, List, length, Option, Some, None, MatchOption}
+use Rattle.std.specs.Prelude.{◌≡◌, ℕ, ◌-◌, ◌<◌, false, List, length, Option, Some, None, IfSome}
 use Rattle.std.specs.Iterator.{Count, at_most}
 use Rattle.literal_base.specs.Counts.{Counts}
 use Rattle.literal_base.specs.MatchValue.{MatchValue}
-use Rattle.literal_base.specs.Occurs.{NothingOccurs, rest_from}
-use Rattle.literal_base.specs.Leftmost.{IsLeftmostMatch}
+use Rattle.literal_base.specs.Occurs.{rest_from}
+use Rattle.literal_base.specs.Leftmost.{IsLeftmost}
 use Rattle.literal_base.specs.Query.{Query}
 use Rattle.literal_packed.specs.Pairs.{counts_after}
 
@@ -15,27 +15,23 @@ pub record FindIterValue : Type 0 where
   pub at : ℕ
   pub counts : Counts
 
--- the search after an answer was given: it goes on at a place, and the answer counts as one search of the rest
-abbrev pub after_answer : FindIterValue → Option MatchValue → ℕ → FindIterValue
-after_answer f answer to = record f {
-  at = to;
+-- the place at which the search goes on: the end of the match, and that of the haystack where there is none
+abbrev pub place_after : List ℕ → Option MatchValue → ℕ
+place_after haystack None = length haystack
+place_after haystack (Some found) = found.end
+
+-- the search after an answer was given, which counts as one search of the rest
+abbrev pub after_answer : FindIterValue → Option MatchValue → FindIterValue
+after_answer f answer = record f {
+  at = place_after f.haystack answer;
   counts = counts_after f.counts f.query f.haystack (rest_from f.haystack f.at) answer;
 }
 
--- a match was found, and the search goes on at its end
-pub record Finds (old : FindIterValue) (found : MatchValue) (new : FindIterValue) : Type 0 where
-  pub leftmost : IsLeftmostMatch old.query false old.haystack (rest_from old.haystack old.at) found
-  pub not_empty : found.start < found.end
-  pub goes_on : new ≡ after_answer old (Some found) found.end
-
--- nothing was found, and the search stands at the end of the haystack
-pub record FindsNothing (old new : FindIterValue) : Type 0 where
-  pub nothing : NothingOccurs old.query.patterns false old.haystack (rest_from old.haystack old.at)
-  pub goes_on : new ≡ after_answer old None (length old.haystack)
-
--- what `next` gives: the leftmost match of the rest, or None where nothing occurs in it
-abbrev pub FindsNext : FindIterValue → Option MatchValue → FindIterValue → Type 0
-FindsNext old answer new = MatchOption answer (FindsNothing old new) (λ found. Finds old found new)
+-- what `next` gives: the leftmost match of the rest, which is not empty, or None where nothing occurs in it
+pub record FindsNext (old : FindIterValue) (answer : Option MatchValue) (new : FindIterValue) : Type 0 where
+  pub leftmost : IsLeftmost old.query false old.haystack (rest_from old.haystack old.at) answer
+  pub not_empty : IfSome answer (λ found. found.start < found.end)
+  pub goes_on : new ≡ after_answer old answer
 
 -- the search stands at the end of the haystack
 abbrev pub StandsAtEnd : FindIterValue → Type 0

@@ -1,17 +1,19 @@
 //! Laws of the definitions that contracts cite, and of the searches. Each is the contract of a
 //! function: of one that does nothing where the law is about definitions, and else of one that makes
 //! the calls that the law is about.
-ghost use Rattle.std.specs.Prelude.{◌≡◌, ◌≤◌, ◌-◌, ◌*◌, ◌^◌, ◌%◌, ◌↔◌, ℕ, List, [], ◌∷◌, length, map, sum, slice_index};
-ghost use Rattle.std.specs.Prelude.{codes, true, false, IsTrue, IsNone, Option, Some, None, IfOk};
-ghost use Rattle.std.specs.List.{range_with_len};
+ghost use Rattle.std.specs.Prelude.{◌≡◌, ◌<◌, ◌≤◌, ◌-◌, ◌*◌, ◌^◌, ◌%◌, ◌↔◌, ℕ, List, [], ◌∷◌, length, map, sum};
+ghost use Rattle.std.specs.Prelude.{slice_index, codes, true, false, IsTrue, IsNone, Option, Some, None, IfOk};
+ghost use Rattle.std.specs.Iterator.{Yields};
+ghost use Rattle.std.specs.List.{All, range_with_len};
 ghost use Rattle.literal_base.specs.declared.packed.MatchKind.{MatchKind};
 ghost use Rattle.literal_base.specs.declared.packed.MatchKind.TheVariants.{LeftmostFirst, LeftmostLongest};
 ghost use Rattle.literal_base.specs.Counts.{none_yet};
 ghost use Rattle.literal_base.specs.MatchValue.{MatchValue};
-ghost use Rattle.literal_base.specs.Occurs.{IsValidSpan, NothingOccurs, whole_of};
+ghost use Rattle.literal_base.specs.Occurs.{IsValidSpan, NothingOccurs, pattern_at, whole_of};
 ghost use Rattle.literal_base.specs.Leftmost.{IsBetter, IsLeftmost, is_better};
 ghost use Rattle.literal_base.specs.Greedy.{IsGreedy};
 ghost use Rattle.literal_base.specs.Query.{Query};
+ghost use Rattle.literal_packed.specs.PatternsValue.{minimum_len_of};
 ghost use Rattle.literal_packed.specs.Sum.{sum_of};
 ghost use Rattle.literal_packed.specs.Pairs.{counts_after};
 ghost use Rattle.literal_base.specs.Apart.{LieApart};
@@ -29,6 +31,17 @@ use std::alloc::{AllocError, Global};
 pub fn sum_is_by_index()
     ensures { (w : List ℕ) → sum_of w ≡ sum (map (λ k. slice_index w k * 2 ^ (length w - 1 - k))
         (range_with_len 0 (length w))) % 2 ^ 64 }
+{}
+
+/// No pattern is shorter than the minimum length, and some pattern has just that length, where there is
+/// one and none is longer than `usize::MAX`. With no pattern it is `usize::MAX`.
+pub fn minimum_len_is_the_least_length()
+    ensures bound { (patterns : List (List ℕ)) (i : ℕ) → i < length patterns
+        → minimum_len_of patterns ≤ length (pattern_at patterns i) }
+    ensures reached { (patterns : List (List ℕ)) → 0 < length patterns
+        → All (λ bytes. length bytes < 2 ^ 64) patterns
+        → (i : ℕ) × i < length patterns × (length (pattern_at patterns i) ≡ minimum_len_of patterns) }
+    ensures none { minimum_len_of [] ≡ 2 ^ 64 - 1 }
 {}
 
 /// The test of which pattern is better tells just that.
@@ -120,6 +133,14 @@ pub fn list_is_iteration(
 pub fn next_is_bounded()
     ensures { (old new : FindIterValue) (answer : Option MatchValue) → old.at ≤ length old.haystack
         → FindsNext old answer new → SpendsAtMost old.query old.haystack old.at new.at old.counts new.counts }
+{}
+
+/// What an iterator counts up to its first `None` is what the searches one after another count that
+/// answer its matches and that `None`.
+pub fn iterations_count_as_lists()
+    ensures { (first last ended : FindIterValue) (all : List MatchValue) → Yields FindsNext first all last
+        → FindsNext last None ended
+        → ended.counts ≡ counts_after_all first.counts first.query first.haystack first.at all }
 {}
 
 /// After a `None` an iterator stands at the end of the haystack.

@@ -16,8 +16,7 @@ pub record IsPossibleStart (patterns : List (List ℕ)) (ignore_case : Bool) (ha
   pub none_before : (i at : ℕ) → Occurs patterns ignore_case haystack span i at → place ≤ at
 
 -- the answer passes over no occurrence: none only if nothing occurs in the span, a match only if it is the leftmost
--- one,
--- and a place only if it is a possible start
+-- one, and a place only if it is a possible start
 abbrev pub Sound : Query → Bool → List ℕ → Span → Candidate → Type 0
 Sound query ignore_case haystack span None =
     NothingOccurs query.patterns ignore_case haystack span

@@ -14,7 +14,7 @@ ghost use Rattle.literal_prefilters.specs.PrefilterBuilderValue.{PrefilterBuilde
 ghost use Rattle.literal_prefilters.specs.PrefilterValue.{exact_query, prefilter_reach, table_of};
 ghost use Rattle.literal_prefilters.specs.Sound.{Sound};
 ghost use Rattle.literal_prefilters.specs.Rarest.{IsRarest};
-ghost use Rattle.literal_prefilters.specs.Table.{Covers, IsFirst, first, is_in, reach_of, step};
+ghost use Rattle.literal_prefilters.specs.Table.{Covers, IsFirst, distance_of, first, is_in, reach_of, step};
 ghost use Rattle.literal_prefilters.specs.Tables.{if_small, is_rare_byte, is_start_byte, rarest, start_bytes};
 ghost use Rattle.literal_prefilters.specs.Tables.{start_table, with_rarest};
 ghost use Rattle.literal_prefilters.specs.Variants.{StartsVariants, IsLargestOffset};
@@ -60,6 +60,13 @@ pub fn first_is_the_least_place()
     ensures { (table : List (Option ℕ)) (haystack : List ℕ) (span : Span) (place : ℕ)
         → IsValidSpan haystack span
         → (first table haystack span ≡ Some place) ↔ IsFirst table haystack span place }
+{}
+
+/// No distance of a table is beyond its reach, and where that is not 0 it is the distance of a byte.
+pub fn reach_is_the_largest_distance()
+    ensures bound { (table : List (Option ℕ)) (byte d : ℕ) → distance_of table byte ≡ Some d → d ≤ reach_of table }
+    ensures reached { (table : List (Option ℕ)) → 0 < reach_of table
+        → (byte : ℕ) × (distance_of table byte ≡ Some (reach_of table)) }
 {}
 
 /// There is a start table only where the bytes with which the patterns begin are all at most 0x7F, and

@@ -79,9 +79,8 @@ pub fn last_bytes(alloc: Global, set: &ByteClassSet) -> Result<Vec<u8>, AllocErr
     laws::classes_are_below_the_alphabet_len();
     let mut last = Vec::new(alloc);
     last.resize(classes.alphabet_len(), 0)?;
-    for byte in 0..256usize {
-        let class = classes.get(byte as u8);
-        last[class as usize] = byte as u8;
+    for byte in 0..=255 {
+        last[usize::from(classes.get(byte))] = byte;
     }
     Ok(last)
 }

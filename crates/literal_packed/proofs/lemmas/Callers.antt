@@ -43,7 +43,7 @@ greedy_from_yields : (s : FindIterValue) (all : List MatchValue) (t u : FindIter
     → FindsNext t None u → IsGreedy s.query false s.haystack s.at all
 greedy_from_yields s [] t u stays nothing =
     subst (λ (f : FindIterValue). NothingOccurs f.query.patterns false f.haystack (rest_from f.haystack f.at))
-    (sym stays) nothing.nothing
+    (sym stays) nothing.leftmost
 greedy_from_yields s (found ∷ more) t u run nothing = (
   run.1.leftmost,
   subst (λ (f : FindIterValue). IsGreedy f.query false f.haystack f.at more) run.1.goes_on

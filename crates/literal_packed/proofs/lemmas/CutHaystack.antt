@@ -9,7 +9,6 @@ use Rattle.std.proofs.lemmas.List.FromFn.{get_or-range_with_len, length-range_wi
 use Rattle.std.proofs.lemmas.List.Sums.{sum_by-cons}
 use Rattle.std.proofs.lemmas.Slice.{between_is}
 use Rattle.std.proofs.Common.{[], ◌∷◌}
-use Rattle.literal_base.specs.declared.packed.MatchKind.{MatchKind}
 use Rattle.literal_base.specs.declared.search.Span.{Span}
 use Rattle.literal_base.specs.Counts.{Counts}
 use Rattle.literal_base.specs.Query.{Query}
@@ -21,7 +20,7 @@ use Rattle.literal_packed.specs.Sum.{sum_of}
 use Rattle.literal_packed.specs.Pairs.{key_of, window_sum, pairs_between, pairs_up_to, counts_after}
 use Rattle.literal_packed.proofs.lemmas.Ties.{is_up_to}
 use Rattle.literal_packed.proofs.lemmas.MinimumLen.{minimum_len_of-le}
-use Rattle.literal_packed.proofs.lemmas.PlaceCounts.{same_all}
+use Rattle.literal_packed.proofs.lemmas.PlaceCounts.{same_three}
 
 cut_range : (h : List ℕ) (e a b : ℕ) → b ≤ e → slice_range (take e h) a b ≡ slice_range h a b
 cut_range h e a b below = between_is (take e h) a b ∙ (ap (drop a) (take-take b e h below) ∙ sym (between_is h a b))
@@ -116,6 +115,6 @@ module _ (query : Query) (h : List ℕ) (span : Span) (inside : span.end ≤ len
   counts_uncut old answer l =
       let l_span = subst (λ (s : Span). IsLeftmost query false cut s answer) span_is l in
       ap (λ (s : Span). counts_after old query cut s answer) span_is
-      ∙ same_all old _ _ _ _ _ _ refl
-      (pairs_cut (λ v i. eqb (key_of query.patterns i % 64) (v % 64)) answer l_span)
-      (pairs_cut (λ v i. eqb (key_of query.patterns i) v) answer l_span)
+      ∙ same_three old _ _ _ _ _ _ refl
+      (ap (λ n. old.entries + n) (pairs_cut (λ v i. eqb (key_of query.patterns i % 64) (v % 64)) answer l_span))
+      (ap (λ n. old.compared + n) (pairs_cut (λ v i. eqb (key_of query.patterns i) v) answer l_span))

@@ -1,6 +1,6 @@
 -- The steps of a look-up.
 -- For `RabinKarp::look_up`.
-use Rattle.std.proofs.Common.{refl, ◌≡◌, ℕ, ◌+◌, ◌-◌, ◌%◌, ◌<◌, ◌≤◌, Bool, true, false, eqb, List, Some, length, take}
+use Rattle.std.proofs.Common.{refl, ◌≡◌, ℕ, ◌+◌, ◌%◌, ◌<◌, ◌≤◌, Bool, true, false, eqb, List, Some, length, take}
 use Rattle.std.proofs.Common.{get_or, slice_get, sym, ap, subst, ◌∙◌, arith}
 use Rattle.std.specs.List.{All, count_by}
 use Rattle.std.proofs.lemmas.Bool.{eq-eqb, ne_eqb}
@@ -17,31 +17,17 @@ use Rattle.literal_packed.specs.Pairs.{window_sum, has_equal_sum, has_equal_buck
 use Rattle.literal_packed.specs.RabinKarpValue.{RabinKarpValue, IsMadeFor, bucket_at, bucket_of}
 use Rattle.literal_packed.proofs.lemmas.Buckets.{IsEntry, bucket_entries, other_sum, none_stands, best_stands}
 use Rattle.literal_packed.proofs.lemmas.Buckets.{entries_none, compared_none, entries_some, compared_some}
+use Rattle.literal_packed.proofs.lemmas.PlaceCounts.{with_three, same_three}
 
--- the counts after m more entries and n more comparisons
-abbrev pub counted : Counts → ℕ → ℕ → Counts
-counted old m n = record old { entries = old.entries + m; compared = old.compared + n }
+-- the counts after an entry was read, after a pattern was compared, and after m entries and n comparisons
+abbrev with_entry : Counts → Counts
+with_entry t = record t { entries = t.entries + 1 }
 
-same_counts : (old : Counts) (a b c d : ℕ) → a ≡ c → b ≡ d → counted old a b ≡ counted old c d
-same_counts old a b c d e f = ap (λ m. counted old m b) e ∙ ap (λ n. counted old c n) f
+abbrev with_comparison : Counts → Counts
+with_comparison t = record t { compared = t.compared + 1 }
 
--- an entry was read
-counts_read : (old now read : Counts) (m n : ℕ) → now ≡ counted old m n
-    → read ≡ record now { entries = now.entries + 1 } → read ≡ counted old (m + 1) n
-counts_read old now read m n is next =
-    let step : Counts → Counts = λ t. record t { entries = t.entries + 1 } in
-    let f : ℕ → Counts = λ e. record old { entries = e; compared = old.compared + n } in
-    let e : old.entries + m + 1 ≡ old.entries + (m + 1) = omega arith in
-    next ∙ (ap step is ∙ ap f e)
-
--- a pattern was compared
-counts_compared : (old now compared : Counts) (m n : ℕ) → now ≡ counted old m n
-    → compared ≡ record now { compared = now.compared + 1 } → compared ≡ counted old m (n + 1)
-counts_compared old now compared m n is next =
-    let step : Counts → Counts = λ t. record t { compared = t.compared + 1 } in
-    let f : ℕ → Counts = λ e. record old { entries = old.entries + m; compared = e } in
-    let e : old.compared + n + 1 ≡ old.compared + (n + 1) = omega arith in
-    next ∙ (ap step is ∙ ap f e)
+abbrev counted : Counts → ℕ → ℕ → Counts
+counted old m n = with_three old old.hashed (old.entries + m) (old.compared + n)
 
 -- a look-up of the sum of the window at a place: it reads the entries of the bucket of that sum
 pub record IsLookUp (c : PatternsValue) (haystack : List ℕ) (at sum : ℕ) (entries : List (ℕ × ℕ)) : Type 0 where
@@ -111,15 +97,16 @@ module _ {c : PatternsValue} {haystack : List ℕ} {at sum : ℕ} {entries : Lis
       → now ≡ counted old k (count_by has_sum (done k)) → ticked ≡ record now { entries = now.entries + 1 }
       → ticked ≡ counted old (k + 1) (count_by has_sum (done (k + 1)))
   counts_other k x old now ticked read other was next =
-      counts_read old now ticked _ _ was next ∙ same_counts old _ _ _ _ refl (count_no k x read other)
+      next ∙ (ap with_entry was
+      ∙ same_three old _ _ _ _ _ _ refl (omega arith) (ap (λ n. old.compared + n) (count_no k x read other)))
 
   pub counts_vain : (k : ℕ) (x : ℕ × ℕ) (old now ticked compared : Counts) → IsRead entries k x → x.0 ≡ sum
       → now ≡ counted old k (count_by has_sum (done k)) → ticked ≡ record now { entries = now.entries + 1 }
       → compared ≡ record ticked { compared = ticked.compared + 1 }
       → compared ≡ counted old (k + 1) (count_by has_sum (done (k + 1)))
   counts_vain k x old now ticked compared read equal was next then =
-      counts_compared old ticked compared _ _ (counts_read old now ticked _ _ was next) then
-      ∙ same_counts old _ _ _ _ refl (count_yes k x read equal)
+      then ∙ (ap with_comparison next ∙ (ap (λ t. with_comparison (with_entry t)) was
+      ∙ same_three old _ _ _ _ _ _ refl (omega arith) (omega (arith, count_yes k x read equal))))
 
   -- and those of an entry that stands there
   pub counts_found : (k : ℕ) (x : ℕ × ℕ) (old now ticked compared : Counts) → IsRead entries k x → x.0 ≡ sum
@@ -130,12 +117,12 @@ module _ {c : PatternsValue} {haystack : List ℕ} {at sum : ℕ} {entries : Lis
   counts_found k x old now ticked compared read equal was next then =
       let within = entry_within k x read in
       let in_place = entry_is k x read in
-      counts_compared old ticked compared _ _ (counts_read old now ticked _ _ was next) then
-      ∙ same_counts old _ _ _ _
-      (entries_some c here.searchable.well_formed here.searchable.in_order haystack at sum here.sum_is k x within
-      in_place)
-      (compared_some c here.searchable.well_formed here.searchable.in_order haystack at sum here.sum_is k x within
-      in_place equal)
+      let entries = entries_some c here.searchable.well_formed here.searchable.in_order haystack at sum here.sum_is k x
+      within in_place in
+      let comparisons = compared_some c here.searchable.well_formed here.searchable.in_order haystack at sum here.sum_is
+      k x within in_place equal in
+      then ∙ (ap with_comparison next ∙ (ap (λ t. with_comparison (with_entry t)) was
+      ∙ same_three old _ _ _ _ _ _ refl (omega (arith, entries)) (omega (arith, comparisons))))
 
   pub best_found : (k : ℕ) (x : ℕ × ℕ) → IsRead entries k x → NoneOf (done k) → Stands x
       → IsBestAt (query_of c) false haystack at x.1
@@ -160,10 +147,10 @@ module _ {c : PatternsValue} {haystack : List ℕ} {at sum : ℕ} {entries : Lis
       (pairs_at (has_equal_sum c.patterns haystack) (length c.patterns) at)
   counts_none k old now within ended was =
       let whole : k ≡ length bucket = omega (arith, length_is) in
-      was ∙ same_counts old _ _ _ _
-      (whole ∙ entries_none c here.searchable.well_formed here.searchable.in_order haystack at sum here.sum_is)
-      (ap (count_by has_sum) (all_done k ended)
-      ∙ compared_none c here.searchable.well_formed here.searchable.in_order haystack at sum here.sum_is)
+      was ∙ same_three old _ _ _ _ _ _ refl (ap (λ m. old.entries + m) (whole
+      ∙ entries_none c here.searchable.well_formed here.searchable.in_order haystack at sum here.sum_is))
+      (ap (λ n. old.compared + n) (ap (count_by has_sum) (all_done k ended)
+      ∙ compared_none c here.searchable.well_formed here.searchable.in_order haystack at sum here.sum_is))
 
 -- the look-up in a list of its own for each bucket
 pub look_up_in : (c : PatternsValue) (b : RabinKarpValue) (haystack : List ℕ) (at sum : ℕ) → IsMadeFor c b

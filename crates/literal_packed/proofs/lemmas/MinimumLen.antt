@@ -1,8 +1,9 @@
 -- The length of the shortest pattern, and the sums of what stands at a place.
--- For `RabinKarp::new` and `find_at`.
-use Rattle.std.proofs.Common.{◌≡◌, ℕ, zero, suc, ◌+◌, ◌-◌, ◌^◌, ◌<◌, ◌≤◌, min, false, List, [], ◌∷◌, length, take, drop}
-use Rattle.std.proofs.Common.{get_or, sym, ap, ◌∙◌, arith}
+-- For `RabinKarp::new` and `find_at`, and for a law.
+use Rattle.std.proofs.Common.{◌≡◌, ◌⊎◌, inl, inr, ℕ, zero, suc, ◌+◌, ◌-◌, ◌^◌, ◌<◌, ◌≤◌, min, false, List, []}
+use Rattle.std.proofs.Common.{◌∷◌, length, take, drop, get_or, refl, sym, ap, ◌∙◌, arith}
 use Rattle.std.specs.List.{All, fold, slice_range}
+use Rattle.std.proofs.lemmas.Bool.{cases_lt}
 use Rattle.std.proofs.lemmas.List.{take-take}
 use Rattle.std.proofs.lemmas.List.Elements.{All-head, All-tail}
 use Rattle.literal_base.specs.Occurs.{NoneIsEmpty, pattern_at, StandsAt}
@@ -22,6 +23,19 @@ least_at a [] i h = absurd (omega arith)
 least_at a (p ∷ ps) zero h = let rest = least_below (min a (length p)) ps in omega arith
 least_at a (p ∷ ps) (suc i) h = least_at (min a (length p)) ps i (omega arith)
 
+-- it is the start, or the length of one of them
+least_is : (a : ℕ) (ps : List (List ℕ)) → (least_from a ps ≡ a)
+    ⊎ ((i : ℕ) × i < length ps × (length (pattern_at ps i) ≡ least_from a ps))
+least_is a [] = inl refl
+least_is a (p ∷ ps) =
+    elim (least_is (min a (length p)) ps) [
+      | inr found ↦ inr (suc found.0, omega (arith, found.1), found.2)
+      | inl same ↦ elim (cases_lt (length p) a) [
+        | inl shorter ↦ inr (0, omega arith, omega (arith, same))
+        | inr not ↦ inl (omega (arith, same))
+      ]
+    ]
+
 least_some : (a : ℕ) (ps : List (List ℕ)) → 1 ≤ a → NoneIsEmpty ps → 1 ≤ least_from a ps
 least_some a [] h all = h
 least_some a (p ∷ ps) h all =
@@ -35,6 +49,19 @@ minimum_len_of-le patterns i h = least_at (2 ^ 64 - 1) patterns i h
 
 pub minimum_len_of_some : (patterns : List (List ℕ)) → NoneIsEmpty patterns → 1 ≤ minimum_len_of patterns
 minimum_len_of_some patterns all = least_some (2 ^ 64 - 1) patterns (omega arith) all
+
+-- some pattern has just that length
+pub minimum_len_of-reached : (patterns : List (List ℕ)) → 0 < length patterns
+    → All (λ bytes. length bytes < 2 ^ 64) patterns
+    → (i : ℕ) × i < length patterns × (length (pattern_at patterns i) ≡ minimum_len_of patterns)
+minimum_len_of-reached [] some fit = elim some [ ]
+minimum_len_of-reached (p ∷ ps) some fit =
+    elim (least_is (2 ^ 64 - 1) (p ∷ ps)) [
+      | inr found ↦ found
+      | inl same ↦
+          let first : length p < 2 ^ 64 = All-head (λ (b : List ℕ). length b < 2 ^ 64) p ps fit in
+          (0, omega arith, omega (arith, same, first, minimum_len_of-le (p ∷ ps) 0 (omega arith)))
+    ]
 
 -- a front of a part
 front_of : (h : List ℕ) (at m n : ℕ) → m ≤ n → take m (slice_range h at (at + n)) ≡ slice_range h at (at + m)

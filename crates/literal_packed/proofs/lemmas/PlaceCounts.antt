@@ -1,5 +1,5 @@
 -- The counts of a search, place by place.
--- For `RabinKarp::find_at`.
+-- For `RabinKarp::look_up` and `find_at`.
 use Rattle.std.proofs.Common.{◌≡◌, ℕ, ◌+◌, ◌-◌, ◌≤◌, Bool, false, cond, ltb, List, length, Some, None, sym, ap, ◌∙◌}
 use Rattle.std.proofs.Common.{arith}
 use Rattle.std.specs.List.{range_with_len, sum_by}
@@ -29,34 +29,22 @@ pairs_between-none test n from to le =
     let short : to - from ≡ 0 = omega arith in
     ap (λ k. sum_by (pairs_at test n) (range_with_len from k)) short
 
--- counts after some more of three kinds
+-- the counts with these bytes hashed, entries read and patterns compared, and the others as they were
+abbrev pub with_three : Counts → ℕ → ℕ → ℕ → Counts
+with_three old h e c = record old { hashed = h; entries = e; compared = c }
+
+pub same_three : (old : Counts) (h e c h' e' c' : ℕ) → h ≡ h' → e ≡ e' → c ≡ c'
+    → with_three old h e c ≡ with_three old h' e' c'
+same_three old h e c h' e' c' p q r =
+    ap (λ n. with_three old n e c) p ∙ (ap (λ n. with_three old h' n c) q ∙ ap (λ n. with_three old h' e' n) r)
+
+-- the counts after a look-up
+abbrev with_looked : Counts → ℕ → ℕ → Counts
+with_looked t e c = record t { entries = t.entries + e; compared = t.compared + c }
+
+-- the counts after some more of the three kinds
 abbrev pub counted_all : Counts → ℕ → ℕ → ℕ → Counts
-counted_all old h e c = record old { hashed = old.hashed + h; entries = old.entries + e; compared = old.compared + c }
-
-pub same_all : (old : Counts) (h e c h' e' c' : ℕ) → h ≡ h' → e ≡ e' → c ≡ c'
-    → counted_all old h e c ≡ counted_all old h' e' c'
-same_all old h e c h' e' c' p q r =
-    ap (λ n. counted_all old n e c) p ∙ (ap (λ n. counted_all old h' n c) q ∙ ap (λ n. counted_all old h' e' n) r)
-
--- after a look-up
-counts_looked : (old now looked : Counts) (h e c m n : ℕ) → now ≡ counted_all old h e c
-    → looked ≡ record now { entries = now.entries + m; compared = now.compared + n }
-    → looked ≡ counted_all old h (e + m) (c + n)
-counts_looked old now looked h e c m n is next =
-    let step : Counts → Counts = λ t. record t { entries = t.entries + m; compared = t.compared + n } in
-    let f : ℕ → ℕ → Counts = λ a b. record old { hashed = old.hashed + h; entries = a; compared = b } in
-    let x : old.entries + e + m ≡ old.entries + (e + m) = omega arith in
-    let y : old.compared + c + n ≡ old.compared + (c + n) = omega arith in
-    next ∙ (ap step is ∙ (ap (λ a. f a (old.compared + c + n)) x ∙ ap (λ b. f (old.entries + (e + m)) b) y))
-
--- after a push or a roll
-counts_hashed : (old now hashed : Counts) (h e c : ℕ) → now ≡ counted_all old h e c
-    → hashed ≡ record now { hashed = now.hashed + 1 } → hashed ≡ counted_all old (h + 1) e c
-counts_hashed old now hashed h e c is next =
-    let step : Counts → Counts = λ t. record t { hashed = t.hashed + 1 } in
-    let f : ℕ → Counts = λ a. record old { hashed = a; entries = old.entries + e; compared = old.compared + c } in
-    let x : old.hashed + h + 1 ≡ old.hashed + (h + 1) = omega arith in
-    next ∙ (ap step is ∙ ap f x)
+counted_all old h e c = with_three old (old.hashed + h) (old.entries + e) (old.compared + c)
 
 module _ (c : PatternsValue) (haystack : List ℕ) (from : ℕ) where
   abbrev n : ℕ
@@ -84,10 +72,11 @@ module _ (c : PatternsValue) (haystack : List ℕ) (from : ℕ) where
       }
       → rolled ≡ record looked { hashed = looked.hashed + 1 } → rolled ≡ before old (place + 1)
   counts_rolled old now looked rolled place le was next then =
-      let place_next : place + m - from + 1 ≡ place + 1 + m - from = omega arith in
-      counts_hashed old looked rolled _ _ _ (counts_looked old now looked _ _ _ _ _ was next) then
-      ∙ same_all old _ _ _ _ _ _ place_next (sym (pairs_between-more by_bucket n from place le))
-      (sym (pairs_between-more by_sum n from place le))
+      let roll : Counts → Counts = λ t. record t { hashed = t.hashed + 1 } in
+      then ∙ (ap roll next
+      ∙ (ap (λ t. roll (with_looked t (pairs_at by_bucket n place) (pairs_at by_sum n place))) was
+      ∙ same_three old _ _ _ _ _ _ (omega arith) (omega (arith, pairs_between-more by_bucket n from place le))
+      (omega (arith, pairs_between-more by_sum n from place le))))
 
   -- a match was found at the place
   pub counts_some : (old now looked : Counts) (place j : ℕ) (found : MatchValue) → found.start ≡ place
@@ -102,10 +91,11 @@ module _ (c : PatternsValue) (haystack : List ℕ) (from : ℕ) where
   counts_some old now looked place j found at is_j was next =
       let total : (ℕ → ℕ → Bool) → ℕ → ℕ → ℕ = λ test s i. pairs_between test n from s + pairs_at_up_to test
       (query_of c) s i in
-      counts_looked old now looked _ _ _ _ _ was next
-      ∙ same_all old _ _ _ _ _ _ (ap (λ s. s + m - from) (sym at))
-      (ap (λ s. total by_bucket s j) (sym at) ∙ ap (λ i. total by_bucket found.start i) (sym is_j))
-      (ap (λ s. total by_sum s j) (sym at) ∙ ap (λ i. total by_sum found.start i) (sym is_j))
+      let there : (test : ℕ → ℕ → Bool) → total test place j ≡ total test found.start found.pattern =
+      λ test. ap (λ s. total test s j) (sym at) ∙ ap (λ i. total test found.start i) (sym is_j) in
+      next ∙ (ap (λ t. with_looked t (pairs_at_up_to by_bucket (query_of c) place j)
+      (pairs_at_up_to by_sum (query_of c) place j)) was
+      ∙ same_three old _ _ _ _ _ _ (omega (arith, at)) (omega (arith, there by_bucket)) (omega (arith, there by_sum)))
 
   -- nothing was found at the last place
   pub counts_end : (old now looked : Counts) (last : ℕ) → from ≤ last → last + m ≡ length haystack
@@ -125,5 +115,5 @@ module _ (c : PatternsValue) (haystack : List ℕ) (from : ℕ) where
       let all : (test : ℕ → ℕ → Bool) → pairs_between test n from last + pairs_at test n last
       ≡ pairs_between test n from (length haystack + 1 - m) =
       λ test. sym (pairs_between-more test n from last le) ∙ ap (pairs_between test n from) place in
-      counts_looked old now looked _ _ _ _ _ was next
-      ∙ same_all old _ _ _ _ _ _ hashed (all by_bucket) (all by_sum)
+      next ∙ (ap (λ t. with_looked t (pairs_at by_bucket n last) (pairs_at by_sum n last)) was
+      ∙ same_three old _ _ _ _ _ _ (omega (arith, hashed)) (omega (arith, all by_bucket)) (omega (arith, all by_sum)))

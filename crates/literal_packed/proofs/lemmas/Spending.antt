@@ -5,7 +5,6 @@ use Rattle.std.proofs.Common.{Some, None, inl, inr, refl, sym, ap, subst, ◌∙
 use Rattle.std.specs.List.{sum_by, range_with_len}
 use Rattle.std.proofs.lemmas.Bool.{cases_lt, lt-ltb, le-ltb}
 use Rattle.std.proofs.lemmas.List.Sums.{sum_by-append, sum_by-le-sum_by}
-use Rattle.literal_base.specs.declared.packed.MatchKind.{MatchKind}
 use Rattle.literal_base.specs.declared.search.Span.{Span}
 use Rattle.literal_base.specs.Counts.{Counts}
 use Rattle.literal_base.specs.MatchValue.{MatchValue}
@@ -168,12 +167,12 @@ module _ (query : Query) (haystack : List ℕ) (from : ℕ) (old new : Counts) (
 pub next_spends : (old new : FindIterValue) (answer : Option MatchValue) → old.at ≤ length old.haystack
     → FindsNext old answer new → SpendsAtMost old.query old.haystack old.at new.at old.counts new.counts
 next_spends old new None within nothing =
-    let there : FindIterValue = after_answer old None (length old.haystack) in
-    let spends = spends_none old.query old.haystack old.at old.counts there.counts within nothing.nothing refl in
+    let there : FindIterValue = after_answer old None in
+    let spends = spends_none old.query old.haystack old.at old.counts there.counts within nothing.leftmost refl in
     subst (λ (f : FindIterValue). SpendsAtMost old.query old.haystack old.at f.at old.counts f.counts)
     (sym nothing.goes_on) spends
 next_spends old new (Some found) within finds =
-    let there : FindIterValue = after_answer old (Some found) found.end in
+    let there : FindIterValue = after_answer old (Some found) in
     let spends = spends_some old.query old.haystack old.at old.counts there.counts within found finds.not_empty
     finds.leftmost refl in
     subst (λ (f : FindIterValue). SpendsAtMost old.query old.haystack old.at f.at old.counts f.counts)

@@ -1,6 +1,6 @@
 -- Where a test first holds in a list, and tests that agree.
 -- For the first place of a table, and the set of rare bytes.
-use Rattle.std.proofs.Common.{◌≡◌, ℕ, ◌-◌, ◌<◌, ◌≤◌, Bool, true, false, cond, List, length, get_or, Some, None}
+use Rattle.std.proofs.Common.{◌≡◌, ℕ, ◌<◌, ◌≤◌, Bool, true, false, cond, List, length, get_or, Some, None}
 use Rattle.std.proofs.Common.{position, ltb, refl, ap, ◌∙◌, ⊎_elim, arith, ◌||◌, [], ◌∷◌}
 use Rattle.std.specs.List.{position_or_len, list_any}
 use Rattle.std.proofs.lemmas.Bool.{cond-true, cond-false, lt-ltb, le-ltb, cases_lt}

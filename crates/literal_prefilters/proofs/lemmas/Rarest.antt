@@ -1,6 +1,6 @@
 -- The rare byte of a pattern is the earliest of least rank.
 -- For the law `rarest_bytes_are_earliest_of_least_rank`.
-use Rattle.std.proofs.Common.{◌≡◌, ℕ, ◌<◌, ◌≤◌, ◌⊎◌, zero, suc, fold, nat_lt, cond, Bool, true, false, List, [], ◌∷◌}
+use Rattle.std.proofs.Common.{◌≡◌, ℕ, ◌<◌, ◌≤◌, ◌⊎◌, zero, suc, fold, nat_lt, List, [], ◌∷◌}
 use Rattle.std.proofs.Common.{length, get_or, slice_index, inl, inr, refl, sym, ap, ◌∙◌, ⊎_elim, arith}
 use Rattle.std.proofs.lemmas.Bool.{cases_lt, lt-ltb, le-ltb, cond-true, cond-false}
 use Rattle.literal_base.specs.Rank.{rank_of}

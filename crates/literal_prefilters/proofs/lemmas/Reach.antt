@@ -1,7 +1,7 @@
 -- How far past the place that it proposes a table reads.
--- For `ByteTable::count`, `start` and `candidate`.
-use Rattle.std.proofs.Common.{◌≡◌, ℕ, ◌<◌, ◌≤◌, Bool, true, false, cond, List, [], ◌∷◌, zero, suc, max, fold, Option}
-use Rattle.std.proofs.Common.{Some, None, IfSome, unwrap_or, sym, ap, subst, ⊎_elim, arith}
+-- For `ByteTable::count`, `start` and `candidate`, and for a law.
+use Rattle.std.proofs.Common.{◌≡◌, ◌⊎◌, inl, inr, ℕ, ◌<◌, ◌≤◌, Bool, true, false, cond, List, [], ◌∷◌, zero, suc, max}
+use Rattle.std.proofs.Common.{fold, Option, Some, None, IfSome, unwrap_or, refl, sym, ap, subst, ⊎_elim, arith}
 use Rattle.std.proofs.lemmas.Bool.{cases_lt}
 use Rattle.std.proofs.lemmas.List.{get_or_past}
 use Rattle.literal_prefilters.specs.Table.{distance_of, reach_of}
@@ -54,3 +54,31 @@ pub distance-le-reach_of : (table : List (Option ℕ)) (b d : ℕ) → distance_
 distance-le-reach_of table b d e =
     let value : unwrap_or (distance_of table b) 0 ≡ d = ap (λ o. unwrap_or o 0) e in
     omega (arith, most_at table 0 b)
+
+-- the largest is the start, or the distance of a byte
+most_is : (table : List (Option ℕ)) (a : ℕ)
+    → (fold (λ most o. max most (unwrap_or o 0)) a table ≡ a)
+    ⊎ ((byte : ℕ) × (distance_of table byte ≡ Some (fold (λ most o. max most (unwrap_or o 0)) a table)))
+most_is [] a = inl refl
+most_is (None ∷ table) a =
+    elim (most_is table (max a 0)) [
+      | inl same ↦ inl (omega (arith, same))
+      | inr found ↦ inr (suc found.0, found.1)
+    ]
+most_is (Some d ∷ table) a =
+    elim (most_is table (max a d)) [
+      | inr found ↦ inr (suc found.0, found.1)
+      | inl same ↦ elim (cases_lt a d) [
+        | inl farther ↦ inr (0, ap Some (omega (arith, same)))
+        | inr not ↦ inl (omega (arith, same))
+      ]
+    ]
+
+-- where the reach is not 0 it is the distance of a byte
+pub reach_of-reached : (table : List (Option ℕ)) → 0 < reach_of table
+    → (byte : ℕ) × (distance_of table byte ≡ Some (reach_of table))
+reach_of-reached table some =
+    elim (most_is table 0) [
+      | inr found ↦ found
+      | inl same ↦ absurd (omega (arith, same))
+    ]

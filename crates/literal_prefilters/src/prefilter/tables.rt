@@ -48,8 +48,8 @@ fn holds_any(set: &ByteSet, pattern: &[u8]) -> bool
 pub(super) fn holds_high(set: &ByteSet) -> bool
     ensures { IsTrue result ↔ ((b : ℕ) × (127 < b) × (b < 256) × (contains set.now b ≡ true)) }
 {
-    for byte in 128..256usize {
-        if set.contains(byte as u8) {
+    for byte in 128..=255 {
+        if set.contains(byte) {
             return true;
         }
     }
