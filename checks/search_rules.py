@@ -39,6 +39,7 @@ OTHER_SIGNATURES = places(tables.OTHER_SIGNATURES)
 CLOSURES = places(tables.CLOSURES)
 BUCKET_READERS = places(tables.BUCKET_READERS)
 BODIES = places(tables.BODIES)
+PROGRAM_SEARCHES = places(tables.PROGRAM_SEARCHES)
 STATEMENTS = places(tables.STATEMENTS)
 TAKERS = {name for _, _, name in list(COUNTED) + list(UNCOUNTED)}
 FREE_TAKERS = {name for _, owner, name in COUNTED if not owner}
@@ -630,15 +631,19 @@ def ticks(sources):
 
 
 def program(sources):
-    """The program makes one search, of all matches, in its tally."""
+    """The program makes one search, in its tally: one call of one function, which has each search once."""
     for function in sources.functions:
         if function.path.startswith("crates/litfind/"):
             body = texts(function.item.body or ())
+            searches = PROGRAM_SEARCHES.get(function.key, ())
             for at, word in enumerate(body):
-                if word in TAKERS and word != "find_all" and body[at - 1] in (".", "::"):
+                if word in TAKERS and word not in searches and body[at - 1] in (".", "::"):
                     yield f"{function} calls {word}"
-            if body.count("find_all") > (function.key in TALLY_MAKERS):
+            if any(body.count(word) > 1 for word in searches):
                 yield f"{function} searches again"
+            for _, _, name in PROGRAM_SEARCHES:
+                if body.count(name) > (function.key in TALLY_MAKERS):
+                    yield f"{function} calls {name}"
 
 
 # --- Bucket entries and held words ------------------------------------------------------------------

@@ -118,6 +118,11 @@ TICKS = {
     "tick_tried": [(CONFIRMING, "", "confirm"), (CONFIRMING, "", "confirm_by_table")],
 }
 
+# The one function of the program that searches, and the searches in it, one for each kind of mode. `run` calls it once.
+PROGRAM_SEARCHES = {
+    (ENGINE, "impl Searching", "find_matches"): ("find_all", "find_in_counted"),
+}
+
 # --- Bytes of patterns, and what is generic --------------------------------------------------------
 
 # The names of parameters that may hold bytes, or lists of them, that come from `Patterns` or a caller

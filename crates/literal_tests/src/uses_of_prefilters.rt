@@ -1,6 +1,6 @@
 //! Callers of prefilters that rely on contracts alone.
 ghost use Rattle.std.specs.Prelude.{◌≡◌, ◌≤◌, ◌+◌, ◌-◌, ◌*◌, ℕ, Bool, MatchOption, IfOk, IfSome};
-ghost use Rattle.literal_base.specs.declared.packed.MatchKind as packed_kind;
+ghost use Rattle.literal_base.specs.declared.packed.MatchKind.{MatchKind};
 ghost use Rattle.literal_base.specs.Leftmost.{IsLeftmost};
 ghost use Rattle.literal_packed.specs.PatternsValue.{query_of};
 ghost use Rattle.literal_tests.specs.Covered.{IsCovered};
@@ -14,7 +14,7 @@ use literal_prefilters::count::Tally;
 use literal_prefilters::laws::prefilters_reach_254_bytes;
 use literal_prefilters::packed::{self, pattern::Patterns};
 use literal_prefilters::prefilter::{Builder, Candidate, Prefilter, PrefilterI, confirm};
-use literal_prefilters::{Match, MatchKind, PatternID, Span};
+use literal_prefilters::{Match, PatternID, Span};
 use std::alloc::{AllocError, Global};
 
 /// From where on the span has to be searched, by a prefilter of any kind: no occurrence of what it
@@ -43,7 +43,7 @@ pub fn candidate_of(
     span: Span,
 ) -> Result<Option<Candidate>, AllocError>
     requires { IsValidSpan haystack.now span }
-    ensures { IfOk result (λ answer. IfSome answer (λ candidate. (kind : packed_kind.MatchKind)
+    ensures { IfOk result (λ answer. IfSome answer (λ candidate. (kind : MatchKind)
         → Serves builder.now.kind kind
         → Sound (record { kind = kind; patterns = kept_of builder.now.state }) builder.now.ignore_case haystack.now span
         candidate)) }
@@ -66,8 +66,8 @@ pub fn covered_patterns(
         (covered.patterns.kind ≡ kind) × IsCovered ignore_case covered.patterns covered.prefilter)) }
 {
     let root_kind = match kind {
-        packed::MatchKind::LeftmostFirst => MatchKind::LeftmostFirst,
-        packed::MatchKind::LeftmostLongest => MatchKind::LeftmostLongest,
+        packed::MatchKind::LeftmostFirst => literal_prefilters::MatchKind::LeftmostFirst,
+        packed::MatchKind::LeftmostLongest => literal_prefilters::MatchKind::LeftmostLongest,
     };
     let mut builder = Builder::new(alloc, root_kind).ascii_case_insensitive(ignore_case);
     let mut patterns = Patterns::new(alloc);

@@ -12,10 +12,10 @@ use Rattle.litfind.specs.Query.{Asked, all_matches, leftmost_match, words_ask}
 
 -- the list is the leftmost match of the whole input, and empty where nothing occurs in it
 pub record IsLeftmostList (query : Query) (ignore_case : Bool) (input : List ℕ) (matches : List MatchValue) : Type 0
-    where
-  pub found : Option MatchValue
-  pub leftmost : IsLeftmost query ignore_case input (whole_of input) found
-  pub is_list : matches ≡ option_to_list found
+  where
+    pub found : Option MatchValue
+    pub leftmost : IsLeftmost query ignore_case input (whole_of input) found
+    pub is_list : matches ≡ option_to_list found
 
 -- the matches that are printed: those of the whole input that do not overlap, from the left, or the leftmost one
 abbrev pub AreMatches : Asked → List ℕ → List MatchValue → Type 0

@@ -13,8 +13,8 @@ ghost use Rattle.litfind.specs.Run.{IsFront, IsWhole, ReadSome, WroteFront, Wrot
 use crate::device::{Failed, Sink, Source};
 use crate::fault::Fault;
 use crate::line::Line;
-use literal_base::{Match, Span};
 use literal_base::count::Tally;
+use literal_base::{Match, Span};
 use literal_packed::{Config, MatchKind, Searcher};
 use literal_prefilters::prefilter::ConfirmingSearch;
 use std::alloc::{AllocError, Global};
@@ -111,7 +111,12 @@ fn build_confirming(
 
 impl Searching {
     /// The matches in the whole input that the searcher is for.
-    fn matches(&self, alloc: Global, input: &[u8], tally: &mut Tally) -> Result<Vec<Match>, AllocError>
+    fn find_matches(
+        &self,
+        alloc: Global,
+        input: &[u8],
+        tally: &mut Tally,
+    ) -> Result<Vec<Match>, AllocError>
         ensures { IfOk result (λ matches. AreMatches (searches_for self.now) input.now matches.items) }
     {
         let search = match self {
@@ -251,7 +256,7 @@ pub fn run<R: Source, W: Sink>(
     let searcher = searcher(alloc, words)?;
     let input = read_to_end(alloc, reader)?;
     let mut tally = Tally::new();
-    let matches = searcher.matches(alloc, input.as_slice(), &mut tally)?;
+    let matches = searcher.find_matches(alloc, input.as_slice(), &mut tally)?;
     let text = lines(alloc, matches.as_slice())?;
     let bytes = text.as_bytes();
     match write_whole(writer, bytes) {

@@ -8,6 +8,7 @@ use crate::fault::Fault;
 use std::alloc::{AllocError, Global};
 use std::io;
 use std::io::{Read, Write};
+use std::process::Abort;
 use std::test::Fail;
 
 /// A reader of bytes in memory, a few a call, whose call of this number fails.
@@ -156,6 +157,46 @@ fn prints_a_line_for_each_match(rt: HostRuntime) -> Result<(), Fail> {
     Ok(())
 }
 
+/// The modes of a confirming search, which print at most one line.
+#[test]
+fn prints_the_leftmost_match(rt: HostRuntime) -> Result<(), Fail> {
+    for (words, input, want, output) in [
+        (
+            "confirm-first apple maple Snapple",
+            INPUT,
+            Ok(true),
+            b"1 13 18\n".as_slice(),
+        ),
+        ("confirm-first apple", b"none here", Ok(false), b""),
+        ("confirm-longest ab ABC", b"xxabcabc", Ok(true), b"0 2 4\n"),
+        ("nocase-longest ab ABC", b"xxabcabc", Ok(true), b"1 2 5\n"),
+        ("nocase-first ab ABC", b"xxabcabc", Ok(true), b"0 2 4\n"),
+        ("nocase-first @[", b"`{@[", Ok(true), b"0 2 4\n"),
+        (
+            "nocase-first sherlock",
+            b"xxSHERLOCK",
+            Ok(true),
+            b"0 2 10\n",
+        ),
+        (
+            "nocase-first apple maple snapple",
+            INPUT,
+            Ok(true),
+            b"1 13 18\n",
+        ),
+        ("confirm-first a b c d", b"zzc", Ok(true), b"2 2 3\n"),
+        ("nocase-first a b c d", b"zzc", Err(Fault::NoSearcher), b""),
+        ("nocase-first foo ", INPUT, Err(Fault::NoSearcher), b""),
+        ("nocase-first", INPUT, Err(Fault::Usage), b""),
+    ] {
+        let mut writer = SlowWriter::new(64);
+        let answer = answer(rt.alloc(), words, one_byte_a_call(input, 0), &mut writer)?;
+        assert_eq!(rt; answer, want, "{words}");
+        assert_eq!(rt; writer.held(), output, "{words}");
+    }
+    Ok(())
+}
+
 #[test]
 fn asks_for_a_mode_and_few_patterns(rt: HostRuntime) -> Result<(), Fail> {
     let mut words = Vec::new(rt.alloc());
@@ -265,17 +306,25 @@ fn says_what_is_wrong(rt: HostRuntime) -> Result<(), Fail> {
     Ok(())
 }
 
+const CONFIRMING_WORDS: &str = "nocase-first apple maple snapple";
+
+const CONFIRMING_OUTPUT: &[u8] = b"1 13 18\n";
+
 /// Whichever request for memory is refused, nothing is written then, and the run made again
 /// succeeds.
-#[test]
-fn refused_run(rt: HostRuntime) -> Result<(), Fail> {
-    let Ok(words) = split(rt.alloc(), WORDS) else {
+fn runs_though_refused(
+    rt: &impl Abort,
+    alloc: Global,
+    words: &str,
+    output: &[u8],
+) -> Result<(), Fail> {
+    let Ok(words) = split(alloc, words) else {
         return Ok(());
     };
     for _ in 0..2 {
         let mut writer = SlowWriter::new(64);
         let answer = run(
-            rt.alloc(),
+            alloc,
             words.as_slice(),
             &mut Checked::new(INPUT),
             &mut Checked::new(&mut writer),
@@ -284,17 +333,35 @@ fn refused_run(rt: HostRuntime) -> Result<(), Fail> {
             Err(Fault::OutOfMemory) => assert_eq!(rt; writer.held(), b"".as_slice()),
             answer => {
                 assert_eq!(rt; answer, Ok(true));
-                assert_eq!(rt; writer.held(), OUTPUT);
+                assert_eq!(rt; writer.held(), output);
             }
         }
     }
     Ok(())
 }
 
+#[test]
+fn refused_run(rt: HostRuntime) -> Result<(), Fail> {
+    runs_though_refused(&rt, rt.alloc(), WORDS, OUTPUT)
+}
+
+#[test]
+fn refused_run_confirming(rt: HostRuntime) -> Result<(), Fail> {
+    runs_though_refused(&rt, rt.alloc(), CONFIRMING_WORDS, CONFIRMING_OUTPUT)
+}
+
 /// Where no request for memory is refused, the run succeeds.
 #[test]
 fn succeeds_run(rt: HostRuntime) -> Result<(), Fail> {
     let words = split(rt.alloc(), WORDS)?;
+    let answer = answer_to(rt.alloc(), words.as_slice());
+    assert_eq!(rt; answer, Ok(true));
+    Ok(())
+}
+
+#[test]
+fn succeeds_run_confirming(rt: HostRuntime) -> Result<(), Fail> {
+    let words = split(rt.alloc(), CONFIRMING_WORDS)?;
     let answer = answer_to(rt.alloc(), words.as_slice());
     assert_eq!(rt; answer, Ok(true));
     Ok(())
