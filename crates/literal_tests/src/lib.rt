@@ -9,6 +9,8 @@ mod choices;
 pub mod classes;
 #[cfg(test)]
 mod compared;
+#[cfg(test)]
+mod confirming;
 pub mod copies;
 pub mod counts;
 #[cfg(test)]

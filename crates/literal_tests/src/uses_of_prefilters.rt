@@ -12,7 +12,8 @@ ghost use Rattle.literal_prefilters.specs.Sound.{Sound};
 
 use literal_prefilters::count::Tally;
 use literal_prefilters::laws::prefilters_reach_254_bytes;
-use literal_prefilters::packed::{self, pattern::Patterns};
+use literal_prefilters::packed::pattern::Patterns;
+use literal_prefilters::packed::{self};
 use literal_prefilters::prefilter::{Builder, Candidate, Prefilter, PrefilterI, confirm};
 use literal_prefilters::{Match, PatternID, Span};
 use std::alloc::{AllocError, Global};
@@ -110,7 +111,14 @@ pub fn confirm_covered(
     ensures scanned { tally.new.scanned ≤ tally.old.scanned + 255 * (span.end - span.start) }
 {
     prefilters_reach_254_bytes(&covered.prefilter);
-    confirm(&covered.prefilter, &covered.patterns, ignore_case, haystack, span, tally)
+    confirm(
+        &covered.prefilter,
+        &covered.patterns,
+        ignore_case,
+        haystack,
+        span,
+        tally,
+    )
 }
 
 #[cfg(test)]
