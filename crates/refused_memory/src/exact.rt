@@ -1,7 +1,7 @@
 //! What takes memory of exact prefilters. Each function tells whether a call was refused at first, and
 //! fails where what it needs was refused.
-use literal_prefilters::prefilter::{Builder, Prefilter};
-use literal_prefilters::{MatchKind, Span};
+use literal_prefilters::prefilter::{Builder, ConfirmingSearch, Prefilter};
+use literal_prefilters::{MatchKind, Span, packed};
 use std::alloc::{AllocError, Global};
 use std::process::Abort;
 
@@ -98,4 +98,49 @@ fn refused_try_clone_of_packed(rt: HostRuntime) {
 fn succeeds_try_clone_of_packed(rt: HostRuntime) -> Result<(), AllocError> {
     assert!(rt; !clones_of(&rt, rt.alloc(), LISTS[1])?);
     Ok(())
+}
+
+/// A confirming search for some words, by a table where case is ignored, and else by a packed search.
+fn confirming(alloc: Global, ignore_case: bool) -> Result<Option<ConfirmingSearch>, AllocError> {
+    let kind = packed::MatchKind::LeftmostLongest;
+    let words: [&[u8]; 3] = if ignore_case {
+        [b"ay", b"by", b"cy"]
+    } else {
+        [b"ax", b"by", b"cz"]
+    };
+    ConfirmingSearch::build(alloc, kind, ignore_case, words)
+}
+
+fn builds_confirming(rt: &impl Abort, alloc: Global, ignore_case: bool) -> bool {
+    let first = confirming(alloc, ignore_case);
+    let refused = first.is_err();
+    let built = if refused {
+        confirming(alloc, ignore_case).expect(rt, "a second request was refused")
+    } else {
+        first.expect(rt, "no request was refused")
+    };
+    let search = built.expect(rt, "there is no prefilter");
+    let found = search.find_in(b"qqby", Span { start: 0, end: 4 });
+    assert_eq!(rt; found.map(|it| (it.start(), it.end())), Some((2, 4)));
+    refused
+}
+
+#[test]
+fn refused_build_of_confirming_by_a_table(rt: HostRuntime) {
+    let _ = builds_confirming(&rt, rt.alloc(), true);
+}
+
+#[test]
+fn succeeds_build_of_confirming_by_a_table(rt: HostRuntime) {
+    assert!(rt; !builds_confirming(&rt, rt.alloc(), true));
+}
+
+#[test]
+fn refused_build_of_confirming_by_a_search(rt: HostRuntime) {
+    let _ = builds_confirming(&rt, rt.alloc(), false);
+}
+
+#[test]
+fn succeeds_build_of_confirming_by_a_search(rt: HostRuntime) {
+    assert!(rt; !builds_confirming(&rt, rt.alloc(), false));
 }
