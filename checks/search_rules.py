@@ -41,6 +41,7 @@ BUCKET_READERS = places(tables.BUCKET_READERS)
 BODIES = places(tables.BODIES)
 STATEMENTS = places(tables.STATEMENTS)
 TAKERS = {name for _, _, name in list(COUNTED) + list(UNCOUNTED)}
+FREE_TAKERS = {name for _, head, name in COUNTED if not head}
 
 
 def is_of_searches(path):
@@ -341,7 +342,8 @@ def declared_types(sources):
 
 def signatures(sources):
     """What a function of the searches takes and gives is a haystack, a tally, or of plain types."""
-    known = set(tables.PLAIN_TYPES) | declared_types(sources)
+    lengths = {item.name for _, item in search_items(sources) if item.kind == "const" and item.name.isupper()}
+    known = set(tables.PLAIN_TYPES) | declared_types(sources) | lengths
     for function in search_functions(sources):
         haystacks = lent = 0
         for param in function.item.params:
@@ -429,7 +431,10 @@ def reads(sources):
 
 
 def uncounted_calls(function, body):
-    """Calls of searches that are given no tally, of whatever bytes."""
+    """Calls of searches that are given no tally, of whatever bytes, and searches that are named with no call."""
+    for at, token in enumerate(body):
+        if token.text in FREE_TAKERS and not (texts(body[at + 1 : at + 2]) == ("(",) and has_tally(function, body, at + 1)):
+            yield f"{function} names a search otherwise: {line_of(body, at)}"
     for at in range(2, len(body)):
         if body[at].text == "(" and body[at - 1].text in TAKERS and body[at - 2].text in (".", "::"):
             if not has_tally(function, body, at):
@@ -502,7 +507,8 @@ def is_argument(function, body, at):
     if function.key in LAWS:
         law_names = {law for _, _, law in LAWS}
         return (name.text in TAKERS and before == ".") or (name.text in law_names and before not in (".", "::"))
-    return name.text in TAKERS and before == "." and has_tally(function, body, opening)
+    by_name = name.text in FREE_TAKERS and before not in (".", "::")
+    return (by_name or (name.text in TAKERS and before == ".")) and has_tally(function, body, opening)
 
 
 def enclosing(body, at):
@@ -622,15 +628,16 @@ def ticks(sources):
 
 
 def program(sources):
-    """The program makes one search, of all matches, in its tally."""
+    """The program makes one search, of all matches in turn."""
     for function in sources.functions:
         if function.path.startswith("crates/litfind/"):
             body = texts(function.item.body or ())
             for at, word in enumerate(body):
-                if word in TAKERS and word != "find_all" and body[at - 1] in (".", "::"):
+                if word in TAKERS and word not in tables.PROGRAM_SEARCH and body[at - 1] in (".", "::"):
                     yield f"{function} calls {word}"
-            if body.count("find_all") > (function.key in TALLY_MAKERS):
-                yield f"{function} searches again"
+            for name, where in tables.PROGRAM_SEARCH.items():
+                if body.count(name) > (function.key == place(*where)):
+                    yield f"{function} searches again"
 
 
 # --- Bucket entries and held words ------------------------------------------------------------------
@@ -640,7 +647,7 @@ def entries(sources):
     """Bucket entries are named in the listed functions alone, and no guarded struct is taken apart."""
     for function in sources.functions:
         body = texts(function.item.body or ())
-        if is_of_searches(function.path) and "buckets" in body and function.key not in BUCKET_READERS:
+        if is_of_searches(function.path) and "entries" in body and function.key not in BUCKET_READERS:
             yield f"{function} names bucket entries"
         for name, where in tables.MAKERS.items():
             made = len([at for at in range(len(body) - 1) if body[at] == name and body[at + 1] == "{"])

@@ -17,10 +17,14 @@ abbrev pub line_of : MatchValue → List ℕ
 line_of found = decimal found.pattern ++ codes " " ++ decimal found.start ++ codes " " ++ decimal found.end ++ codes
     "\n"
 
--- the text is a line for each match of the input, for the query of the words
-pub record AreLines (words : List (List ℕ)) (input text : List ℕ) : Type 0 where
-  pub query : Query
-  pub asked : query_asked words ≡ Some query
+-- the text is a line for each match of the query in the input
+pub record AreMatchLines (query : Query) (input text : List ℕ) : Type 0 where
   pub matches : List MatchValue
   pub found : AreMatches query input matches
   pub lines : text ≡ flat_map line_of matches
+
+-- the same for the query of the words
+pub record AreLines (words : List (List ℕ)) (input text : List ℕ) : Type 0 where
+  pub query : Query
+  pub asked : query_asked words ≡ Some query
+  pub lines : AreMatchLines query input text

@@ -1,18 +1,15 @@
 //! The engine: the words and the whole input in, the whole text out.
 ghost use Rattle.std.specs.Prelude.{◌≡◌, ◌≢◌, ◌⊎◌, ◌↔◌, true, false, map, Some, None, IfOk, IfErr, OnOk, OnErr};
 ghost use Rattle.std.specs.Prelude.{MatchOption, IsErrOf, string_bytes};
-ghost use Rattle.std.specs.List.{flat_map};
 ghost use Rattle.std.specs.Io.KnownBytes.{Appends};
 ghost use Rattle.literal_packed.specs.BuilderValue.{searcher_of};
-ghost use Rattle.litfind.specs.Lines.{line_of};
+ghost use Rattle.litfind.specs.Lines.{AreMatchLines};
 ghost use Rattle.litfind.specs.Query.{HasNoSearcher, builder_for, mode_kind, query_asked};
 ghost use Rattle.litfind.specs.Run.{IsFront, IsWhole, ReadSome, WroteFront, WroteLines};
 
 use crate::device::{Failed, Sink, Source};
 use crate::fault::Fault;
 use crate::line::Line;
-use literal_base::Match;
-use literal_base::count::Tally;
 use literal_packed::{Config, MatchKind, Searcher};
 use std::alloc::{AllocError, Global};
 
@@ -88,13 +85,13 @@ fn searcher(alloc: Global, words: &[String]) -> Result<Searcher, Fault>
     }
 }
 
-/// A line for each match.
-fn lines(alloc: Global, matches: &[Match]) -> Result<String, AllocError>
-    ensures { IfOk result (λ text. string_bytes text ≡ flat_map line_of matches.now) }
+/// A line for each match in the input, as it is found.
+fn lines(alloc: Global, searcher: &Searcher, input: &[u8]) -> Result<String, AllocError>
+    ensures { IfOk result (λ text. AreMatchLines searcher.now input.now (string_bytes text)) }
 {
     let mut text = String::new(alloc);
-    for found in matches {
-        let line = Line(*found);
+    for found in searcher.find_iter(input) {
+        let line = Line(found);
         write!(text, "{line}")?;
     }
     Ok(text)
@@ -179,9 +176,7 @@ pub fn run<R: Source, W: Sink>(
 {
     let searcher = searcher(alloc, words)?;
     let input = read_to_end(alloc, reader)?;
-    let mut tally = Tally::new();
-    let matches = searcher.find_all(input.as_slice(), &mut tally)?;
-    let text = lines(alloc, matches.as_slice())?;
+    let text = lines(alloc, &searcher, input.as_slice())?;
     let bytes = text.as_bytes();
     match write_whole(writer, bytes) {
         Ok(()) => Ok(!bytes.is_empty()),

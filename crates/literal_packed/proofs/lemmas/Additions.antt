@@ -3,7 +3,6 @@
 use Rattle.std.proofs.Common.{◌≡◌, ℕ, ◌++◌, Bool, true, false, cond, List, [], ◌∷◌, length, map, Option, Some, None}
 use Rattle.std.proofs.Common.{Result, Ok, Err, IsOk, IfOk, OnErr, ltb, ◌⊎◌, inl, inr, subst, refl, sym, ap, ◌∙◌}
 use Rattle.std.proofs.Common.{append_assoc, append-nil, arith}
-use Rattle.std.specs.List.{list_all}
 use Rattle.std.specs.Borrow.{Bor}
 use Rattle.std.proofs.lemmas.Bool.Decides.{nat_tests}
 use Rattle.std.proofs.lemmas.List.{length-append, map_push}

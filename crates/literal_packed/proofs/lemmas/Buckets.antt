@@ -1,6 +1,6 @@
 -- The entries of a bucket, and the patterns that they are for.
 -- For the look-up in `RabinKarp::look_up`.
-use Rattle.std.proofs.Common.{◌≡◌, ℕ, zero, ◌+◌, ◌%◌, ◌<◌, Bool, true, false, ◌&&◌, cond, eqb, List, ◌∷◌, ◌++◌}
+use Rattle.std.proofs.Common.{◌≡◌, ℕ, ◌+◌, ◌%◌, ◌<◌, Bool, true, false, ◌&&◌, cond, eqb, List, ◌∷◌, ◌++◌}
 use Rattle.std.proofs.Common.{length, take, drop, get_or, inl, inr, refl, sym, ap, subst, ◌∙◌, arith, add-zero}
 use Rattle.std.specs.List.{All, AllPairs, Contains, count_by, range_with_len}
 use Rattle.std.proofs.lemmas.Bool.{cases_order, eqb-true, eq-eqb}

@@ -2,7 +2,7 @@
 -- For `RabinKarp::new` and `find_at`.
 use Rattle.std.proofs.Common.{◌≡◌, ℕ, zero, suc, ◌+◌, ◌-◌, ◌^◌, ◌<◌, ◌≤◌, min, false, List, [], ◌∷◌, length, take, drop}
 use Rattle.std.proofs.Common.{get_or, sym, ap, ◌∙◌, arith}
-use Rattle.std.specs.List.{All, fold, slice_range}
+use Rattle.std.specs.List.{fold, slice_range}
 use Rattle.std.proofs.lemmas.List.{take-take}
 use Rattle.std.proofs.lemmas.List.Elements.{All-head, All-tail}
 use Rattle.literal_base.specs.Occurs.{NoneIsEmpty, pattern_at, StandsAt}
