@@ -344,3 +344,34 @@ impl RabinKarp {
         Some(found_at(patterns, id, last))
     }
 }
+
+#[cfg(test)]
+mod tests {
+    use super::*;
+    use std::test::Fail;
+
+    #[test]
+    fn lays_out_the_buckets(rt: HostRuntime) -> Result<(), Fail> {
+        let mut patterns = Patterns::new(rt.alloc());
+        patterns.add(b"ab")?;
+        patterns.add(b"ba")?;
+        patterns.add(b"ab")?;
+        let made = RabinKarp::new(&patterns, &mut Tally::new())?;
+        let rows = [(292, 0), (292, 2), (293, 1)];
+        assert_eq!(rt; made.entries.len(), rows.len());
+        for k in 0..rows.len() {
+            let (sum, id) = made.entries.as_slice().get(k).ok_or("an entry is missing")?;
+            assert_eq!(rt; (*sum, id.as_usize()), rows[k], "entry {k}");
+        }
+        for bucket in 0..BUCKETS + 1 {
+            let start = match bucket {
+                0..=36 => 0,
+                37 => 2,
+                _ => 3,
+            };
+            assert_eq!(rt; made.starts[bucket], start, "bucket {bucket}");
+        }
+        assert_eq!(rt; made.occupied, 1 << 36 | 1 << 37);
+        Ok(())
+    }
+}
