@@ -11,15 +11,21 @@ BASE_SEARCH = "crates/literal_base/src/search.rt"
 # Places in the sources, at which an edit puts code.
 CUT = "        let haystack = &haystack[..span.end];"
 ENTRY = "            let (entry_sum, id) = self.entry(bucket, k, tally);"
-IS_MATCH = "            if entry_sum == sum && patterns.matches_at(id, haystack, at, false, tally) {"
+IS_MATCH = "            if entry_sum == sum && stands_at(patterns, id, haystack, at, tally) {"
 LAST = "        let last = end - minimum_len;"
 ROLLING = "        let mut rolling = Rolling::new(minimum_len);"
 STEP_BACK = "                let start = found.place"
 TRY_CLONE = "    /// A copy, made for the same patterns."
+READ = "        self.entries[self.starts[bucket] + k]"
+LEN = "        self.starts[bucket + 1] - self.starts[bucket]"
+COPIED = "            entries: Vec::from_slice("
+STARTS = "    let mut starts = [0; BUCKETS + 1];"
+SORT = "        entries.sort_by_key("
 SCANNED = "            tally.tick_scanned();"
 NEXT = "        let Some(found) = self\n"
 ALL = "        let mut all = Vec::new"
-RUN = "    let matches = searcher.find_all(input.as_slice(), &mut tally)?;"
+RUN = "    let text = lines(alloc, &searcher, input.as_slice())?;"
+LINE = "        let line = Line(found);"
 CONFIG = "    /// The usual configuration.\n    pub fn config()"
 KINDS_OF_PREFILTER = "        match &self.finder {\n            Finder::StartBytesOne(pre) => pre"
 USE_TALLY = "use literal_base::count::Tally;"
@@ -248,6 +254,10 @@ READS = [
     ("search_in_no_tally", "reads", [in_find_in("        let _ = self.find_in(haystack, span);")]),
     ("whole_search_in_no_tally", "reads", [in_find_in("        let _ = self.find(haystack);")]),
     ("iteration_in_no_tally", "reads", [before(API, ALL, "        for _ in self.find_iter(haystack) {}")]),
+    ("free_search_by_another_name", "reads", [in_look_up("let other = stands_at;")]),
+    ("free_search_that_is_another", "reads", [in_look_up("let stands_at = other;")]),
+    ("free_search_in_another_tally", "reads", [in_look_up("stands_at(patterns, id, haystack, at, other);")]),
+    ("free_search_by_a_path", "reads", [in_look_up("rabinkarp::stands_at(patterns, id, haystack, at, tally);")]),
     ("search_of_other_bytes", "reads", [in_look_up('if self.searcher.find(b"a").is_some() { return None; }')]),
     ("search_in_a_helper", "reads", [helper("fn peek(searcher: &Searcher) -> Option<Match> {\n    searcher.find(b\"a\")\n}")]),
     ("law_as_a_search", "reads", [in_find_in("        let _ = none_if_nothing_occurs(self, haystack, span);")]),
@@ -310,7 +320,7 @@ STRUCTS = [
     ("searcher_with_an_index", "structs", [replace(API, "    rabin_karp: RabinKarp,\n}", "    rabin_karp: RabinKarp,\n    index: Vec<(usize, PatternID)>,\n}")]),
     ("buckets_that_print", "structs", [replace(RABIN_KARP, "#[derive(Drop)]\npub struct RabinKarp", "#[derive(Debug, Drop)]\npub struct RabinKarp")]),
     ("buckets_of_another_name", "structs", [replace(
-        RABIN_KARP, "    minimum_len: usize,\n    buckets: Vec", "    minimum_len: usize,\n    lists: Vec")]),
+        RABIN_KARP, "BUCKETS + 1],\n    entries: Vec", "BUCKETS + 1],\n    list: Vec")]),
     ("span_with_a_haystack", "structs", [replace(BASE_SEARCH, "pub struct Span {", "pub struct Span<'h> {\n    text: &'h [u8],")]),
 ]
 
@@ -321,7 +331,7 @@ TALLIES = [
     ("second_tally_in_a_prefilter", "tallies", [before(PREFILTER, KINDS_OF_PREFILTER, "        let tally = &mut Tally::new();")]),
     ("second_tally_in_a_maker", "tallies", [replace(
         API, "        let mut tally = Tally::new();", "        let mut other = Tally::new();\n        let mut tally = Tally::new();")]),
-    ("second_tally_in_the_program", "tallies", [before(ENGINE, RUN, "    tally = Tally::new();")]),
+    ("tally_in_the_program", "tallies", [before(ENGINE, RUN, "    let mut tally = Tally::new();")]),
     ("function_that_gives_a_tally", "tallies", [helper("fn find() -> Tally {\n    Tally::new()\n}")]),
     ("tally_made_by_name", "tallies", [in_look_up("let make = Tally::new;")]),
     ("tally_made_by_its_type", "tallies", [in_look_up("let mut other = <Tally>::new();")]),
@@ -350,31 +360,46 @@ TALLIES = [
     ("scans_uncounted", "ticks", [replace(BYTE_TABLE, SCANNED, "")]),
     ("entry_without_a_tick", "ticks", [replace(RABIN_KARP, "        tally.tick_entries();", "")]),
     ("program_searches_uncounted", "program", [before(ENGINE, RUN, "    let _ = searcher.find(input.as_slice());")]),
-    ("program_searches_twice", "program", [before(ENGINE, RUN, "    let _ = searcher.find_all(input.as_slice(), &mut tally)?;")]),
+    ("program_lists_all", "program", [before(ENGINE, RUN, "    let _ = searcher.find_all(input.as_slice(), other)?;")]),
+    ("program_searches_twice", "program", [before(ENGINE, RUN, RUN)]),
+    ("program_searches_elsewhere", "program", [append(
+        ENGINE, "\nfn again(searcher: &Searcher, input: &[u8]) -> bool {\n    searcher.find_iter(input).next().is_some()\n}\n")]),
+    ("program_searches_at_each_line", "program", [before(ENGINE, LINE, "        let _ = searcher.find_iter(input);")]),
 ]
 
 ENTRIES = [
-    ("uncounted_entries", "entries", [replace(RABIN_KARP, ENTRY, "            let (entry_sum, id) = self.buckets[bucket][k];")]),
-    ("buckets_taken_apart", "entries", [in_look_up("let RabinKarp { buckets, .. } = self;")]),
+    ("uncounted_entries", "entries", [replace(RABIN_KARP, ENTRY, "            let (entry_sum, id) = self.entries[self.starts[bucket] + k];")]),
+    ("entries_iterated", "entries", [in_look_up("for (_, other) in &self.entries {}")]),
+    ("entries_by_get", "entries", [in_look_up("let _ = self.entries.get(self.starts[bucket]);")]),
+    ("entries_by_a_pattern", "entries", [in_look_up("let [(first, _), ..] = self.entries.as_slice() else { return None };")]),
+    ("entries_handed_on", "entries", [in_look_up("let starts = starts_of(self.entries.as_slice());")]),
+    ("entries_by_a_method", "entries", [method("    fn list(&self) -> &[(usize, PatternID)] {\n        self.entries.as_slice()\n    }\n")]),
+    ("entries_under_another_name", "entries", [in_look_up("let Self { entries: list, .. } = self;")]),
+    ("entries_borrowed", "entries", [in_look_up("let list = &self.entries;")]),
+    ("entries_taken_apart", "entries", [in_look_up("let RabinKarp { entries, .. } = self;")]),
     ("other_field_taken_apart", "entries", [in_look_up("let RabinKarp { minimum_len, .. } = self;")]),
     ("searcher_taken_apart", "entries", [public_search(
         "    fn peek(&self) {\n        let Searcher { rabin_karp, .. } = self;\n    }\n")]),
     ("patterns_taken_apart", "entries", [append(PATTERN, "\nfn peek(patterns: &Patterns) -> usize {\n    let Patterns { minimum_len, .. } = patterns;\n    *minimum_len\n}\n")]),
     ("patterns_taken_apart_below", "entries", [in_look_up("if let Patterns { order, .. } = patterns {}")]),
-    ("free_try_clone", "entries", [helper("fn try_clone(rabin_karp: &RabinKarp) -> usize {\n    rabin_karp.buckets.iter().count()\n}")]),
-    ("method_of_another_trait", "entries", [helper("impl Default for RabinKarp {\n    fn try_clone(&self) -> usize {\n        self.buckets.len()\n    }\n}")]),
-    ("entry_reads_two", "bodies", [replace(
-        RABIN_KARP, "        self.buckets[bucket][k]", "        let _ = self.buckets[bucket][0];\n        self.buckets[bucket][k]")]),
-    ("entry_counts_the_bucket", "bodies", [replace(
-        RABIN_KARP, "        self.buckets[bucket][k]", "        let _ = self.buckets[bucket].iter().count();\n        self.buckets[bucket][k]")]),
-    ("length_by_counting", "bodies", [replace(RABIN_KARP, "        self.buckets[bucket].len()", "        self.buckets[bucket].iter().count()")]),
-    ("copy_that_reads", "bodies", [replace(RABIN_KARP, "    for entries in buckets {", "    for entries in buckets {\n        let _ = entries[0];")]),
+    ("free_try_clone", "entries", [helper("fn try_clone(rabin_karp: &RabinKarp) -> usize {\n    rabin_karp.entries.iter().count()\n}")]),
+    ("method_of_another_trait", "entries", [helper("impl Default for RabinKarp {\n    fn try_clone(&self) -> usize {\n        self.entries.len()\n    }\n}")]),
+    ("entry_reads_two", "bodies", [before(RABIN_KARP, READ, "        let _ = self.entries[0];")]),
+    ("entry_counts_the_list", "bodies", [before(RABIN_KARP, READ, "        let _ = self.entries.iter().count();")]),
+    ("length_by_counting", "entries", [before(RABIN_KARP, LEN, "        let _ = self.entries.iter().count();")]),
+    ("copy_that_reads", "bodies", [before(RABIN_KARP, COPIED, "            occupied: self.entries[0].0 as u64,")]),
+    ("starts_are_walked", "bodies", [before(RABIN_KARP, STARTS, "    for entry in entries {}")]),
+    ("reserved_twice", "bodies", [before(RABIN_KARP, SORT, "        entries.reserve(1)?;")]),
+    ("nothing_reserved", "bodies", [replace(
+        RABIN_KARP, "Vec::with_capacity(patterns.allocator(), patterns.len())?", "Vec::new(patterns.allocator())")]),
+    ("stands_at_by_itself", "bodies", [before(
+        RABIN_KARP, "    patterns.matches_at(id, haystack, at, false, tally)", "    let _ = patterns.matches_at(id, haystack, at, true, tally);")]),
     ("entry_is_gone", "listed", [replace(RABIN_KARP, "    fn entry(&self", "    fn an_entry(&self")]),
     ("scans_two_bytes_a_turn", "bodies", [before(
         BYTE_TABLE, SCANNED, "            if self.distances[haystack[span.start] as usize].is_some() {}")]),
     ("compares_twice", "bodies", [replace(PATTERN, "            haystack == bytes", "            haystack == bytes && haystack == bytes")]),
     ("rolls_uncounted", "bodies", [replace(
-        RABIN_KARP, "            .wrapping_sub((old", "            .wrapping_add(0)\n            .wrapping_sub((old")]),
+        RABIN_KARP, "(new as usize).wrapping_sub(", "(new as usize).wrapping_add(0).wrapping_sub(")]),
     ("search_twice_in_a_tally_of_its_own", "bodies", [before(
         API, "        self.find_in_counted(haystack, span, &mut tally)", "        let _ = self.find_in_counted(haystack, span, &mut tally);")]),
     ("hash_of_its_own", "statements", [replace(RABIN_KARP, ROLLING, "        let mut rolling = Bytes::new(minimum_len);")]),

@@ -39,7 +39,6 @@ OTHER_SIGNATURES = places(tables.OTHER_SIGNATURES)
 CLOSURES = places(tables.CLOSURES)
 BUCKET_READERS = places(tables.BUCKET_READERS)
 BODIES = places(tables.BODIES)
-PROGRAM_SEARCHES = places(tables.PROGRAM_SEARCHES)
 STATEMENTS = places(tables.STATEMENTS)
 TAKERS = {name for _, _, name in list(COUNTED) + list(UNCOUNTED)}
 FREE_TAKERS = {name for _, owner, name in COUNTED if not owner}
@@ -344,7 +343,8 @@ def declared_types(sources):
 
 def signatures(sources):
     """What a function of the searches takes and gives is a haystack, a tally, or of plain types."""
-    known = set(tables.PLAIN_TYPES) | set(tables.TYPE_PATHS) | declared_types(sources)
+    lengths = {item.name for _, item in search_items(sources) if item.kind == "const" and item.name.isupper()}
+    known = set(tables.PLAIN_TYPES) | set(tables.TYPE_PATHS) | declared_types(sources) | lengths
     for function in search_functions(sources):
         haystacks = lent = 0
         for param in function.item.params:
@@ -434,12 +434,12 @@ def reads(sources):
 
 
 def uncounted_calls(function, body):
-    """Calls of searches that are given no tally, of whatever bytes."""
+    """Calls of searches that are given no tally, of whatever bytes, and searches that are named with no call."""
+    for at, token in enumerate(body):
+        if token.text in FREE_TAKERS and not (texts(body[at + 1 : at + 2]) == ("(",) and has_tally(function, body, at + 1)):
+            yield f"{function} names a search otherwise: {line_of(body, at)}"
     for at in range(2, len(body)):
-        if body[at].text != "(":
-            continue
-        name, before = body[at - 1].text, body[at - 2].text
-        if (name in TAKERS and before in (".", "::")) or name in FREE_TAKERS:
+        if body[at].text == "(" and body[at - 1].text in TAKERS and body[at - 2].text in (".", "::"):
             if not has_tally(function, body, at):
                 yield f"{function} searches in no tally: {line_of(body, at)}"
 
@@ -631,19 +631,16 @@ def ticks(sources):
 
 
 def program(sources):
-    """The program makes one search, in its tally: one call of one function, which has each search once."""
+    """The program makes one search: each name that leads to one stands once, in the function beside it."""
     for function in sources.functions:
         if function.path.startswith("crates/litfind/"):
             body = texts(function.item.body or ())
-            searches = PROGRAM_SEARCHES.get(function.key, ())
             for at, word in enumerate(body):
-                if word in TAKERS and word not in searches and body[at - 1] in (".", "::"):
+                if word in TAKERS and word not in tables.PROGRAM_SEARCH and body[at - 1] in (".", "::"):
                     yield f"{function} calls {word}"
-            if any(body.count(word) > 1 for word in searches):
-                yield f"{function} searches again"
-            for _, _, name in PROGRAM_SEARCHES:
-                if body.count(name) > (function.key in TALLY_MAKERS):
-                    yield f"{function} calls {name}"
+            for name, where in tables.PROGRAM_SEARCH.items():
+                if body.count(name) > (function.key == place(*where)):
+                    yield f"{function} searches again"
 
 
 # --- Bucket entries and held words ------------------------------------------------------------------
@@ -653,7 +650,7 @@ def entries(sources):
     """Bucket entries are named in the listed functions alone, and no guarded struct is taken apart."""
     for function in sources.functions:
         body = texts(function.item.body or ())
-        if is_of_searches(function.path) and "buckets" in body and function.key not in BUCKET_READERS:
+        if is_of_searches(function.path) and "entries" in body and function.key not in BUCKET_READERS:
             yield f"{function} names bucket entries"
         for name, where in tables.MAKERS.items():
             made = len([at for at in range(len(body) - 1) if body[at] == name and body[at + 1] == "{"])

@@ -36,7 +36,8 @@ COUNTED = {
     (API, "impl Searcher", "find_in_counted"): "cuts the haystack at the end of the span",
     (API, "impl Searcher", "find_all"): "searches what is left, again and again",
     (PATTERN, "impl Patterns", "matches_at"): "compares, in the words that are held below",
-    (RABIN_KARP, "impl RabinKarp", "look_up"): "hands it to `matches_at`",
+    (RABIN_KARP, "", "stands_at"): "hands it to `matches_at`",
+    (RABIN_KARP, "impl RabinKarp", "look_up"): "hands it to `stands_at`",
     (RABIN_KARP, "impl RabinKarp", "find_at"): "hashes, by the two reads that are held below",
     (PREFILTER, "impl Prefilter", "find_in_counted"): "hands it to the kind",
     (PREFILTER, "impl PrefilterI for Prefilter", "find_in"): "the same by the trait",
@@ -96,7 +97,6 @@ TALLY_MAKERS = {
     (PREFILTER, "impl Prefilter", "find_in"): "for one search, which nobody counts",
     (PREFILTER, "impl Builder", "build"): "for the hash of the pattern, which is no search",
     (CONFIRMING, "impl ConfirmingSearch", "find_in"): "for one search, which nobody counts",
-    (ENGINE, "", "run"): "for the search of a run",
 }
 
 # Functions that take a tally and no haystack.
@@ -118,9 +118,13 @@ TICKS = {
     "tick_tried": [(CONFIRMING, "", "confirm"), (CONFIRMING, "", "confirm_by_table")],
 }
 
-# The one function of the program that searches, and the searches in it, one for each kind of mode. `run` calls it once.
-PROGRAM_SEARCHES = {
-    (ENGINE, "impl Searching", "find_matches"): ("find_all", "find_in_counted"),
+# What the program searches by, and where: each name stands once in the body beside it, and in no other of the program.
+PROGRAM_SEARCH = {
+    "find_iter": (ENGINE, "", "all_lines"),
+    "find_in": (ENGINE, "", "leftmost_line"),
+    "all_lines": (ENGINE, "impl Searching", "lines"),
+    "leftmost_line": (ENGINE, "impl Searching", "lines"),
+    "lines": (ENGINE, "", "run"),
 }
 
 # --- Bytes of patterns, and what is generic --------------------------------------------------------
@@ -177,6 +181,8 @@ GENERIC_PREFILTERS = {
 # Functions with a closure.
 CLOSURES = {
     (PATTERN, "", "sort_longest_first"): "compares two identifiers",
+    (RABIN_KARP, "", "starts_of"): "tells the bucket of an entry",
+    (RABIN_KARP, "impl RabinKarp", "new"): "tells the bucket of an entry",
     (TABLES, "", "holds_any"): "looks up a byte of a pattern",
     (PREFILTER, "impl Builder", "is_short_list"): "counts the bytes of a table",
 }
@@ -184,7 +190,7 @@ CLOSURES = {
 # The types that a signature, a field or a constant of the crates of searches may name, beside those
 # that the crates declare: numbers and std's, and values of the layers below that hold no bytes.
 STD_TYPES = (
-    "usize", "u16", "u128", "bool", "Option", "Result", "Vec", "Global", "AllocError", "Self", "fmt", "Formatter", "mut",
+    "usize", "u16", "u64", "u128", "bool", "Option", "Result", "Vec", "Global", "AllocError", "Self", "fmt", "Formatter", "mut",
 )
 VALUE_TYPES = ("PatternID", "Match", "MatchKind", "Span", "ByteSet")
 PLAIN_TYPES = STD_TYPES + VALUE_TYPES
@@ -269,14 +275,12 @@ MAKERS = {
     "Packed": [(EXACT, "impl Packed", "new"), (EXACT, "impl Packed", "try_clone")],
 }
 
-# Where the field of the bucket entries is named, or a variable that becomes it.
+# Where the list of bucket entries is named, the field or a variable that becomes it. Their words are held below.
 BUCKET_READERS = {
-    (RABIN_KARP, "impl RabinKarp", "new"): "puts the entries in",
+    (RABIN_KARP, "impl RabinKarp", "new"): "makes the list",
+    (RABIN_KARP, "", "starts_of"): "says where the buckets begin in a list that is made",
     (RABIN_KARP, "impl RabinKarp", "try_clone"): "copies them",
-    (RABIN_KARP, "impl RabinKarp", "bucket_len"): "counts those of a bucket",
     (RABIN_KARP, "impl RabinKarp", "entry"): "reads one, and ticks",
-    (RABIN_KARP, "", "empty_buckets"): "makes empty ones",
-    (RABIN_KARP, "", "copy_of"): "copies them",
 }
 
 # --- Held words ------------------------------------------------------------------------------------
@@ -303,8 +307,9 @@ STRUCTS = {
     "FindIter": """#[derive(Drop)]
         pub struct FindIter<'s, 'h> { searcher: &'s Searcher, haystack: &'h [u8], at: usize, tally: Tally, }""",
     "Searcher": "#[derive(Drop)] pub struct Searcher { patterns: Patterns, rabin_karp: RabinKarp, }",
-    "RabinKarp": "#[derive(Drop)] pub struct RabinKarp { minimum_len: usize, buckets: Vec<Vec<(usize, PatternID)>>, }",
-    "Rolling": "#[derive(Drop)] pub struct Rolling { window: usize, value: usize, power: usize, }",
+    "RabinKarp": """#[derive(Drop)] pub struct RabinKarp {
+        minimum_len: usize, occupied: u64, starts: [usize; BUCKETS + 1], entries: Vec<(usize, PatternID)>, }""",
+    "Rolling": "#[derive(Drop)] pub struct Rolling { window: usize, doubled: usize, change: usize, power: usize, }",
     "Patterns": """#[derive(Drop)] pub struct Patterns { kind: MatchKind, by_id: Vec<Vec<u8>>, order: Vec<PatternID>,
         minimum_len: usize, total_pattern_bytes: u128, }""",
     "Pattern": "#[derive(Clone, Drop)] pub struct Pattern<'p>(&'p [u8]);",
@@ -337,32 +342,42 @@ BODIES = {
             }
         }
         None""",
-    (RABIN_KARP, "impl RabinKarp", "entry"): "tally.tick_entries(); self.buckets[bucket][k]",
-    (RABIN_KARP, "impl RabinKarp", "bucket_len"): "self.buckets[bucket].len()",
+    (RABIN_KARP, "", "stands_at"): "patterns.matches_at(id, haystack, at, false, tally)",
+    (RABIN_KARP, "impl RabinKarp", "new"): """
+        let minimum_len = patterns.minimum_len();
+        let mut entries = Vec::with_capacity(patterns.allocator(), patterns.len())?;
+        for (id, pattern) in patterns.iter() {
+            entries.push((sum_of_first(pattern.bytes(), minimum_len, tally), id))?;
+        }
+        entries.sort_by_key(|entry| entry.0 % BUCKETS)?;
+        let starts = starts_of(entries.as_slice());
+        Ok(RabinKarp { minimum_len, occupied: occupied_of(&starts), starts, entries, })""",
+    (RABIN_KARP, "", "starts_of"): """
+        let mut starts = [0; BUCKETS + 1];
+        for bucket in 0..BUCKETS + 1 {
+            starts[bucket] = entries.partition_point(|entry| entry.0 % BUCKETS < bucket);
+        }
+        starts""",
+    (RABIN_KARP, "impl RabinKarp", "entry"): "tally.tick_entries(); self.entries[self.starts[bucket] + k]",
     (RABIN_KARP, "impl RabinKarp", "try_clone"): """
         Ok(RabinKarp {
             minimum_len: self.minimum_len,
-            buckets: copy_of(*self.buckets.allocator(), self.buckets.as_slice())?,
+            occupied: self.occupied,
+            starts: self.starts,
+            entries: Vec::from_slice(*self.entries.allocator(), self.entries.as_slice())?,
         })""",
-    (RABIN_KARP, "", "copy_of"): """
-        let mut copy = Vec::with_capacity(alloc, buckets.len())?;
-        for entries in buckets { copy.push(Vec::from_slice(alloc, entries.as_slice())?)?; }
-        Ok(copy)""",
-    (RABIN_KARP, "", "empty_buckets"): """
-        let mut buckets = Vec::with_capacity(alloc, BUCKETS)?;
-        for _ in 0..BUCKETS { buckets.push(Vec::new(alloc))?; }
-        Ok(buckets)""",
     (RABIN_KARP, "impl Rolling", "new"): """
-        let power = if window <= usize::BITS as usize { 1 << (window - 1) } else { 0 };
-        Rolling { window, value: 0, power, }""",
+        let power = if window < usize::BITS as usize { 1 << window } else { 0 };
+        Rolling { window, doubled: 0, change: 0, power, }""",
     (RABIN_KARP, "impl Rolling", "push"): """
         tally.tick_hashed();
-        self.value = self.value.wrapping_shl(1).wrapping_add(byte as usize);""",
+        self.doubled = self.value().wrapping_shl(1);
+        self.change = byte as usize;""",
     (RABIN_KARP, "impl Rolling", "roll"): """
         tally.tick_hashed();
-        self.value = self.value.wrapping_sub((old as usize).wrapping_mul(self.power)).wrapping_shl(1)
-            .wrapping_add(new as usize);""",
-    (RABIN_KARP, "impl Rolling", "value"): "self.value",
+        self.doubled = self.value().wrapping_shl(1);
+        self.change = (new as usize).wrapping_sub((old as usize).wrapping_mul(self.power));""",
+    (RABIN_KARP, "impl Rolling", "value"): "self.doubled.wrapping_add(self.change)",
 }
 
 # Statements that stand once in a body, and hold all that the body has of the names beside them: the two

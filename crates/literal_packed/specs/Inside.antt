@@ -4,3 +4,4 @@ pub mod Longest
 pub mod Patterns
 pub mod Place
 pub mod RabinKarp
+pub mod Rolling

@@ -1,5 +1,5 @@
 -- The sum of a window of bytes.
-use Rattle.std.specs.Prelude.{ℕ, ◌+◌, ◌-◌, ◌*◌, ◌%◌, ◌^◌, List, [], ◌∷◌, length}
+use Rattle.std.specs.Prelude.{ℕ, ◌+◌, ◌*◌, ◌%◌, ◌^◌, List, [], ◌∷◌, length}
 
 -- the bytes as the digits of a number in base 2: each stands for itself times 2 to the power of how many bytes follow
 -- it
@@ -10,7 +10,3 @@ weighted (b ∷ w) = b * 2 ^ length w + weighted w
 -- Sum: the same modulo 2 ^ 64
 abbrev pub sum_of : List ℕ → ℕ
 sum_of w = weighted w % 2 ^ 64
-
--- what the first byte of a window of this length is multiplied by, which is 0 from 65 bytes on
-abbrev pub power_of : ℕ → ℕ
-power_of window = 2 ^ (window - 1) % 2 ^ 64

@@ -1,15 +1,15 @@
 //! Rabin and Karp's search: a sum over a window of the haystack, which moves on byte by byte, tells
 //! which patterns can stand at a place.
-ghost use Rattle.std.specs.Prelude.{◌≡◌, ℕ, ◌≤◌, ◌<◌, ◌+◌, ◌*◌, ◌^◌, List, [], ◌∷◌, ◌++◌, false, length, take, IfOk};
-ghost use Rattle.std.specs.Prelude.{OnOk, MatchOption, Some, slice_get};
-ghost use Rattle.std.specs.List.{All};
-ghost use Rattle.literal_base.specs.Occurs.{pattern_at, rest_from};
+ghost use Rattle.std.specs.Prelude.{◌≡◌, ◌↔◌, ℕ, ◌≤◌, ◌<◌, ◌+◌, ◌*◌, ◌^◌, List, [], ◌∷◌, ◌++◌, false, length, take};
+ghost use Rattle.std.specs.Prelude.{IfOk, IsTrue, OnOk, MatchOption, Some, slice_get};
+ghost use Rattle.std.specs.List.Sorted.{IsNonDecreasingBy};
+ghost use Rattle.literal_base.specs.Occurs.{StandsAt, pattern_at, rest_from};
 ghost use Rattle.literal_base.specs.Leftmost.{IsLeftmost};
 ghost use Rattle.literal_packed.specs.PatternsValue.{query_of, IsInOrder, minimum_len_of};
 ghost use Rattle.literal_packed.specs.Inside.Place.{IsBestAt, NoneStandsAt};
 ghost use Rattle.literal_packed.specs.Sum.{sum_of};
 ghost use Rattle.literal_packed.specs.Pairs.{has_equal_sum, has_equal_bucket, window_sum, pairs_answered, counts_after};
-ghost use Rattle.literal_packed.specs.Inside.RabinKarp.{entry_lists};
+ghost use Rattle.literal_packed.specs.Inside.RabinKarp.{bucket_number, AreStarts, AreOccupied};
 ghost use Rattle.literal_packed.specs.RabinKarpValue.{IsMadeFor, bucket_at};
 
 use crate::pattern::Patterns;
@@ -26,21 +26,26 @@ const BUCKETS: usize = 64;
 /// the power of how many bytes of the window follow it. The window is filled by
 /// [`Rolling::push`], and then moves on by [`Rolling::roll`]. Contracts see the length that the
 /// window is to have, and the sum.
+///
+/// The sum is kept in two parts: twice the sum before the last byte came, and what that byte changed,
+/// and the one that went. So the compiler keeps the product of a roll out of the chain from sum to
+/// sum, which a search has to wait for at each place.
 #[derive(Drop)]
 pub struct Rolling {
     window: usize,
-    value: usize,
+    doubled: usize,
+    change: usize,
     power: usize,
 }
 
 impl Model for Rolling {
-    ghost use Rattle.std.specs.Prelude.{◌≡◌, ◌≤◌};
+    ghost use Rattle.std.specs.Prelude.{◌≡◌, ◌≤◌, ◌+◌, ◌%◌, ◌^◌};
+    ghost use Rattle.literal_packed.specs.Inside.Rolling.{power_of};
     ghost use Rattle.literal_packed.specs.RollingValue.{RollingValue};
-    ghost use Rattle.literal_packed.specs.Sum.{power_of};
 
     ghost Value = { RollingValue };
 
-    ghost view = { λ r. record { window = r.window; sum = r.value } };
+    ghost view = { λ r. record { window = r.window; sum = (r.doubled + r.change) % 2 ^ 64 } };
 
     ghost invariant = { λ r. (1 ≤ r.window) × (r.power ≡ power_of r.window) };
 }
@@ -51,15 +56,16 @@ impl Rolling {
         requires { 1 ≤ window }
         ensures { result ≡ record { window = window; sum = 0 } }
     {
-        // Past 64 bytes the first byte's weight is a multiple of 2 to the power of 64.
-        let power = if window <= usize::BITS as usize {
-            1 << (window - 1)
+        // From 64 bytes on the weight of a byte that has left is a multiple of 2 to the power of 64.
+        let power = if window < usize::BITS as usize {
+            1 << window
         } else {
             0
         };
         Rolling {
             window,
-            value: 0,
+            doubled: 0,
+            change: 0,
             power,
         }
     }
@@ -71,7 +77,8 @@ impl Rolling {
         ensures counted { tally.new ≡ record tally.old { hashed = tally.old.hashed + 1 } }
     {
         tally.tick_hashed();
-        self.value = self.value.wrapping_shl(1).wrapping_add(byte as usize);
+        self.doubled = self.value().wrapping_shl(1);
+        self.change = byte as usize;
     }
 
     /// Moves a full window on by one byte: `old`, the first byte in it, goes, and `new` comes in
@@ -83,18 +90,15 @@ impl Rolling {
         ensures counted { tally.new ≡ record tally.old { hashed = tally.old.hashed + 1 } }
     {
         tally.tick_hashed();
-        self.value = self
-            .value
-            .wrapping_sub((old as usize).wrapping_mul(self.power))
-            .wrapping_shl(1)
-            .wrapping_add(new as usize);
+        self.doubled = self.value().wrapping_shl(1);
+        self.change = (new as usize).wrapping_sub((old as usize).wrapping_mul(self.power));
     }
 
     /// The sum of the bytes in the window.
     pub fn value(&self) -> usize
         ensures { result ≡ self.now.sum }
     {
-        self.value
+        self.doubled.wrapping_add(self.change)
     }
 }
 
@@ -112,30 +116,48 @@ fn sum_of_first(bytes: &[u8], window: usize, tally: &mut Tally) -> usize
     rolling.value()
 }
 
-/// The buckets, with no entry yet.
-fn empty_buckets(alloc: Global) -> Result<Vec<Vec<(usize, PatternID)>>, AllocError>
-    ensures each { IfOk result (λ buckets. length buckets.items ≡ 64) }
-    ensures empty { IfOk result (λ buckets. All (λ b. b.items ≡ []) buckets.items) }
+/// Where each bucket begins in a list that is sorted by bucket and, last, where the list ends.
+fn starts_of(entries: &[(usize, PatternID)]) -> [usize; BUCKETS + 1]
+    requires { IsNonDecreasingBy bucket_number entries.now }
+    ensures { AreStarts result entries.now }
 {
-    let mut buckets = Vec::with_capacity(alloc, BUCKETS)?;
-    for _ in 0..BUCKETS {
-        buckets.push(Vec::new(alloc))?;
+    let mut starts = [0; BUCKETS + 1];
+    for bucket in 0..BUCKETS + 1 {
+        starts[bucket] = entries.partition_point(|entry| entry.0 % BUCKETS < bucket);
     }
-    Ok(buckets)
+    starts
 }
 
-/// A copy of the entries of each bucket.
-fn copy_of(
-    alloc: Global,
-    buckets: &[Vec<(usize, PatternID)>],
-) -> Result<Vec<Vec<(usize, PatternID)>>, AllocError>
-    ensures { IfOk result (λ copy. entry_lists copy.items ≡ entry_lists buckets.now) }
+/// The buckets that have an entry, as bits.
+fn occupied_of(starts: &[usize; BUCKETS + 1]) -> u64
+    ensures { AreOccupied starts.now result }
 {
-    let mut copy = Vec::with_capacity(alloc, buckets.len())?;
-    for entries in buckets {
-        copy.push(Vec::from_slice(alloc, entries.as_slice())?)?;
+    let mut occupied = 0;
+    for bucket in 0..BUCKETS {
+        if starts[bucket] < starts[bucket + 1] {
+            occupied |= 1 << bucket;
+        }
     }
-    Ok(copy)
+    occupied
+}
+
+/// Whether a pattern stands at a place. It stays out of line: it is seldom called, and the loop over
+/// the places has all registers to itself.
+#[cold]
+#[inline(never)]
+fn stands_at(
+    patterns: &Patterns,
+    id: PatternID,
+    haystack: &[u8],
+    at: usize,
+    tally: &mut Tally,
+) -> bool
+    requires is_pattern { id < length patterns.now.patterns }
+    requires in_haystack { at ≤ length haystack.now }
+    ensures stands { IsTrue result ↔ StandsAt false (pattern_at patterns.now.patterns id) haystack.now at }
+    ensures counted { tally.new ≡ record tally.old { compared = tally.old.compared + 1 } }
+{
+    patterns.matches_at(id, haystack, at, false, tally)
 }
 
 /// The match of a pattern that stands at a place.
@@ -152,19 +174,27 @@ fn found_at(patterns: &Patterns, id: PatternID, at: usize) -> Match
 /// in one of 64 buckets, the one of its sum modulo 64, in match order. It holds no pattern itself: each
 /// search is given the patterns that it was made for. Contracts see the length of the window and the
 /// entries of each bucket.
+///
+/// All entries stand in one list, bucket after bucket: those of bucket `k` from `starts[k]` up to
+/// `starts[k + 1]`. Bit `k` of `occupied` says whether there are any, so that most places of a
+/// haystack are passed over without a read from memory.
 #[derive(Drop)]
 pub struct RabinKarp {
     minimum_len: usize,
-    buckets: Vec<Vec<(usize, PatternID)>>,
+    occupied: u64,
+    starts: [usize; BUCKETS + 1],
+    entries: Vec<(usize, PatternID)>,
 }
 
 impl Model for RabinKarp {
-    ghost use Rattle.literal_packed.specs.Inside.RabinKarp.{entry_lists};
+    ghost use Rattle.literal_packed.specs.Inside.RabinKarp.{buckets_of, IsLaidOut};
     ghost use Rattle.literal_packed.specs.RabinKarpValue.{RabinKarpValue};
 
     ghost Value = { RabinKarpValue };
 
-    ghost view = { λ r. record { minimum_len = r.minimum_len; buckets = entry_lists r.buckets.items } };
+    ghost view = { λ r. record { minimum_len = r.minimum_len; buckets = buckets_of r.starts r.entries.items } };
+
+    ghost invariant = { λ r. IsLaidOut r.starts r.occupied r.entries.items };
 }
 
 impl RabinKarp {
@@ -182,14 +212,18 @@ impl RabinKarp {
         ensures grows { tally.old.hashed ≤ tally.new.hashed }
     {
         let minimum_len = patterns.minimum_len();
-        let mut buckets = empty_buckets(patterns.allocator())?;
+        let mut entries = Vec::with_capacity(patterns.allocator(), patterns.len())?;
         for (id, pattern) in patterns.iter() {
-            let sum = sum_of_first(pattern.bytes(), minimum_len, tally);
-            buckets[sum % BUCKETS].push((sum, id))?;
+            entries.push((sum_of_first(pattern.bytes(), minimum_len, tally), id))?;
         }
+        // (A stable sort: the entries of a bucket stay in match order.)
+        entries.sort_by_key(|entry| entry.0 % BUCKETS)?;
+        let starts = starts_of(entries.as_slice());
         Ok(RabinKarp {
             minimum_len,
-            buckets,
+            occupied: occupied_of(&starts),
+            starts,
+            entries,
         })
     }
 
@@ -199,27 +233,37 @@ impl RabinKarp {
     {
         Ok(RabinKarp {
             minimum_len: self.minimum_len,
-            buckets: copy_of(*self.buckets.allocator(), self.buckets.as_slice())?,
+            occupied: self.occupied,
+            starts: self.starts,
+            entries: Vec::from_slice(*self.entries.allocator(), self.entries.as_slice())?,
         })
+    }
+
+    /// Whether a bucket has no entry.
+    fn is_vacant(&self, bucket: usize) -> bool
+        requires { bucket < 64 }
+        ensures { IsTrue result ↔ (bucket_at self.now bucket ≡ []) }
+    {
+        self.occupied >> bucket & 1 == 0
     }
 
     /// How many entries a bucket has.
     fn bucket_len(&self, bucket: usize) -> usize
-        requires { bucket < length self.now.buckets }
+        requires { bucket < 64 }
         ensures { result ≡ length (bucket_at self.now bucket) }
     {
-        self.buckets[bucket].len()
+        self.starts[bucket + 1] - self.starts[bucket]
     }
 
     /// Reads one entry of a bucket.
     fn entry(&self, bucket: usize, k: usize, tally: &mut Tally) -> (usize, PatternID)
-        requires is_bucket { bucket < length self.now.buckets }
+        requires is_bucket { bucket < 64 }
         requires within { k < length (bucket_at self.now bucket) }
         ensures entry { slice_get (bucket_at self.now bucket) k ≡ Some result }
         ensures counted { tally.new ≡ record tally.old { entries = tally.old.entries + 1 } }
     {
         tally.tick_entries();
-        self.buckets[bucket][k]
+        self.entries[self.starts[bucket] + k]
     }
 
     /// The first in match order of the patterns that stand at a place, whose window has the sum. It
@@ -248,9 +292,14 @@ impl RabinKarp {
     {
         let sum = rolling.value();
         let bucket = sum % BUCKETS;
-        for k in 0..self.bucket_len(bucket) {
+        if self.is_vacant(bucket) {
+            return None;
+        }
+        let len = self.bucket_len(bucket);
+        prove!(0 < len); // (so the compiler asks for the end only behind an entry)
+        for k in 0..len {
             let (entry_sum, id) = self.entry(bucket, k, tally);
-            if entry_sum == sum && patterns.matches_at(id, haystack, at, false, tally) {
+            if entry_sum == sum && stands_at(patterns, id, haystack, at, tally) {
                 return Some(id);
             }
         }
@@ -261,6 +310,7 @@ impl RabinKarp {
     /// it. Offsets, in the answer too, are in the whole haystack. `at` may be no more than the
     /// haystack's length, and the patterns have to be those that this was made for. The steps are
     /// added to the tally.
+    #[inline(never)]
     pub fn find_at(
         &self,
         patterns: &Patterns,
@@ -292,5 +342,36 @@ impl RabinKarp {
         }
         let id = self.look_up(&rolling, patterns, haystack, last, tally)?;
         Some(found_at(patterns, id, last))
+    }
+}
+
+#[cfg(test)]
+mod tests {
+    use super::*;
+    use std::test::Fail;
+
+    #[test]
+    fn lays_out_the_buckets(rt: HostRuntime) -> Result<(), Fail> {
+        let mut patterns = Patterns::new(rt.alloc());
+        patterns.add(b"ab")?;
+        patterns.add(b"ba")?;
+        patterns.add(b"ab")?;
+        let made = RabinKarp::new(&patterns, &mut Tally::new())?;
+        let rows = [(292, 0), (292, 2), (293, 1)];
+        assert_eq!(rt; made.entries.len(), rows.len());
+        for k in 0..rows.len() {
+            let (sum, id) = made.entries.as_slice().get(k).ok_or("an entry is missing")?;
+            assert_eq!(rt; (*sum, id.as_usize()), rows[k], "entry {k}");
+        }
+        for bucket in 0..BUCKETS + 1 {
+            let start = match bucket {
+                0..=36 => 0,
+                37 => 2,
+                _ => 3,
+            };
+            assert_eq!(rt; made.starts[bucket], start, "bucket {bucket}");
+        }
+        assert_eq!(rt; made.occupied, 1 << 36 | 1 << 37);
+        Ok(())
     }
 }

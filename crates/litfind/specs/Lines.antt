@@ -28,10 +28,14 @@ abbrev pub line_of : MatchValue → List ℕ
 line_of found = decimal found.pattern ++ codes " " ++ decimal found.start ++ codes " " ++ decimal found.end ++ codes
     "\n"
 
--- the text is a line for each match of the input that the words ask for
-pub record AreLines (words : List (List ℕ)) (input text : List ℕ) : Type 0 where
-  pub asked : Asked
-  pub ask : words_ask words ≡ Some asked
+-- the text is a line for each match of the input that is asked for
+pub record AreLinesOf (asked : Asked) (input text : List ℕ) : Type 0 where
   pub matches : List MatchValue
   pub found : AreMatches asked input matches
   pub lines : text ≡ flat_map line_of matches
+
+-- the same for what the words ask for
+pub record AreLines (words : List (List ℕ)) (input text : List ℕ) : Type 0 where
+  pub asked : Asked
+  pub ask : words_ask words ≡ Some asked
+  pub lines : AreLinesOf asked input text

@@ -1,20 +1,18 @@
 //! The engine: the words and the whole input in, the whole text out.
 ghost use Rattle.std.specs.Prelude.{◌≡◌, ◌≢◌, ◌⊎◌, ◌↔◌, true, false, map, Some, None, IfOk, IfErr, OnOk, OnErr};
 ghost use Rattle.std.specs.Prelude.{MatchOption, IsErrOf, List, ℕ, option_map, string_bytes};
-ghost use Rattle.std.specs.List.{flat_map};
 ghost use Rattle.std.specs.Io.KnownBytes.{Appends};
 ghost use Rattle.literal_packed.specs.BuilderValue.{searcher_of};
-ghost use Rattle.litfind.specs.Lines.{AreMatches, line_of};
+ghost use Rattle.litfind.specs.Lines.{AreLinesOf};
 ghost use Rattle.litfind.specs.Inside.{asked_of, searches_for};
-ghost use Rattle.litfind.specs.Query.{HasNoSearcher, builder_for, mode_asks, words_ask};
+ghost use Rattle.litfind.specs.Query.{HasNoSearcher, all_matches, builder_for, leftmost_match, mode_asks, words_ask};
 ghost use Rattle.literal_prefilters.specs.ConfirmingValue.{confirming_of, prefilter_builder};
 ghost use Rattle.litfind.specs.Run.{IsFront, IsWhole, ReadSome, WroteFront, WroteLines};
 
 use crate::device::{Failed, Sink, Source};
 use crate::fault::Fault;
 use crate::line::Line;
-use literal_base::count::Tally;
-use literal_base::{Match, Span};
+use literal_base::Span;
 use literal_packed::{Config, MatchKind, Searcher};
 use literal_prefilters::prefilter::ConfirmingSearch;
 use std::alloc::{AllocError, Global};
@@ -109,32 +107,6 @@ fn build_confirming(
     ConfirmingSearch::build(alloc, kind, ignore_case, bytes)
 }
 
-impl Searching {
-    /// The matches in the whole input that the searcher is for.
-    fn find_matches(
-        &self,
-        alloc: Global,
-        input: &[u8],
-        tally: &mut Tally,
-    ) -> Result<Vec<Match>, AllocError>
-        ensures { IfOk result (λ matches. AreMatches (searches_for self.now) input.now matches.items) }
-    {
-        let search = match self {
-            Searching::All(searcher) => return searcher.find_all(input, tally),
-            Searching::Leftmost(search) => search,
-        };
-        let span = Span {
-            start: 0,
-            end: input.len(),
-        };
-        let mut matches = Vec::new(alloc);
-        if let Some(found) = search.find_in_counted(input, span, tally) {
-            matches.push(found)?;
-        }
-        Ok(matches)
-    }
-}
-
 /// A searcher for what the words ask for.
 fn searcher(alloc: Global, words: &[String]) -> Result<Searching, Fault>
     ensures asked { IfOk result (λ searching. words_ask (map string_bytes words.now) ≡ Some (searches_for searching)) }
@@ -162,16 +134,50 @@ fn searcher(alloc: Global, words: &[String]) -> Result<Searching, Fault>
     }
 }
 
-/// A line for each match.
-fn lines(alloc: Global, matches: &[Match]) -> Result<String, AllocError>
-    ensures { IfOk result (λ text. string_bytes text ≡ flat_map line_of matches.now) }
+/// A line for each match, all of which are searched for.
+fn all_lines(alloc: Global, searcher: &Searcher, input: &[u8]) -> Result<String, AllocError>
+    ensures { IfOk result (λ text. AreLinesOf (all_matches searcher.now) input.now (string_bytes text)) }
 {
     let mut text = String::new(alloc);
-    for found in matches {
-        let line = Line(*found);
+    for found in searcher.find_iter(input) {
+        let line = Line(found);
         write!(text, "{line}")?;
     }
     Ok(text)
+}
+
+/// A line for the leftmost match, if there is one.
+fn leftmost_line(
+    alloc: Global,
+    search: &ConfirmingSearch,
+    input: &[u8],
+) -> Result<String, AllocError>
+    ensures { IfOk result (λ text. AreLinesOf (leftmost_match search.now.query search.now.ignore_case) input.now
+        (string_bytes text)) }
+{
+    let mut text = String::new(alloc);
+    let span = Span {
+        start: 0,
+        end: input.len(),
+    };
+    let Some(found) = search.find_in(input, span) else {
+        return Ok(text);
+    };
+    let line = Line(found);
+    write!(text, "{line}")?;
+    Ok(text)
+}
+
+impl Searching {
+    /// The lines of the matches in the whole input that the searcher is for.
+    fn lines(&self, alloc: Global, input: &[u8]) -> Result<String, AllocError>
+        ensures { IfOk result (λ text. AreLinesOf (searches_for self.now) input.now (string_bytes text)) }
+    {
+        match self {
+            Searching::All(searcher) => all_lines(alloc, searcher, input),
+            Searching::Leftmost(search) => leftmost_line(alloc, search, input),
+        }
+    }
 }
 
 /// Reads to the end.
@@ -255,9 +261,7 @@ pub fn run<R: Source, W: Sink>(
 {
     let searcher = searcher(alloc, words)?;
     let input = read_to_end(alloc, reader)?;
-    let mut tally = Tally::new();
-    let matches = searcher.find_matches(alloc, input.as_slice(), &mut tally)?;
-    let text = lines(alloc, matches.as_slice())?;
+    let text = searcher.lines(alloc, input.as_slice())?;
     let bytes = text.as_bytes();
     match write_whole(writer, bytes) {
         Ok(()) => Ok(!bytes.is_empty()),

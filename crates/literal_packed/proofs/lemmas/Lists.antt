@@ -60,6 +60,19 @@ count_by-filter p q [] = refl
 count_by-filter p q (x ∷ xs) =
     filter_step (q x) p x (filter q xs) _ (count_by-filter p q xs) ∙ sym (count_by-cons (λ x. q x && p x) x xs)
 
+-- what passes a test that fails or holds at each element
+pub filter-none : {X : Type 0} (p : X → Bool) (xs : List X) → All (λ x. p x ≡ false) xs → filter p xs ≡ []
+filter-none p [] none = refl
+filter-none p (x ∷ xs) none =
+    ap (λ b. cond b (x ∷ filter p xs) (filter p xs)) (All-head (λ x. p x ≡ false) x xs none)
+    ∙ filter-none p xs (All-tail (λ x. p x ≡ false) x xs none)
+
+pub filter-all : {X : Type 0} (p : X → Bool) (xs : List X) → All (λ x. p x ≡ true) xs → filter p xs ≡ xs
+filter-all p [] all = refl
+filter-all p (x ∷ xs) all =
+    ap (λ b. cond b (x ∷ filter p xs) (filter p xs)) (All-head (λ x. p x ≡ true) x xs all)
+    ∙ ap (λ ys. x ∷ ys) (filter-all p xs (All-tail (λ x. p x ≡ true) x xs all))
+
 -- one more number at the end of a range
 pub range-more : (a n : ℕ) → range_with_len a (n + 1) ≡ range_with_len a n ++ (a + n) ∷ []
 range-more a n = sym (map-id (range_with_len a (n + 1)))

@@ -12,9 +12,7 @@ returns-in-Ok-clause-ok g c =
       lines = record {
         asked = searches_for c.in_ok-searcher.searcher;
         ask = c.in_ok-searcher.ensures.asked;
-        matches = c.in_ok-matches.matches.items;
-        found = rw c.as_slice.ensures.value at c.in_ok-matches.ensures;
-        lines = rw c.as_slice-2.ensures.value at c.in_ok-text.ensures;
+        lines = rw c.as_slice.ensures.value at c.in_ok-text.ensures;
       };
       written = search (rules, c.in-Ok.ensures.ok, c.as_bytes-bytes.ensures.value);
       answer = grind (arith, common_steps, c.is_empty.ensures, c.as_bytes-bytes.ensures.value);
@@ -29,9 +27,7 @@ returns-clause-front g c = λ _.
       lines = record {
         asked = searches_for c.in_ok-searcher.searcher;
         ask = c.in_ok-searcher.ensures.asked;
-        matches = c.in_ok-matches.matches.items;
-        found = rw c.as_slice.ensures.value at c.in_ok-matches.ensures;
-        lines = rw c.as_slice-2.ensures.value at c.in_ok-text.ensures;
+        lines = rw c.as_slice.ensures.value at c.in_ok-text.ensures;
       };
       written = search (rules, c.in-Err.ensures.err, c.as_bytes-bytes.ensures.value);
     }

@@ -1,37 +1,55 @@
-use Rattle.std.proofs.Common.{◌%◌, ◌∙◌, length, refl, arith}
+use Rattle.std.proofs.Common.{ℕ, ◌+◌, ◌%◌, ◌∙◌, length, refl, ap, arith}
 use Rattle.std.proofs.lemmas.Bool.{false≢true}
 use Rattle.std.proofs.lemmas.Grind.{common_steps}
+use Rattle.literal_base.specs.Counts.{Counts}
 use Rattle.literal_packed.specs.RabinKarpValue.{bucket_at}
 use Rattle.literal_packed.proofs.lemmas.LookUp.{IsRead, look_up_in, entry_of_pattern, none_more, not_of_sum}
 use Rattle.literal_packed.proofs.lemmas.LookUp.{counts_other, counts_vain, counts_found, best_found, none_found}
 use Rattle.literal_packed.proofs.lemmas.LookUp.{counts_none}
 use Rattle.literal_packed.proofs.rabinkarp.RabinKarp.look_up.Goals as goal
-use Rattle.literal_packed.proofs.rabinkarp.RabinKarp.look_up.Goals.{else-entry_sum-sum-via-then-entry_sum-sum+else-matches_at}
+use Rattle.literal_packed.proofs.rabinkarp.RabinKarp.look_up.Goals.{else-entry_sum-sum-via-then-entry_sum-sum+else-stands_at}
 use Rattle.literal_packed.proofs.rabinkarp.RabinKarp.look_up.Goals.{else-entry_sum-sum-via-else-entry_sum-sum}
 
-pub matches_at-requires-clause-is_pattern : goal.matches_at-requires-clause-is_pattern
-matches_at-requires-clause-is_pattern c =
+pub returns-then-is_vacant-clause-best : goal.returns-then-is_vacant-clause-best
+returns-then-is_vacant-clause-best c =
+    let here = look_up_in c.args.patterns.now c.args.self.now c.args.haystack.now c.args.at c.value-sum.result
+    c.requires.made (c.value-sum.ensures ∙ c.requires.sum) in
+    let none = ap length (c.if-is_vacant.ensures.0 refl) in
+    none_found here 0 (omega (arith, none)) (λ i d within. absurd (omega arith))
+
+pub returns-then-is_vacant-clause-counted : goal.returns-then-is_vacant-clause-counted
+returns-then-is_vacant-clause-counted c =
+    let here = look_up_in c.args.patterns.now c.args.self.now c.args.haystack.now c.args.at c.value-sum.result
+    c.requires.made (c.value-sum.ensures ∙ c.requires.sum) in
+    let none = ap length (c.if-is_vacant.ensures.0 refl) in
+    let t = c.args.tally.now in
+    let f : ℕ → ℕ → Counts = λ m n. record t { entries = m; compared = n } in
+    counts_none here 0 t t (omega arith) (omega (arith, none))
+    (ap (λ m. f m t.compared) (omega arith) ∙ ap (f (t.entries + 0)) (omega arith))
+
+pub stands_at-requires-clause-is_pattern : goal.stands_at-requires-clause-is_pattern
+stands_at-requires-clause-is_pattern c =
     let here = look_up_in c.args.patterns.now c.args.self.now c.args.haystack.now c.args.at c.value-sum.result
     c.requires.made (c.value-sum.ensures ∙ c.requires.sum) in
     (entry_of_pattern here c.loop-k.k c.entry-entry_sum.result
     (record { before = grind (arith, common_steps); is = c.entry-entry_sum.ensures.entry })).1
 
-pub returns-then-matches_at-clause-best : goal.returns-then-matches_at-clause-best
-returns-then-matches_at-clause-best c =
+pub returns-then-stands_at-clause-best : goal.returns-then-stands_at-clause-best
+returns-then-stands_at-clause-best c =
     let here = look_up_in c.args.patterns.now c.args.self.now c.args.haystack.now c.args.at c.value-sum.result
     c.requires.made (c.value-sum.ensures ∙ c.requires.sum) in
     best_found here c.loop-k.k c.entry-entry_sum.result
     (record { before = grind (arith, common_steps); is = c.entry-entry_sum.ensures.entry })
-    c.loop-k.invariant.none (c.if-matches_at.ensures.stands.0 refl)
+    c.loop-k.invariant.none (c.if-stands_at.ensures.stands.0 refl)
 
-pub returns-then-matches_at-clause-counted : goal.returns-then-matches_at-clause-counted
-returns-then-matches_at-clause-counted c =
+pub returns-then-stands_at-clause-counted : goal.returns-then-stands_at-clause-counted
+returns-then-stands_at-clause-counted c =
     let here = look_up_in c.args.patterns.now c.args.self.now c.args.haystack.now c.args.at c.value-sum.result
     c.requires.made (c.value-sum.ensures ∙ c.requires.sum) in
     counts_found here c.loop-k.k c.entry-entry_sum.result c.args.tally.now c.loop-k.tally c.entry-entry_sum.new.tally
-    c.matches_at.new.tally
+    c.stands_at.new.tally
     (record { before = grind (arith, common_steps); is = c.entry-entry_sum.ensures.entry })
-    c.if-entry_sum-sum.true c.loop-k.invariant.counted c.entry-entry_sum.ensures.counted c.if-matches_at.ensures.counted
+    c.if-entry_sum-sum.true c.loop-k.invariant.counted c.entry-entry_sum.ensures.counted c.if-stands_at.ensures.counted
 
 pub loop-k-preserved : goal.loop-k-preserved
 loop-k-preserved c =
@@ -43,12 +61,12 @@ loop-k-preserved c =
     let read : IsRead entries k x =
     record { before = grind (arith, common_steps); is = c.entry-entry_sum.ensures.entry } in
     elim c.else-entry_sum-sum.branch [
-      | else-entry_sum-sum-via-then-entry_sum-sum+else-matches_at w ↦ record {
+      | else-entry_sum-sum-via-then-entry_sum-sum+else-stands_at w ↦ record {
         none = none_more here k x read c.loop-k.invariant.none
-            (λ stands. false≢true (w.if-matches_at.ensures.stands.1 stands));
+            (λ stands. false≢true (w.if-stands_at.ensures.stands.1 stands));
         counted = w.tally-is ∙ counts_vain here k x c.args.tally.now c.loop-k.tally c.entry-entry_sum.new.tally _ read
             w.if-entry_sum-sum.true c.loop-k.invariant.counted c.entry-entry_sum.ensures.counted
-            w.if-matches_at.ensures.counted;
+            w.if-stands_at.ensures.counted;
       }
       | else-entry_sum-sum-via-else-entry_sum-sum w ↦ record {
         none = none_more here k x read c.loop-k.invariant.none (not_of_sum here k x read w.if-entry_sum-sum.false);

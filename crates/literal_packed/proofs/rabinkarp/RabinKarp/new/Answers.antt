@@ -1,40 +1,41 @@
-use Rattle.std.proofs.Common.{◌≡◌, ◌++◌, append-nil, ◌∷◌, [], ◌%◌, length, map, get_or, sym, ap, subst, ◌∙◌, arith, ℕ}
-use Rattle.std.proofs.Common.{List, take, refl}
+use Rattle.std.proofs.Common.{◌≡◌, ◌++◌, append-nil, ◌∷◌, [], length, map, sym, ap, subst, ◌∙◌, arith, rules, ℕ, List}
+use Rattle.std.proofs.Common.{take}
 use Rattle.std.specs.List.{filter}
-use Rattle.std.proofs.lemmas.List.{length-map, map-set, get_or-map}
-use Rattle.std.proofs.lemmas.List.Elements.{All-map}
-use Rattle.std.proofs.lemmas.Nat.{mod_below}
+use Rattle.std.specs.List.Sorted.{IsNonDecreasingBy}
+use Rattle.std.proofs.lemmas.Fn.{always_returns_same}
+use Rattle.std.proofs.lemmas.List.{map_push}
+use Rattle.std.proofs.lemmas.List.Sorted.{IsNonDecreasingBy-from_sort_by_key}
 use Rattle.literal_base.specs.Counts.{Counts}
 use Rattle.literal_packed.specs.Sum.{sum_of}
 use Rattle.literal_packed.specs.Pairs.{key_of}
 use Rattle.literal_packed.specs.PatternsValue.{minimum_len_of}
+use Rattle.literal_packed.specs.Inside.RabinKarp.{bucket_number, AreStarts}
 use Rattle.literal_base.specs.Occurs.{pattern_at}
 use Rattle.literal_packed.proofs.lemmas.Given.{head_below, split_next, split_more}
 use Rattle.literal_packed.proofs.lemmas.MinimumLen.{minimum_len_of_some, minimum_len_of-le}
-use Rattle.literal_packed.proofs.lemmas.Dealing.{pattern_of_head, entries_all, hashed_more, hashed_of, length_all}
-use Rattle.literal_packed.proofs.lemmas.Dealing.{in_bucket, entry_of, IsDealt, dealt_none, dealt_next}
+use Rattle.literal_packed.proofs.lemmas.Entries.{pattern_of_head, entries_all, hashed_more, hashed_of, length_all}
+use Rattle.literal_packed.proofs.lemmas.Entries.{entry_of}
+use Rattle.literal_packed.proofs.lemmas.LaidOut.{laid_out, buckets_len, buckets_at}
+use Rattle.literal_packed.proofs.lemmas.Parts.{part_is, filter_stable, in_bucket}
 use Rattle.literal_packed.proofs.rabinkarp.RabinKarp.new.Goals as goal
 
 pub loop-id-init : goal.loop-id-init
-loop-id-init c =
-    let items = c.in_ok-buckets.buckets.items in
-    record {
-      split = c.into_iter-id-iterator.ensures.into_iter_gives ∙ c.iter-id-items.ensures.items;
-      dealt = dealt_none (map (λ b. b.items) items) (length-map items (λ b. b.items) ∙ c.in_ok-buckets.ensures.each)
-          (All-map (λ (b : List (ℕ × ℕ)). b ≡ []) (λ b. b.items) items c.in_ok-buckets.ensures.empty);
-      counted =
-          let f : ℕ → Counts = λ k. record c.args.tally.now { hashed = k } in
-          ap f (omega arith);
-    }
+loop-id-init c = record {
+  split = c.into_iter-id-iterator.ensures.into_iter_gives ∙ c.iter-id-items.ensures.items;
+  filled = c.in_ok-entries.ensures.items;
+  counted =
+      let f : ℕ → Counts = λ k. record c.args.tally.now { hashed = k } in
+      ap f (omega arith);
+}
 
-pub sum_of_first-sum-requires-clause-some : goal.sum_of_first-sum-requires-clause-some
-sum_of_first-sum-requires-clause-some c =
+pub sum_of_first-requires-clause-some : goal.sum_of_first-requires-clause-some
+sum_of_first-requires-clause-some c =
     let some = minimum_len_of_some c.args.patterns.now.patterns c.iter-id-items.ensures.well_formed.not_empty in
     let is = c.minimum_len-minimum_len.ensures in
     omega arith
 
-pub sum_of_first-sum-requires-clause-room : goal.sum_of_first-sum-requires-clause-room
-sum_of_first-sum-requires-clause-room c =
+pub sum_of_first-requires-clause-room : goal.sum_of_first-requires-clause-room
+sum_of_first-requires-clause-room c =
     let patterns = c.args.patterns.now in
     let split = split_next c.loop-id.yielded c.loop-id.invariant.split c.in-Some.ensures.steps in
     let below = head_below patterns c.iter-id-items.ensures.well_formed _ _ _ split in
@@ -47,44 +48,55 @@ sum_of_first-sum-requires-clause-room c =
 pub loop-id-preserved : goal.loop-id-preserved
 loop-id-preserved c =
     let patterns = c.args.patterns.now in
-    let items = c.loop-id.buckets.items in
+    let x : ℕ × List ℕ = (c.in-Some.id, c.in-Some.pattern) in
     let split = split_next c.loop-id.yielded c.loop-id.invariant.split c.in-Some.ensures.steps in
     let bytes : c.bytes.result.now ≡ pattern_at patterns.patterns c.in-Some.id = c.bytes.ensures
     ∙ pattern_of_head patterns _ _ _ split in
-    let sum = c.sum_of_first-sum.result in
-    let key : sum ≡ key_of patterns.patterns c.in-Some.id =
-    c.sum_of_first-sum.ensures.sum ∙ (ap (λ n. sum_of (take n c.bytes.result.now)) c.minimum_len-minimum_len.ensures
+    let key : c.sum_of_first.result ≡ key_of patterns.patterns c.in-Some.id =
+    c.sum_of_first.ensures.sum ∙ (ap (λ n. sum_of (take n c.bytes.result.now)) c.minimum_len-minimum_len.ensures
     ∙ ap (λ xs. sum_of (take (minimum_len_of patterns.patterns) xs)) bytes) in
-    let below = mod_below sum 64 (omega arith) in
-    let each = c.loop-id.invariant.dealt.each in
-    let long = length-map items (λ b. b.items) in
-    let was : c.index_mut.result.now.items ≡ get_or (map (λ b. b.items) items) (sum % 64) [] =
-    ap (λ b. b.items) c.index_mut.ensures.value
-    ∙ sym (get_or-map (λ b. b.items) items (sum % 64) c.index_mut.result.now [] (omega arith)) in
     record {
       split = split_more c.loop-id.yielded c.loop-id.invariant.split c.in-Some.ensures.steps;
-      dealt = subst (λ bs. IsDealt bs (map (entry_of patterns)
-          (c.loop-id.yielded ++ (c.in-Some.id, c.in-Some.pattern) ∷ [])))
-          (sym (map-set (λ b. b.items) items (sum % 64) c.push.new.self))
-          (dealt_next patterns (map (λ b. b.items) items) c.loop-id.yielded
-          (c.in-Some.id, c.in-Some.pattern) sum c.push.new.self.items c.loop-id.invariant.dealt
-          (c.in_ok-push.ensures.items ∙ ap (λ xs. xs ++ (sum, c.in-Some.id) ∷ []) was) key);
-      counted = hashed_more c.args.tally.now c.loop-id.tally _ c.loop-id.yielded
-          (c.in-Some.id, c.in-Some.pattern) _ c.loop-id.invariant.counted c.sum_of_first-sum.ensures.counted;
+      filled =
+          c.in_ok-push.ensures.items
+          ∙ (ap (λ xs. xs ++ (c.sum_of_first.result, c.in-Some.id) ∷ []) c.loop-id.invariant.filled
+          ∙ (ap (λ s. map (entry_of patterns) c.loop-id.yielded ++ (s, c.in-Some.id) ∷ []) key
+          ∙ sym (map_push (entry_of patterns) c.loop-id.yielded x)));
+      counted = hashed_more c.args.tally.now c.loop-id.tally _ c.loop-id.yielded x _ c.loop-id.invariant.counted
+          c.sum_of_first.ensures.counted;
     }
+
+pub starts_of-starts-requires : goal.starts_of-starts-requires
+starts_of-starts-requires c =
+    subst (IsNonDecreasingBy bucket_number) (sym c.as_slice.ensures.value)
+    (IsNonDecreasingBy-from_sort_by_key bucket_number _ c.in_ok-sort_by_key.ensures.sorted (λ a r q k. search rules))
+
+pub invariant_of-result : goal.invariant_of-result
+invariant_of-result c =
+    let are : AreStarts c.starts_of-starts.result c.sort_by_key.new.self.items =
+    subst (AreStarts c.starts_of-starts.result) c.as_slice.ensures.value c.starts_of-starts.ensures in
+    laid_out _ _ _ are c.occupied_of.ensures
 
 pub returns-clause-made : goal.returns-clause-made
 returns-clause-made c =
     let patterns = c.args.patterns.now in
-    let all = entries_all patterns c.loop-id.yielded _
-    (ap (λ ps. c.loop-id.yielded ++ ps) (sym c.in-None.ensures.steps.0) ∙ c.loop-id.invariant.split) refl in
-    let dealt = c.loop-id.invariant.dealt in
+    let starts = c.starts_of-starts.result in
+    let entries = c.sort_by_key.new.self.items in
+    let are : AreStarts starts entries = subst (AreStarts starts) c.as_slice.ensures.value c.starts_of-starts.ensures in
+    let all = entries_all patterns c.loop-id.yielded c.loop-id.entries.items
+    (ap (λ ps. c.loop-id.yielded ++ ps) (sym c.in-None.ensures.steps.0) ∙ c.loop-id.invariant.split)
+    c.loop-id.invariant.filled in
+    let stable = c.sort_by_key.ensures.stable bucket_number
+    (always_returns_same _ _ _ (λ a r g k. search rules)) in
     record {
       searchable = record { well_formed = c.iter-id-items.ensures.well_formed; in_order = c.requires.in_order };
       some = c.requires.some;
       minimum_len = c.minimum_len-minimum_len.ensures;
-      each = dealt.each;
-      buckets = λ k h. dealt.buckets_are k h ∙ ap (filter (in_bucket k)) all;
+      each = buckets_len starts entries;
+      buckets = λ k below.
+          buckets_at starts entries k below
+          ∙ (part_is starts entries are k below
+          ∙ (filter_stable k c.loop-id.entries.items entries below stable ∙ ap (filter (in_bucket k)) all));
     }
 
 pub returns-clause-counted : goal.returns-clause-counted

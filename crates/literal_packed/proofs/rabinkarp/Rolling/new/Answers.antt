@@ -1,5 +1,5 @@
 use Rattle.std.proofs.Common.{arith, ◌∙◌}
-use Rattle.literal_packed.proofs.lemmas.Sums.{power_past, power_within}
+use Rattle.literal_packed.proofs.lemmas.Sums.{power_past}
 use Rattle.literal_packed.proofs.rabinkarp.Rolling.new.Goals as goal
 use Rattle.literal_packed.proofs.rabinkarp.Rolling.new.Goals.{then-window, else-window}
 
@@ -7,7 +7,7 @@ pub invariant_of-result : goal.invariant_of-result
 invariant_of-result c = (
   c.requires,
   elim c.if-window.branch [
-    | then-window w ↦ power_within c.args.window _ c.requires w.if-window.true w.power-is
+    | then-window w ↦ omega (arith, w.power-is)
     | else-window w ↦ w.power-is ∙ power_past c.args.window (omega arith)
   ],
 )
