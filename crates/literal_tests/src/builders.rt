@@ -43,7 +43,7 @@ fn assert_finds(
 fn of_128_patterns(alloc: Global) -> Result<Builder, AllocError> {
     let mut builder = Builder::new(alloc);
     for i in 0..128u8 {
-        builder.add(&[i, i])?;
+        add_all(&mut builder, &[&[i, i]])?;
     }
     Ok(builder)
 }
