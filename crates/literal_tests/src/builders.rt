@@ -169,13 +169,25 @@ fn builds_more_than_once(rt: HostRuntime) -> Result<(), Fail> {
     Ok(())
 }
 
+/// A builder that keeps `ab` and `a`.
+fn of_ab_and_a(alloc: Global) -> Result<Builder, AllocError> {
+    let mut builder = Builder::new(alloc);
+    add_all(&mut builder, &[b"ab", b"a"])?;
+    Ok(builder)
+}
+
+/// A copy that keeps `c` too.
+fn copy_with_c(builder: &Builder) -> Result<Builder, AllocError> {
+    let mut copy = builder.try_clone()?;
+    add_all(&mut copy, &[b"c"])?;
+    Ok(copy)
+}
+
 #[test]
 fn builds_from_a_copy(rt: HostRuntime) -> Result<(), Fail> {
-    let mut builder = Builder::new(rt.alloc());
-    add_all(&mut builder, &[b"ab", b"a"])?;
+    let builder = of_ab_and_a(rt.alloc())?;
     assert_state(&rt, &builder, (2, 1, true), "before")?;
-    let mut copy = builder.try_clone()?;
-    copy.add(b"c")?;
+    let copy = copy_with_c(&builder)?;
     assert_state(&rt, &builder, (2, 1, true), "the copied one")?;
     assert_state(&rt, &copy, (3, 1, true), "the copy")?;
     assert_finds_all(&rt, &built(&copy)?, &BY_AB_A_AND_C);
