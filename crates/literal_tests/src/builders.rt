@@ -1,7 +1,8 @@
 //! Builders, their configuration, and what they build.
+use crate::asserted::{assert_holds, assert_same};
 use crate::made::{Place, add_all, built, place, searcher};
 use literal_prefilters::packed::{Builder, Config, MatchKind, Searcher};
-use std::alloc::Global;
+use std::alloc::{AllocError, Global};
 use std::process::Abort;
 use std::test::Fail;
 
@@ -12,11 +13,8 @@ const INERT: State = (0, usize::MAX, false);
 
 fn assert_state(rt: &impl Abort, builder: &Builder, wanted: State, case: &str) -> Result<(), Fail> {
     let builds = builder.build()?.is_some();
-    assert_eq!(rt;
-        (builder.len(), builder.minimum_len(), builds),
-        wanted,
-        "{case}"
-    );
+    let state = (builder.len(), builder.minimum_len(), builds);
+    assert_same(rt, state, wanted, case);
     Ok(())
 }
 
@@ -38,24 +36,30 @@ fn assert_finds(
     wanted: Option<Place>,
     case: &str,
 ) {
-    assert_eq!(rt; searcher.find(haystack).map(place), wanted, "{case}");
+    assert_same(rt, searcher.find(haystack).map(place), wanted, case);
 }
 
-/// 128 patterns, of two equal bytes each, and one more.
-#[test]
-fn keeps_up_to_128_patterns(rt: HostRuntime) -> Result<(), Fail> {
-    let mut builder = Builder::new(rt.alloc());
+/// 128 patterns, of two equal bytes each.
+fn of_128_patterns(alloc: Global) -> Result<Builder, AllocError> {
+    let mut builder = Builder::new(alloc);
     for i in 0..128u8 {
-        builder.add(&[i, i])?;
+        add_all(&mut builder, &[&[i, i]])?;
     }
+    Ok(builder)
+}
+
+#[test]
+fn keeps_128_patterns(rt: HostRuntime) -> Result<(), Fail> {
+    let builder = of_128_patterns(rt.alloc())?;
     assert_state(&rt, &builder, (128, 2, true), "128 patterns")?;
-    assert_finds(
-        &rt,
-        &built(&builder)?,
-        b"\x7f\x7f",
-        Some((127, 0, 2)),
-        "the last",
-    );
+    let last = Some((127, 0, 2));
+    assert_finds(&rt, &built(&builder)?, b"\x7f\x7f", last, "the last");
+    Ok(())
+}
+
+#[test]
+fn keeps_no_129_patterns(rt: HostRuntime) -> Result<(), Fail> {
+    let mut builder = of_128_patterns(rt.alloc())?;
     builder.add(b"one more")?;
     assert_stays_inert(&rt, &mut builder, "129 patterns")
 }
@@ -68,23 +72,46 @@ static WITH_EMPTY: [(&str, [&[u8]; 3]); 3] = [
 ];
 
 #[test]
+fn is_inert_with_no_pattern(rt: HostRuntime) -> Result<(), Fail> {
+    assert_state(&rt, &Builder::new(rt.alloc()), INERT, "no pattern")
+}
+
+/// Patterns that are added, one of which is empty.
+fn assert_adds_nothing(
+    rt: &impl Abort,
+    alloc: Global,
+    (case, patterns): &(&str, [&[u8]; 3]),
+) -> Result<(), Fail> {
+    let mut builder = Builder::new(alloc);
+    add_all(&mut builder, patterns)?;
+    assert_stays_inert(rt, &mut builder, case)
+}
+
+#[test]
 fn keeps_no_empty_pattern(rt: HostRuntime) -> Result<(), Fail> {
-    assert_state(&rt, &Builder::new(rt.alloc()), INERT, "no pattern")?;
-    for (case, patterns) in &WITH_EMPTY {
-        let mut builder = Builder::new(rt.alloc());
-        add_all(&mut builder, patterns)?;
-        assert_stays_inert(&rt, &mut builder, case)?;
+    for row in &WITH_EMPTY {
+        assert_adds_nothing(&rt, rt.alloc(), row)?;
     }
+    Ok(())
+}
+
+/// Patterns by which a builder is extended, one of which is empty.
+fn assert_extends_by_nothing(
+    rt: &impl Abort,
+    alloc: Global,
+    (case, patterns): &(&str, [&[u8]; 3]),
+) -> Result<(), Fail> {
+    let mut builder = Builder::new(alloc);
+    builder.extend(*patterns)?;
+    assert_stays_inert(rt, &mut builder, case)?;
+    assert_holds(rt, Searcher::new(alloc, *patterns)?.is_none(), case);
     Ok(())
 }
 
 #[test]
 fn extends_by_no_empty_pattern(rt: HostRuntime) -> Result<(), Fail> {
-    for (case, patterns) in &WITH_EMPTY {
-        let mut builder = Builder::new(rt.alloc());
-        builder.extend(*patterns)?;
-        assert_stays_inert(&rt, &mut builder, case)?;
-        assert!(rt; Searcher::new(rt.alloc(), *patterns)?.is_none(), "{case}");
+    for row in &WITH_EMPTY {
+        assert_extends_by_nothing(&rt, rt.alloc(), row)?;
     }
     Ok(())
 }
@@ -142,13 +169,25 @@ fn builds_more_than_once(rt: HostRuntime) -> Result<(), Fail> {
     Ok(())
 }
 
+/// A builder that keeps `ab` and `a`.
+fn of_ab_and_a(alloc: Global) -> Result<Builder, AllocError> {
+    let mut builder = Builder::new(alloc);
+    add_all(&mut builder, &[b"ab", b"a"])?;
+    Ok(builder)
+}
+
+/// A copy that keeps `c` too.
+fn copy_with_c(builder: &Builder) -> Result<Builder, AllocError> {
+    let mut copy = builder.try_clone()?;
+    add_all(&mut copy, &[b"c"])?;
+    Ok(copy)
+}
+
 #[test]
 fn builds_from_a_copy(rt: HostRuntime) -> Result<(), Fail> {
-    let mut builder = Builder::new(rt.alloc());
-    add_all(&mut builder, &[b"ab", b"a"])?;
+    let builder = of_ab_and_a(rt.alloc())?;
     assert_state(&rt, &builder, (2, 1, true), "before")?;
-    let mut copy = builder.try_clone()?;
-    copy.add(b"c")?;
+    let copy = copy_with_c(&builder)?;
     assert_state(&rt, &builder, (2, 1, true), "the copied one")?;
     assert_state(&rt, &copy, (3, 1, true), "the copy")?;
     assert_finds_all(&rt, &built(&copy)?, &BY_AB_A_AND_C);
@@ -156,10 +195,17 @@ fn builds_from_a_copy(rt: HostRuntime) -> Result<(), Fail> {
 }
 
 /// What builders of a configuration find of `a` and `ab`.
-fn found_by(config: &Config, alloc: Global) -> Result<Option<Place>, Fail> {
+fn assert_found_by(
+    rt: &impl Abort,
+    alloc: Global,
+    config: &Config,
+    wanted: Option<Place>,
+    case: &str,
+) -> Result<(), Fail> {
     let mut builder = config.builder(alloc);
     add_all(&mut builder, &[b"a", b"ab"])?;
-    Ok(built(&builder)?.find(b"ab").map(place))
+    assert_finds(rt, &built(&builder)?, b"ab", wanted, case);
+    Ok(())
 }
 
 const FIRST: Option<Place> = Some((0, 0, 1));
@@ -168,32 +214,33 @@ const LONGEST: Option<Place> = Some((1, 0, 2));
 
 #[test]
 fn takes_the_first_by_default(rt: HostRuntime) -> Result<(), Fail> {
-    for config in [Config::new(), Config::default(), Searcher::config()] {
-        assert_eq!(rt; found_by(&config, rt.alloc())?, FIRST);
-    }
-    Ok(())
+    let alloc = rt.alloc();
+    assert_found_by(&rt, alloc, &Config::new(), FIRST, "new")?;
+    assert_found_by(&rt, alloc, &Config::default(), FIRST, "default")?;
+    assert_found_by(&rt, alloc, &Searcher::config(), FIRST, "of a searcher")
 }
 
 #[test]
 fn is_configured(rt: HostRuntime) -> Result<(), Fail> {
+    let alloc = rt.alloc();
     let mut config = Config::new();
     config.match_kind(MatchKind::LeftmostLongest);
     config.only_rabin_karp(false);
-    assert_eq!(rt; found_by(&config, rt.alloc())?, LONGEST, "step by step");
+    assert_found_by(&rt, alloc, &config, LONGEST, "step by step")?;
     config.only_rabin_karp(true);
-    assert_eq!(rt;
-        found_by(&config, rt.alloc())?,
-        LONGEST,
-        "by the one algorithm"
-    );
+    assert_found_by(&rt, alloc, &config, LONGEST, "by the one algorithm")
+}
+
+#[test]
+fn is_configured_in_a_chain(rt: HostRuntime) -> Result<(), Fail> {
+    let alloc = rt.alloc();
     let mut config = Config::new();
     config
         .match_kind(MatchKind::LeftmostLongest)
         .only_rabin_karp(true);
-    assert_eq!(rt; found_by(&config, rt.alloc())?, LONGEST, "in a chain");
+    assert_found_by(&rt, alloc, &config, LONGEST, "in a chain")?;
     config.match_kind(MatchKind::LeftmostFirst);
-    assert_eq!(rt; found_by(&config, rt.alloc())?, FIRST, "anew");
-    Ok(())
+    assert_found_by(&rt, alloc, &config, FIRST, "anew")
 }
 
 #[test]
@@ -202,46 +249,78 @@ fn keeps_the_configuration_of_its_making(rt: HostRuntime) -> Result<(), Fail> {
     config.match_kind(MatchKind::LeftmostLongest);
     let mut old = config.builder(rt.alloc());
     config.match_kind(MatchKind::LeftmostFirst);
-    assert_eq!(rt; old.len(), 0);
+    assert_same(&rt, old.len(), 0, "new");
     add_all(&mut old, &[b"a", b"ab"])?;
     assert_finds(&rt, &built(&old)?, b"ab", LONGEST, "configured before");
     Ok(())
 }
 
-#[test]
-fn tells_about_a_searcher(rt: HostRuntime) -> Result<(), Fail> {
-    for (case, kind, wanted) in [
-        ("first", MatchKind::LeftmostFirst, (0, 1, 2)),
-        ("longest", MatchKind::LeftmostLongest, (1, 1, 3)),
-    ] {
-        let searcher = searcher(rt.alloc(), kind, &[b"a", b"ab"])?;
-        assert_eq!(rt;
-            (*searcher.match_kind(), searcher.minimum_len()),
-            (kind, 0),
-            "{case}"
-        );
-        assert_finds(&rt, &searcher, b"xab", Some(wanted), case);
-        let copy = searcher.try_clone()?;
-        assert_eq!(rt; *copy.match_kind(), kind, "{case}, of the copy");
-        assert_finds(&rt, &copy, b"xab", Some(wanted), case);
-    }
+/// What a searcher for `a` and `ab` tells, and finds in `xab`.
+fn assert_searcher(
+    rt: &impl Abort,
+    searcher: &Searcher,
+    kind: MatchKind,
+    wanted: Place,
+    case: &str,
+) {
+    assert_same(rt, *searcher.match_kind(), kind, case);
+    assert_same(rt, searcher.minimum_len(), 0, case);
+    assert_finds(rt, searcher, b"xab", Some(wanted), case);
+}
+
+/// A searcher of a kind, and its copy.
+fn assert_kind(
+    rt: &impl Abort,
+    alloc: Global,
+    kind: MatchKind,
+    wanted: Place,
+    [case, of_copy]: [&str; 2],
+) -> Result<(), Fail> {
+    let searcher = searcher(alloc, kind, &[b"a", b"ab"])?;
+    assert_searcher(rt, &searcher, kind, wanted, case);
+    assert_searcher(rt, &searcher.try_clone()?, kind, wanted, of_copy);
     Ok(())
 }
 
 #[test]
+fn tells_about_a_searcher(rt: HostRuntime) -> Result<(), Fail> {
+    let (first, longest) = (MatchKind::LeftmostFirst, MatchKind::LeftmostLongest);
+    assert_kind(
+        &rt,
+        rt.alloc(),
+        first,
+        (0, 1, 2),
+        ["first", "first, of the copy"],
+    )?;
+    assert_kind(
+        &rt,
+        rt.alloc(),
+        longest,
+        (1, 1, 3),
+        ["longest", "longest, of the copy"],
+    )
+}
+
+#[test]
 fn prints_something(rt: HostRuntime) -> Result<(), Fail> {
+    let text = format!(in rt.alloc(); "{:?}", Config::new())?;
+    assert_holds(&rt, !text.is_empty(), "of a configuration");
+    Ok(())
+}
+
+#[test]
+fn builders_print_something(rt: HostRuntime) -> Result<(), Fail> {
     let mut builder = Builder::new(rt.alloc());
     add_all(&mut builder, &TWO)?;
-    let text = format!(in rt.alloc(); "{:?}", Config::new())?;
-    assert!(rt; !text.is_empty(), "of a configuration");
     let text = format!(in rt.alloc(); "{builder:?}")?;
-    assert!(rt; !text.is_empty(), "of a builder");
+    assert_holds(&rt, !text.is_empty(), "of a builder");
     Ok(())
 }
 
 #[test]
 fn searchers_print_something(rt: HostRuntime) -> Result<(), Fail> {
     let searcher = searcher(rt.alloc(), MatchKind::LeftmostFirst, &TWO)?;
-    assert!(rt; !format!(in rt.alloc(); "{searcher:?}")?.is_empty());
+    let text = format!(in rt.alloc(); "{searcher:?}")?;
+    assert_holds(&rt, !text.is_empty(), "of a searcher");
     Ok(())
 }

@@ -1,5 +1,6 @@
 //! Which prefilter is built for which patterns, and what it answers: each case of the choice, and each
 //! of its limits from both sides.
+use crate::asserted::{assert_holds, assert_same};
 use crate::made::{Place, place};
 use crate::plain::leftmost_plainly;
 use MatchKind::{LeftmostFirst, LeftmostLongest, Standard};
@@ -42,7 +43,8 @@ const ANY: &[MatchKind] = &[Standard, LeftmostFirst, LeftmostLongest];
 
 const LEFTMOST: &[MatchKind] = &[LeftmostFirst, LeftmostLongest];
 
-static ROWS: [Row; 31] = [
+/// One pattern.
+static ONE_PATTERN: [Row; 4] = [
     (
         "one pattern",
         ANY,
@@ -79,6 +81,10 @@ static ROWS: [Row; 31] = [
         b"xxFOO",
         Answer::Start(2),
     ),
+];
+
+/// Short lists, for which a packed search is better than full tables.
+static SHORT_LISTS: [Row; 6] = [
     (
         "a short list",
         LEFTMOST,
@@ -133,6 +139,10 @@ static ROWS: [Row; 31] = [
         b"qaxy",
         Answer::Found((1, 1, 4)),
     ),
+];
+
+/// The limits of a short list.
+static NUMBERS_AND_LENGTHS: [Row; 3] = [
     (
         "16 patterns",
         LEFTMOST,
@@ -166,6 +176,10 @@ static ROWS: [Row; 31] = [
         b"qqby",
         Answer::Start(2),
     ),
+];
+
+/// Tables of three bytes, and of fewer.
+static FULL_TABLES: [Row; 5] = [
     (
         "two rare bytes",
         ANY,
@@ -211,6 +225,10 @@ static ROWS: [Row; 31] = [
         b"qqdy",
         Answer::Start(2),
     ),
+];
+
+/// The limits of ranks, and of first bytes.
+static RANKS_AND_HIGH_BYTES: [Row; 4] = [
     (
         "ranks that sum to 50 more",
         ANY,
@@ -247,6 +265,10 @@ static ROWS: [Row; 31] = [
         b"q\x80",
         Answer::Start(1),
     ),
+];
+
+/// Lists without a table.
+static NO_TABLE: [Row; 4] = [
     (
         "no table",
         LEFTMOST,
@@ -283,6 +305,10 @@ static ROWS: [Row; 31] = [
         b"zab",
         Answer::Found((1, 1, 3)),
     ),
+];
+
+/// Lists whose tables are taken.
+static OF_TABLES: [Row; 5] = [
     (
         "both tables of three bytes, one pattern of one",
         ANY,
@@ -351,11 +377,11 @@ fn built(builder: &Builder) -> Result<Prefilter, Fail> {
 fn assert_answers(rt: &impl Abort, pre: &Prefilter, haystack: &[u8], wanted: Answer, case: &str) {
     let end = haystack.len();
     let (span, tally) = (Span { start: 0, end }, &mut Tally::new());
-    assert_eq!(rt; answer_of(pre.find_in(haystack, span)), wanted, "{case}");
+    assert_same(rt, answer_of(pre.find_in(haystack, span)), wanted, case);
     let counted = answer_of(pre.find_in_counted(haystack, span, tally));
-    assert_eq!(rt; counted, wanted, "{case}, counted");
+    assert_same(rt, counted, wanted, case);
     let by_trait = answer_of(PrefilterI::find_in(pre, haystack, span, tally));
-    assert_eq!(rt; by_trait, wanted, "{case}, by the trait");
+    assert_same(rt, by_trait, wanted, case);
 }
 
 /// The prefilter is of this kind.
@@ -366,7 +392,7 @@ fn assert_kind(
     wanted: &str,
     case: &str,
 ) -> Result<(), Fail> {
-    assert_eq!(rt; format!(in alloc; "{pre:?}")?.as_str(), wanted, "{case}");
+    assert_same(rt, format!(in alloc; "{pre:?}")?.as_str(), wanted, case);
     Ok(())
 }
 
@@ -382,14 +408,49 @@ fn assert_row(rt: &impl Abort, alloc: Global, row: &Row, kind: MatchKind) -> Res
     Ok(())
 }
 
-#[test]
-fn builds_what_suits(rt: HostRuntime) -> Result<(), Fail> {
-    for row in &ROWS {
+/// What is built for each kind of match of each row is as the row says.
+fn assert_rows(rt: &impl Abort, alloc: Global, rows: &[Row]) -> Result<(), Fail> {
+    for row in rows {
         for kind in row.1 {
-            assert_row(&rt, rt.alloc(), row, *kind)?;
+            assert_row(rt, alloc, row, *kind)?;
         }
     }
     Ok(())
+}
+
+#[test]
+fn finds_one_pattern(rt: HostRuntime) -> Result<(), Fail> {
+    assert_rows(&rt, rt.alloc(), &ONE_PATTERN)
+}
+
+#[test]
+fn searches_for_short_lists(rt: HostRuntime) -> Result<(), Fail> {
+    assert_rows(&rt, rt.alloc(), &SHORT_LISTS)
+}
+
+#[test]
+fn keeps_short_lists_short(rt: HostRuntime) -> Result<(), Fail> {
+    assert_rows(&rt, rt.alloc(), &NUMBERS_AND_LENGTHS)
+}
+
+#[test]
+fn takes_tables_of_fewer_bytes(rt: HostRuntime) -> Result<(), Fail> {
+    assert_rows(&rt, rt.alloc(), &FULL_TABLES)
+}
+
+#[test]
+fn looks_at_ranks_and_first_bytes(rt: HostRuntime) -> Result<(), Fail> {
+    assert_rows(&rt, rt.alloc(), &RANKS_AND_HIGH_BYTES)
+}
+
+#[test]
+fn searches_without_a_table(rt: HostRuntime) -> Result<(), Fail> {
+    assert_rows(&rt, rt.alloc(), &NO_TABLE)
+}
+
+#[test]
+fn takes_a_table(rt: HostRuntime) -> Result<(), Fail> {
+    assert_rows(&rt, rt.alloc(), &OF_TABLES)
 }
 
 /// A builder of so many patterns of one byte, which is their number.
@@ -414,10 +475,14 @@ fn searches_for_up_to_128_patterns_without_a_table(rt: HostRuntime) -> Result<()
             "128 patterns",
         );
         let more = of_single_bytes(rt.alloc(), *kind, 129)?.build()?;
-        assert!(rt; more.is_none(), "129 patterns");
+        assert_holds(&rt, more.is_none(), "129 patterns");
     }
     let standard = of_single_bytes(rt.alloc(), Standard, 128)?.build()?;
-    assert!(rt; standard.is_none(), "128 patterns with standard semantics");
+    assert_holds(
+        &rt,
+        standard.is_none(),
+        "128 patterns with standard semantics",
+    );
     Ok(())
 }
 
@@ -485,7 +550,8 @@ fn compare(rt: &impl Abort, pre: &Prefilter, patterns: &[&[u8]], kind: packed::M
             let span = Span { start, end };
             let wanted = plainly(patterns, kind, &haystack, span);
             let found = answer_of(pre.find_in(&haystack, span));
-            assert_eq!(rt; found, wanted, "{patterns:?}: {haystack:?} in {span:?}");
+            let note = format_args!("{patterns:?}: {haystack:?} in {span:?}");
+            assert_same(rt, found, wanted, note);
             spans = spans.wrapping_add(1);
         }
     }
@@ -494,11 +560,16 @@ fn compare(rt: &impl Abort, pre: &Prefilter, patterns: &[&[u8]], kind: packed::M
 
 #[test]
 fn finds_what_is_found_plainly(rt: HostRuntime) -> Result<(), Fail> {
-    for patterns in EXACT {
+    for patterns in &EXACT {
         for kind in LEFTMOST {
             let pre = built(&builder(rt.alloc(), *kind, false, patterns)?)?;
             let kind = kind.as_packed().ok_or("no leftmost kind")?;
-            assert_eq!(rt; compare(&rt, &pre, patterns, kind), 15625, "{patterns:?}");
+            assert_same(
+                &rt,
+                compare(&rt, &pre, patterns, kind),
+                15625,
+                format_args!("{patterns:?}"),
+            );
         }
     }
     Ok(())

@@ -108,7 +108,9 @@ pub fn next_after_all(bytes: &mut ByteClassElements<'_>) -> Option<u8>
 #[cfg(test)]
 mod tests {
     use super::*;
+    use crate::asserted::{assert_holds, assert_same};
     use literal_base::alphabet::{ByteSet, opposite_ascii_case};
+    use std::fmt::Debug;
     use std::process::Abort;
     use std::test::Fail;
 
@@ -160,31 +162,53 @@ mod tests {
         Ok(copied(&set)?.byte_classes())
     }
 
-    #[test]
-    fn tells_ranges_apart(rt: HostRuntime) -> Result<(), Fail> {
-        for (case, ranges, wanted, bytes) in ROWS {
-            let classes = classes_by_copy(ranges)?;
-            assert_eq!(rt; sizes(&classes), wanted, "{case}");
-            for (byte, class) in bytes {
-                assert_eq!(rt; classes.get(*byte), *class, "{case}, of {byte}");
-            }
+    /// What the classes of a row's ranges are.
+    fn assert_row(rt: &impl Abort, (case, ranges, wanted, bytes): &Row) -> Result<(), AllocError> {
+        let classes = classes_by_copy(ranges)?;
+        assert_same(rt, sizes(&classes), *wanted, case);
+        for (byte, class) in *bytes {
+            let found = classes.get(*byte);
+            assert_same(rt, found, *class, format_args!("{case}, of {byte}"));
         }
         Ok(())
     }
 
     #[test]
-    fn gives_each_byte_a_class(rt: HostRuntime) -> Result<(), Fail> {
+    fn tells_ranges_apart(rt: HostRuntime) -> Result<(), Fail> {
+        for row in &ROWS {
+            assert_row(&rt, row)?;
+        }
+        Ok(())
+    }
+
+    /// The classes of a set in which each byte is marked.
+    fn classes_of_all() -> ByteClasses {
         let mut set = ByteClassSet::empty();
         for byte in 0..=255 {
             set.set_range(byte, byte);
         }
-        for classes in [ByteClasses::singletons(), set.byte_classes()] {
-            assert_eq!(rt; sizes(&classes), (256, 256, 8));
-            assert!(rt; classes.is_singleton());
-            assert_eq!(rt; classes.get(b'a'), b'a');
-            let bytes = elements_taken(rt.alloc(), &classes, b'a')?;
-            assert_eq!(rt; bytes.as_slice(), b"a".as_slice());
-        }
+        set.byte_classes()
+    }
+
+    /// Each byte has a class of its own.
+    fn assert_apart(
+        rt: &impl Abort,
+        alloc: Global,
+        classes: &ByteClasses,
+        case: &str,
+    ) -> Result<(), AllocError> {
+        assert_same(rt, sizes(classes), (256, 256, 8), case);
+        assert_holds(rt, classes.is_singleton(), case);
+        assert_same(rt, classes.get(b'a'), b'a', case);
+        let bytes = elements_taken(alloc, classes, b'a')?;
+        assert_same(rt, bytes.as_slice(), b"a".as_slice(), case);
+        Ok(())
+    }
+
+    #[test]
+    fn gives_each_byte_a_class(rt: HostRuntime) -> Result<(), Fail> {
+        assert_apart(&rt, rt.alloc(), &ByteClasses::singletons(), "singletons")?;
+        assert_apart(&rt, rt.alloc(), &classes_of_all(), "all marked")?;
         Ok(())
     }
 
@@ -193,41 +217,55 @@ mod tests {
     #[test]
     fn lists_bytes(rt: HostRuntime) -> Result<(), Fail> {
         let classes = classes_of(&THREE);
-        for (class, count) in [(0, 98), (6, 133)] {
-            assert_eq!(rt; count_of_elements(&classes, class), count, "of {class}");
-        }
+        assert_same(&rt, count_of_elements(&classes, 0), 98, "of 0");
+        assert_same(&rt, count_of_elements(&classes, 6), 133, "of 6");
         let bytes = elements_taken(rt.alloc(), &classes, 2)?;
-        assert_eq!(rt; bytes.as_slice(), b"ef".as_slice());
+        assert_same(&rt, bytes.as_slice(), b"ef".as_slice(), "of 2");
         assert!(rt; have_their_class(&classes, 2) && have_their_class(&classes, 9));
+        Ok(())
+    }
+
+    #[test]
+    fn lists_last_bytes(rt: HostRuntime) -> Result<(), Fail> {
         let mut set = ByteClassSet::empty();
         set.set_range(b'a', b'z');
         let last = last_bytes(rt.alloc(), &set)?;
-        assert_eq!(rt; last.as_slice(), [b'`', b'z', 255].as_slice());
+        assert_same(
+            &rt,
+            last.as_slice(),
+            [b'`', b'z', 255].as_slice(),
+            "of 0 to 2",
+        );
+        Ok(())
+    }
+
+    #[test]
+    fn stays_at_its_end(rt: HostRuntime) {
+        let classes = classes_of(&THREE);
         let mut fifth = classes.elements(5);
         let taken = (fifth.next(), next_after_all(&mut fifth), fifth.next());
-        assert_eq!(rt; taken, (Some(b'z'), None, None));
-        Ok(())
+        assert_same(&rt, taken, (Some(b'z'), None, None), "of 5");
     }
 
     #[test]
     fn lists_classes(rt: HostRuntime) {
         let classes = classes_of(&THREE);
-        assert_eq!(rt; count_of_classes(&classes), 7);
+        assert_same(&rt, count_of_classes(&classes), 7, "how many");
         let mut all = classes.iter();
         for class in 0..7 {
-            assert_eq!(rt; all.next(), Some(class));
+            assert_same(&rt, all.next(), Some(class), "in turn");
         }
-        assert_eq!(rt; (all.next(), all.next()), (None, None));
+        assert_same(&rt, (all.next(), all.next()), (None, None), "at the end");
     }
 
     #[test]
     fn has_one_class(rt: HostRuntime) -> Result<(), Fail> {
         let empty = ByteClasses::empty();
-        assert_eq!(rt; sizes(&empty), (1, 1, 0));
+        assert_same(&rt, sizes(&empty), (1, 1, 0), "the sizes");
         assert!(rt; !empty.is_singleton());
-        assert_eq!(rt; count_of_elements(&empty, 0), 256);
+        assert_same(&rt, count_of_elements(&empty, 0), 256, "how many bytes");
         let whole = runs_collected(rt.alloc(), &empty, 0)?;
-        assert_eq!(rt; whole.as_slice(), [(0, 255)].as_slice());
+        assert_same(&rt, whole.as_slice(), [(0, 255)].as_slice(), "the runs");
         Ok(())
     }
 
@@ -235,14 +273,20 @@ mod tests {
     fn sets_single_classes(rt: HostRuntime) -> Result<(), Fail> {
         let mut classes = ByteClasses::empty();
         classes.set(5, 1);
-        assert_eq!(rt; classes.alphabet_len(), 1);
+        assert_same(&rt, classes.alphabet_len(), 1, "the length");
         let bytes = elements_taken(rt.alloc(), &classes, 1)?;
-        assert_eq!(rt; bytes.as_slice(), [5].as_slice());
+        assert_same(&rt, bytes.as_slice(), [5].as_slice(), "the bytes of 1");
+        Ok(())
+    }
+
+    #[test]
+    fn gives_runs_beside_a_byte(rt: HostRuntime) {
+        let mut classes = ByteClasses::empty();
+        classes.set(5, 1);
         let mut runs = classes.element_ranges(0);
         for run in [Some((0, 4)), Some((6, 255)), None, None] {
-            assert_eq!(rt; runs.next(), run);
+            assert_same(&rt, runs.next(), run, "in turn");
         }
-        Ok(())
     }
 
     #[test]
@@ -250,14 +294,14 @@ mod tests {
         let empty = ByteClasses::empty();
         let mut classes = empty;
         classes.set(255, 9);
-        assert_eq!(rt; sizes(&classes), (10, 16, 4));
-        assert_eq!(rt; sizes(&empty), (1, 1, 0));
+        assert_same(&rt, sizes(&classes), (10, 16, 4), "with a last class");
+        assert_same(&rt, sizes(&empty), (1, 1, 0), "with one class");
     }
 
     #[test]
     fn holds_bytes(rt: HostRuntime) {
         let mut set = ByteSet::empty();
-        assert_eq!(rt; set, ByteSet::default());
+        assert!(rt; set == ByteSet::default());
         set.add(0);
         set.add(b'a');
         let copy = set;
@@ -270,21 +314,23 @@ mod tests {
             (b'A', false),
             (255, true),
         ] {
-            assert_eq!(rt; set.contains(byte), is_in, "{byte}");
+            assert_same(&rt, set.contains(byte), is_in, format_args!("{byte}"));
         }
         assert!(rt; !copy.contains(255) && copy != set);
     }
 
-    /// A text that is printed has a byte.
-    fn assert_text(rt: &impl Abort, text: &str) {
-        assert!(rt; text.len() > 0);
+    /// What is printed of a value has a byte.
+    fn assert_prints<T: Debug>(rt: &impl Abort, alloc: Global, it: &T) -> Result<(), AllocError> {
+        let text = format!(in alloc; "{it:?}")?;
+        assert_holds(rt, text.len() > 0, "printed");
+        Ok(())
     }
 
     #[test]
     fn prints_something(rt: HostRuntime) -> Result<(), Fail> {
-        assert_text(&rt, &format!(in rt.alloc(); "{:?}", ByteSet::empty())?);
-        assert_text(&rt, &format!(in rt.alloc(); "{:?}", ByteClassSet::empty())?);
-        assert_text(&rt, &format!(in rt.alloc(); "{:?}", ByteClasses::empty())?);
+        assert_prints(&rt, rt.alloc(), &ByteSet::empty())?;
+        assert_prints(&rt, rt.alloc(), &ByteClassSet::empty())?;
+        assert_prints(&rt, rt.alloc(), &ByteClasses::empty())?;
         Ok(())
     }
 
@@ -301,7 +347,12 @@ mod tests {
             (b'{', b'{'),
             (0xE9, 0xE9),
         ] {
-            assert_eq!(rt; opposite_ascii_case(byte), other, "of {byte}");
+            assert_same(
+                &rt,
+                opposite_ascii_case(byte),
+                other,
+                format_args!("of {byte}"),
+            );
         }
     }
 }

@@ -2,10 +2,12 @@
 //! a search by sums: `a`, `b`, and the grave accent, which comes just before `a`, so that different
 //! texts of one length have equal sums, as `ab` and `b` with a grave accent; and `!` and `a`, which
 //! are 64 apart, so that all texts of one length share a bucket.
+use crate::asserted::{assert_holds, assert_same};
 use crate::made::{Place, places, searcher};
 use crate::plain::{greedy_plainly, leftmost_plainly, none_is_empty};
 use literal_prefilters::Span;
 use literal_prefilters::packed::{MatchKind, Searcher};
+use std::alloc::Global;
 use std::process::Abort;
 use std::test::Fail;
 
@@ -76,25 +78,32 @@ fn sizes_of(family: Family) -> &'static [(usize, usize)] {
     }
 }
 
+/// Compares in a span of a haystack.
+fn compare_at(
+    rt: &impl Abort,
+    searcher: &Searcher,
+    (patterns, kind): (&[&[u8]], MatchKind),
+    haystack: &[u8],
+    span: Span,
+) {
+    let is_meant = patterns.len() <= 3 && span.start <= span.end && span.end <= haystack.len();
+    assert_holds(rt, is_meant, "no such case is meant");
+    let wanted = leftmost_plainly(patterns, kind, false, haystack, span);
+    let note = format_args!("{patterns:?} on {haystack:?} in {span:?}");
+    assert_same(rt, searcher.find_in(haystack, span), wanted, note);
+}
+
 /// Compares on all spans of a haystack, and returns how many there are.
 fn compare_in(
     rt: &impl Abort,
     searcher: &Searcher,
-    patterns: &[&[u8]],
-    kind: MatchKind,
+    of: (&[&[u8]], MatchKind),
     haystack: &[u8],
 ) -> u32 {
-    assert!(rt; patterns.len() <= 3);
     let mut spans: u32 = 0;
     for end in 0..haystack.len() + 1 {
         for start in 0..end + 1 {
-            let span = Span { start, end };
-            let wanted = leftmost_plainly(patterns, kind, false, haystack, span);
-            assert_eq!(rt;
-                searcher.find_in(haystack, span),
-                wanted,
-                "{patterns:?} on {haystack:?} in {span:?}"
-            );
+            compare_at(rt, searcher, of, haystack, Span { start, end });
             spans = spans.wrapping_add(1);
         }
     }
@@ -102,40 +111,41 @@ fn compare_in(
 }
 
 /// Compares on all haystacks of a family, and returns how many spans they have.
-fn compare(
-    rt: &impl Abort,
-    searcher: &Searcher,
-    family: Family,
-    patterns: &[&[u8]],
-    kind: MatchKind,
-) -> u32 {
+fn compare(rt: &impl Abort, searcher: &Searcher, family: Family, of: (&[&[u8]], MatchKind)) -> u32 {
     let mut cases: u32 = 0;
     for (len, count) in sizes_of(family) {
         assert!(rt; *len <= 6);
         for number in 0..*count {
             let bytes = bytes_of(family, number);
-            let spans = compare_in(rt, searcher, patterns, kind, &bytes[..*len]);
+            let spans = compare_in(rt, searcher, of, &bytes[..*len]);
             cases = cases.wrapping_add(spans);
         }
     }
     cases
 }
 
+/// Compares for a list of patterns and a match kind.
+fn assert_list(
+    rt: &impl Abort,
+    alloc: Global,
+    kind: MatchKind,
+    (family, patterns): &(Family, &[&[u8]]),
+) -> Result<(), Fail> {
+    let wanted = match family {
+        Family::EqualSums => 1549,
+        Family::OneBucket => 2815,
+    };
+    let searcher = searcher(alloc, kind, patterns)?;
+    let cases = compare(rt, &searcher, *family, (patterns, kind));
+    assert_same(rt, cases, wanted, format_args!("{patterns:?}"));
+    Ok(())
+}
+
 #[test]
 fn finds_what_is_found_plainly(rt: HostRuntime) -> Result<(), Fail> {
-    for (family, patterns) in LISTS {
-        let cases = match family {
-            Family::EqualSums => 1549,
-            Family::OneBucket => 2815,
-        };
-        for kind in [MatchKind::LeftmostFirst, MatchKind::LeftmostLongest] {
-            let searcher = searcher(rt.alloc(), kind, patterns)?;
-            assert_eq!(rt;
-                compare(&rt, &searcher, family, patterns, kind),
-                cases,
-                "{patterns:?}"
-            );
-        }
+    for list in &LISTS {
+        assert_list(&rt, rt.alloc(), MatchKind::LeftmostFirst, list)?;
+        assert_list(&rt, rt.alloc(), MatchKind::LeftmostLongest, list)?;
     }
     Ok(())
 }
@@ -176,14 +186,23 @@ static GREEDY: [Row; 5] = [
     ),
 ];
 
+fn assert_finds_all(
+    rt: &impl Abort,
+    alloc: Global,
+    (case, patterns, ignore_case, haystack, wanted): &Row,
+) -> Result<(), Fail> {
+    assert_holds(rt, patterns.len() <= 2, case);
+    assert_holds(rt, none_is_empty(patterns), case);
+    let kind = MatchKind::LeftmostFirst;
+    let all = greedy_plainly(alloc, patterns, kind, *ignore_case, haystack)?;
+    assert_same(rt, places(alloc, &all)?.as_slice(), *wanted, case);
+    Ok(())
+}
+
 #[test]
 fn finds_all_plainly(rt: HostRuntime) -> Result<(), Fail> {
-    for (case, patterns, ignore_case, haystack, wanted) in GREEDY {
-        assert!(rt; patterns.len() <= 2 && none_is_empty(patterns), "{case}");
-        let kind = MatchKind::LeftmostFirst;
-        let all = greedy_plainly(rt.alloc(), patterns, kind, ignore_case, haystack)?;
-        let all = places(rt.alloc(), &all)?;
-        assert_eq!(rt; all.as_slice(), wanted, "{case}");
+    for row in &GREEDY {
+        assert_finds_all(&rt, rt.alloc(), row)?;
     }
     Ok(())
 }

@@ -2,6 +2,7 @@
 ghost use Rattle.literal_base.specs.Occurs.{IsValidSpan};
 ghost use Rattle.literal_tests.specs.Covered.{IsCovered};
 
+use crate::asserted::{assert_holds, assert_same};
 use crate::made::{Place, place};
 use crate::plain::leftmost_plainly;
 use crate::uses_of_prefilters::{Covered, confirm_covered, covered_patterns};
@@ -161,14 +162,15 @@ fn assert_finds(
     wanted: Option<Place>,
     case: &str,
 ) {
-    assert!(rt;
+    assert_holds(
+        rt,
         span.start <= span.end && span.end <= haystack.len(),
-        "{case}"
+        case,
     );
     let found = search.find_in(haystack, span).map(place);
-    assert_eq!(rt; found, wanted, "{case}");
+    assert_same(rt, found, wanted, case);
     let counted = search.find_in_counted(haystack, span, &mut Tally::new());
-    assert_eq!(rt; counted.map(place), wanted, "{case}, counted");
+    assert_same(rt, counted.map(place), wanted, case);
 }
 
 fn assert_row(rt: &impl Abort, alloc: Global, row: &Row) -> Result<(), Fail> {
@@ -205,9 +207,9 @@ static OF_NOTHING: [(&str, bool, &[&[u8]]); 4] = [
 
 #[test]
 fn builds_nothing_without_a_prefilter(rt: HostRuntime) -> Result<(), Fail> {
-    for (case, ignore_case, patterns) in OF_NOTHING {
+    for &(case, ignore_case, patterns) in &OF_NOTHING {
         let search = built(rt.alloc(), LeftmostFirst, ignore_case, patterns)?;
-        assert!(rt; search.is_none(), "{case}");
+        assert_holds(&rt, search.is_none(), case);
     }
     Ok(())
 }
@@ -280,12 +282,12 @@ static ASKED: [(&str, &[&[u8]], &[u8], usize, u32); 3] = [
 
 #[test]
 fn asks_from_place_to_place(rt: HostRuntime) -> Result<(), Fail> {
-    for (case, patterns, haystack, end, wanted) in ASKED {
+    for &(case, patterns, haystack, end, wanted) in &ASKED {
         let covered = covered_patterns(rt.alloc(), LeftmostFirst, false, patterns)?;
         let covered = covered.ok_or("there is no prefilter")?;
-        assert!(rt; end <= haystack.len(), "{case}");
+        assert_holds(&rt, end <= haystack.len(), case);
         let times = times_asked(covered, false, haystack, Span { start: 0, end });
-        assert_eq!(rt; times, wanted, "{case}");
+        assert_same(&rt, times, wanted, case);
     }
     Ok(())
 }
@@ -344,11 +346,12 @@ fn compare(
     for number in 0..3125 {
         let haystack = bytes_of(number);
         for (start, end) in SPANS {
-            assert!(rt; start <= end && end <= 5);
+            assert_holds(rt, start <= end && end <= 5, "a span");
             let span = Span { start, end };
             let wanted = plainly(list, kind, ignore_case, &haystack, span);
             let found = search.find_in(&haystack, span).map(place);
-            assert_eq!(rt; found, wanted, "{list:?}: {haystack:?} in {span:?}");
+            let note = format_args!("{list:?}: {haystack:?} in {span:?}");
+            assert_same(rt, found, wanted, note);
             spans = spans.wrapping_add(1);
         }
     }
@@ -369,12 +372,13 @@ fn compare_covered(
     for number in 0..3125 {
         let haystack = bytes_of(number);
         for (start, end) in SPANS {
-            assert!(rt; start <= end && end <= 5);
+            assert_holds(rt, start <= end && end <= 5, "a span");
             let span = Span { start, end };
             let wanted = plainly(list, kind, ignore_case, &haystack, span);
             let tally = &mut Tally::new();
             let found = confirm_covered(covered, ignore_case, &haystack, span, tally).map(place);
-            assert_eq!(rt; found, wanted, "{list:?}: {haystack:?} in {span:?}");
+            let note = format_args!("{list:?}: {haystack:?} in {span:?}");
+            assert_same(rt, found, wanted, note);
             spans = spans.wrapping_add(1);
         }
     }
@@ -383,14 +387,15 @@ fn compare_covered(
 
 #[test]
 fn searches_as_is_found_plainly(rt: HostRuntime) -> Result<(), Fail> {
-    for (list, ignore_case) in LISTS {
+    for &(list, ignore_case) in &LISTS {
         for kind in [LeftmostFirst, LeftmostLongest] {
             let search = built(rt.alloc(), kind, ignore_case, list)?;
             let search = search.ok_or("there is no prefilter")?;
-            assert_eq!(rt;
+            assert_same(
+                &rt,
                 compare(&rt, &search, list, kind, ignore_case),
                 15625,
-                "{list:?}"
+                "spans",
             );
         }
     }
@@ -399,14 +404,15 @@ fn searches_as_is_found_plainly(rt: HostRuntime) -> Result<(), Fail> {
 
 #[test]
 fn confirms_as_is_found_plainly(rt: HostRuntime) -> Result<(), Fail> {
-    for (list, ignore_case) in LISTS {
+    for &(list, ignore_case) in &LISTS {
         for kind in [LeftmostFirst, LeftmostLongest] {
             let covered = covered_patterns(rt.alloc(), kind, ignore_case, list)?;
             let covered = covered.ok_or("there is no prefilter")?;
-            assert_eq!(rt;
+            assert_same(
+                &rt,
                 compare_covered(&rt, &covered, list, kind, ignore_case),
                 15625,
-                "{list:?}"
+                "spans",
             );
         }
     }

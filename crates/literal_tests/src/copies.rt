@@ -42,6 +42,7 @@ pub fn copy_of_config(config: &Config) -> Result<Config, AllocError>
 #[cfg(test)]
 mod tests {
     use super::*;
+    use crate::asserted::assert_same;
     use crate::made::built;
     use literal_prefilters::packed::MatchKind;
     use literal_prefilters::packed::pattern::Patterns;
@@ -51,9 +52,9 @@ mod tests {
     #[test]
     fn copies_are_equal(rt: HostRuntime) -> Result<(), Fail> {
         let copy = copy_of_candidate(&Candidate::PossibleStartOfMatch(3))?;
-        assert_eq!(rt; copy.into_option(), Some(3));
+        assert_same(&rt, copy.into_option(), Some(3), "a candidate");
         let copy = copy_of_input(&Input::new(b"foobar").span(Span { start: 1, end: 4 }))?;
-        assert_eq!(rt; copy.get_span(), Span { start: 1, end: 4 });
+        assert_same(&rt, copy.get_span(), Span { start: 1, end: 4 }, "an input");
         Ok(())
     }
 
@@ -62,7 +63,7 @@ mod tests {
         let mut patterns = Patterns::new(rt.alloc());
         patterns.add(b"foo")?;
         let copy = copy_of_pattern(&patterns.get(PatternID::ZERO))?;
-        assert_eq!(rt; copy.bytes(), b"foo".as_slice());
+        assert_same(&rt, copy.bytes(), b"foo".as_slice(), "a pattern");
         Ok(())
     }
 
@@ -72,7 +73,8 @@ mod tests {
         config.match_kind(MatchKind::LeftmostLongest);
         let mut builder = copy_of_config(&config)?.builder(rt.alloc());
         builder.add(b"foo")?;
-        assert_eq!(rt; *built(&builder)?.match_kind(), MatchKind::LeftmostLongest);
+        let kind = *built(&builder)?.match_kind();
+        assert_same(&rt, kind, MatchKind::LeftmostLongest, "a configuration");
         Ok(())
     }
 }

@@ -36,7 +36,7 @@ mod tests {
     #[test]
     fn takes_no_bytes(rt: HostRuntime) {
         let tally = ticked();
-        assert_eq!(rt; size_of::<Tally>(), 0);
+        assert!(rt; size_of::<Tally>() == 0);
         let _ = tally;
     }
 }

@@ -42,14 +42,15 @@ pub fn step_on(input: &mut Input<'_>) -> bool
 #[cfg(test)]
 mod tests {
     use super::*;
+    use crate::asserted::assert_same;
     use std::test::Fail;
 
     #[test]
     fn goes_over_an_input(rt: HostRuntime) -> Result<(), Fail> {
         let input = Input::new(b"foobar").range_inclusive(4, 5);
-        assert_eq!(rt; bytes_to_search(&input), b"ar".as_slice());
+        assert_same(&rt, bytes_to_search(&input), b"ar".as_slice(), "at first");
         let at_last = from_next_byte(&input).ok_or("done at the first byte")?;
-        assert_eq!(rt; bytes_to_search(&at_last), b"r".as_slice());
+        assert_same(&rt, bytes_to_search(&at_last), b"r".as_slice(), "at last");
         let at_end = from_next_byte(&at_last).ok_or("done at the last byte")?;
         assert!(rt; bytes_to_search(&at_end).is_empty() && !at_end.is_done());
         let done = from_next_byte(&at_end).ok_or("done at the end")?;
@@ -61,10 +62,10 @@ mod tests {
     #[test]
     fn steps_on_in_place(rt: HostRuntime) {
         let mut input = Input::new(b"ab");
-        assert_eq!(rt; [step_on(&mut input), step_on(&mut input)], [true, true]);
-        assert_eq!(rt; input.start(), 2);
+        assert!(rt; step_on(&mut input) && step_on(&mut input));
+        assert_same(&rt, input.start(), 2, "after two steps");
         assert!(rt; step_on(&mut input) && input.is_done());
         assert!(rt; !step_on(&mut input));
-        assert_eq!(rt; (input.start(), input.end()), (3, 2));
+        assert_same(&rt, (input.start(), input.end()), (3, 2), "past the end");
     }
 }

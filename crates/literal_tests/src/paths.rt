@@ -1,5 +1,6 @@
 //! Each public path, named once: every item at the path of its module, and the items of `primitives`
 //! and `search` at the root too, where they are the same types.
+use crate::asserted::assert_same;
 use crate::made::place;
 use literal_prefilters::packed::pattern::{Pattern, PatternIter, Patterns};
 use literal_prefilters::packed::rabinkarp::{RabinKarp, Rolling};
@@ -18,14 +19,19 @@ fn patterns_stand_at_the_root(rt: HostRuntime) {
         usize::MAX,
     ).err();
     let error: Option<literal_prefilters::PatternIDError> = refused;
-    assert_eq!(rt; id.one_more(), 2147483647);
-    assert_eq!(rt; error.map(|error| error.attempted()), Some(u64::MAX));
+    assert_same(&rt, id.one_more(), 2147483647, "the greatest");
+    assert!(rt; error.is_some_and(|error| error.attempted() == u64::MAX));
     let mut ids: literal_prefilters::PatternIDIter = primitives::PatternID::iter(1);
-    assert_eq!(rt; ids.next(), Some(primitives::PatternID::ZERO));
+    assert_same(
+        &rt,
+        ids.next(),
+        Some(primitives::PatternID::ZERO),
+        "the first",
+    );
     let items = [b'a'];
     let pairs: literal_prefilters::WithPatternIDIter<'_, u8> = primitives::with_pattern_ids(&items);
     let again: primitives::WithPatternIDIter<'_, u8> = literal_prefilters::with_pattern_ids(&items);
-    assert_eq!(rt; pairs.count(), again.count());
+    assert_same(&rt, pairs.count(), again.count(), "how many");
 }
 
 #[test]
@@ -35,14 +41,19 @@ fn states_stand_at_the_root(rt: HostRuntime) {
         usize::MAX,
     ).err();
     let error: Option<literal_prefilters::StateIDError> = refused;
-    assert_eq!(rt; id.one_more(), 2147483647);
-    assert_eq!(rt; error.map(|error| error.attempted()), Some(u64::MAX));
+    assert_same(&rt, id.one_more(), 2147483647, "the greatest");
+    assert!(rt; error.is_some_and(|error| error.attempted() == u64::MAX));
     let mut ids: literal_prefilters::StateIDIter = primitives::StateID::iter(1);
-    assert_eq!(rt; ids.next(), Some(primitives::StateID::ZERO));
+    assert_same(
+        &rt,
+        ids.next(),
+        Some(primitives::StateID::ZERO),
+        "the first",
+    );
     let items = [b'a'];
     let pairs: literal_prefilters::WithStateIDIter<'_, u8> = primitives::with_state_ids(&items);
     let again: primitives::WithStateIDIter<'_, u8> = literal_prefilters::with_state_ids(&items);
-    assert_eq!(rt; pairs.count(), again.count());
+    assert_same(&rt, pairs.count(), again.count(), "how many");
 }
 
 #[test]
@@ -52,22 +63,23 @@ fn small_indices_stand_at_the_root(rt: HostRuntime) {
         usize::MAX,
     ).err();
     let error: Option<literal_prefilters::SmallIndexError> = refused;
-    assert_eq!(rt; index.one_more(), 2147483647);
-    assert_eq!(rt; error.map(|error| error.attempted()), Some(u64::MAX));
+    assert_same(&rt, index.one_more(), 2147483647, "the greatest");
+    assert!(rt; error.is_some_and(|error| error.attempted() == u64::MAX));
     let mut indices: literal_prefilters::SmallIndexIter = primitives::SmallIndexIter::new(1);
-    assert_eq!(rt; indices.next(), Some(primitives::SmallIndex::ZERO));
+    let first = Some(primitives::SmallIndex::ZERO);
+    assert_same(&rt, indices.next(), first, "the first");
 }
 
 #[test]
 fn conversions_stand_in_their_module(rt: HostRuntime) {
-    assert_eq!(rt; int::U8::as_usize(7u8), 7);
-    assert_eq!(rt; int::U16::low_u8(0x1234u16), 0x34);
-    assert_eq!(rt; int::U32::high_u16(0x12345678u32), 0x1234);
-    assert_eq!(rt; int::U64::low_u32(7u64), 7);
-    assert_eq!(rt; int::I8::to_bits(-1i8), 255);
-    assert_eq!(rt; int::I32::to_bits(-1i32), u32::MAX);
-    assert_eq!(rt; int::I64::to_bits(-1i64), u64::MAX);
-    assert_eq!(rt; int::Usize::as_u8(7usize), 7);
+    assert_same(&rt, int::U8::as_usize(7u8), 7, "U8");
+    assert_same(&rt, int::U16::low_u8(0x1234u16), 0x34, "U16");
+    assert_same(&rt, int::U32::high_u16(0x12345678u32), 0x1234, "U32");
+    assert_same(&rt, int::U64::low_u32(7u64), 7, "U64");
+    assert_same(&rt, int::I8::to_bits(-1i8), 255, "I8");
+    assert_same(&rt, int::I32::to_bits(-1i32), u32::MAX, "I32");
+    assert_same(&rt, int::I64::to_bits(-1i64), u64::MAX, "I64");
+    assert_same(&rt, int::Usize::as_u8(7usize), 7, "Usize");
 }
 
 #[test]
@@ -79,12 +91,11 @@ fn bytes_stand_in_their_modules(rt: HostRuntime) {
     let mut all: alphabet::ByteClassIter<'_> = classes.iter();
     let mut bytes: alphabet::ByteClassElements<'_> = classes.elements(0);
     let mut ranges: alphabet::ByteClassElementRanges<'_> = classes.element_ranges(0);
-    assert_eq!(rt;
-        (all.next(), bytes.next(), ranges.next()),
-        (Some(0), Some(0), Some((0, 255)))
-    );
+    assert_same(&rt, all.next(), Some(0), "the first class");
+    assert_same(&rt, bytes.next(), Some(0), "its first byte");
+    assert_same(&rt, ranges.next(), Some((0, 255)), "its first run");
     let rank = byte_frequencies::freq_rank(b'a');
-    assert_eq!(rt; rank, byte_frequencies::BYTE_FREQUENCIES[97]);
+    assert_same(&rt, rank, byte_frequencies::BYTE_FREQUENCIES[97], "of a");
 }
 
 #[test]
@@ -135,10 +146,12 @@ fn search_stands_at_the_root(rt: HostRuntime) {
     let mode: literal_prefilters::Anchored = search::Anchored::Yes;
     let kind: literal_prefilters::MatchKind = search::MatchKind::LeftmostLongest;
     let start_kind: literal_prefilters::StartKind = search::StartKind::default();
-    assert_eq!(rt; found.span(), input.get_span());
+    assert_same(&rt, found.span(), input.get_span(), "the span");
     assert!(rt; input.get_anchored() != mode);
-    assert_eq!(rt; kind.as_packed(), Some(packed::MatchKind::LeftmostLongest));
-    assert_eq!(rt; start_kind, literal_prefilters::StartKind::Unanchored);
+    let longest = Some(packed::MatchKind::LeftmostLongest);
+    assert_same(&rt, kind.as_packed(), longest, "the packed kind");
+    let unanchored = literal_prefilters::StartKind::Unanchored;
+    assert_same(&rt, start_kind, unanchored, "the kind of starts");
 }
 
 #[test]
@@ -147,7 +160,7 @@ fn packed_stands_at_its_path(rt: HostRuntime) -> Result<(), Fail> {
     builder.add(b"ob")?;
     let searcher: Searcher = builder.build()?.ok_or("no searcher")?;
     let mut matches: FindIter<'_, '_> = searcher.find_iter(b"foobar");
-    assert_eq!(rt; matches.next().map(place), Some((0, 2, 4)));
+    assert_same(&rt, matches.next().map(place), Some((0, 2, 4)), "the first");
     Ok(())
 }
 
@@ -158,9 +171,10 @@ fn parts_of_packed_stand_in_their_modules(rt: HostRuntime) -> Result<(), Fail> {
     patterns.add(b"ob")?;
     let items: PatternIter<'_> = patterns.iter();
     let (id, pattern): (primitives::PatternID, Pattern<'_>) = items.last().ok_or("no pattern")?;
-    assert_eq!(rt; (id, pattern.len()), (primitives::PatternID::ZERO, 2));
+    assert_same(&rt, id, primitives::PatternID::ZERO, "the last pattern");
+    assert_same(&rt, pattern.len(), 2, "its length");
     let found = RabinKarp::new(&patterns, &mut tally)?.find_at(&patterns, b"foobar", 0, &mut tally);
-    assert_eq!(rt; found.map(place), Some((0, 2, 4)));
+    assert_same(&rt, found.map(place), Some((0, 2, 4)), "what is found");
     Ok(())
 }
 
@@ -168,5 +182,5 @@ fn parts_of_packed_stand_in_their_modules(rt: HostRuntime) -> Result<(), Fail> {
 fn sums_stand_in_their_module(rt: HostRuntime) {
     let mut rolling = Rolling::new(2);
     rolling.push(b'o', &mut count::Tally::new());
-    assert_eq!(rt; rolling.value(), 111);
+    assert_same(&rt, rolling.value(), 111, "of o");
 }

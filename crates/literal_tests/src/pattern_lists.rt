@@ -1,6 +1,7 @@
 //! Collections of patterns.
 ghost use Rattle.std.specs.Prelude.{◌≡◌, length, IfOk};
 
+use crate::asserted::{assert_holds, assert_same};
 use literal_prefilters::PatternIDError;
 use literal_prefilters::count::Tally;
 use literal_prefilters::packed::MatchKind;
@@ -36,39 +37,57 @@ fn counts(patterns: &Patterns) -> Counts {
 
 const OF_NONE: Counts = (0, usize::MAX, 0, true);
 
+fn assert_counts(rt: &impl Abort, patterns: &Patterns, wanted: Counts, case: &str) {
+    assert_same(rt, counts(patterns), wanted, case);
+}
+
 #[test]
 fn counts_patterns(rt: HostRuntime) -> Result<(), Fail> {
     let mut patterns = Patterns::new(rt.alloc());
-    assert_eq!(rt; counts(&patterns), OF_NONE);
+    assert_counts(&rt, &patterns, OF_NONE, "with none");
     patterns.add(b"abc")?;
-    assert_eq!(rt; counts(&patterns), (1, 3, 3, false), "with abc");
+    assert_counts(&rt, &patterns, (1, 3, 3, false), "with abc");
     patterns.add(b"a")?;
-    assert_eq!(rt; counts(&patterns), (2, 1, 4, false), "with a");
+    assert_counts(&rt, &patterns, (2, 1, 4, false), "with a");
     patterns.add(b"ab")?;
-    assert_eq!(rt; counts(&patterns), (3, 1, 6, false), "with ab");
+    assert_counts(&rt, &patterns, (3, 1, 6, false), "with ab");
     Ok(())
 }
 
+fn assert_kind(rt: &impl Abort, patterns: &Patterns, wanted: MatchKind, case: &str) {
+    assert_same(rt, *patterns.match_kind(), wanted, case);
+}
+
 /// What a new collection answers.
-fn is_as_new(rt: &impl Abort, patterns: &Patterns) {
-    assert_eq!(rt; counts(patterns), OF_NONE);
-    assert_eq!(rt; *patterns.match_kind(), MatchKind::LeftmostFirst);
-    assert!(rt; patterns.iter().next().is_none());
+fn assert_is_as_new(rt: &impl Abort, patterns: &Patterns, case: &str) {
+    assert_counts(rt, patterns, OF_NONE, case);
+    assert_kind(rt, patterns, MatchKind::LeftmostFirst, case);
+    assert_holds(rt, patterns.iter().next().is_none(), case);
 }
 
 #[test]
 fn begins_anew(rt: HostRuntime) -> Result<(), Fail> {
     let mut patterns = Patterns::new(rt.alloc());
-    is_as_new(&rt, &patterns);
+    assert_is_as_new(&rt, &patterns, "new");
     patterns.add(b"a")?;
     patterns.add(b"abc")?;
     patterns.set_match_kind(MatchKind::LeftmostLongest)?;
-    assert_eq!(rt; *patterns.match_kind(), MatchKind::LeftmostLongest);
+    assert_kind(&rt, &patterns, MatchKind::LeftmostLongest, "set");
     patterns.reset();
-    is_as_new(&rt, &patterns);
+    assert_is_as_new(&rt, &patterns, "reset");
     patterns.add(b"new")?;
-    assert_eq!(rt; patterns.get(PatternID::ZERO).bytes(), b"new".as_slice());
+    let bytes = patterns.get(PatternID::ZERO).bytes();
+    assert_same(&rt, bytes, b"new".as_slice(), "added anew");
     Ok(())
+}
+
+/// The identifiers in their order.
+fn order_of(alloc: Global, patterns: &Patterns) -> Result<Vec<usize>, AllocError> {
+    let mut order = Vec::new(alloc);
+    for (id, _) in patterns.iter() {
+        order.push(id.as_usize())?;
+    }
+    Ok(order)
 }
 
 /// The identifiers come in this order.
@@ -79,11 +98,7 @@ fn assert_order(
     wanted: &[usize],
     case: &str,
 ) -> Result<(), AllocError> {
-    let mut order = Vec::new(alloc);
-    for (id, _) in patterns.iter() {
-        order.push(id.as_usize())?;
-    }
-    assert_eq!(rt; order.as_slice(), wanted, "{case}");
+    assert_same(rt, order_of(alloc, patterns)?.as_slice(), wanted, case);
     Ok(())
 }
 
@@ -111,8 +126,8 @@ fn copies_keep_their_order(rt: HostRuntime) -> Result<(), Fail> {
     patterns.add(b"abcd")?;
     patterns.set_match_kind(MatchKind::LeftmostFirst)?;
     assert_order(&rt, rt.alloc(), &copy, &[1, 3, 0, 2], "the copy")?;
-    assert_eq!(rt; *copy.match_kind(), MatchKind::LeftmostLongest);
-    assert_eq!(rt; counts(&copy), (4, 1, 9, false));
+    assert_kind(&rt, &copy, MatchKind::LeftmostLongest, "the copy");
+    assert_counts(&rt, &copy, (4, 1, 9, false), "the copy");
     Ok(())
 }
 
@@ -121,22 +136,30 @@ fn stays_at_its_end(rt: HostRuntime) -> Result<(), Fail> {
     let patterns = four(rt.alloc())?;
     let mut items = patterns.iter();
     for wanted in [(0, 2), (1, 3), (2, 1), (3, 3)] {
-        let next = items
-            .next()
-            .map(|(id, pattern)| (id.as_usize(), pattern.len()));
-        assert_eq!(rt; next, Some(wanted));
+        let next = items.next();
+        let next = next.map(|(id, pattern)| (id.as_usize(), pattern.len()));
+        assert_same(&rt, next, Some(wanted), "in turn");
     }
     assert!(rt; items.next().is_none());
     assert!(rt; items.next().is_none());
     Ok(())
 }
 
+/// Whether `abc` stands at a place of a haystack, case kept and case ignored.
+fn matches_at(patterns: &Patterns, at: usize) -> Result<(bool, bool), &'static str> {
+    if patterns.len() < 2 || at > 7 {
+        return Err("no such place is meant");
+    }
+    let (abc, haystack, mut tally) = (PatternID::must(1), b"xABCabc", Tally::new());
+    Ok((
+        patterns.matches_at(abc, haystack, at, false, &mut tally),
+        patterns.matches_at(abc, haystack, at, true, &mut tally),
+    ))
+}
+
 #[test]
 fn compares_at_a_place(rt: HostRuntime) -> Result<(), Fail> {
     let patterns = four(rt.alloc())?;
-    let abc = PatternID::must(1);
-    let mut tally = Tally::new();
-    let haystack = b"xABCabc";
     for (at, kept, ignored) in [
         (0, false, false),
         (1, false, true),
@@ -144,30 +167,34 @@ fn compares_at_a_place(rt: HostRuntime) -> Result<(), Fail> {
         (5, false, false),
         (7, false, false),
     ] {
-        let found = (
-            patterns.matches_at(abc, haystack, at, false, &mut tally),
-            patterns.matches_at(abc, haystack, at, true, &mut tally),
-        );
-        assert_eq!(rt; found, (kept, ignored), "at {at}, case kept and ignored");
+        let found = matches_at(&patterns, at)?;
+        assert_same(&rt, found, (kept, ignored), format_args!("at {at}"));
     }
     Ok(())
 }
 
-#[test]
-fn tells_about_a_pattern(rt: HostRuntime) -> Result<(), Fail> {
-    let patterns = four(rt.alloc())?;
-    let pattern: Pattern<'_> = patterns.get(PatternID::must(1));
-    assert_eq!(rt; pattern.len(), 3);
-    assert_eq!(rt; pattern.bytes(), b"abc".as_slice());
+/// What is told of the pattern `abc`.
+fn assert_is_abc(rt: &impl Abort, pattern: &Pattern<'_>) {
+    assert_same(rt, pattern.len(), 3, "its length");
+    assert_same(rt, pattern.bytes(), b"abc".as_slice(), "its bytes");
     for (haystack, is_prefix) in [
         (b"abc".as_slice(), true),
         (b"abcd", true),
         (b"ab", false),
         (b"xabc", false),
     ] {
-        assert_eq!(rt; pattern.is_prefix(haystack), is_prefix, "of {haystack:?}");
+        let found = pattern.is_prefix(haystack);
+        assert_same(rt, found, is_prefix, format_args!("of {haystack:?}"));
     }
-    assert!(rt; !format!(in rt.alloc(); "{pattern:?}")?.is_empty());
+}
+
+#[test]
+fn tells_about_a_pattern(rt: HostRuntime) -> Result<(), Fail> {
+    let patterns = four(rt.alloc())?;
+    let pattern: Pattern<'_> = patterns.get(PatternID::must(1));
+    assert_is_abc(&rt, &pattern);
+    let text = format!(in rt.alloc(); "{pattern:?}")?;
+    assert_holds(&rt, !text.is_empty(), "printed");
     Ok(())
 }
 
@@ -175,6 +202,6 @@ fn tells_about_a_pattern(rt: HostRuntime) -> Result<(), Fail> {
 fn numbers_patterns(rt: HostRuntime) -> Result<(), Fail> {
     let refused: Result<PatternID, primitives::PatternIDError> = PatternID::new(PatternID::LIMIT);
     let error: PatternIDError = refused.err().ok_or("there is no limit")?;
-    assert_eq!(rt; error.attempted(), 2147483647);
+    assert_same(&rt, error.attempted(), 2147483647, "the number");
     Ok(())
 }

@@ -1,9 +1,10 @@
 //! Worked cases of prefilters.
+use crate::asserted::{assert_holds, assert_same};
 use literal_prefilters::count::Tally;
 use literal_prefilters::prefilter::{Builder, Candidate, Prefilter, PrefilterI};
 use literal_prefilters::search::{Match, Span};
 use literal_prefilters::{MatchKind, PatternID};
-use std::alloc::Global;
+use std::alloc::{AllocError, Global};
 use std::process::Abort;
 use std::test::Fail;
 
@@ -19,7 +20,8 @@ type Row = (
     Option<usize>,
 );
 
-static ROWS: [Row; 17] = [
+/// Rare bytes, and how far back from them.
+static BACK_FROM_RARE_BYTES: [Row; 6] = [
     (
         "back from the rare byte",
         "Prefilter(RareBytesOne)",
@@ -74,6 +76,10 @@ static ROWS: [Row; 17] = [
         0,
         Some(3),
     ),
+];
+
+/// Start bytes.
+static START_BYTES: [Row; 4] = [
     (
         "a start byte of the second",
         "Prefilter(StartBytesTwo)",
@@ -110,33 +116,10 @@ static ROWS: [Row; 17] = [
         0,
         None,
     ),
-    (
-        "three words",
-        "Prefilter(RareBytesOne)",
-        &[b"apple", b"maple", b"Snapple"],
-        false,
-        b"in an apple",
-        0,
-        Some(3),
-    ),
-    (
-        "past the last rare byte of three words",
-        "Prefilter(RareBytesOne)",
-        &[b"apple", b"maple", b"Snapple"],
-        false,
-        b"in an apple",
-        9,
-        None,
-    ),
-    (
-        "a word in the other case",
-        "Prefilter(RareBytesTwo)",
-        &[b"sherlock"],
-        true,
-        b"xxSHERLOCK",
-        0,
-        Some(2),
-    ),
+];
+
+/// Bytes that are no letters, and three letters.
+static BESIDE_LETTERS: [Row; 4] = [
     (
         "what comes after the letters",
         "Prefilter(StartBytesOne)",
@@ -175,6 +158,37 @@ static ROWS: [Row; 17] = [
     ),
 ];
 
+/// Rare bytes of several words.
+static OF_WORDS: [Row; 3] = [
+    (
+        "three words",
+        "Prefilter(RareBytesOne)",
+        &[b"apple", b"maple", b"Snapple"],
+        false,
+        b"in an apple",
+        0,
+        Some(3),
+    ),
+    (
+        "past the last rare byte of three words",
+        "Prefilter(RareBytesOne)",
+        &[b"apple", b"maple", b"Snapple"],
+        false,
+        b"in an apple",
+        9,
+        None,
+    ),
+    (
+        "a word in the other case",
+        "Prefilter(RareBytesTwo)",
+        &[b"sherlock"],
+        true,
+        b"xxSHERLOCK",
+        0,
+        Some(2),
+    ),
+];
+
 fn builder(
     alloc: Global,
     kind: MatchKind,
@@ -188,9 +202,13 @@ fn builder(
     Ok(builder)
 }
 
-/// The prefilter of patterns in the case in which they are given.
-fn prefilter(alloc: Global, patterns: &[&[u8]]) -> Result<Option<Prefilter>, Fail> {
-    Ok(builder(alloc, MatchKind::Standard, false, patterns)?.build()?)
+fn prefilter(
+    alloc: Global,
+    kind: MatchKind,
+    ignore_case: bool,
+    patterns: &[&[u8]],
+) -> Result<Option<Prefilter>, Fail> {
+    Ok(builder(alloc, kind, ignore_case, patterns)?.build()?)
 }
 
 /// The place that a prefilter by single bytes proposes.
@@ -212,67 +230,115 @@ fn assert_proposes(
     case: &str,
 ) {
     let end = haystack.len();
-    assert!(rt; start <= end, "{case}");
+    assert_holds(rt, start <= end, case);
     let (span, tally) = (Span { start, end }, &mut Tally::new());
-    assert_eq!(rt; place(pre.find_in(haystack, span)), Ok(wanted), "{case}");
+    assert_same(rt, place(pre.find_in(haystack, span)), Ok(wanted), case);
     let counted = place(pre.find_in_counted(haystack, span, tally));
-    assert_eq!(rt; counted, Ok(wanted), "{case}, counted");
+    assert_same(rt, counted, Ok(wanted), format_args!("{case}, counted"));
     let by_trait = place(PrefilterI::find_in(pre, haystack, span, tally));
-    assert_eq!(rt; by_trait, Ok(wanted), "{case}, by the trait");
+    assert_same(
+        rt,
+        by_trait,
+        Ok(wanted),
+        format_args!("{case}, by the trait"),
+    );
 }
 
-const KINDS: [MatchKind; 3] = [
-    MatchKind::Standard,
-    MatchKind::LeftmostFirst,
-    MatchKind::LeftmostLongest,
-];
+/// What a prefilter prints, which tells its kind.
+fn assert_prints(
+    rt: &impl Abort,
+    alloc: Global,
+    pre: &Prefilter,
+    wanted: &str,
+    case: &str,
+) -> Result<(), Fail> {
+    let text = format!(in alloc; "{pre:?}")?;
+    assert_same(rt, text.as_str(), wanted, case);
+    Ok(())
+}
 
-#[test]
-fn proposes_places(rt: HostRuntime) -> Result<(), Fail> {
-    for (case, built, patterns, ignore_case, haystack, start, wanted) in ROWS {
-        for kind in KINDS {
-            let builder = builder(rt.alloc(), kind, ignore_case, patterns)?;
-            let pre = builder.build()?.ok_or("there is no prefilter")?;
-            assert_proposes(&rt, &pre, haystack, start, wanted, case);
-            assert_eq!(rt;
-                format!(in rt.alloc(); "{pre:?}")?.as_str(),
-                built,
-                "{case}"
-            );
-        }
+/// What is built and proposed by a row, for one kind of match.
+fn assert_row(
+    rt: &impl Abort,
+    alloc: Global,
+    kind: MatchKind,
+    (case, built, patterns, ignore_case, haystack, start, wanted): &Row,
+) -> Result<(), Fail> {
+    let pre = prefilter(alloc, kind, *ignore_case, patterns)?;
+    let pre = pre.ok_or("there is no prefilter")?;
+    assert_proposes(rt, &pre, haystack, *start, *wanted, case);
+    assert_prints(rt, alloc, &pre, built, case)
+}
+
+fn assert_rows(rt: &impl Abort, alloc: Global, rows: &[Row]) -> Result<(), Fail> {
+    for row in rows {
+        assert_row(rt, alloc, MatchKind::Standard, row)?;
+        assert_row(rt, alloc, MatchKind::LeftmostFirst, row)?;
+        assert_row(rt, alloc, MatchKind::LeftmostLongest, row)?;
     }
     Ok(())
 }
 
 #[test]
-fn goes_back_254_bytes_at_most(rt: HostRuntime) -> Result<(), Fail> {
-    let mut of_255 = [b'e'; 255];
-    of_255[0] = 0xC0;
-    of_255[254] = b'Q';
-    let of_255: &[u8] = &of_255;
-    let pre = prefilter(rt.alloc(), &[of_255, b"\xC0Q"])?.ok_or("there is no prefilter")?;
-    assert_proposes(&rt, &pre, of_255, 0, Some(0), "255 bytes");
-    let mut of_256 = [b'e'; 256];
-    of_256[0] = 0xC0;
-    of_256[255] = b'Q';
-    let of_256: &[u8] = &of_256;
-    assert!(rt;
-        prefilter(rt.alloc(), &[of_256, b"\xC0Q"])?.is_none(),
-        "256 bytes"
-    );
+fn goes_back_from_rare_bytes(rt: HostRuntime) -> Result<(), Fail> {
+    assert_rows(&rt, rt.alloc(), &BACK_FROM_RARE_BYTES)
+}
+
+#[test]
+fn proposes_start_bytes(rt: HostRuntime) -> Result<(), Fail> {
+    assert_rows(&rt, rt.alloc(), &START_BYTES)
+}
+
+#[test]
+fn proposes_beside_letters(rt: HostRuntime) -> Result<(), Fail> {
+    assert_rows(&rt, rt.alloc(), &BESIDE_LETTERS)
+}
+
+#[test]
+fn proposes_places_of_words(rt: HostRuntime) -> Result<(), Fail> {
+    assert_rows(&rt, rt.alloc(), &OF_WORDS)
+}
+
+/// The prefilter of a pattern that begins with a byte and ends with a rare one, and of both bytes alone.
+fn prefilter_of_ends(alloc: Global, pattern: &[u8]) -> Result<Option<Prefilter>, Fail> {
+    prefilter(alloc, MatchKind::Standard, false, &[pattern, b"\xC0Q"])
+}
+
+#[test]
+fn goes_back_254_bytes(rt: HostRuntime) -> Result<(), Fail> {
+    let mut pattern = [b'e'; 255];
+    pattern[0] = 0xC0;
+    pattern[254] = b'Q';
+    let pre = prefilter_of_ends(rt.alloc(), &pattern)?.ok_or("there is no prefilter")?;
+    assert_proposes(&rt, &pre, &pattern, 0, Some(0), "255 bytes");
+    Ok(())
+}
+
+#[test]
+fn goes_back_no_255_bytes(rt: HostRuntime) -> Result<(), Fail> {
+    let mut pattern = [b'e'; 256];
+    pattern[0] = 0xC0;
+    pattern[255] = b'Q';
+    let pre = prefilter_of_ends(rt.alloc(), &pattern)?;
+    assert_holds(&rt, pre.is_none(), "256 bytes");
     Ok(())
 }
 
 /// 129 patterns of three bytes: `a00` to `a42`, `b00` to `b42` and `c00` to `c42`.
-#[test]
-fn proposes_for_129_patterns(rt: HostRuntime) -> Result<(), Fail> {
-    let mut builder = Builder::new(rt.alloc(), MatchKind::LeftmostFirst);
+fn of_129_patterns(alloc: Global) -> Result<Builder, AllocError> {
+    let mut builder = Builder::new(alloc, MatchKind::LeftmostFirst);
     for letter in b"abc" {
         for number in 0..43u8 {
             builder.add(&[*letter, b'0' + number / 10, b'0' + number % 10])?;
         }
     }
-    let pre = builder.build()?.ok_or("there is no prefilter")?;
+    Ok(builder)
+}
+
+#[test]
+fn proposes_for_129_patterns(rt: HostRuntime) -> Result<(), Fail> {
+    let pre = of_129_patterns(rt.alloc())?.build()?;
+    let pre = pre.ok_or("there is no prefilter")?;
     assert_proposes(&rt, &pre, b"zzb07", 0, Some(2), "129 patterns");
     Ok(())
 }
@@ -286,12 +352,23 @@ static OF_NOTHING: [(&str, &[&[u8]]); 5] = [
     ("an empty one last", &[b"foo", b""]),
 ];
 
+fn assert_builds_nothing(
+    rt: &impl Abort,
+    alloc: Global,
+    case: &str,
+    patterns: &[&[u8]],
+) -> Result<(), Fail> {
+    let builder = builder(alloc, MatchKind::Standard, false, patterns)?;
+    assert_holds(rt, builder.build()?.is_none(), case);
+    let text = format!(in alloc; "{builder:?}")?;
+    assert_holds(rt, !text.is_empty(), case);
+    Ok(())
+}
+
 #[test]
 fn builds_nothing_where_nothing_suits(rt: HostRuntime) -> Result<(), Fail> {
-    for (case, patterns) in OF_NOTHING {
-        let builder = builder(rt.alloc(), MatchKind::Standard, false, patterns)?;
-        assert!(rt; builder.build()?.is_none(), "{case}");
-        assert!(rt; format!(in rt.alloc(); "{builder:?}")?.len() > 0, "{case}");
+    for (case, patterns) in &OF_NOTHING {
+        assert_builds_nothing(&rt, rt.alloc(), case, patterns)?;
     }
     Ok(())
 }
@@ -299,10 +376,17 @@ fn builds_nothing_where_nothing_suits(rt: HostRuntime) -> Result<(), Fail> {
 #[test]
 fn tells_where_a_candidate_begins(rt: HostRuntime) -> Result<(), Fail> {
     let found = Match::new(PatternID::must(1), Span { start: 2, end: 5 });
-    assert_eq!(rt; Candidate::Match(found).into_option(), Some(2));
-    assert_eq!(rt; Candidate::PossibleStartOfMatch(7).into_option(), Some(7));
+    assert_same(
+        &rt,
+        Candidate::Match(found).into_option(),
+        Some(2),
+        "a match",
+    );
+    let place = Candidate::PossibleStartOfMatch(7);
+    assert_same(&rt, place.into_option(), Some(7), "a place");
     let none = Candidate::None;
-    assert!(rt; format!(in rt.alloc(); "{none:?}")?.len() > 0);
-    assert_eq!(rt; none.clone()?.into_option(), None);
+    assert_same(&rt, none.clone()?.into_option(), None, "none");
+    let text = format!(in rt.alloc(); "{none:?}")?;
+    assert_holds(&rt, !text.is_empty(), "printed");
     Ok(())
 }

@@ -1,4 +1,5 @@
 //! Rolling sums, and the search by buckets at their own paths.
+use crate::asserted::assert_same;
 use crate::made::place;
 use literal_prefilters::count::Tally;
 use literal_prefilters::packed::pattern::Patterns;
@@ -11,11 +12,11 @@ fn rolls(rt: HostRuntime) {
     let mut rolling = Rolling::new(2);
     rolling.push(0x62, &mut tally);
     rolling.push(0x60, &mut tally);
-    assert_eq!(rt; rolling.value(), 292);
+    assert_same(&rt, rolling.value(), 292, "of the first two");
     rolling.roll(0x62, 0x61, &mut tally);
-    assert_eq!(rt; rolling.value(), 289);
+    assert_same(&rt, rolling.value(), 289, "of the next");
     rolling.roll(0x60, 0x62, &mut tally);
-    assert_eq!(rt; rolling.value(), 292);
+    assert_same(&rt, rolling.value(), 292, "of the last two");
 }
 
 #[test]
@@ -27,7 +28,7 @@ fn finds_at(rt: HostRuntime) -> Result<(), Fail> {
     let haystack = b"\x62\x60\x61\x62";
     for (at, wanted) in [(0, Some((0, 2, 4))), (3, None)] {
         let found = rabin_karp.find_at(&patterns, haystack, at, &mut tally);
-        assert_eq!(rt; found.map(place), wanted, "from {at}");
+        assert_same(&rt, found.map(place), wanted, format_args!("from {at}"));
     }
     Ok(())
 }

@@ -1,4 +1,5 @@
 //! The ranks of bytes.
+use crate::asserted::assert_same;
 use literal_base::byte_frequencies::{BYTE_FREQUENCIES, freq_rank};
 
 /// The rank of each byte, 16 to a line.
@@ -59,7 +60,7 @@ fn ranks_each_byte(rt: HostRuntime) {
         for (low, rank) in line.iter().enumerate() {
             let byte = 16 * high + low;
             let ranks = (freq_rank(byte as u8), BYTE_FREQUENCIES[byte]);
-            assert_eq!(rt; ranks, (*rank, *rank), "of {byte}");
+            assert_same(&rt, ranks, (*rank, *rank), format_args!("of {byte}"));
         }
     }
 }

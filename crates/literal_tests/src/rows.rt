@@ -1,4 +1,5 @@
 //! Worked cases of searches.
+use crate::asserted::{assert_holds, assert_same};
 use crate::made::{Place, place, places, searcher};
 use literal_packed::laws::{iteration_is_greedy, none_is_for_good};
 use literal_prefilters::count::Tally;
@@ -68,7 +69,8 @@ type Row = (
     &'static [Place],
 );
 
-static IN_WHOLE: [Row; 25] = [
+/// Where haystacks end, and sums collide.
+static AT_EDGES: [Row; 6] = [
     ("at the end", &[b"abc"], BOTH, b"xabc", &[(0, 1, 4)]),
     ("no byte", &[b"abc"], BOTH, b"", &[]),
     ("no byte, for two", &[b"ab", b"ba"], BOTH, b"", &[]),
@@ -87,6 +89,10 @@ static IN_WHOLE: [Row; 25] = [
         b"\x00\x00\x00",
         &[(1, 0, 3)],
     ),
+];
+
+/// Which of those that begin at one place is found.
+static TIES: [Row; 6] = [
     (
         "the longer one, which is first",
         &[b"Samwise", b"Sam"],
@@ -129,6 +135,10 @@ static IN_WHOLE: [Row; 25] = [
         b"abc",
         &[(1, 0, 3)],
     ),
+];
+
+/// Where a pattern begins another.
+static FRONTS: [Row; 4] = [
     ("a front", &[b"a", b"ab"], FIRST, b"ab", &[(0, 0, 1)]),
     ("a whole", &[b"a", b"ab"], LONGEST, b"ab", &[(1, 0, 2)]),
     (
@@ -145,6 +155,10 @@ static IN_WHOLE: [Row; 25] = [
         b"xayabbbz",
         &[(0, 1, 2), (1, 3, 5)],
     ),
+];
+
+/// Where occurrences overlap.
+static ACROSS: [Row; 5] = [
     (
         "the first of equal patterns",
         &[b"foo", b"foo"],
@@ -180,6 +194,10 @@ static IN_WHOLE: [Row; 25] = [
         b"abababa",
         &[(0, 0, 2), (0, 2, 4), (0, 4, 6)],
     ),
+];
+
+/// Several matches.
+static SEVERAL: [Row; 4] = [
     (
         "words of a sentence",
         &[b"apple", b"maple", b"Snapple"],
@@ -219,65 +237,137 @@ fn assert_finds_in(
     wanted: Option<Place>,
     case: &str,
 ) {
-    assert!(rt;
+    assert_holds(
+        rt,
         span.start <= span.end && span.end <= haystack.len(),
-        "{case}"
+        case,
     );
-    let found = searcher.find_in(haystack, span).map(place);
-    assert_eq!(rt; found, wanted, "{case}");
+    let found = searcher.find_in(haystack, span);
+    assert_same(rt, found.map(place), wanted, case);
     let found = searcher.find_in_counted(haystack, span, &mut Tally::new());
-    assert_eq!(rt; found.map(place), wanted, "{case}, counted");
+    assert_same(
+        rt,
+        found.map(place),
+        wanted,
+        format_args!("{case}, counted"),
+    );
+}
+
+/// What is found in a row's span with a match kind.
+fn assert_row_in_span(
+    rt: &impl Abort,
+    alloc: Global,
+    kind: MatchKind,
+    (case, patterns, _, haystack, (start, end), wanted): &SpanRow,
+) -> Result<(), Fail> {
+    let searcher = searcher(alloc, kind, patterns)?;
+    let span = Span {
+        start: *start,
+        end: *end,
+    };
+    assert_finds_in(rt, &searcher, haystack, span, *wanted, case);
+    Ok(())
 }
 
 #[test]
 fn finds_in_spans(rt: HostRuntime) -> Result<(), Fail> {
-    for (case, patterns, kinds, haystack, (start, end), wanted) in IN_SPANS {
-        for kind in kinds {
-            let searcher = searcher(rt.alloc(), *kind, patterns)?;
-            assert_finds_in(&rt, &searcher, haystack, Span { start, end }, wanted, case);
+    for row in &IN_SPANS {
+        for kind in row.2 {
+            assert_row_in_span(&rt, rt.alloc(), *kind, row)?;
         }
     }
     Ok(())
 }
 
-/// The list of all matches, and the matches that an iteration gives.
+/// The list of all matches.
+fn assert_lists(
+    rt: &impl Abort,
+    alloc: Global,
+    searcher: &Searcher,
+    (case, _, _, haystack, wanted): &Row,
+) -> Result<(), Fail> {
+    let listed = searcher.find_all(haystack, &mut Tally::new())?;
+    let listed = places(alloc, &listed)?;
+    assert_same(
+        rt,
+        listed.as_slice(),
+        *wanted,
+        format_args!("{case}, listed"),
+    );
+    Ok(())
+}
+
+/// The matches that an iteration gives.
 fn assert_gives(
     rt: &impl Abort,
     alloc: Global,
     searcher: &Searcher,
-    haystack: &[u8],
-    wanted: &[Place],
-    case: &str,
+    (case, _, _, haystack, wanted): &Row,
 ) -> Result<(), Fail> {
-    let listed = searcher.find_all(haystack, &mut Tally::new())?;
-    let listed = places(alloc, &listed)?;
-    assert_eq!(rt; listed.as_slice(), wanted, "{case}, listed");
     let given = iteration_is_greedy(alloc, searcher, haystack)?;
     let given = places(alloc, &given)?;
-    assert_eq!(rt; given.as_slice(), wanted, "{case}, given");
+    assert_same(rt, given.as_slice(), *wanted, format_args!("{case}, given"));
+    Ok(())
+}
+
+/// The first match, by each call that finds one.
+fn assert_finds_first(rt: &impl Abort, searcher: &Searcher, (case, _, _, haystack, wanted): &Row) {
+    let span = Span {
+        start: 0,
+        end: haystack.len(),
+    };
+    let first = wanted.first().copied();
+    assert_finds_in(rt, searcher, haystack, span, first, case);
+    let found = searcher.find(haystack);
+    assert_same(
+        rt,
+        found.map(place),
+        first,
+        format_args!("{case}, anywhere"),
+    );
+}
+
+/// What is found in a row's whole haystack with a match kind.
+fn assert_row(rt: &impl Abort, alloc: Global, kind: MatchKind, row: &Row) -> Result<(), Fail> {
+    let searcher = searcher(alloc, kind, row.1)?;
+    assert_finds_first(rt, &searcher, row);
+    assert_lists(rt, alloc, &searcher, row)?;
+    assert_gives(rt, alloc, &searcher, row)
+}
+
+/// What is found in whole haystacks.
+fn assert_rows(rt: &impl Abort, alloc: Global, rows: &[Row]) -> Result<(), Fail> {
+    for row in rows {
+        for kind in row.2 {
+            assert_row(rt, alloc, *kind, row)?;
+        }
+    }
     Ok(())
 }
 
 #[test]
-fn finds_in_whole_haystacks(rt: HostRuntime) -> Result<(), Fail> {
-    for (case, patterns, kinds, haystack, wanted) in IN_WHOLE {
-        let span = Span {
-            start: 0,
-            end: haystack.len(),
-        };
-        for kind in kinds {
-            let searcher = searcher(rt.alloc(), *kind, patterns)?;
-            let first = wanted.first().copied();
-            assert_finds_in(&rt, &searcher, haystack, span, first, case);
-            assert_eq!(rt;
-                searcher.find(haystack).map(place),
-                first,
-                "{case}, anywhere"
-            );
-            assert_gives(&rt, rt.alloc(), &searcher, haystack, wanted, case)?;
-        }
-    }
-    Ok(())
+fn finds_at_edges(rt: HostRuntime) -> Result<(), Fail> {
+    assert_rows(&rt, rt.alloc(), &AT_EDGES)
+}
+
+#[test]
+fn settles_ties(rt: HostRuntime) -> Result<(), Fail> {
+    assert_rows(&rt, rt.alloc(), &TIES)
+}
+
+#[test]
+fn finds_fronts_and_wholes(rt: HostRuntime) -> Result<(), Fail> {
+    assert_rows(&rt, rt.alloc(), &FRONTS)
+}
+
+#[test]
+fn finds_what_overlaps(rt: HostRuntime) -> Result<(), Fail> {
+    assert_rows(&rt, rt.alloc(), &ACROSS)
+}
+
+#[test]
+fn finds_several(rt: HostRuntime) -> Result<(), Fail> {
+    assert_rows(&rt, rt.alloc(), &SEVERAL)
 }
 
 #[test]

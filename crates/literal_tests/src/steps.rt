@@ -23,6 +23,7 @@ pub fn step_plainly(table: &ByteTable, haystack: &[u8], span: Span) -> Option<us
 #[cfg(test)]
 mod tests {
     use super::step_plainly;
+    use crate::asserted::{assert_holds, assert_same};
     use crate::plain::leftmost_plainly;
     use literal_prefilters::packed::pattern::Patterns;
     use literal_prefilters::prefilter::{Builder, ByteTable, Candidate, Prefilter};
@@ -92,10 +93,9 @@ mod tests {
             let haystack = bytes_of(number);
             for (start, end) in [(0, 5), (1, 5), (0, 4), (2, 4), (3, 3)] {
                 let span = Span { start, end };
-                assert!(rt;
-                    compare_in(pre, table, list, &haystack, span),
-                    "{list:?}: {haystack:?} in {span:?}"
-                );
+                let is_same = compare_in(pre, table, list, &haystack, span);
+                let note = format_args!("{list:?}: {haystack:?} in {span:?}");
+                assert_holds(rt, is_same, note);
                 spans = spans.wrapping_add(1);
             }
         }
@@ -134,16 +134,23 @@ mod tests {
         Ok(builder.build()?.ok_or("there is no prefilter")?)
     }
 
+    /// Compares for a list of patterns.
+    fn assert_list(
+        rt: &impl Abort,
+        alloc: Global,
+        (list, ignore_case, is_start): &(&[&[u8]], bool, bool),
+    ) -> Result<(), Fail> {
+        let table = table_of(alloc, list, *ignore_case, *is_start)?;
+        let pre = prefilter_of(alloc, list, *ignore_case)?;
+        let cases = compare(rt, &pre, &table, (list, *ignore_case));
+        assert_same(rt, cases, 15625, format_args!("{list:?}"));
+        Ok(())
+    }
+
     #[test]
     fn steps_as_is_found_plainly(rt: HostRuntime) -> Result<(), Fail> {
-        for (list, ignore_case, is_start) in LISTS {
-            let table = table_of(rt.alloc(), list, ignore_case, is_start)?;
-            let pre = prefilter_of(rt.alloc(), list, ignore_case)?;
-            assert_eq!(rt;
-                compare(&rt, &pre, &table, (list, ignore_case)),
-                15625,
-                "{list:?}"
-            );
+        for list in &LISTS {
+            assert_list(&rt, rt.alloc(), list)?;
         }
         Ok(())
     }

@@ -1,4 +1,5 @@
 //! Worked cases of tables of bytes.
+use crate::asserted::assert_same;
 use literal_prefilters::count::Tally;
 use literal_prefilters::packed::MatchKind;
 use literal_prefilters::packed::pattern::Patterns;
@@ -14,9 +15,8 @@ type Table = Option<(u16, &'static [(u8, u8)])>;
 /// What a case shows, its patterns, whether case is ignored, their start table, and their rare table.
 type Row = (&'static str, &'static [&'static [u8]], bool, Table, Table);
 
-static ROWS: [Row; 20] = [
-    ("no pattern", &[], false, None, None),
-    ("no pattern in either case", &[], true, None, None),
+/// Patterns with rare bytes inside.
+static OF_RARE_BYTES: [Row; 4] = [
     (
         "a rare byte of both",
         &[b"Sherlock", b"lockjaw"],
@@ -38,6 +38,17 @@ static ROWS: [Row; 20] = [
         None,
         Some((317, &[(b'K', 7), (b'k', 7)])),
     ),
+    (
+        "one word in either case",
+        &[b"sherlock"],
+        true,
+        Some((435, &[(b'S', 0), (b's', 0)])),
+        Some((317, &[(b'K', 7), (b'k', 7)])),
+    ),
+];
+
+/// Words.
+static OF_WORDS: [Row; 4] = [
     (
         "the last of equal bytes",
         &[b"apple", b"maple", b"Snapple"],
@@ -66,6 +77,12 @@ static ROWS: [Row; 20] = [
         Some((389, &[(b'F', 0), (b'f', 0)])),
         Some((389, &[(b'F', 0), (b'f', 0)])),
     ),
+];
+
+/// Few patterns, and few bytes.
+static OF_FEW_BYTES: [Row; 5] = [
+    ("no pattern", &[], false, None, None),
+    ("no pattern in either case", &[], true, None, None),
     (
         "three bytes of each kind",
         &[b"ax", b"by", b"cz"],
@@ -81,19 +98,16 @@ static ROWS: [Row; 20] = [
         None,
     ),
     (
-        "one word in either case",
-        &[b"sherlock"],
-        true,
-        Some((435, &[(b'S', 0), (b's', 0)])),
-        Some((317, &[(b'K', 7), (b'k', 7)])),
-    ),
-    (
         "one byte twice",
         &[b"aa"],
         false,
         Some((249, &[(b'a', 0)])),
         Some((249, &[(b'a', 1)])),
     ),
+];
+
+/// Bytes beside the letters.
+static OF_NO_LETTERS: [Row; 4] = [
     (
         "a letter in either case",
         &[b"K"],
@@ -116,6 +130,17 @@ static ROWS: [Row; 20] = [
         Some((120, &[(b'@', 0)])),
     ),
     (
+        "the last character",
+        &[b"\x7F"],
+        false,
+        Some((27, &[(0x7F, 0)])),
+        Some((27, &[(0x7F, 0)])),
+    ),
+];
+
+/// Bytes that have no other case, and letters that have.
+static OF_EITHER_CASE: [Row; 3] = [
+    (
         "no character",
         &[b"\xC0"],
         true,
@@ -128,13 +153,6 @@ static ROWS: [Row; 20] = [
         true,
         None,
         Some((437, &[(b'@', 0), (b'K', 1), (b'k', 1)])),
-    ),
-    (
-        "the last character",
-        &[b"\x7F"],
-        false,
-        Some((27, &[(0x7F, 0)])),
-        Some((27, &[(0x7F, 0)])),
     ),
     (
         "words of unlike case",
@@ -169,6 +187,20 @@ fn bytes_of(alloc: Global, table: &ByteTable) -> Result<Vec<(u8, u8)>, AllocErro
 }
 
 /// What a table tells, of every byte.
+fn assert_tells(
+    rt: &impl Abort,
+    alloc: Global,
+    table: &ByteTable,
+    (rank_sum, bytes): (u16, &[(u8, u8)]),
+    case: &str,
+) -> Result<(), AllocError> {
+    assert_same(rt, table.rank_sum(), rank_sum, case);
+    assert_same(rt, table.count(), bytes.len(), case);
+    assert_same(rt, bytes_of(alloc, table)?.as_slice(), bytes, case);
+    Ok(())
+}
+
+/// Whether there is a table, and what it tells.
 fn assert_table(
     rt: &impl Abort,
     alloc: Global,
@@ -176,48 +208,79 @@ fn assert_table(
     wanted: Table,
     case: &str,
 ) -> Result<(), AllocError> {
-    assert_eq!(rt; table.is_some(), wanted.is_some(), "{case}");
-    if let (Some(table), Some((rank_sum, bytes))) = (table, wanted) {
-        assert_eq!(rt;
-            (table.rank_sum(), table.count()),
-            (rank_sum, bytes.len()),
-            "{case}"
-        );
-        assert_eq!(rt; bytes_of(alloc, &table)?.as_slice(), bytes, "{case}");
+    assert_same(rt, table.is_some(), wanted.is_some(), case);
+    match (table, wanted) {
+        (Some(table), Some(wanted)) => assert_tells(rt, alloc, &table, wanted, case),
+        _ => Ok(()),
+    }
+}
+
+/// Both tables of a row's patterns, which a match kind puts in order.
+fn assert_row(
+    rt: &impl Abort,
+    alloc: Global,
+    kind: MatchKind,
+    (case, list, ignore_case, start, rare): &Row,
+) -> Result<(), Fail> {
+    let patterns = patterns_of(alloc, list, kind)?;
+    let table = ByteTable::start(&patterns, *ignore_case);
+    assert_table(rt, alloc, table, *start, case)?;
+    let table = ByteTable::rare(&patterns, *ignore_case);
+    assert_table(rt, alloc, table, *rare, case)?;
+    Ok(())
+}
+
+fn assert_rows(rt: &impl Abort, alloc: Global, rows: &[Row]) -> Result<(), Fail> {
+    for row in rows {
+        assert_row(rt, alloc, MatchKind::LeftmostFirst, row)?;
+        assert_row(rt, alloc, MatchKind::LeftmostLongest, row)?;
     }
     Ok(())
 }
 
 #[test]
-fn tables_are_as_worked(rt: HostRuntime) -> Result<(), Fail> {
-    let alloc = rt.alloc();
-    for (case, list, ignore_case, start, rare) in ROWS {
-        for kind in [MatchKind::LeftmostFirst, MatchKind::LeftmostLongest] {
-            let patterns = patterns_of(alloc, list, kind)?;
-            assert_table(
-                &rt,
-                alloc,
-                ByteTable::start(&patterns, ignore_case),
-                start,
-                case,
-            )?;
-            assert_table(
-                &rt,
-                alloc,
-                ByteTable::rare(&patterns, ignore_case),
-                rare,
-                case,
-            )?;
-        }
+fn rare_bytes_are_as_worked(rt: HostRuntime) -> Result<(), Fail> {
+    assert_rows(&rt, rt.alloc(), &OF_RARE_BYTES)
+}
+
+#[test]
+fn tables_of_words_are_as_worked(rt: HostRuntime) -> Result<(), Fail> {
+    assert_rows(&rt, rt.alloc(), &OF_WORDS)
+}
+
+#[test]
+fn tables_of_few_bytes_are_as_worked(rt: HostRuntime) -> Result<(), Fail> {
+    assert_rows(&rt, rt.alloc(), &OF_FEW_BYTES)
+}
+
+#[test]
+fn tables_of_no_letters_are_as_worked(rt: HostRuntime) -> Result<(), Fail> {
+    assert_rows(&rt, rt.alloc(), &OF_NO_LETTERS)
+}
+
+#[test]
+fn tables_of_either_case_are_as_worked(rt: HostRuntime) -> Result<(), Fail> {
+    assert_rows(&rt, rt.alloc(), &OF_EITHER_CASE)
+}
+
+/// The rare table of two words.
+fn rare_table(alloc: Global) -> Result<ByteTable, Fail> {
+    let words: [&[u8]; 2] = [b"Sherlock", b"lockjaw"];
+    let patterns = patterns_of(alloc, &words, MatchKind::LeftmostFirst)?;
+    Ok(ByteTable::rare(&patterns, false).ok_or("there is no rare table")?)
+}
+
+/// The first place in a part of a haystack.
+fn scan(table: &ByteTable, (start, end): (usize, usize)) -> Result<Option<usize>, &'static str> {
+    if start > end || end > 12 {
+        return Err("no such part is meant");
     }
-    Ok(())
+    Ok(table.scan(b"I am lockjaw", Span { start, end }, &mut Tally::new()))
 }
 
 #[test]
 fn scans_to_the_first_byte(rt: HostRuntime) -> Result<(), Fail> {
-    let words: [&[u8]; 2] = [b"Sherlock", b"lockjaw"];
-    let patterns = patterns_of(rt.alloc(), &words, MatchKind::LeftmostFirst)?;
-    let table = ByteTable::rare(&patterns, false).ok_or("there is no rare table")?;
+    let table = rare_table(rt.alloc())?;
     for (start, end, wanted) in [
         (0, 12, Some(8)),
         (8, 12, Some(8)),
@@ -225,8 +288,8 @@ fn scans_to_the_first_byte(rt: HostRuntime) -> Result<(), Fail> {
         (0, 8, None),
         (12, 12, None),
     ] {
-        let found = table.scan(b"I am lockjaw", Span { start, end }, &mut Tally::new());
-        assert_eq!(rt; found, wanted, "from {start} up to {end}");
+        let found = scan(&table, (start, end))?;
+        assert_same(&rt, found, wanted, format_args!("from {start} up to {end}"));
     }
     Ok(())
 }

@@ -144,36 +144,46 @@ pub fn count_of_matches(searcher: &Searcher, haystack: &[u8]) -> usize
 #[cfg(test)]
 mod tests {
     use super::*;
+    use crate::asserted::assert_same;
     use crate::made::{Place, places};
+    use literal_prefilters::Span;
     use std::process::Abort;
     use std::test::Fail;
 
     /// Of `ab` and `a` it finds `ab` in `xab`.
     fn assert_finds_ab(rt: &impl Abort, built: Option<Searcher>, case: &str) {
         let found = built.and_then(|it| it.find(b"xab"));
-        assert_eq!(rt; found.map(|it| it.span().range()), Some(1..3), "{case}");
+        let wanted = Some(Span { start: 1, end: 3 });
+        assert_same(rt, found.map(|it| it.span()), wanted, case);
     }
 
     const AB_AND_A: [&[u8]; 2] = [b"ab", b"a"];
 
     #[test]
     fn builds_as_its_callers_say(rt: HostRuntime) -> Result<(), Fail> {
-        let alloc = rt.alloc();
-        assert_finds_ab(&rt, built_of_two(alloc, b"ab", b"a")?, "two");
-        let longest = built_by_kind(alloc, MatchKind::LeftmostLongest, b"a", b"ab")?;
-        assert_finds_ab(&rt, longest, "by kind");
-        assert_finds_ab(&rt, built_of_items(alloc, AB_AND_A)?, "items");
+        assert_finds_ab(&rt, built_of_two(rt.alloc(), b"ab", b"a")?, "two");
+        assert_finds_ab(&rt, built_of_items(rt.alloc(), AB_AND_A)?, "items");
         Ok(())
     }
 
     #[test]
+    fn builds_by_kind(rt: HostRuntime) -> Result<(), Fail> {
+        let longest = built_by_kind(rt.alloc(), MatchKind::LeftmostLongest, b"a", b"ab")?;
+        assert_finds_ab(&rt, longest, "by kind");
+        Ok(())
+    }
+
+    fn two_words(alloc: Global) -> Result<Vec<String>, AllocError> {
+        let mut words = Vec::new(alloc);
+        words.push(String::from_str(alloc, "ab")?)?;
+        words.push(String::from_str(alloc, "a")?)?;
+        Ok(words)
+    }
+
+    #[test]
     fn builds_of_words(rt: HostRuntime) -> Result<(), Fail> {
-        let alloc = rt.alloc();
-        let words = vec![in alloc;
-            String::from_str(alloc, "ab")?,
-            String::from_str(alloc, "a")?,
-        ]?;
-        assert_finds_ab(&rt, built_of_words(alloc, &words)?, "words");
+        let words = two_words(rt.alloc())?;
+        assert_finds_ab(&rt, built_of_words(rt.alloc(), &words)?, "words");
         Ok(())
     }
 
@@ -181,7 +191,7 @@ mod tests {
     fn extends_as_its_callers_say(rt: HostRuntime) -> Result<(), Fail> {
         let mut builder = Builder::new(rt.alloc());
         extend_and_add(&mut builder, AB_AND_A, b"c")?;
-        assert_eq!(rt; builder.len(), 3);
+        assert_same(&rt, builder.len(), 3, "patterns");
         Ok(())
     }
 
@@ -191,10 +201,10 @@ mod tests {
         patterns.add(b"a")?;
         patterns.add(b"bc")?;
         patterns.set_match_kind(MatchKind::LeftmostLongest)?;
-        assert_eq!(rt; count_of(&patterns), 2);
+        assert_same(&rt, count_of(&patterns), 2, "how many");
         let order = order_of(rt.alloc(), &patterns)?;
         let wanted = [PatternID::must(1), PatternID::ZERO];
-        assert_eq!(rt; order.as_slice(), wanted.as_slice());
+        assert_same(&rt, order.as_slice(), wanted.as_slice(), "the order");
         Ok(())
     }
 
@@ -216,23 +226,23 @@ mod tests {
     #[test]
     fn takes_matches(rt: HostRuntime) -> Result<(), Fail> {
         let taken = taken_in_turn(rt.alloc(), &of_two(rt.alloc())?, b"abababa")?;
-        assert_eq!(rt; places(rt.alloc(), &taken)?.as_slice(), WANTED.as_slice());
+        let taken = places(rt.alloc(), &taken)?;
+        assert_same(&rt, taken.as_slice(), WANTED.as_slice(), "taken");
         Ok(())
     }
 
     #[test]
     fn collects_matches(rt: HostRuntime) -> Result<(), Fail> {
         let collected = collected(rt.alloc(), &of_two(rt.alloc())?, b"abababa")?;
-        assert_eq!(rt;
-            places(rt.alloc(), &collected)?.as_slice(),
-            WANTED.as_slice()
-        );
+        let collected = places(rt.alloc(), &collected)?;
+        assert_same(&rt, collected.as_slice(), WANTED.as_slice(), "collected");
         Ok(())
     }
 
     #[test]
     fn counts_matches(rt: HostRuntime) -> Result<(), Fail> {
-        assert_eq!(rt; count_of_matches(&of_two(rt.alloc())?, b"abababa"), 3);
+        let count = count_of_matches(&of_two(rt.alloc())?, b"abababa");
+        assert_same(&rt, count, 3, "how many");
         Ok(())
     }
 }

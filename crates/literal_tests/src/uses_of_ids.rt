@@ -209,62 +209,79 @@ pub fn next_pair_at_end<'a, T>(pairs: &mut WithStateIDIter<'a, T>) -> Option<(St
 #[cfg(test)]
 mod tests {
     use super::*;
+    use crate::asserted::assert_same;
     use std::hash::DefaultHasher;
     use std::test::Fail;
 
     #[test]
     fn converts_integers(rt: HostRuntime) {
-        assert_eq!(rt; (index_of(255u8), short_of(65535usize)), (255, 65535));
-        let halves = (halves_of_u16(0x1234u16), halves_of_u32(0x12345678u32));
-        assert_eq!(rt; halves, ((0x12, 0x34), (0x1234, 0x5678)));
-        assert_eq!(rt;
-            halves_of_u64(0x0123456789abcdefu64),
-            (0x01234567, 0x89abcdef)
-        );
-        let back = (
-            there_and_back_by_i8(-1i8),
-            there_and_back_by_i32(-1i32),
-            there_and_back_by_i64(-1i64),
-        );
-        assert_eq!(rt; back, (-1, -1, -1));
-        let bits = (
-            back_and_there_by_i8(255),
+        assert_same(&rt, index_of(255u8), 255, "an index");
+        assert_same(&rt, short_of(65535usize), 65535, "16 bits");
+        assert_same(&rt, halves_of_u16(0x1234u16), (0x12, 0x34), "of 16 bits");
+        let halves = halves_of_u32(0x12345678u32);
+        assert_same(&rt, halves, (0x1234, 0x5678), "of 32 bits");
+        let halves = halves_of_u64(0x0123456789abcdefu64);
+        assert_same(&rt, halves, (0x01234567, 0x89abcdef), "of 64 bits");
+    }
+
+    #[test]
+    fn goes_there_and_back(rt: HostRuntime) {
+        assert_same(&rt, there_and_back_by_i8(-1i8), -1, "by 8 bits");
+        assert_same(&rt, there_and_back_by_i32(-1i32), -1, "by 32 bits");
+        assert_same(&rt, there_and_back_by_i64(-1i64), -1, "by 64 bits");
+        assert_same(&rt, back_and_there_by_i8(255), 255, "8 bits");
+        assert_same(
+            &rt,
             back_and_there_by_i32(0xffffffff),
-            back_and_there_by_i64(u64::MAX),
+            0xffffffff,
+            "32 bits",
         );
-        assert_eq!(rt; bits, (255, 0xffffffff, u64::MAX));
+        assert_same(&rt, back_and_there_by_i64(u64::MAX), u64::MAX, "64 bits");
     }
 
     #[test]
     fn compares_identifiers(rt: HostRuntime) -> Result<(), Fail> {
         let state = state_of(2147483646)?;
-        let answers = [
-            state_of(2147483647).is_err(),
-            is_before(StateID::ZERO, state),
-            is_same(pattern_of(state), PatternID::MAX),
-        ];
-        assert_eq!(rt; answers, [true, true, true]);
-        let (mut one, mut two) = (DefaultHasher::new(), DefaultHasher::new());
-        hash_alike(PatternID::MAX, pattern_of(state), &mut one, &mut two);
-        assert_eq!(rt; one.finish(), two.finish());
+        assert!(rt; state_of(2147483647).is_err());
+        assert!(rt; is_before(StateID::ZERO, state));
+        assert!(rt; is_same(pattern_of(state), PatternID::MAX));
         Ok(())
     }
 
     #[test]
-    fn goes_over_identifiers(rt: HostRuntime) -> Result<(), Fail> {
-        let alloc = rt.alloc();
-        assert_eq!(rt; numbers_in_turn(alloc, 3)?.as_slice(), [0, 1, 2].as_slice());
-        let states = [StateID::ZERO, StateID::must(1)];
-        assert_eq!(rt; states_collected(alloc, 2)?.as_slice(), states.as_slice());
-        let words = words_with_states(alloc, &[10, 20])?;
-        assert_eq!(rt;
-            words.as_slice(),
-            [(states[0], 10), (states[1], 20)].as_slice()
-        );
-        assert_eq!(rt; [count_of(7), count_of_pairs(&[10, 20])], [7, 2]);
-        assert_eq!(rt; place_of(&[10, 20], 20), Some(PatternID::must(1)));
-        assert_eq!(rt; place_of(&[10, 20], 30), None);
+    fn hashes_alike(rt: HostRuntime) -> Result<(), Fail> {
+        let pattern = pattern_of(state_of(2147483646)?);
+        let (mut one, mut two) = (DefaultHasher::new(), DefaultHasher::new());
+        hash_alike(PatternID::MAX, pattern, &mut one, &mut two);
+        assert_same(&rt, one.finish(), two.finish(), "two hashers");
         Ok(())
+    }
+
+    #[test]
+    fn numbers_identifiers(rt: HostRuntime) -> Result<(), Fail> {
+        let numbers = numbers_in_turn(rt.alloc(), 3)?;
+        assert_same(&rt, numbers.as_slice(), [0, 1, 2].as_slice(), "in turn");
+        let states = [StateID::ZERO, StateID::must(1)];
+        let collected = states_collected(rt.alloc(), 2)?;
+        assert_same(&rt, collected.as_slice(), states.as_slice(), "collected");
+        Ok(())
+    }
+
+    #[test]
+    fn numbers_words(rt: HostRuntime) -> Result<(), Fail> {
+        let wanted = [(StateID::ZERO, 10), (StateID::must(1), 20)];
+        let words = words_with_states(rt.alloc(), &[10, 20])?;
+        assert_same(&rt, words.as_slice(), wanted.as_slice(), "two words");
+        Ok(())
+    }
+
+    #[test]
+    fn counts_identifiers(rt: HostRuntime) {
+        assert_same(&rt, count_of(7), 7, "indices");
+        assert_same(&rt, count_of_pairs(&[10, 20]), 2, "pairs");
+        let place = place_of(&[10, 20], 20);
+        assert_same(&rt, place, Some(PatternID::must(1)), "of 20");
+        assert_same(&rt, place_of(&[10, 20], 30), None, "of 30");
     }
 
     #[test]

@@ -124,26 +124,49 @@ pub fn confirm_covered(
 #[cfg(test)]
 mod tests {
     use super::{candidate_of, search_from};
+    use crate::asserted::{assert_holds, assert_same};
     use literal_prefilters::count::Tally;
     use literal_prefilters::prefilter::Builder;
     use literal_prefilters::{MatchKind, Span};
+    use std::alloc::{AllocError, Global};
+    use std::process::Abort;
     use std::test::Fail;
+
+    fn of_two_words(alloc: Global) -> Result<Builder, AllocError> {
+        let mut builder = Builder::new(alloc, MatchKind::LeftmostLongest);
+        builder.add(b"Sherlock")?;
+        builder.add(b"lockjaw")?;
+        Ok(builder)
+    }
+
+    /// From where on a haystack is searched, and where the candidate is of what a builder makes.
+    fn assert_begins(
+        rt: &impl Abort,
+        builder: &Builder,
+        (start, end): (usize, usize),
+        wanted: Option<usize>,
+    ) -> Result<(), Fail> {
+        let (haystack, span) = (b"I am lockjaw", Span { start, end });
+        assert_holds(rt, start <= end && end <= 12, "no such span is meant");
+        let pre = builder.build()?.ok_or("there is no prefilter")?;
+        let from = search_from(&pre, haystack, span, &mut Tally::new());
+        assert_same(rt, from, wanted, format_args!("in {span:?}"));
+        let candidate = candidate_of(builder, haystack, span)?;
+        let candidate = candidate.ok_or("there is no prefilter")?;
+        assert_same(
+            rt,
+            candidate.into_option(),
+            wanted,
+            format_args!("in {span:?}, built"),
+        );
+        Ok(())
+    }
 
     #[test]
     fn searches_from_the_first_candidate(rt: HostRuntime) -> Result<(), Fail> {
-        let mut builder = Builder::new(rt.alloc(), MatchKind::LeftmostLongest);
-        builder.add(b"Sherlock")?;
-        builder.add(b"lockjaw")?;
-        let pre = builder.build()?.ok_or("there is no prefilter")?;
-        let mut tally = Tally::new();
-        for (start, end, wanted) in [(0, 12, Some(1)), (3, 12, Some(3)), (9, 12, None)] {
-            let span = Span { start, end };
-            let from = search_from(&pre, b"I am lockjaw", span, &mut tally);
-            assert_eq!(rt; from, wanted, "in {span:?}");
-            let candidate = candidate_of(&builder, b"I am lockjaw", span)?;
-            let candidate = candidate.ok_or("there is no prefilter")?;
-            assert_eq!(rt; candidate.into_option(), wanted, "in {span:?}, built");
-        }
-        Ok(())
+        let builder = of_two_words(rt.alloc())?;
+        assert_begins(&rt, &builder, (0, 12), Some(1))?;
+        assert_begins(&rt, &builder, (3, 12), Some(3))?;
+        assert_begins(&rt, &builder, (9, 12), None)
     }
 }

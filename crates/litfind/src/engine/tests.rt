@@ -6,6 +6,7 @@ use super::run;
 use crate::device::{Checked, Failed, Sink, Source};
 use crate::fault::Fault;
 use std::alloc::{AllocError, Global};
+use std::fmt::Display;
 use std::io;
 use std::io::{Read, Write};
 use std::process::Abort;
@@ -126,6 +127,34 @@ fn answer(
     Ok(run(alloc, words.as_slice(), &mut reader, &mut writer))
 }
 
+/// What is answered, and what its writer holds.
+fn assert_ends<N: Display + Drop>(
+    rt: &impl Abort,
+    answer: Result<bool, Fault>,
+    want: Result<bool, Fault>,
+    writer: &SlowWriter,
+    output: &[u8],
+    case: N,
+) {
+    assert_eq!(rt; answer, want, "{case}");
+    assert_eq!(rt; writer.held(), output, "{case}");
+}
+
+/// What is answered and written for words and an input.
+fn assert_prints(
+    rt: &impl Abort,
+    alloc: Global,
+    words: &str,
+    input: &[u8],
+    want: Result<bool, Fault>,
+    output: &[u8],
+) -> Result<(), AllocError> {
+    let mut writer = SlowWriter::new(64);
+    let answer = answer(alloc, words, one_byte_a_call(input, 0), &mut writer)?;
+    assert_ends(rt, answer, want, &writer, output, words);
+    Ok(())
+}
+
 #[test]
 fn prints_a_line_for_each_match(rt: HostRuntime) -> Result<(), Fail> {
     for (words, input, want, output) in [
@@ -149,10 +178,7 @@ fn prints_a_line_for_each_match(rt: HostRuntime) -> Result<(), Fail> {
         ("both foo", INPUT, Err(Fault::Usage), b""),
         ("both ", INPUT, Err(Fault::Usage), b""),
     ] {
-        let mut writer = SlowWriter::new(64);
-        let answer = answer(rt.alloc(), words, one_byte_a_call(input, 0), &mut writer)?;
-        assert_eq!(rt; answer, want, "{words}");
-        assert_eq!(rt; writer.held(), output, "{words}");
+        assert_prints(&rt, rt.alloc(), words, input, want, output)?;
     }
     Ok(())
 }
@@ -220,35 +246,52 @@ fn answer_to(alloc: Global, words: &[String]) -> Result<bool, Fault> {
     run(alloc, words, &mut reader, &mut writer)
 }
 
+/// A read of this number that fails is reported, and then nothing is written.
+fn assert_reports_read(rt: &impl Abort, alloc: Global, failing: u32) -> Result<(), AllocError> {
+    let mut writer = SlowWriter::new(64);
+    let reader = one_byte_a_call(INPUT, failing);
+    let answer = answer(alloc, WORDS, reader, &mut writer)?;
+    let (want, case) = (Err(Fault::ReadFailed), format_args!("call {failing}"));
+    assert_ends(rt, answer, want, &writer, b"", case);
+    Ok(())
+}
+
 #[test]
 fn reports_each_failed_read(rt: HostRuntime) -> Result<(), Fail> {
     // 51 calls give a byte, and the last one finds the end.
     for failing in 1..53 {
-        let mut writer = SlowWriter::new(64);
-        let reader = one_byte_a_call(INPUT, failing);
-        let answer = answer(rt.alloc(), WORDS, reader, &mut writer)?;
-        assert_eq!(rt; answer, Err(Fault::ReadFailed), "call {failing}");
-        assert_eq!(rt; writer.held(), b"".as_slice(), "call {failing}");
+        assert_reports_read(&rt, rt.alloc(), failing)?;
     }
+    Ok(())
+}
+
+/// A write that fails is reported, and this much of the lines was written.
+fn assert_reports_write(
+    rt: &impl Abort,
+    alloc: Global,
+    mut writer: SlowWriter,
+    front: &[u8],
+    case: &str,
+) -> Result<(), AllocError> {
+    let reader = one_byte_a_call(INPUT, 0);
+    let answer = answer(alloc, WORDS, reader, &mut writer)?;
+    assert_ends(rt, answer, Err(Fault::WriteFailed), &writer, front, case);
     Ok(())
 }
 
 #[test]
 fn reports_a_failed_write(rt: HostRuntime) -> Result<(), Fail> {
-    for (step, failing, refusing, flush_fails, front) in [
-        (5, 3, 0, false, b"1 13 18\n0 ".as_slice()),
-        (5, 0, 2, false, b"1 13 ".as_slice()),
-        (5, 1, 0, false, b"".as_slice()),
-        (64, 0, 0, true, OUTPUT),
+    for (case, step, failing, refusing, flush_fails, front) in [
+        ("the third", 5, 3, 0, false, b"1 13 18\n0 ".as_slice()),
+        ("refused", 5, 0, 2, false, b"1 13 "),
+        ("the first", 5, 1, 0, false, b""),
+        ("the flush", 64, 0, 0, true, OUTPUT),
     ] {
         let mut writer = SlowWriter::new(step);
         writer.failing = failing;
         writer.refusing = refusing;
         writer.flush_fails = flush_fails;
-        let reader = one_byte_a_call(INPUT, 0);
-        let answer = answer(rt.alloc(), WORDS, reader, &mut writer)?;
-        assert_eq!(rt; answer, Err(Fault::WriteFailed), "{step} bytes a call");
-        assert_eq!(rt; writer.held(), front, "{step} bytes a call");
+        assert_reports_write(&rt, rt.alloc(), writer, front, case)?;
     }
     Ok(())
 }
@@ -263,32 +306,43 @@ fn flushes_an_empty_text(rt: HostRuntime) -> Result<(), Fail> {
     Ok(())
 }
 
+/// What a checked reader tells after a call: whether it has failed, and whether it has ended.
+fn reader_tells(reader: &Checked<SlowReader<'_>>) -> (bool, bool) {
+    (reader.has_failed(), reader.has_ended())
+}
+
 #[test]
-fn remembers_the_end_and_a_failure(rt: HostRuntime) -> Result<(), Fail> {
+fn readers_remember_their_end_and_a_failure(rt: HostRuntime) {
     let mut buffer = [0u8; 8];
     let mut reader = Checked::new(one_byte_a_call(b"a", 3));
-    assert_eq!(rt; reader.read(&mut buffer), Ok(1));
-    assert!(rt; !reader.has_failed());
-    assert!(rt; !reader.has_ended());
-    assert_eq!(rt; reader.read(&mut buffer), Ok(0));
-    assert!(rt; !reader.has_failed());
-    assert!(rt; reader.has_ended());
-    assert_eq!(rt; reader.read(&mut buffer), Err(Failed));
-    assert!(rt; reader.has_failed());
-    assert!(rt; reader.has_ended());
+    assert!(rt; reader.read(&mut buffer) == Ok(1));
+    assert!(rt; reader_tells(&reader) == (false, false));
+    assert!(rt; reader.read(&mut buffer) == Ok(0));
+    assert!(rt; reader_tells(&reader) == (false, true));
+    assert!(rt; reader.read(&mut buffer) == Err(Failed));
+    assert!(rt; reader_tells(&reader) == (true, true));
+}
+
+#[test]
+fn writers_have_not_failed_at_first(rt: HostRuntime) {
     let mut writer = Checked::new(SlowWriter::new(5));
-    assert_eq!(rt; writer.write(b"abcdefg"), Ok(5));
+    assert!(rt; writer.write(b"abcdefg") == Ok(5));
     assert!(rt; !writer.has_failed());
-    assert_eq!(rt; writer.write(b""), Ok(0));
+    assert!(rt; writer.write(b"") == Ok(0));
     assert!(rt; !writer.has_failed());
-    assert_eq!(rt; writer.flush(), Ok(()));
+    assert!(rt; writer.flush() == Ok(()));
     assert!(rt; !writer.has_failed());
+}
+
+#[test]
+fn writers_remember_a_failure(rt: HostRuntime) {
+    let mut writer = Checked::new(SlowWriter::new(5));
+    assert!(rt; writer.write(b"abcdefg") == Ok(5));
     let mut writer = writer.into_inner();
-    writer.refusing = 3;
+    writer.refusing = 2;
     let mut writer = Checked::new(writer);
-    assert_eq!(rt; writer.write(b"abcdefg"), Err(Failed));
+    assert!(rt; writer.write(b"abcdefg") == Err(Failed));
     assert!(rt; writer.has_failed());
-    Ok(())
 }
 
 #[test]
