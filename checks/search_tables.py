@@ -309,7 +309,7 @@ STRUCTS = {
     "Searcher": "#[derive(Drop)] pub struct Searcher { patterns: Patterns, rabin_karp: RabinKarp, }",
     "RabinKarp": """#[derive(Drop)] pub struct RabinKarp {
         minimum_len: usize, occupied: u64, starts: [usize; BUCKETS + 1], entries: Vec<(usize, PatternID)>, }""",
-    "Rolling": "#[derive(Drop)] pub struct Rolling { window: usize, doubled: usize, change: usize, power: usize, }",
+    "Rolling": "#[derive(Drop)] pub struct Rolling { window: usize, before: usize, change: usize, power: usize, }",
     "Patterns": """#[derive(Drop)] pub struct Patterns { kind: MatchKind, by_id: Vec<Vec<u8>>, order: Vec<PatternID>,
         minimum_len: usize, total_pattern_bytes: u128, }""",
     "Pattern": "#[derive(Clone, Drop)] pub struct Pattern<'p>(&'p [u8]);",
@@ -368,16 +368,16 @@ BODIES = {
         })""",
     (RABIN_KARP, "impl Rolling", "new"): """
         let power = if window < usize::BITS as usize { 1 << window } else { 0 };
-        Rolling { window, doubled: 0, change: 0, power, }""",
+        Rolling { window, before: 0, change: 0, power, }""",
     (RABIN_KARP, "impl Rolling", "push"): """
         tally.tick_hashed();
-        self.doubled = self.value().wrapping_shl(1);
+        self.before = self.value();
         self.change = byte as usize;""",
     (RABIN_KARP, "impl Rolling", "roll"): """
         tally.tick_hashed();
-        self.doubled = self.value().wrapping_shl(1);
+        self.before = self.value();
         self.change = (new as usize).wrapping_sub((old as usize).wrapping_mul(self.power));""",
-    (RABIN_KARP, "impl Rolling", "value"): "self.doubled.wrapping_add(self.change)",
+    (RABIN_KARP, "impl Rolling", "value"): "self.before.wrapping_shl(1).wrapping_add(self.change)",
 }
 
 # Statements that stand once in a body, and hold all that the body has of the names beside them: the two

@@ -27,25 +27,25 @@ const BUCKETS: usize = 64;
 /// [`Rolling::push`], and then moves on by [`Rolling::roll`]. Contracts see the length that the
 /// window is to have, and the sum.
 ///
-/// The sum is kept in two parts: twice the sum before the last byte came, and what that byte changed,
-/// and the one that went. So the compiler keeps the product of a roll out of the chain from sum to
-/// sum, which a search has to wait for at each place.
+/// The sum is kept in two parts: the sum before the last byte came, and what that byte changed, and the
+/// one that went. So the compiler keeps the product of a roll out of the chain from sum to sum, which
+/// a search has to wait for at each place.
 #[derive(Drop)]
 pub struct Rolling {
     window: usize,
-    doubled: usize,
+    before: usize,
     change: usize,
     power: usize,
 }
 
 impl Model for Rolling {
-    ghost use Rattle.std.specs.Prelude.{◌≡◌, ◌≤◌, ◌+◌, ◌%◌, ◌^◌};
+    ghost use Rattle.std.specs.Prelude.{◌≡◌, ◌≤◌, ◌+◌, ◌*◌, ◌%◌, ◌^◌};
     ghost use Rattle.literal_packed.specs.Inside.Rolling.{power_of};
     ghost use Rattle.literal_packed.specs.RollingValue.{RollingValue};
 
     ghost Value = { RollingValue };
 
-    ghost view = { λ r. record { window = r.window; sum = (r.doubled + r.change) % 2 ^ 64 } };
+    ghost view = { λ r. record { window = r.window; sum = ((r.before * 2) % 2 ^ 64 + r.change) % 2 ^ 64 } };
 
     ghost invariant = { λ r. (1 ≤ r.window) × (r.power ≡ power_of r.window) };
 }
@@ -64,7 +64,7 @@ impl Rolling {
         };
         Rolling {
             window,
-            doubled: 0,
+            before: 0,
             change: 0,
             power,
         }
@@ -77,7 +77,7 @@ impl Rolling {
         ensures counted { tally.new ≡ record tally.old { hashed = tally.old.hashed + 1 } }
     {
         tally.tick_hashed();
-        self.doubled = self.value().wrapping_shl(1);
+        self.before = self.value();
         self.change = byte as usize;
     }
 
@@ -90,7 +90,7 @@ impl Rolling {
         ensures counted { tally.new ≡ record tally.old { hashed = tally.old.hashed + 1 } }
     {
         tally.tick_hashed();
-        self.doubled = self.value().wrapping_shl(1);
+        self.before = self.value();
         self.change = (new as usize).wrapping_sub((old as usize).wrapping_mul(self.power));
     }
 
@@ -98,7 +98,7 @@ impl Rolling {
     pub fn value(&self) -> usize
         ensures { result ≡ self.now.sum }
     {
-        self.doubled.wrapping_add(self.change)
+        self.before.wrapping_shl(1).wrapping_add(self.change)
     }
 }
 
@@ -295,9 +295,7 @@ impl RabinKarp {
         if self.is_vacant(bucket) {
             return None;
         }
-        let len = self.bucket_len(bucket);
-        prove!(0 < len); // (so the compiler asks for the end only behind an entry)
-        for k in 0..len {
+        for k in 0..self.bucket_len(bucket) {
             let (entry_sum, id) = self.entry(bucket, k, tally);
             if entry_sum == sum && stands_at(patterns, id, haystack, at, tally) {
                 return Some(id);

@@ -32,7 +32,8 @@ buckets_at starts entries k below =
     get_or-map-range_with_len (part_at starts entries) 0 64 k k [] below (omega arith)
 
 -- the list is laid out, and these are its buckets
-pub record IsKept (starts : List ℕ) (occupied : ℕ) (entries : List (ℕ × ℕ)) (buckets : List (List (ℕ × ℕ))) : Type 0 where
+pub record IsKept (starts : List ℕ) (occupied : ℕ) (entries : List (ℕ × ℕ)) (buckets : List (List (ℕ × ℕ)))
+    : Type 0 where
   pub laid : IsLaidOut starts occupied entries
   pub seen : buckets ≡ buckets_of starts entries
 

@@ -35,7 +35,7 @@ abbrev pub AreOccupied : List ℕ → ℕ → Type 0
 AreOccupied starts occupied =
     (k : ℕ) → k < 64 → bit_at occupied k ≡ (if nat_lt (start_at starts k) (start_at starts (k + 1)) then 1 else 0)
 
--- the starts and the bits are those of the list. Abstract: as facts about all buckets they would stand in the way of each
--- proof in which a `RabinKarp` is opened or dropped
+-- the starts and the bits are those of the list. Abstract: as facts about all buckets they would stand in the way of
+-- each proof in which a `RabinKarp` is opened or dropped
 unfoldable pub IsLaidOut : List ℕ → ℕ → List (ℕ × ℕ) → Type 0
 IsLaidOut starts occupied entries = AreStarts starts entries × AreOccupied starts occupied

@@ -1,4 +1,4 @@
-use Rattle.std.proofs.Common.{◌+◌, ◌-◌, ◌*◌, ◌%◌, ◌^◌, ℕ, sym, ap, ◌∙◌}
+use Rattle.std.proofs.Common.{ℕ, sym, ap, ◌∙◌}
 use Rattle.literal_packed.specs.RollingValue.{RollingValue}
 use Rattle.literal_packed.proofs.lemmas.Sums.{sum_of-roll}
 use Rattle.literal_packed.proofs.rabinkarp.Rolling.roll.Goals as goal
@@ -7,7 +7,5 @@ pub returns-clause-sum : goal.returns-clause-sum
 returns-clause-sum c = λ w long is.
     let window : RollingValue → ℕ = λ r. r.window in
     let inside = c.self.inside in
-    ap (λ v. (v + (c.args.new + (2 ^ 64 - c.args.old * inside.power % 2 ^ 64)) % 2 ^ 64) % 2 ^ 64)
-    c.wrapping_shl-self-inside.ensures
-    ∙ sum_of-roll c.args.old w c.args.new c.value.result inside.power inside.window
-    (long ∙ sym (ap window c.self.view_is)) c.self.invariant.1 (c.value.ensures ∙ is)
+    sum_of-roll c.args.old w c.args.new c.value-self-inside.result inside.power inside.window
+    (long ∙ sym (ap window c.self.view_is)) c.self.invariant.1 (c.value-self-inside.ensures ∙ is)
