@@ -22,8 +22,8 @@ mod exact;
 mod kinds;
 mod tables;
 
-use byte_table::MOST_BYTES;
 pub use byte_table::ByteTable;
+use byte_table::MOST_BYTES;
 pub use confirming::{ConfirmingSearch, confirm};
 pub use exact::{Memmem, Packed};
 pub use kinds::{

@@ -1,5 +1,5 @@
 -- A search of a haystack that is cut at the end of the span.
--- For `Searcher::find_in_counted`.
+-- For `Searcher::find_in_counted`, `Memmem` and confirming searches.
 use Rattle.std.proofs.Common.{◌≡◌, ℕ, ◌+◌, ◌-◌, ◌%◌, ◌<◌, ◌≤◌, Bool, false, ◌&&◌, eqb, List, length, take, drop, get_or}
 use Rattle.std.proofs.Common.{Some, None, Option, refl, sym, ap, subst, ◌∙◌, arith}
 use Rattle.std.specs.List.{All, slice_range, sum_by, count_by, range_with_len}
@@ -22,7 +22,7 @@ use Rattle.literal_packed.proofs.lemmas.Ties.{is_up_to}
 use Rattle.literal_packed.proofs.lemmas.MinimumLen.{minimum_len_of-le}
 use Rattle.literal_packed.proofs.lemmas.PlaceCounts.{same_three}
 
-cut_range : (h : List ℕ) (e a b : ℕ) → b ≤ e → slice_range (take e h) a b ≡ slice_range h a b
+pub cut_range : (h : List ℕ) (e a b : ℕ) → b ≤ e → slice_range (take e h) a b ≡ slice_range h a b
 cut_range h e a b below = between_is (take e h) a b ∙ (ap (drop a) (take-take b e h below) ∙ sym (between_is h a b))
 
 pub sum_by-same : {X : Type 0} (f g : X → ℕ) (xs : List X) → All (λ x. f x ≡ g x) xs → sum_by f xs ≡ sum_by g xs

@@ -1,19 +1,17 @@
--- A search that asks a prefilter, and again from after each place that it proposes.
-use Rattle.std.proofs.Common.{◌≡◌, ℕ, ◌+◌, ◌-◌, ◌<◌, ◌≤◌, inl, inr, Bool, List, length, take, drop, refl, sym, ap, ◌∙◌, subst, arith}
-use Rattle.std.specs.List.{slice_range}
+-- Occurrences in the rest of a span, and at the place from which a search goes on.
+-- For `confirm` and the search by a table.
+use Rattle.std.proofs.Common.{◌≡◌, ℕ, ◌+◌, ◌<◌, ◌≤◌, inl, inr, Bool, List, length, take, refl, sym, ap, ◌∙◌, subst}
+use Rattle.std.proofs.Common.{arith}
 use Rattle.std.proofs.lemmas.Bool.{cases_lt}
-use Rattle.std.proofs.lemmas.List.{take-take, length-take-le}
-use Rattle.std.proofs.lemmas.Slice.{between_is}
+use Rattle.std.proofs.lemmas.List.{length-take-le}
 use Rattle.literal_base.specs.declared.packed.MatchKind.{MatchKind}
 use Rattle.literal_base.specs.declared.search.Span.{Span}
 use Rattle.literal_base.specs.MatchValue.{MatchValue}
 use Rattle.literal_base.specs.Leftmost.{IsLeftmostMatch}
 use Rattle.literal_base.specs.Occurs.{pattern_at, case_folded, Occurs, NothingOccurs, StandsAt, IsValidSpan}
+use Rattle.literal_packed.proofs.lemmas.CutHaystack.{cut_range}
 use Rattle.literal_packed.specs.Inside.Place.{IsBestAt, NoneStandsAt}
 use Rattle.literal_prefilters.specs.Sound.{IsPossibleStart}
-
-cut_range : (h : List ℕ) (e a b : ℕ) → b ≤ e → slice_range (take e h) a b ≡ slice_range h a b
-cut_range h e a b below = between_is (take e h) a b ∙ (ap (drop a) (take-take b e h below) ∙ sym (between_is h a b))
 
 module _ (patterns : List (List ℕ)) (ignore_case : Bool) (haystack : List ℕ) (span : Span) where
   -- no occurrence in the span begins before the place
@@ -23,7 +21,8 @@ module _ (patterns : List (List ℕ)) (ignore_case : Bool) (haystack : List ℕ)
   abbrev rest : ℕ → Span
   rest from = record { start = from; end = span.end }
 
-  in_rest : (from i at : ℕ) → from ≤ at → Occurs patterns ignore_case haystack span i at → Occurs patterns ignore_case haystack (rest from) i at
+  pub in_rest : (from i at : ℕ) → from ≤ at → Occurs patterns ignore_case haystack span i at
+      → Occurs patterns ignore_case haystack (rest from) i at
   in_rest from i at after o = record {
     is_pattern = o.is_pattern;
     after_start = after;
@@ -31,7 +30,8 @@ module _ (patterns : List (List ℕ)) (ignore_case : Bool) (haystack : List ℕ)
     same = o.same;
   }
 
-  in_span : (from i at : ℕ) → span.start ≤ from → Occurs patterns ignore_case haystack (rest from) i at → Occurs patterns ignore_case haystack span i at
+  in_span : (from i at : ℕ) → span.start ≤ from → Occurs patterns ignore_case haystack (rest from) i at
+      → Occurs patterns ignore_case haystack span i at
   in_span from i at later o = record {
     is_pattern = o.is_pattern;
     after_start = omega (arith, o.after_start);
@@ -40,7 +40,8 @@ module _ (patterns : List (List ℕ)) (ignore_case : Bool) (haystack : List ℕ)
   }
 
   -- nothing occurs in the span
-  pub nothing_from_rest : (from : ℕ) → NoneBefore from → NothingOccurs patterns ignore_case haystack (rest from) → NothingOccurs patterns ignore_case haystack span
+  pub nothing_from_rest : (from : ℕ) → NoneBefore from → NothingOccurs patterns ignore_case haystack (rest from)
+      → NothingOccurs patterns ignore_case haystack span
   nothing_from_rest from before none i at o =
       elim (cases_lt at from) [
         | inl early ↦ before i at early o
@@ -48,7 +49,8 @@ module _ (patterns : List (List ℕ)) (ignore_case : Bool) (haystack : List ℕ)
       ]
 
   -- no occurrence begins before a possible start of the rest
-  pub none_before_possible : (from s : ℕ) → NoneBefore from → IsPossibleStart patterns ignore_case haystack (rest from) s → NoneBefore s
+  pub none_before_possible : (from s : ℕ) → NoneBefore from
+      → IsPossibleStart patterns ignore_case haystack (rest from) s → NoneBefore s
   none_before_possible from s before possible i at early o =
       elim (cases_lt at from) [
         | inl h ↦ before i at h o
@@ -56,7 +58,9 @@ module _ (patterns : List (List ℕ)) (ignore_case : Bool) (haystack : List ℕ)
       ]
 
   -- the leftmost match of the rest is that of the span
-  pub leftmost_from_rest : (kind : MatchKind) (from : ℕ) (found : MatchValue) → span.start ≤ from → NoneBefore from → IsLeftmostMatch (record { kind = kind; patterns = patterns }) ignore_case haystack (rest from) found → IsLeftmostMatch (record { kind = kind; patterns = patterns }) ignore_case haystack span found
+  pub leftmost_from_rest : (kind : MatchKind) (from : ℕ) (found : MatchValue) → span.start ≤ from → NoneBefore from
+      → IsLeftmostMatch (record { kind = kind; patterns = patterns }) ignore_case haystack (rest from) found
+      → IsLeftmostMatch (record { kind = kind; patterns = patterns }) ignore_case haystack span found
   leftmost_from_rest kind from found later before l = record {
     occurs = in_span from found.pattern found.start later l.occurs;
     whole = l.whole;
@@ -72,17 +76,20 @@ module _ (patterns : List (List ℕ)) (ignore_case : Bool) (haystack : List ℕ)
     front = take span.end haystack
 
     -- what occurs in the span stands in the haystack cut at its end
-    stands_from_occurs : (i at : ℕ) → Occurs patterns ignore_case haystack span i at → StandsAt ignore_case (pattern_at patterns i) front at
+    stands_from_occurs : (i at : ℕ) → Occurs patterns ignore_case haystack span i at
+        → StandsAt ignore_case (pattern_at patterns i) front at
     stands_from_occurs i at o =
         let p = pattern_at patterns i in record {
           fits = omega (arith, length-take-le span.end haystack valid.in_haystack, o.before_end);
           same = ap (case_folded ignore_case) (cut_range haystack span.end at (at + length p) o.before_end) ∙ o.same;
         }
 
-    occurs_from_stands : (i at : ℕ) → i < length patterns → span.start ≤ at → StandsAt ignore_case (pattern_at patterns i) front at → Occurs patterns ignore_case haystack span i at
+    occurs_from_stands : (i at : ℕ) → i < length patterns → span.start ≤ at
+        → StandsAt ignore_case (pattern_at patterns i) front at → Occurs patterns ignore_case haystack span i at
     occurs_from_stands i at is_pattern after s =
         let p = pattern_at patterns i in
-        let fits : at + length p ≤ span.end = omega (arith, length-take-le span.end haystack valid.in_haystack, s.fits) in record {
+        let fits : at + length p ≤ span.end = omega
+        (arith, length-take-le span.end haystack valid.in_haystack, s.fits) in record {
           is_pattern = is_pattern;
           after_start = after;
           before_end = fits;
@@ -96,11 +103,15 @@ module _ (patterns : List (List ℕ)) (ignore_case : Bool) (haystack : List ℕ)
           | inl h ↦ before i at h o
           | inr late ↦
               let here : at ≡ s = omega arith in
-              none i o.is_pattern (subst (StandsAt ignore_case (pattern_at patterns i) front) here (stands_from_occurs i at o))
+              none i o.is_pattern (subst (StandsAt ignore_case (pattern_at patterns i) front) here
+              (stands_from_occurs i at o))
         ]
 
     -- the best pattern there is the leftmost match
-    pub leftmost_here : (kind : MatchKind) (s i : ℕ) → span.start ≤ s → NoneBefore s → IsBestAt (record { kind = kind; patterns = patterns }) ignore_case front s i → IsLeftmostMatch (record { kind = kind; patterns = patterns }) ignore_case haystack span (record { pattern = i; start = s; end = s + length (pattern_at patterns i) })
+    pub leftmost_here : (kind : MatchKind) (s i : ℕ) → span.start ≤ s → NoneBefore s
+        → IsBestAt (record { kind = kind; patterns = patterns }) ignore_case front s i
+        → IsLeftmostMatch (record { kind = kind; patterns = patterns }) ignore_case haystack span
+        (record { pattern = i; start = s; end = s + length (pattern_at patterns i) })
     leftmost_here kind s i after before best = record {
       occurs = occurs_from_stands i s best.is_pattern after best.stands;
       whole = refl;

@@ -1,6 +1,7 @@
 -- What is picked in the cases where the search needs a hint.
 -- For `Builder::build` of prefilters.
-use Rattle.std.proofs.Common.{◌≡◌, ◌==◌, ◌&&◌, ◌||◌, not, ℕ, Bool, true, false, List, [], ◌∷◌, ◌↔◌, length, Option, Some, None, is_some}
+use Rattle.std.proofs.Common.{◌≡◌, ◌==◌, ◌&&◌, ◌||◌, not, ℕ, Bool, true, false, List, [], ◌∷◌, ◌↔◌, length, Option}
+use Rattle.std.proofs.Common.{Some, None, is_some}
 use Rattle.std.proofs.Common.{◌<◌, ◌≤◌, IsTrue, option_map, cond, sym, refl, ap, ◌∙◌, arith}
 use Rattle.literal_packed.specs.State.{kept_of}
 use Rattle.std.specs.Option.{option_or}
@@ -54,16 +55,20 @@ pub tables_of : (b : Inside) (v : PrefilterBuilderValue) (empty : Bool)
     → rare ≡ rare_table b.ascii_case_insensitive b.patterns.patterns
     → start_ref ≡ start → rare_ref ≡ rare → short ≡ is_short_list v start_ref rare_ref → short ≡ is_short
     → IsByTables v start rare is_short
-tables_of b v empty start start_ref rare rare_ref short is_short sound view none not_empty several is_start is_rare same_start same_rare tested told =
+tables_of b v empty start start_ref rare rare_ref short is_short sound view none not_empty several is_start is_rare
+    same_start same_rare tested told =
     let ps = b.patterns.patterns in
-    let kept : kept_of v.state ≡ ps = sym (ap (λ (w : PrefilterBuilderValue). kept_of w.state) view) ∙ kept_is b.enabled ps sound.emptied in
-    let flag : v.ignore_case ≡ b.ascii_case_insensitive = sym (ap (λ (w : PrefilterBuilderValue). w.ignore_case) view) in
+    let kept : kept_of v.state ≡ ps = sym (ap (λ (w : PrefilterBuilderValue). kept_of w.state) view)
+    ∙ kept_is b.enabled ps sound.emptied in
+    let flag : v.ignore_case ≡ b.ascii_case_insensitive = sym
+    (ap (λ (w : PrefilterBuilderValue). w.ignore_case) view) in
     record {
       some = rw kept (some_of ps empty none not_empty);
       several = several;
       start_is = rw (kept, flag) (sym is_start);
       rare_is = rw (kept, flag) (sym is_rare);
-      short_is = ap (λ o. is_short_list v o rare) (sym same_start) ∙ (ap (λ o. is_short_list v start_ref o) (sym same_rare)
+      short_is = ap (λ o. is_short_list v o rare) (sym same_start)
+          ∙ (ap (λ o. is_short_list v start_ref o) (sym same_rare)
           ∙ (sym tested ∙ told));
     }
 

@@ -204,8 +204,7 @@ impl ConfirmingSearch {
         ensures { IfOk result
             (BuildsConfirming I.into_iter_gives I.IntoIter.next_gives kind ignore_case patterns) }
     {
-        let mut builder =
-            Builder::new(alloc, root_kind(kind)).ascii_case_insensitive(ignore_case);
+        let mut builder = Builder::new(alloc, root_kind(kind)).ascii_case_insensitive(ignore_case);
         for bytes in patterns {
             builder.add(bytes)?;
         }
@@ -253,7 +252,14 @@ impl ConfirmingSearch {
     {
         match self.prefilter.table() {
             Some(table) => {
-                confirm_by_table(table, &self.patterns, self.ignore_case, haystack, span, tally)
+                confirm_by_table(
+                    table,
+                    &self.patterns,
+                    self.ignore_case,
+                    haystack,
+                    span,
+                    tally,
+                )
             }
             // An exact prefilter answers the match itself.
             None => self

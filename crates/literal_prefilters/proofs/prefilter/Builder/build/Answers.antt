@@ -1,6 +1,5 @@
-use Rattle.std.proofs.Common.{◌≡◌, ◌∙◌, Some, None, true, false, sym, ap, subst, Option, ℕ, List}
+use Rattle.std.proofs.Common.{◌∙◌, Some, None, true, false, sym, ap, subst}
 use Rattle.std.specs.Option.{option_copied}
-use Rattle.literal_prefilters.specs.PrefilterValue.{by_table}
 use Rattle.literal_prefilters.proofs.lemmas.Choice.{IsByTables, tables_of, pick_short, pick_start, pick_last}
 use Rattle.literal_prefilters.proofs.prefilter.Builder.build.Goals as goal
 

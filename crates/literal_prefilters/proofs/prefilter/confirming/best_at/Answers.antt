@@ -10,15 +10,22 @@ use Rattle.literal_prefilters.proofs.prefilter.confirming.best_at.Goals as goal
 
 pub matches_at-requires-clause-is_pattern : goal.matches_at-requires-clause-is_pattern
 matches_at-requires-clause-is_pattern c =
-    head_below c.args.patterns.now c.iter-id-items.ensures.well_formed _ _ _ (split_next c.loop-id.yielded c.loop-id.invariant.split c.in-Some.ensures.steps)
+    head_below c.args.patterns.now c.iter-id-items.ensures.well_formed _ _ _
+    (split_next c.loop-id.yielded c.loop-id.invariant.split c.in-Some.ensures.steps)
 
 pub returns-then-matches_at-clause-best : goal.returns-then-matches_at-clause-best
 returns-then-matches_at-clause-best c =
-    best_from_front c.args.patterns.now c.args.ignore_case (take c.args.span.end c.args.haystack.now) c.args.at c.iter-id-items.ensures.well_formed c.requires.in_order _ _ _ (split_next c.loop-id.yielded c.loop-id.invariant.split c.in-Some.ensures.steps) c.loop-id.invariant.none (c.if-matches_at.ensures.stands.0 refl)
+    best_from_front c.args.patterns.now c.args.ignore_case (take c.args.span.end c.args.haystack.now) c.args.at
+    c.iter-id-items.ensures.well_formed c.requires.in_order _ _ _
+    (split_next c.loop-id.yielded c.loop-id.invariant.split c.in-Some.ensures.steps) c.loop-id.invariant.none
+    (c.if-matches_at.ensures.stands.0 refl)
 
 pub returns-then-matches_at-clause-compared : goal.returns-then-matches_at-clause-compared
 returns-then-matches_at-clause-compared c =
-    let all = given_at_most c.args.patterns.now c.args.ignore_case (take c.args.span.end c.args.haystack.now) c.args.at c.iter-id-items.ensures.well_formed c.loop-id.yielded ((c.in-Some.id, c.in-Some.field-0-1) ∷ c.next.new.self) (split_next c.loop-id.yielded c.loop-id.invariant.split c.in-Some.ensures.steps) in
+    let all = given_at_most c.args.patterns.now c.args.ignore_case (take c.args.span.end c.args.haystack.now)
+    c.args.at c.iter-id-items.ensures.well_formed c.loop-id.yielded
+    ((c.in-Some.id, c.in-Some.field-0-1) ∷ c.next.new.self)
+    (split_next c.loop-id.yielded c.loop-id.invariant.split c.in-Some.ensures.steps) in
     let before = ap (λ t. t.compared) c.loop-id.invariant.counted in
     let one = ap (λ t. t.compared) c.matches_at.ensures.counted in
     omega (arith, all, before, one)
@@ -30,19 +37,26 @@ loop-id-preserved c =
     let x : ℕ × List ℕ = (c.in-Some.id, c.in-Some.field-0-1) in
     let step : Counts → Counts = λ t. record t { compared = t.compared + 1 } in
     let f : ℕ → Counts = λ k. record old { compared = k } in
-    let e : old.compared + length yielded + 1 ≡ old.compared + length (yielded ++ x ∷ []) = omega (arith, length_push yielded x) in
+    let e : old.compared + length yielded + 1 ≡ old.compared + length (yielded ++ x ∷ []) = omega
+    (arith, length_push yielded x) in
     record {
       split = split_more c.loop-id.yielded c.loop-id.invariant.split c.in-Some.ensures.steps;
-      none = All-push (λ p. ¬ StandsAt c.args.ignore_case (pattern_at c.args.patterns.now.patterns p.0) (take c.args.span.end c.args.haystack.now) c.args.at) _ _ c.loop-id.invariant.none (λ stands. false≢true (c.if-matches_at.ensures.stands.1 stands));
+      none = All-push (λ p. ¬ StandsAt c.args.ignore_case (pattern_at c.args.patterns.now.patterns p.0)
+          (take c.args.span.end c.args.haystack.now) c.args.at) _ _ c.loop-id.invariant.none
+          (λ stands. false≢true (c.if-matches_at.ensures.stands.1 stands));
       counted = c.matches_at.ensures.counted ∙ (ap step c.loop-id.invariant.counted ∙ ap f e);
     }
 
 pub returns-clause-best : goal.returns-clause-best
 returns-clause-best c =
-    none_from_all c.args.patterns.now c.args.ignore_case (take c.args.span.end c.args.haystack.now) c.args.at c.iter-id-items.ensures.well_formed _ (ap (λ ps. c.loop-id.yielded ++ ps) (sym c.in-None.ensures.steps.0) ∙ c.loop-id.invariant.split) c.loop-id.invariant.none
+    none_from_all c.args.patterns.now c.args.ignore_case (take c.args.span.end c.args.haystack.now) c.args.at
+    c.iter-id-items.ensures.well_formed _ (ap (λ ps. c.loop-id.yielded ++ ps) (sym c.in-None.ensures.steps.0)
+    ∙ c.loop-id.invariant.split) c.loop-id.invariant.none
 
 pub returns-clause-compared : goal.returns-clause-compared
 returns-clause-compared c =
-    let all = given_at_most c.args.patterns.now c.args.ignore_case (take c.args.span.end c.args.haystack.now) c.args.at c.iter-id-items.ensures.well_formed c.loop-id.yielded [] (ap (λ ps. c.loop-id.yielded ++ ps) (sym c.in-None.ensures.steps.0) ∙ c.loop-id.invariant.split) in
+    let all = given_at_most c.args.patterns.now c.args.ignore_case (take c.args.span.end c.args.haystack.now)
+    c.args.at c.iter-id-items.ensures.well_formed c.loop-id.yielded []
+    (ap (λ ps. c.loop-id.yielded ++ ps) (sym c.in-None.ensures.steps.0) ∙ c.loop-id.invariant.split) in
     let before = ap (λ t. t.compared) c.loop-id.invariant.counted in
     omega (arith, all, before)

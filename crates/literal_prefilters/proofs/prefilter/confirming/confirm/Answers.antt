@@ -1,4 +1,4 @@
-use Rattle.std.proofs.Common.{◌≡◌, ℕ, ◌+◌, ◌-◌, ◌*◌, ◌≤◌, length, sym, ap, ◌∙◌, subst, arith}
+use Rattle.std.proofs.Common.{◌≡◌, ℕ, ◌+◌, ◌-◌, ◌*◌, length, sym, ap, ◌∙◌, subst, arith}
 use Rattle.literal_base.specs.MatchValue.{MatchValue}
 use Rattle.literal_base.specs.Leftmost.{IsLeftmostMatch}
 use Rattle.literal_packed.specs.PatternsValue.{query_of}
@@ -48,7 +48,8 @@ asks-preserved g c =
     let tried = c.asks.invariant.tried in
     let scanned = c.asks.invariant.scanned in
     let one_more : c.best_at.new.tally.tried - old.tried ≡ (c.asks.tally.tried - old.tried) + 1 = omega arith in
-    let times : d * (c.best_at.new.tally.tried - old.tried) ≡ d * (c.asks.tally.tried - old.tried) + d = ap (λ n. d * n) one_more ∙ omega arith in
+    let times : d * (c.best_at.new.tally.tried - old.tried) ≡ d * (c.asks.tally.tried - old.tried) + d = ap
+    (λ n. d * n) one_more ∙ omega arith in
     record {
       after_start = omega arith;
       before_end = omega arith;

@@ -1,4 +1,4 @@
-use Rattle.std.proofs.Common.{ℕ, ◌≤◌, ◌-◌, ◌+◌, ◌*◌}
+use Rattle.std.proofs.Common.{◌≤◌, ◌-◌, ◌+◌, ◌*◌}
 use Rattle.literal_prefilters.proofs.lemmas.Asks.{NoneBefore}
 use Rattle.literal_prefilters.proofs.prefilter.confirming.confirm.Given as goal
 
@@ -9,7 +9,8 @@ invariant-asks g l = record {
   none : NoneBefore l.patterns.patterns l.ignore_case l.haystack l.span l.from;
   grows : l.initial.tally.tried ≤ l.tally.tried;
   tried : l.tally.tried ≤ l.initial.tally.tried + (l.from - l.span.start);
-  scanned : l.tally.scanned ≤ l.initial.tally.scanned + (l.from - l.span.start) + g.P.PrefilterI.reach l.pre * (l.tally.tried - l.initial.tally.tried);
+  scanned : l.tally.scanned ≤ l.initial.tally.scanned + (l.from - l.span.start) + g.P.PrefilterI.reach l.pre *
+      (l.tally.tried - l.initial.tally.tried);
 }
 
 abbrev pub decreases-asks : goal.decreases-asks

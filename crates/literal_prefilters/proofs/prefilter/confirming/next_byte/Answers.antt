@@ -8,4 +8,5 @@ returns-in-Some-clause-place c =
     let t = c.args.table.now in
     let h = c.args.haystack.now in
     let found = c.in-Some.found in
-    sym (first_is t h c.args.rest c.requires.valid found.place (kept_first t h c.args.start c.args.rest c.args.kept found c.requires.kept c.in-Some.is c.if-rest-found.true))
+    sym (first_is t h c.args.rest c.requires.valid found.place
+    (kept_first t h c.args.start c.args.rest c.args.kept found c.requires.kept c.in-Some.is c.if-rest-found.true))

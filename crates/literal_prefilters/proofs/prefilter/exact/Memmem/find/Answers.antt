@@ -11,7 +11,8 @@ pub returns-clause-leftmost : goal.returns-clause-leftmost
 returns-clause-leftmost c =
     let cut = take c.args.span.end c.args.haystack.now in
     let is = c.self.invariant.1 ∙ ap query_of_one c.self.view_is in
-    leftmost_uncut (query_of_one c.args.self.now) c.args.haystack.now c.args.span c.requires.in_haystack c.find_at.result
+    leftmost_uncut (query_of_one c.args.self.now) c.args.haystack.now c.args.span c.requires.in_haystack
+    c.find_at.result
     (subst (λ (s : Query). IsLeftmost s false cut (rest_from cut c.args.span.start) c.find_at.result) is
     c.find_at.ensures.leftmost)
 
@@ -23,5 +24,6 @@ returns-clause-exact c =
     c.find_at.ensures.leftmost in
     subst (λ (s : Query). c.find_at.new.tally ≡ counts_after c.args.tally.now s cut
     (rest_from cut c.args.span.start) c.find_at.result) is c.find_at.ensures.exact
-    ∙ counts_uncut (query_of_one c.args.self.now) c.args.haystack.now c.args.span c.requires.in_haystack c.args.tally.now
+    ∙ counts_uncut (query_of_one c.args.self.now) c.args.haystack.now c.args.span c.requires.in_haystack
+    c.args.tally.now
     c.find_at.result leftmost
