@@ -161,7 +161,7 @@ OTHER_SIGNATURES = {
     (COUNTED_SET, "impl CountedSet", "add"): "a byte of a pattern",
     (COUNTED_SET, "impl CountedSet", "contains"): "a byte",
     (COUNTED_SET, "impl CountedSet", "holds_any"): "the bytes of a pattern",
-    (RUNNING, "impl Running", "add"): "the bytes of a pattern",
+    (RUNNING, "impl Running", "push"): "the bytes of a pattern",
     (RUNNING, "impl RunningStart", "add"): "the bytes of a pattern",
     (RUNNING, "impl RunningRare", "add"): "the bytes of a pattern",
     (TABLES, "", "add_start"): "the bytes of a pattern",

@@ -458,7 +458,7 @@ impl Builder {
             return Ok(());
         }
         self.patterns.add(bytes)?;
-        self.running.add(bytes, self.ascii_case_insensitive);
+        self.running.push(bytes, self.ascii_case_insensitive);
         Ok(())
     }
 }

@@ -29,7 +29,7 @@ impl Running {
     }
 
     /// Takes one pattern more.
-    pub(super) fn add(&mut self, pattern: &[u8], ignore_case: bool)
+    pub(super) fn push(&mut self, pattern: &[u8], ignore_case: bool)
         requires { 0 < length pattern.now }
         ensures { (patterns : List (List ℕ)) → IsRunning ignore_case patterns self.old
             → IsRunning ignore_case (patterns ++ pattern.now ∷ []) self.new }

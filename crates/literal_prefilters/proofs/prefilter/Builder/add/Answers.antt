@@ -22,5 +22,5 @@ invariant_of-self-2 c =
       allowed = grind (arith, common_steps);
       first = search rules;
       in_order = search rules;
-      running = rw more (c.add-2.ensures ps c.self.invariant.running);
+      running = rw more (c.push.ensures ps c.self.invariant.running);
     }
