@@ -1,6 +1,7 @@
 -- What is picked in the cases where the search needs a hint.
 -- For `build`, `start_table` and `rare_table` of the builder of prefilters.
-use Rattle.std.proofs.Common.{◌≡◌, ◌==◌, ◌&&◌, ◌||◌, not, ℕ, Bool, true, false, List, [], length, Option, Some, None, is_some}
+use Rattle.std.proofs.Common.{◌≡◌, ◌==◌, ◌&&◌, ◌||◌, not, ℕ, Bool, true, false, List, [], length, Option, Some, None}
+use Rattle.std.proofs.Common.{is_some}
 use Rattle.std.proofs.Common.{◌<◌, ◌≤◌, nat_lt, get_or, option_map, cond, sym, refl, ap, ◌∙◌, arith}
 use Rattle.std.specs.Option.{option_or}
 use Rattle.std.proofs.lemmas.Bool.{and_parts, ltb-true}
@@ -61,7 +62,8 @@ pub tables_of : (b : PrefilterBuilderValue) (empty one short is_short : Bool)
     → start ≡ start_table b.ignore_case (kept_of b.state) → rare ≡ rare_table b.ignore_case (kept_of b.state)
     → start_ref ≡ start → rare_ref ≡ rare → short ≡ is_short_list b start_ref rare_ref → short ≡ is_short
     → IsByTables b start rare is_short
-tables_of b empty one short is_short start start_ref rare rare_ref empty_is some one_is several is_start is_rare same_start same_rare tested told =
+tables_of b empty one short is_short start start_ref rare rare_ref empty_is some one_is several is_start is_rare
+    same_start same_rare tested told =
     record {
       some = sym empty_is ∙ some;
       several = sym one_is ∙ several;

@@ -1,12 +1,15 @@
 -- What a builder keeps of its patterns, one pattern more, and the tables that it gives.
 -- For `Running`.
-use Rattle.std.proofs.Common.{◌≡◌, ◌==◌, ℕ, ◌<◌, ◌≤◌, ◌||◌, ◌&&◌, ◌↔◌, IsTrue, not, max, cond, Bool, true, false, List, [], ◌∷◌, ◌++◌, length, drop, nat_le, nat_lt, slice_index, Option, Some, None, refl, sym, ap, ◌∙◌, ⊎_elim, arith}
+use Rattle.std.proofs.Common.{◌≡◌, ◌==◌, ℕ, ◌<◌, ◌≤◌, ◌||◌, ◌&&◌, ◌↔◌, IsTrue, not, max, cond, Bool, true, false, List}
+use Rattle.std.proofs.Common.{[], ◌∷◌, ◌++◌, length, drop, nat_le, nat_lt, slice_index, Option, Some, None, refl, sym}
+use Rattle.std.proofs.Common.{ap, ◌∙◌, ⊎_elim, arith}
 use Rattle.std.proofs.lemmas.Bool.{cases_lt, lt-leb, le-leb, lt-ltb, or_left}
 use Rattle.std.proofs.lemmas.List.Folds.{list_any-append, list_all-append}
 use Rattle.std.proofs.lemmas.List.Sums.{fold_push}
 use Rattle.literal_base.specs.Occurs.{same_byte}
 use Rattle.literal_prefilters.specs.Table.{size}
-use Rattle.literal_prefilters.specs.Tables.{of_set, table_of, if_low, if_small, is_start_byte, start_table, with_rarest, is_rare_byte, offset_below, largest_offset, rare_table}
+use Rattle.literal_prefilters.specs.Tables.{of_set, table_of, if_low, if_small, is_start_byte, start_table, with_rarest}
+use Rattle.literal_prefilters.specs.Tables.{is_rare_byte, offset_below, largest_offset, rare_table}
 use Rattle.literal_prefilters.specs.Inside.Running.{IsUpTo, are_short, came_of, one_more}
 use Rattle.literal_prefilters.proofs.lemmas.Lists.{or_false}
 use Rattle.literal_prefilters.proofs.lemmas.Rare.{is_rare_byte-push, with_rarest-agree}
@@ -41,7 +44,8 @@ are_short-push ps p =
 pub short_more : (ps : List (List ℕ)) (p : List ℕ) (long : Bool) → long ≡ not (are_short ps) → length p ≤ 255
     → long ≡ not (are_short (ps ++ p ∷ []))
 short_more ps p long is short =
-    is ∙ ap not (sym (are_short-push ps p ∙ (ap (λ t. are_short ps && t) (le-leb (length p) 255 short) ∙ and_true (are_short ps))))
+    is ∙ ap not (sym (are_short-push ps p ∙ (ap (λ t. are_short ps && t) (le-leb (length p) 255 short)
+        ∙ and_true (are_short ps))))
 
 pub some_more : (ps : List (List ℕ)) (p : List ℕ) (n : ℕ) → 1 ≤ n → nat_lt 0 (length (ps ++ p ∷ [])) ≡ nat_le 1 n
 some_more [] p n some = sym (le-leb 1 n some)
@@ -49,7 +53,8 @@ some_more (q ∷ ps) p n some =
     lt-ltb 0 (length (q ∷ ps ++ p ∷ [])) (omega arith) ∙ sym (le-leb 1 n some)
 
 pub fits : (past : Bool) (n : ℕ) → (IsTrue past ↔ (3 < n)) → past ≡ false → n ≤ 3
-fits past n tells not = ⊎_elim (λ (many : 3 < n). absurd (let is : past ≡ true = tells.1 many in cc)) (λ few. few) (cases_lt 3 n)
+fits past n tells not = ⊎_elim (λ (many : 3 < n). absurd (let is : past ≡ true = tells.1 many in cc)) (λ few. few)
+    (cases_lt 3 n)
 
 -- the same set
 pub up_to : (set wanted : ℕ → Bool) → ((b : ℕ) → set b ≡ wanted b) → IsUpTo set wanted
@@ -98,7 +103,8 @@ module _ (c : Bool) (ps : List (List ℕ)) (p : List ℕ) (set : ℕ → Bool) w
 -- no table of more than three bytes
 no_small : (p : ℕ → Bool) (f : ℕ → ℕ) → 3 < size (of_set p) → if_small (table_of p f) ≡ None
 no_small p f many =
-    let past : nat_le (size (table_of p f)) 3 ≡ false = lt-leb (size (table_of p f)) 3 (omega (arith, size-of_set p f)) in
+    let past : nat_le (size (table_of p f)) 3 ≡ false = lt-leb (size (table_of p f)) 3 (omega
+        (arith, size-of_set p f)) in
     from (nat_le 1 (size (table_of p f))) (nat_le (size (table_of p f)) 3) past
   where
     from : (a b : Bool) → b ≡ false → cond (a && b) (Some (table_of p f)) None ≡ None
@@ -121,7 +127,8 @@ start_table-up_to c ps set u =
     ⊎_elim
     (λ (many : 3 < size (of_set set)). no_low (of_set set) (no_small set (λ _. 0) many)
     ∙ sym (no_low (of_set wanted) (no_small wanted (λ _. 0) (u.past many))))
-    (λ (few : size (of_set set) ≤ 3). ap if_low (table_of_agree set wanted (λ (_ : ℕ). 0) (λ _. 0) (u.exact few) (λ b. refl)))
+    (λ (few : size (of_set set) ≤ 3). ap if_low (table_of_agree set wanted (λ (_ : ℕ). 0) (λ _. 0) (u.exact few)
+        (λ b. refl)))
     (cases_lt 3 (size (of_set set)))
 
 -- there is no rare table where a pattern is long
@@ -129,7 +136,8 @@ pub rare_table-long : (c : Bool) (ps : List (List ℕ)) → true ≡ not (are_sh
 rare_table-long c ps long =
     from (nat_lt 0 (length ps)) (are_short ps) _ long
   where
-    from : (a b d : Bool) → true ≡ not b → None ≡ cond ((a && b) && d) (Some (table_of (is_rare_byte c ps) (largest_offset c ps))) None
+    from : (a b d : Bool) → true ≡ not b → None ≡ cond ((a && b) && d) (Some (table_of (is_rare_byte c ps)
+        (largest_offset c ps))) None
     from a true d e = absurd cc
     from true false d e = refl
     from false false d e = refl
@@ -148,14 +156,16 @@ rare_table-up_to c ps set far short u some offsets =
     ∙ sym (past (nat_lt 0 (length ps) && are_short ps) (nat_le (size (table_of wanted most)) 3)
     (lt-leb (size (table_of wanted most)) 3 (let was = u.past many in omega (arith, size-of_set wanted most)))))
     (λ (few : size (of_set set) ≤ 3).
-    let same : table_of set far ≡ table_of wanted most = table_of_agree set wanted far most (u.exact few) (offsets few) in
+    let same : table_of set far ≡ table_of wanted most = table_of_agree set wanted far most (u.exact few)
+        (offsets few) in
     ap if_small same
     ∙ ap (λ t. cond (t && nat_le (size (table_of wanted most)) 3) (Some (table_of wanted most)) None)
     (ap (λ n. nat_le 1 n) (ap size (sym same) ∙ size-of_set set far)
     ∙ (sym some ∙ kept (nat_lt 0 (length ps)) (are_short ps) short)))
     (cases_lt 3 (size (of_set set)))
   where
-    past : (a b : Bool) → b ≡ false → cond (a && b) (Some (table_of (is_rare_byte c ps) (largest_offset c ps))) None ≡ None
+    past : (a b : Bool) → b ≡ false → cond (a && b) (Some (table_of (is_rare_byte c ps)
+        (largest_offset c ps))) None ≡ None
     past a true e = absurd cc
     past true false e = refl
     past false false e = refl

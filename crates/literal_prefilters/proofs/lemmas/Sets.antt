@@ -1,6 +1,8 @@
 -- How many bytes a set has, and the sum of their ranks: one byte more, and whatever distances they have in a table.
 -- For `CountedSet`, `ByteTable::if_small` and `Running`.
-use Rattle.std.proofs.Common.{◌≡◌, ◌==◌, ℕ, ◌+◌, ◌<◌, ◌≤◌, ◌||◌, zero, suc, cond, Bool, true, false, List, [], ◌∷◌, length, get_or, set, Option, Some, None, is_some, sum_by, refl, sym, ap, ◌∙◌, ⊎_elim, eq-eqb, arith}
+use Rattle.std.proofs.Common.{◌≡◌, ◌==◌, ℕ, ◌+◌, ◌<◌, ◌≤◌, ◌||◌, zero, suc, cond, Bool, true, false, List, [], ◌∷◌}
+use Rattle.std.proofs.Common.{length, get_or, set, Option, Some, None, is_some, sum_by, refl, sym, ap, ◌∙◌, ⊎_elim}
+use Rattle.std.proofs.Common.{eq-eqb, arith}
 use Rattle.std.specs.List.{enumerate_from}
 use Rattle.std.proofs.lemmas.Bool.{cases_eq, ne_eqb}
 use Rattle.std.proofs.lemmas.List.{length-set, get_or-set_same, get_or-set_other}
@@ -20,7 +22,8 @@ entry q = cond q (Some 0) None
 abbrev one : Option ℕ → ℕ
 one o = cond (is_some o) 1 0
 
-sum_agree : {X : Type 0} (f g : X → ℕ) (xs ys : List X) → length xs ≡ length ys → ((k : ℕ) (d : X) → k < length xs → f (get_or xs k d) ≡ g (get_or ys k d)) → sum_by f xs ≡ sum_by g ys
+sum_agree : {X : Type 0} (f g : X → ℕ) (xs ys : List X) → length xs ≡ length ys → ((k : ℕ) (d : X) → k < length xs
+    → f (get_or xs k d) ≡ g (get_or ys k d)) → sum_by f xs ≡ sum_by g ys
 sum_agree f g [] [] e same = refl
 sum_agree f g [] (y ∷ ys) e same = absurd (omega arith)
 sum_agree f g (x ∷ xs) [] e same = absurd (omega arith)
@@ -38,7 +41,9 @@ size-of_set p f =
     sum_agree one one (table_of p f) (of_set p) (length-table_of p f ∙ sym (length-table_of p (λ _. 0)))
     (λ k d below.
     let inside : k < 256 = omega (arith, length-by_byte (λ b. cond (p b) (Some (f b)) None)) in
-    ap one (get_or-by_byte (λ b. cond (p b) (Some (f b)) None) k d inside) ∙ (ap (λ t. cond {A = ℕ} t 1 0) (some_is (p k) (f k) 0) ∙ sym (ap one (get_or-by_byte (λ b. entry (p b)) k d inside))))
+    ap one (get_or-by_byte (λ b. cond (p b) (Some (f b)) None) k d inside)
+        ∙ (ap (λ t. cond {A = ℕ} t 1 0) (some_is (p k) (f k) 0)
+        ∙ sym (ap one (get_or-by_byte (λ b. entry (p b)) k d inside))))
 
 -- one byte more
 some_more : (q t : Bool) → t ≡ false → entry (q || t) ≡ entry q
@@ -51,14 +56,18 @@ some_new true t e = refl
 some_new false true e = refl
 some_new false false e = absurd cc
 
-of_set-more : (p q : ℕ → Bool) (x : ℕ) → x < 256 → ((b : ℕ) → q b ≡ (p b || b == x)) → set (of_set p) x (Some 0) ≡ of_set q
+of_set-more : (p q : ℕ → Bool) (x : ℕ) → x < 256 → ((b : ℕ) → q b ≡ (p b || b == x))
+    → set (of_set p) x (Some 0) ≡ of_set q
 of_set-more p q x byte each =
     let here : ℕ → Option ℕ = λ b. entry (p b) in
     let long = length-by_byte here in
     by_byte_is (λ b. entry (q b)) (set (of_set p) x (Some 0)) None (length-set (of_set p) x (Some 0) ∙ long) (λ k below.
     ⊎_elim
-    (λ (e : k ≡ x). ap (λ j. get_or (set (of_set p) x (Some 0)) j None) e ∙ (get_or-set_same (of_set p) x (Some 0) None (omega arith) ∙ (some_new (p k) (k == x) (eq-eqb k x e) ∙ ap entry (sym (each k)))))
-    (λ (ne : k ≡ x → ⊥). get_or-set_other (of_set p) x k (Some 0) None ne ∙ (get_or-by_byte here k None below ∙ (sym (some_more (p k) (k == x) (ne_eqb k x ne)) ∙ ap entry (sym (each k)))))
+    (λ (e : k ≡ x). ap (λ j. get_or (set (of_set p) x (Some 0)) j None) e
+        ∙ (get_or-set_same (of_set p) x (Some 0) None (omega arith) ∙ (some_new (p k) (k == x) (eq-eqb k x e)
+        ∙ ap entry (sym (each k)))))
+    (λ (ne : k ≡ x → ⊥). get_or-set_other (of_set p) x k (Some 0) None ne ∙ (get_or-by_byte here k None below
+        ∙ (sym (some_more (p k) (k == x) (ne_eqb k x ne)) ∙ ap entry (sym (each k)))))
     (cases_eq k x))
 
 module _ (p q : ℕ → Bool) (x : ℕ) (byte : x < 256) (each : (b : ℕ) → q b ≡ (p b || b == x)) where
@@ -75,14 +84,16 @@ module _ (p q : ℕ → Bool) (x : ℕ) (byte : x < 256) (each : (b : ℕ) → q
       ap size (sym (of_set-more p q x byte each)) ∙ omega arith
 
 -- the places of a list with one value set
-enumerate-set : (xs : List (Option ℕ)) (n i : ℕ) (y : Option ℕ) → enumerate_from n (set xs i y) ≡ set (enumerate_from n xs) i (n + i, y)
+enumerate-set : (xs : List (Option ℕ)) (n i : ℕ) (y : Option ℕ)
+    → enumerate_from n (set xs i y) ≡ set (enumerate_from n xs) i (n + i, y)
 enumerate-set [] n i y = refl
 enumerate-set (x ∷ xs) n zero y =
     let e : n + 0 ≡ n = omega arith in
     ap (λ k. (k, y) ∷ enumerate_from (n + 1) xs) (sym e)
 enumerate-set (x ∷ xs) n (suc i) y =
     let e : (n + 1) + i ≡ n + suc i = omega arith in
-    ap (λ es. (n, x) ∷ es) (enumerate-set xs (n + 1) i y) ∙ ap (λ k. (n, x) ∷ set (enumerate_from (n + 1) xs) i (k, y)) e
+    ap (λ es. (n, x) ∷ es) (enumerate-set xs (n + 1) i y) ∙ ap (λ k. (n, x) ∷ set (enumerate_from (n + 1) xs) i
+        (k, y)) e
 
 module _ (p q : ℕ → Bool) (x : ℕ) (byte : x < 256) (each : (b : ℕ) → q b ≡ (p b || b == x)) where
   pub rank_sum-more : p x ≡ false → rank_sum_of (of_set q) ≡ rank_sum_of (of_set p) + rank_of x
@@ -92,11 +103,14 @@ module _ (p q : ℕ → Bool) (x : ℕ) (byte : x < 256) (each : (b : ℕ) → q
       let inside : x < length t = omega (arith, long) in
       let zero_x : 0 + x ≡ x = omega arith in
       let none : get_or t x None ≡ None = get_or-by_byte (λ b. entry (p b)) x None byte ∙ ap entry new in
-      let at : get_or (enumerate_from 0 t) x (0, None) ≡ (x, None) = get_or-enumerate_from 0 t x (0, None) inside ∙ (ap (λ o. (0 + x, o)) none ∙ ap (λ k. (k, None)) zero_x) in
+      let at : get_or (enumerate_from 0 t) x (0, None) ≡ (x, None) = get_or-enumerate_from 0 t x (0, None) inside
+          ∙ (ap (λ o. (0 + x, o)) none ∙ ap (λ k. (k, None)) zero_x) in
       let old : rank_at (get_or (enumerate_from 0 t) x (0, None)) ≡ 0 = ap rank_at at in
-      let changed = sum_by-set rank_at (enumerate_from 0 t) x (0 + x, Some 0) (0, None) (omega (arith, length-enumerate_from 0 t)) in
+      let changed = sum_by-set rank_at (enumerate_from 0 t) x (0 + x, Some 0) (0, None) (omega
+          (arith, length-enumerate_from 0 t)) in
       let added : rank_at (0 + x, Some 0) ≡ rank_of x = ap rank_of zero_x in
-      ap rank_sum_of (sym (of_set-more p q x byte each)) ∙ (ap (sum_by rank_at) (enumerate-set t 0 x (Some 0)) ∙ omega arith)
+      ap rank_sum_of (sym (of_set-more p q x byte each)) ∙ (ap (sum_by rank_at) (enumerate-set t 0 x (Some 0))
+          ∙ omega arith)
 
 -- at most 256 bytes
 pub size-of_set-le : (p : ℕ → Bool) → size (of_set p) ≤ 256
@@ -109,14 +123,16 @@ size-of_set-le p =
     at_most (Some x) = omega arith
 
 -- no byte
-sum_zero : {X : Type 0} (f : X → ℕ) (xs : List X) → ((k : ℕ) (d : X) → k < length xs → f (get_or xs k d) ≡ 0) → sum_by f xs ≡ 0
+sum_zero : {X : Type 0} (f : X → ℕ) (xs : List X) → ((k : ℕ) (d : X) → k < length xs → f (get_or xs k d) ≡ 0)
+    → sum_by f xs ≡ 0
 sum_zero f [] none = refl
 sum_zero f (x ∷ xs) none =
     let first : f x ≡ 0 = none 0 x (omega arith) in
     let more = sum_zero f xs (λ k d below. none (suc k) d (omega arith)) in
     omega (arith, sum_by-cons f x xs)
 
-none_at : (p : ℕ → Bool) → ((b : ℕ) → p b ≡ false) → (k : ℕ) (d : Option ℕ) → k < length (of_set p) → get_or (of_set p) k d ≡ None
+none_at : (p : ℕ → Bool) → ((b : ℕ) → p b ≡ false) → (k : ℕ) (d : Option ℕ) → k < length (of_set p)
+    → get_or (of_set p) k d ≡ None
 none_at p none k d below =
     get_or-by_byte (λ b. entry (p b)) k d (omega (arith, length-by_byte (λ b. entry (p b)))) ∙ ap entry (none k)
 
@@ -134,17 +150,21 @@ rank_sum-of_set p f =
     let t = table_of p f in
     let u = of_set p in
     sum_agree rank_at rank_at (enumerate_from 0 t) (enumerate_from 0 u)
-    (length-enumerate_from 0 t ∙ (length-table_of p f ∙ sym (length-enumerate_from 0 u ∙ length-table_of p (λ _. 0)))) (λ k d below.
+    (length-enumerate_from 0 t ∙ (length-table_of p f ∙ sym (length-enumerate_from 0 u
+        ∙ length-table_of p (λ _. 0)))) (λ k d below.
     let inside : k < 256 = omega (arith, length-enumerate_from 0 t, length-table_of p f) in
-    ap rank_at (get_or-enumerate_from 0 t k d (omega (arith, length-table_of p f)) ∙ ap (λ o. (0 + k, o)) (get_or-by_byte (λ b. cond (p b) (Some (f b)) None) k d.1 inside))
+    ap rank_at (get_or-enumerate_from 0 t k d (omega (arith, length-table_of p f))
+        ∙ ap (λ o. (0 + k, o)) (get_or-by_byte (λ b. cond (p b) (Some (f b)) None) k d.1 inside))
     ∙ (ap (λ s. cond s (rank_of (0 + k)) 0) (some_is (p k) (f k) 0)
-    ∙ sym (ap rank_at (get_or-enumerate_from 0 u k d (omega (arith, length-table_of p (λ _. 0))) ∙ ap (λ o. (0 + k, o)) (get_or-by_byte (λ b. entry (p b)) k d.1 inside)))))
+    ∙ sym (ap rank_at (get_or-enumerate_from 0 u k d (omega (arith, length-table_of p (λ _. 0)))
+        ∙ ap (λ o. (0 + k, o)) (get_or-by_byte (λ b. entry (p b)) k d.1 inside)))))
 
 pub size-agree : (p q : ℕ → Bool) → ((b : ℕ) → p b ≡ q b) → size (of_set p) ≡ size (of_set q)
 size-agree p q same = ap size (table_of_agree p q (λ (_ : ℕ). 0) (λ _. 0) same (λ b. refl))
 
 -- a set with more has no fewer bytes
-sum_grows : {X : Type 0} (f : X → ℕ) (xs ys : List X) → length xs ≡ length ys → ((k : ℕ) (d : X) → k < length xs → f (get_or xs k d) ≤ f (get_or ys k d)) → sum_by f xs ≤ sum_by f ys
+sum_grows : {X : Type 0} (f : X → ℕ) (xs ys : List X) → length xs ≡ length ys → ((k : ℕ) (d : X) → k < length xs
+    → f (get_or xs k d) ≤ f (get_or ys k d)) → sum_by f xs ≤ sum_by f ys
 sum_grows f [] [] e same = omega arith
 sum_grows f [] (y ∷ ys) e same = omega arith
 sum_grows f (x ∷ xs) [] e same = absurd (omega arith)

@@ -36,8 +36,8 @@ pub record IsUpTo (set wanted : ℕ → Bool) : Type 0 where
 pub record IsRunningStart (ignore_case : Bool) (patterns : List (List ℕ)) (start : RunningStart) : Type 0 where
   pub set : IsUpTo (contains start.set) (is_start_byte ignore_case patterns)
 
--- the rare bytes of the patterns and their largest offsets, as far as they are kept up: once a long pattern came there is
--- no rare table and never will be, and neither set nor offsets need be kept up
+-- the rare bytes of the patterns and their largest offsets, as far as they are kept up: once a long pattern came there
+-- is no rare table and never will be, and neither set nor offsets need be kept up
 pub record IsRunningRare (ignore_case : Bool) (patterns : List (List ℕ)) (rare : RunningRare) : Type 0 where
   pub long : rare.has_long ≡ not (are_short patterns)
   pub set : rare.has_long ≡ false → IsUpTo (contains rare.set) (is_rare_byte ignore_case patterns)
