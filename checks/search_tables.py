@@ -13,6 +13,8 @@ PACKED_LAWS = "crates/literal_packed/src/laws.rt"
 PREFILTER = "crates/literal_prefilters/src/prefilter.rt"
 PREFILTER_LAWS = "crates/literal_prefilters/src/laws.rt"
 BYTE_TABLE = "crates/literal_prefilters/src/prefilter/byte_table.rt"
+COUNTED_SET = "crates/literal_prefilters/src/prefilter/counted_set.rt"
+RUNNING = "crates/literal_prefilters/src/prefilter/running.rt"
 CONFIRMING = "crates/literal_prefilters/src/prefilter/confirming.rt"
 EXACT = "crates/literal_prefilters/src/prefilter/exact.rt"
 KINDS = "crates/literal_prefilters/src/prefilter/kinds.rt"
@@ -161,16 +163,23 @@ OTHER_SIGNATURES = {
     (PREFILTER, "impl fmt::Debug for Builder", "fmt"): "a writer",
     (CONFIRMING, "", "confirm"): "a prefilter of any kind",
     (CONFIRMING, "impl ConfirmingSearch", "build"): "patterns by an iterator",
-    (BYTE_TABLE, "impl ByteTable", "if_small"): "the distance of each byte",
+    (BYTE_TABLE, "impl ByteTable", "if_small"): "the offset of each byte",
     (BYTE_TABLE, "impl ByteTable", "distance"): "a byte",
     (TABLES, "", "bytes_of"): "the bytes of a pattern",
-    (TABLES, "", "mark"): "a byte of a pattern",
-    (TABLES, "", "holds_any"): "the bytes of a pattern",
+    (COUNTED_SET, "impl CountedSet", "mark"): "a byte of a pattern",
+    (COUNTED_SET, "impl CountedSet", "add"): "a byte of a pattern",
+    (COUNTED_SET, "impl CountedSet", "contains"): "a byte",
+    (COUNTED_SET, "impl CountedSet", "holds_any"): "the bytes of a pattern",
+    (RUNNING, "impl Running", "push"): "the bytes of a pattern",
+    (RUNNING, "impl RunningStart", "add"): "the bytes of a pattern",
+    (RUNNING, "impl RunningRare", "add"): "the bytes of a pattern",
+    (TABLES, "", "add_start"): "the bytes of a pattern",
+    (TABLES, "", "add_rarest"): "the bytes of a pattern",
     (TABLES, "", "rarest"): "the bytes of a pattern",
     (TABLES, "", "raise"): "a byte of a pattern",
     (TABLES, "", "raise_all"): "the bytes of a pattern",
     (TABLES, "", "largest_offsets"): "the offset of each byte",
-    (TABLES, "", "table_of"): "the offset of each byte",
+    (TABLES, "", "distances"): "the offset and the distance of each byte",
 }
 
 # The functions that take a prefilter of any kind, as `pre: &P`, and know of it what the trait says.
@@ -183,7 +192,7 @@ CLOSURES = {
     (PATTERN, "", "sort_longest_first"): "compares two identifiers",
     (RABIN_KARP, "", "starts_of"): "tells the bucket of an entry",
     (RABIN_KARP, "impl RabinKarp", "new"): "tells the bucket of an entry",
-    (TABLES, "", "holds_any"): "looks up a byte of a pattern",
+    (COUNTED_SET, "impl CountedSet", "holds_any"): "looks up a byte of a pattern",
     (PREFILTER, "impl Builder", "is_short_list"): "counts the bytes of a table",
 }
 
@@ -314,6 +323,8 @@ STRUCTS = {
         minimum_len: usize, total_pattern_bytes: u128, }""",
     "Pattern": "#[derive(Clone, Drop)] pub struct Pattern<'p>(&'p [u8]);",
     "ByteTable": "#[derive(Drop)] pub struct ByteTable { distances: [Option<u8>; 256], count: usize, rank_sum: u16, }",
+    "RunningRare": """#[derive(Drop)]
+        struct RunningRare { set: CountedSet, offsets: [u8; 256], has_long: bool, }""",
     "ConfirmingSearch": """#[derive(Drop)]
         pub struct ConfirmingSearch { patterns: Patterns, ignore_case: bool, prefilter: Prefilter, }""",
     "Memmem": "#[derive(Drop)] pub struct Memmem { patterns: Patterns, rabin_karp: RabinKarp, }",

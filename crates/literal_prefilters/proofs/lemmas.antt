@@ -11,11 +11,12 @@ pub mod KeptByte
 pub mod Lists
 pub mod Near
 pub mod Offsets
-pub mod Ranks
 pub mod Rare
 pub mod RareSet
 pub mod Rarest
 pub mod Reach
+pub mod Running
+pub mod Sets
 pub mod Sizes
 pub mod Sound
 pub mod Stands

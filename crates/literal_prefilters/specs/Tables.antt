@@ -15,19 +15,25 @@ table_of in_set distance = by_byte (λ b. if in_set b then Some (distance b) els
 abbrev pub if_small : List (Option ℕ) → Option (List (Option ℕ))
 if_small table = if nat_le 1 (size table) && nat_le (size table) 3 then Some table else None
 
+-- the bytes of a set, each with the distance 0
+abbrev pub of_set : (ℕ → Bool) → List (Option ℕ)
+of_set in_set = table_of in_set (λ _. 0)
+
+-- a table of one to three bytes, all at most 0x7F
+abbrev pub if_low : List (Option ℕ) → Option (List (Option ℕ))
+if_low table = if size (drop 128 table) == 0 then if_small table else None
+
 -- some pattern, in some case, begins with the byte
 abbrev pub is_start_byte : Bool → List (List ℕ) → ℕ → Bool
 is_start_byte ignore_case patterns byte = list_any (λ p. same_byte ignore_case byte (slice_index p 0)) patterns
 
 -- the bytes with which the patterns begin, each with the distance 0
 abbrev pub start_bytes : Bool → List (List ℕ) → List (Option ℕ)
-start_bytes ignore_case patterns = table_of (is_start_byte ignore_case patterns) (λ _. 0)
+start_bytes ignore_case patterns = of_set (is_start_byte ignore_case patterns)
 
 -- the start table, if its bytes are one to three, all at most 0x7F
 abbrev pub start_table : Bool → List (List ℕ) → Option (List (Option ℕ))
-start_table ignore_case patterns =
-    let table = start_bytes ignore_case patterns in
-    if size (drop 128 table) == 0 then if_small table else None
+start_table ignore_case patterns = if_low (start_bytes ignore_case patterns)
 
 -- of two bytes the one of less rank, and of equal ranks the first
 abbrev pub rarer : ℕ → ℕ → ℕ

@@ -1,6 +1,7 @@
 //! Prefilters: they pass over parts of a haystack in which no pattern occurs, and propose places at
 //! which one may begin. All offsets are in bytes, from the beginning of the whole haystack.
-ghost use Rattle.std.specs.Prelude.{◌≡◌, ◌≤◌, ◌<◌, ◌∷◌, ℕ, List, [], length, Some, OnOk, OnErr, IfOk, IfSome, false};
+ghost use Rattle.std.specs.List.{All};
+ghost use Rattle.std.specs.Prelude.{◌≡◌, ◌==◌, ◌≤◌, ◌<◌, ◌∷◌, ℕ, List, [], length, Some, OnOk, OnErr, IfOk, IfSome, false};
 ghost use Rattle.std.specs.Prelude.{IsSomeAnd, IsTrue, ◌||◌, if◌then◌else◌};
 ghost use Rattle.std.specs.Option.{option_copied};
 ghost use Rattle.literal_base.specs.Occurs.{IsValidSpan};
@@ -12,14 +13,17 @@ ghost use Rattle.literal_prefilters.specs.PrefilterValue.{by_table, prefilter_re
 ghost use Rattle.literal_prefilters.specs.PrefilterBuilderValue.{PrefilterBuilderValue, pattern_limit, with_added};
 ghost use Rattle.literal_packed.specs.PatternsValue.{IsInOrder};
 ghost use Rattle.literal_packed.specs.State.{WouldKeep, kept_of};
-ghost use Rattle.literal_prefilters.specs.Table.{reach_of};
+ghost use Rattle.literal_prefilters.specs.Table.{Covers, reach_of};
+ghost use Rattle.literal_prefilters.specs.Tables.{rare_table, start_table};
 ghost use Rattle.literal_prefilters.specs.Inside.Prefilter.{value_of_finder};
 ghost use Rattle.literal_prefilters.specs.Sound.{Coverage, PassesOverNone, KeepsReach};
 
 mod byte_table;
 mod confirming;
+mod counted_set;
 mod exact;
 mod kinds;
+mod running;
 mod tables;
 
 pub use byte_table::ByteTable;
@@ -35,6 +39,7 @@ use literal_base::packed;
 use literal_base::search::{Match, MatchKind, Span};
 use literal_ids::PatternID;
 use literal_packed::pattern::Patterns;
+use running::Running;
 use std::alloc::{AllocError, Global};
 use std::fmt;
 use std::marker::Model;
@@ -253,6 +258,8 @@ pub trait PrefilterI {
 /// Collects patterns, and builds the prefilter that suits them, if one does. An empty pattern, or one
 /// more than [`PatternID::LIMIT`] patterns, *disables* the builder for good: it then keeps no
 /// pattern, and builds no prefilter, whatever is added later.
+///
+/// Beside the patterns it keeps what their tables are made of, so that no pattern is read again for them.
 #[derive(Drop)]
 pub struct Builder {
     alloc: Global,
@@ -260,6 +267,7 @@ pub struct Builder {
     ascii_case_insensitive: bool,
     enabled: bool,
     patterns: Patterns,
+    running: Running,
 }
 
 impl Model for Builder {
@@ -286,6 +294,7 @@ impl Builder {
             ascii_case_insensitive: false,
             enabled: true,
             patterns: Patterns::new(alloc),
+            running: Running::new(),
         }
     }
 
@@ -297,6 +306,7 @@ impl Builder {
     {
         Builder {
             ascii_case_insensitive: yes,
+            running: Running::new(),
             ..self
         }
     }
@@ -317,7 +327,7 @@ impl Builder {
         ensures no_memory { OnErr result (IsSomeAnd (pick self.now) TakesMemory) }
         ensures covers { IfOk result (λ built. IfSome built (IsBuiltFor self.now)) }
     {
-        if self.patterns.is_empty() {
+        if self.is_empty() {
             return Ok(None);
         }
         if self.is_one_pattern() {
@@ -327,8 +337,8 @@ impl Builder {
                 finder: Finder::Memmem(memmem),
             }));
         }
-        let start = ByteTable::start(&self.patterns, self.ascii_case_insensitive);
-        let rare = ByteTable::rare(&self.patterns, self.ascii_case_insensitive);
+        let start = self.start_table();
+        let rare = self.rare_table();
         if self.is_short_list(start.as_ref(), rare.as_ref()) {
             return self.packed();
         }
@@ -352,10 +362,34 @@ impl Builder {
         Ok(patterns)
     }
 
+    /// There is no pattern, or the builder is disabled.
+    fn is_empty(&self) -> bool
+        ensures { result ≡ (length (kept_of self.now.state) == 0) }
+    {
+        self.running.is_empty()
+    }
+
     fn is_one_pattern(&self) -> bool
         ensures { result ≡ is_one_pattern self.now }
     {
-        !self.ascii_case_insensitive && self.patterns.len() == 1
+        !self.ascii_case_insensitive && self.running.is_one()
+    }
+
+    /// What [`ByteTable::start`] gives for the patterns.
+    fn start_table(&self) -> Option<ByteTable>
+        ensures table { result ≡ start_table self.now.ignore_case (kept_of self.now.state) }
+        ensures none_back { IfSome result (λ t. reach_of t ≡ 0) }
+        ensures covers { IfSome result (λ t. All (Covers t self.now.ignore_case) (kept_of self.now.state)) }
+    {
+        self.running.start_table()
+    }
+
+    /// What [`ByteTable::rare`] gives for the patterns.
+    fn rare_table(&self) -> Option<ByteTable>
+        ensures table { result ≡ rare_table self.now.ignore_case (kept_of self.now.state) }
+        ensures covers { IfSome result (λ t. All (Covers t self.now.ignore_case) (kept_of self.now.state)) }
+    {
+        self.running.rare_table()
     }
 
     /// Whether a packed search finds just the matches that are wanted.
@@ -420,9 +454,12 @@ impl Builder {
         if bytes.is_empty() || self.patterns.len() >= PatternID::LIMIT {
             self.enabled = false;
             self.patterns.reset();
+            self.running = Running::new();
             return Ok(());
         }
-        self.patterns.add(bytes)
+        self.patterns.add(bytes)?;
+        self.running.push(bytes, self.ascii_case_insensitive);
+        Ok(())
     }
 }
 

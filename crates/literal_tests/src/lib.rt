@@ -34,6 +34,8 @@ mod ranks;
 #[cfg(test)]
 mod rows;
 #[cfg(test)]
+mod running_tables;
+#[cfg(test)]
 mod spans;
 pub mod steps;
 #[cfg(test)]

@@ -1,16 +1,19 @@
 -- What is picked in the cases where the search needs a hint.
--- For `Builder::build` of prefilters.
-use Rattle.std.proofs.Common.{◌≡◌, ◌==◌, ◌&&◌, ◌||◌, not, ℕ, Bool, true, false, List, [], ◌∷◌, ◌↔◌, length, Option}
-use Rattle.std.proofs.Common.{Some, None, is_some}
-use Rattle.std.proofs.Common.{◌<◌, ◌≤◌, IsTrue, option_map, cond, sym, refl, ap, ◌∙◌, arith}
-use Rattle.literal_packed.specs.State.{kept_of}
+-- For `build`, `start_table` and `rare_table` of the builder of prefilters.
+use Rattle.std.proofs.Common.{◌≡◌, ◌==◌, ◌&&◌, ◌||◌, not, ℕ, Bool, true, false, List, [], length, Option, Some, None}
+use Rattle.std.proofs.Common.{is_some}
+use Rattle.std.proofs.Common.{◌<◌, ◌≤◌, nat_lt, get_or, option_map, cond, sym, refl, ap, ◌∙◌, arith}
 use Rattle.std.specs.Option.{option_or}
+use Rattle.std.proofs.lemmas.Bool.{and_parts, ltb-true}
+use Rattle.std.proofs.lemmas.List.Sums.{AllPass-from_list_all}
+use Rattle.std.proofs.lemmas.Option.{cond_some}
+use Rattle.literal_packed.specs.State.{kept_of, may_keep}
 use Rattle.literal_base.specs.declared.packed.MatchKind.{MatchKind}
 use Rattle.literal_base.specs.Kinds.{packed_kind_of}
-use Rattle.literal_base.specs.Occurs.{pattern_at}
+use Rattle.literal_base.specs.Occurs.{NoneIsEmpty, pattern_at}
 use Rattle.literal_prefilters.specs.Choice.{has_fewer_start_bytes, is_last_resort, is_one_pattern, is_short_list}
 use Rattle.literal_prefilters.specs.Choice.{is_start_nearly_as_rare, packed_search, pick, suits_packed}
-use Rattle.literal_prefilters.specs.PrefilterBuilderValue.{PrefilterBuilderValue}
+use Rattle.literal_prefilters.specs.PrefilterBuilderValue.{PrefilterBuilderValue, pattern_limit}
 use Rattle.literal_prefilters.specs.Inside.Prefilter.{builder_value, IsSound}
 use Rattle.literal_prefilters.specs.declared.prefilter.Builder.TheInside.{Inside}
 use Rattle.literal_prefilters.specs.PrefilterValue.{PrefilterValue, by_table, by_pattern, by_search}
@@ -23,11 +26,6 @@ pub record IsByTables (b : PrefilterBuilderValue) (start rare : Option (List (Op
   pub start_is : start_table b.ignore_case (kept_of b.state) ≡ start
   pub rare_is : rare_table b.ignore_case (kept_of b.state) ≡ rare
   pub short_is : is_short_list b start rare ≡ short
-
-some_of : (ps : List (List ℕ)) (empty : Bool) → (IsTrue empty ↔ (ps ≡ [])) → empty ≡ false
-    → (length ps == 0) ≡ false
-some_of [] empty none not_empty = let e : empty ≡ true = none.1 refl in absurd cc
-some_of (p ∷ ps) empty none not_empty = grind (arith)
 
 kept_is : (enabled : Bool) (ps : List (List ℕ)) → (enabled ≡ false → ps ≡ [])
     → kept_of (cond enabled (Some ps) None) ≡ ps
@@ -46,30 +44,33 @@ pub pick_last : (b : PrefilterBuilderValue) → IsByTables b None None false →
     → pick b ≡ packed_search b
 pick_last b at last = rw (at.some, at.several, at.start_is, at.rare_is, at.short_is, last) refl
 
--- the tables of the fields of a builder are those of what a caller sees of it
-pub tables_of : (b : Inside) (v : PrefilterBuilderValue) (empty : Bool)
-    (start start_ref rare rare_ref : Option (List (Option ℕ))) (short is_short : Bool)
-    → IsSound b → builder_value b ≡ v
-    → (IsTrue empty ↔ (b.patterns.patterns ≡ [])) → empty ≡ false → is_one_pattern v ≡ false
-    → start ≡ start_table b.ascii_case_insensitive b.patterns.patterns
-    → rare ≡ rare_table b.ascii_case_insensitive b.patterns.patterns
-    → start_ref ≡ start → rare_ref ≡ rare → short ≡ is_short_list v start_ref rare_ref → short ≡ is_short
-    → IsByTables v start rare is_short
-tables_of b v empty start start_ref rare rare_ref short is_short sound view none not_empty several is_start is_rare
-    same_start same_rare tested told =
+-- no pattern of a builder is empty
+pub kept_not_empty : (b : Inside) (v : PrefilterBuilderValue) → IsSound b → builder_value b ≡ v
+    → NoneIsEmpty (kept_of v.state)
+kept_not_empty b v sound view =
     let ps = b.patterns.patterns in
     let kept : kept_of v.state ≡ ps = sym (ap (λ (w : PrefilterBuilderValue). kept_of w.state) view)
     ∙ kept_is b.enabled ps sound.emptied in
-    let flag : v.ignore_case ≡ b.ascii_case_insensitive = sym
-    (ap (λ (w : PrefilterBuilderValue). w.ignore_case) view) in
+    let may = (cond_some (may_keep pattern_limit ps) ps ps sound.allowed).0 in
+    let pass = AllPass-from_list_all (λ bytes. nat_lt 0 (length bytes)) ps (and_parts _ _ may).0 in
+    rw kept (λ k d below. ltb-true 0 (length (get_or ps k d)) (pass k d below))
+
+-- what the tests and the tables say together
+pub tables_of : (b : PrefilterBuilderValue) (empty one short is_short : Bool)
+    (start start_ref rare rare_ref : Option (List (Option ℕ)))
+    → empty ≡ (length (kept_of b.state) == 0) → empty ≡ false → one ≡ is_one_pattern b → one ≡ false
+    → start ≡ start_table b.ignore_case (kept_of b.state) → rare ≡ rare_table b.ignore_case (kept_of b.state)
+    → start_ref ≡ start → rare_ref ≡ rare → short ≡ is_short_list b start_ref rare_ref → short ≡ is_short
+    → IsByTables b start rare is_short
+tables_of b empty one short is_short start start_ref rare rare_ref empty_is some one_is several is_start is_rare
+    same_start same_rare tested told =
     record {
-      some = rw kept (some_of ps empty none not_empty);
-      several = several;
-      start_is = rw (kept, flag) (sym is_start);
-      rare_is = rw (kept, flag) (sym is_rare);
-      short_is = ap (λ o. is_short_list v o rare) (sym same_start)
-          ∙ (ap (λ o. is_short_list v start_ref o) (sym same_rare)
-          ∙ (sym tested ∙ told));
+      some = sym empty_is ∙ some;
+      several = sym one_is ∙ several;
+      start_is = sym is_start;
+      rare_is = sym is_rare;
+      short_is = ap (λ o. is_short_list b o rare) (sym same_start)
+          ∙ (ap (λ o. is_short_list b start_ref o) (sym same_rare) ∙ (sym tested ∙ told));
     }
 
 either_some : {T : Type 0} (b : Bool) (x : T) (other : Option T) → is_some other ≡ true

@@ -1,5 +1,5 @@
 -- The largest offset of a byte in a pattern, one offset more.
--- For `largest_offsets` and `raise_all`.
+-- For `largest_offsets`, `raise_all` and `Running`.
 use Rattle.std.proofs.Common.{◌≡◌, ℕ, ◌+◌, ◌-◌, ◌<◌, ◌≤◌, ◌||◌, zero, suc, max, cond, Bool, true, false, List, [], ◌∷◌}
 use Rattle.std.proofs.Common.{length, get_or, fold, slice_index, add-one, ap, ◌∙◌, ⊎_elim, arith}
 use Rattle.std.proofs.lemmas.Bool.{cases_Bool, cases_eq, cond-true, cond-false}
@@ -55,7 +55,7 @@ raised_twice false true n old one new first second = omega arith
 raised_twice false false n old one new first second = omega arith
 
 -- the offset is below the length, where there is one
-offset_below-lt : (c : Bool) (b : ℕ) (p : List ℕ) (n : ℕ) → offset_below c b p n ≤ n - 1
+pub offset_below-lt : (c : Bool) (b : ℕ) (p : List ℕ) (n : ℕ) → offset_below c b p n ≤ n - 1
 offset_below-lt c b p zero = omega arith
 offset_below-lt c b p (suc n) =
     ⊎_elim

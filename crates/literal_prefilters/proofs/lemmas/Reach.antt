@@ -1,11 +1,11 @@
 -- How far past the place that it proposes a table reads.
--- For `ByteTable::count`, `start` and `candidate`, and for a law.
+-- For `ByteTable::count`, `start`, `if_small` and `candidate`, and for a law.
 use Rattle.std.proofs.Common.{◌≡◌, ◌⊎◌, inl, inr, ℕ, ◌<◌, ◌≤◌, Bool, true, false, cond, List, [], ◌∷◌, zero, suc, max}
 use Rattle.std.proofs.Common.{fold, Option, Some, None, IfSome, unwrap_or, refl, sym, ap, subst, ⊎_elim, arith}
 use Rattle.std.proofs.lemmas.Bool.{cases_lt}
 use Rattle.std.proofs.lemmas.List.{get_or_past}
 use Rattle.literal_prefilters.specs.Table.{distance_of, reach_of}
-use Rattle.literal_prefilters.specs.Tables.{is_start_byte, start_bytes}
+use Rattle.literal_prefilters.specs.Tables.{is_start_byte, start_bytes, table_of}
 use Rattle.literal_prefilters.proofs.lemmas.TableOf.{distance_of-table_of, length-table_of}
 
 most_from : (table : List (Option ℕ)) (a : ℕ) → a ≤ fold (λ most o. max most (unwrap_or o 0)) a table
@@ -32,21 +32,26 @@ pub reach_of-le : (m : ℕ) (table : List (Option ℕ)) → ((b : ℕ) → IfSom
     → reach_of table ≤ m
 reach_of-le m table each = most_below m table 0 (omega arith) each
 
-if_some_zero : (p : Bool) → IfSome (cond p (Some 0) None) (λ d. d ≤ 0)
-if_some_zero true = omega arith
-if_some_zero false = tt
+-- no distance of a table is beyond a bound of the offsets
+pub distance_of-table_of-le : (m : ℕ) (set : ℕ → Bool) (f : ℕ → ℕ) → ((b : ℕ) → f b ≤ m)
+    → (b : ℕ) → IfSome (distance_of (table_of set f) b) (λ d. d ≤ m)
+distance_of-table_of-le m set f low b =
+    let P : Option ℕ → Type 0 = λ o. IfSome o (λ d. d ≤ m) in
+    ⊎_elim
+    (λ (below : b < 256). subst P (sym (distance_of-table_of set f b below)) (if_some (set b)))
+    (λ (past : 256 ≤ b). subst P
+    (sym (get_or_past (table_of set f) b None (omega (arith, length-table_of set f)))) tt)
+    (cases_lt b 256)
+  where
+    if_some : (p : Bool) → IfSome (cond p (Some (f b)) None) (λ d. d ≤ m)
+    if_some true = low b
+    if_some false = tt
 
 -- a start table proposes the place of its byte
 pub reach_of-start_bytes : (c : Bool) (ps : List (List ℕ)) → reach_of (start_bytes c ps) ≡ 0
 reach_of-start_bytes c ps =
-    let set = is_start_byte c ps in
-    let low = reach_of-le 0 (start_bytes c ps) (λ b.
-    let P : Option ℕ → Type 0 = λ o. IfSome o (λ d. d ≤ 0) in
-    ⊎_elim
-    (λ (below : b < 256). subst P (sym (distance_of-table_of set (λ _. 0) b below)) (if_some_zero (set b)))
-    (λ (past : 256 ≤ b). subst P
-    (sym (get_or_past (start_bytes c ps) b None (omega (arith, length-table_of set (λ _. 0))))) tt)
-    (cases_lt b 256)) in
+    let low = reach_of-le 0 (start_bytes c ps)
+    (distance_of-table_of-le 0 (is_start_byte c ps) (λ _. 0) (λ b. omega arith)) in
     omega arith
 
 -- no distance is beyond the reach

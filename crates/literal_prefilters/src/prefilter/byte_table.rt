@@ -1,16 +1,17 @@
 //! A table of a few bytes, and the search for the first of them.
 ghost use Rattle.std.specs.List.{All};
-ghost use Rattle.std.specs.Prelude.{◌≡◌, ◌+◌, ◌≤◌, length, Some, IfSome, option_map, slice_index};
+ghost use Rattle.std.specs.Prelude.{◌≡◌, ◌+◌, ◌≤◌, ℕ, Some, IfSome, option_map, slice_index};
+ghost use Rattle.literal_base.specs.Bytes.{contains};
 ghost use Rattle.literal_base.specs.Occurs.{IsValidSpan};
 ghost use Rattle.literal_prefilters.specs.Kinds.{CoversAll, IsStep};
 ghost use Rattle.literal_prefilters.specs.Sound.{PassesOverNone, KeepsReach};
-ghost use Rattle.literal_prefilters.specs.Table.{AreDistances, Covers, size, rank_sum_of, distance_of, reach_of, first};
+ghost use Rattle.literal_prefilters.specs.Table.{Covers, size, rank_sum_of, distance_of, reach_of, first};
 ghost use Rattle.literal_prefilters.specs.Table.{bytes_scanned};
-ghost use Rattle.literal_prefilters.specs.Tables.{if_small, start_table, rare_table};
+ghost use Rattle.literal_prefilters.specs.Tables.{if_low, if_small, of_set, start_table, rare_table, table_of};
 
+use super::counted_set::CountedSet;
 use super::tables;
 use crate::prefilter::Candidate;
-use literal_base::byte_frequencies::freq_rank;
 use literal_base::count::Tally;
 use literal_base::search::Span;
 use literal_packed::pattern::Patterns;
@@ -57,11 +58,7 @@ impl ByteTable {
         ensures none_back { IfSome result (λ t. reach_of t ≡ 0) }
         ensures covers { IfSome result (λ t. All (Covers t ignore_case) patterns.now.patterns) }
     {
-        let set = tables::start_set(patterns, ignore_case);
-        if tables::holds_high(&set) {
-            return None;
-        }
-        tables::table_of(&set, &[0; 256])
+        ByteTable::of_start_bytes(&tables::start_set(patterns, ignore_case))
     }
 
     /// The table of a rare byte of each pattern, in both cases where ASCII case is ignored. The
@@ -77,33 +74,35 @@ impl ByteTable {
         if patterns.len() == 0 || !tables::all_short(patterns) {
             return None;
         }
-        tables::table_of(
+        ByteTable::if_small(
             &tables::rare_set(patterns, ignore_case),
             &tables::largest_offsets(patterns, ignore_case),
         )
     }
 
-    /// The table with these distances, if it has one to three bytes.
-    pub(crate) fn if_small(distances: [Option<u8>; 256]) -> Option<ByteTable>
-        requires whole { length distances ≡ 256 }
-        requires near { AreDistances distances }
-        ensures { result ≡ if_small distances }
+    /// The table of the bytes with which patterns begin, where these are one to three bytes, all at
+    /// most 0x7F.
+    pub(super) fn of_start_bytes(set: &CountedSet) -> Option<ByteTable>
+        ensures { result ≡ if_low (of_set (contains set.now)) }
     {
-        let mut count = 0;
-        let mut rank_sum = 0;
-        for (byte, distance) in distances.iter().enumerate() {
-            if distance.is_some() {
-                count += 1;
-                rank_sum += u16::from(freq_rank(byte as u8));
-            }
+        if set.holds_high() {
+            return None;
         }
-        if count < 1 || count > MOST_BYTES {
+        ByteTable::if_small(set, &[0; 256])
+    }
+
+    /// The table of the bytes of the set with these distances, if it has one to three bytes.
+    pub(super) fn if_small(set: &CountedSet, offsets: &[u8; 256]) -> Option<ByteTable>
+        requires { (b : ℕ) → slice_index offsets.now b ≤ 254 }
+        ensures { result ≡ if_small (table_of (contains set.now) (slice_index offsets.now)) }
+    {
+        if !set.fits_a_table() {
             return None;
         }
         Some(ByteTable {
-            distances,
-            count,
-            rank_sum,
+            distances: tables::distances(set, offsets),
+            count: set.count(),
+            rank_sum: set.rank_sum(),
         })
     }
 

@@ -1,21 +1,22 @@
 //! The tables of a list of patterns: by the bytes with which they begin, and by a rare byte of each.
-ghost use Rattle.std.specs.Prelude.{◌≡◌, ◌==◌, ◌||◌, ◌<◌, ◌≤◌, ◌↔◌, ℕ, max, true, length, slice_index, if◌then◌else◌};
-ghost use Rattle.std.specs.Prelude.{IsTrue, nat_le};
-ghost use Rattle.std.specs.List.{All, list_any, list_all};
+ghost use Rattle.std.specs.Prelude.{◌≡◌, ◌==◌, ◌||◌, ◌<◌, ◌≤◌, ℕ, max, length, slice_index, if◌then◌else◌};
+ghost use Rattle.std.specs.Prelude.{nat_le};
+ghost use Rattle.std.specs.List.{All, list_all};
 ghost use Rattle.literal_base.specs.Bytes.{contains};
 ghost use Rattle.literal_base.specs.Occurs.{NoneIsEmpty, pattern_at, same_byte};
 ghost use Rattle.literal_prefilters.specs.Tables.{rarest, is_start_byte, is_rare_byte, offset_below, largest_offset};
-ghost use Rattle.literal_prefilters.specs.Tables.{table_of, if_small};
+ghost use Rattle.literal_prefilters.specs.Table.{size};
+ghost use Rattle.literal_prefilters.specs.Tables.{of_set, table_of, with_rarest};
 
-use super::ByteTable;
-use literal_base::alphabet::{ByteSet, opposite_ascii_case};
+use super::counted_set::CountedSet;
+use literal_base::alphabet::opposite_ascii_case;
 use literal_base::byte_frequencies::freq_rank;
 use literal_ids::PatternID;
 use literal_packed::pattern::Patterns;
 
 /// The length of the longest pattern that a table of rare bytes may have, so that an offset fits a
 /// byte.
-const LONGEST: usize = 255;
+pub(super) const LONGEST: usize = 255;
 
 /// The pattern of an identifier: the tables take the patterns by rising identifier, in whatever order
 /// they are tried at a place.
@@ -28,41 +29,22 @@ pub(super) fn bytes_of(patterns: &Patterns, id: usize) -> &[u8]
     patterns.get(PatternID::must(id)).bytes()
 }
 
-/// Adds a byte, in both cases where case is ignored.
-fn mark(set: &mut ByteSet, byte: u8, ignore_case: bool)
-    ensures { (b : ℕ) → contains set.new b ≡ (contains set.old b || same_byte ignore_case b byte) }
+/// Adds the byte with which a pattern begins.
+pub(super) fn add_start(set: &mut CountedSet, pattern: &[u8], ignore_case: bool)
+    requires { 0 < length pattern.now }
+    ensures { (b : ℕ) → contains set.new b
+        ≡ (contains set.old b || same_byte ignore_case b (slice_index pattern.now 0)) }
 {
-    set.add(byte);
-    if ignore_case {
-        set.add(opposite_ascii_case(byte));
-    }
+    set.mark(pattern[0], ignore_case);
 }
 
-fn holds_any(set: &ByteSet, pattern: &[u8]) -> bool
-    ensures { result ≡ list_any (contains set.now) pattern.now }
-{
-    pattern.iter().any(|byte| set.contains(*byte))
-}
-
-/// Some byte of the set is above 0x7F.
-pub(super) fn holds_high(set: &ByteSet) -> bool
-    ensures { IsTrue result ↔ ((b : ℕ) × (127 < b) × (b < 256) × (contains set.now b ≡ true)) }
-{
-    for byte in 128..=255 {
-        if set.contains(byte) {
-            return true;
-        }
-    }
-    false
-}
-
-pub(super) fn start_set(patterns: &Patterns, ignore_case: bool) -> ByteSet
+pub(super) fn start_set(patterns: &Patterns, ignore_case: bool) -> CountedSet
     ensures each { (b : ℕ) → contains result b ≡ is_start_byte ignore_case patterns.now.patterns b }
     ensures not_empty { NoneIsEmpty patterns.now.patterns }
 {
-    let mut set = ByteSet::empty();
+    let mut set = CountedSet::empty();
     for id in 0..patterns.len() {
-        mark(&mut set, bytes_of(patterns, id)[0], ignore_case);
+        add_start(&mut set, bytes_of(patterns, id), ignore_case);
     }
     set
 }
@@ -81,16 +63,24 @@ fn rarest(pattern: &[u8]) -> u8
     best
 }
 
-pub(super) fn rare_set(patterns: &Patterns, ignore_case: bool) -> ByteSet
-    ensures each { (b : ℕ) → contains result b ≡ is_rare_byte ignore_case patterns.now.patterns b }
-    ensures some { 0 < length patterns.now.patterns → (b : ℕ) × (b < 256) × (contains result b ≡ true) }
+/// Adds the rarest byte of a pattern, unless the set holds a byte of it.
+pub(super) fn add_rarest(set: &mut CountedSet, pattern: &[u8], ignore_case: bool)
+    requires { 0 < length pattern.now }
+    ensures each { (b : ℕ) → contains set.new b ≡ with_rarest ignore_case (contains set.old) pattern.now b }
+    ensures some { 1 ≤ size (of_set (contains set.new)) }
 {
-    let mut set = ByteSet::empty();
+    if !set.holds_any(pattern) {
+        set.mark(rarest(pattern), ignore_case);
+    }
+}
+
+pub(super) fn rare_set(patterns: &Patterns, ignore_case: bool) -> CountedSet
+    ensures each { (b : ℕ) → contains result b ≡ is_rare_byte ignore_case patterns.now.patterns b }
+    ensures some { 0 < length patterns.now.patterns → 1 ≤ size (of_set (contains result)) }
+{
+    let mut set = CountedSet::empty();
     for id in 0..patterns.len() {
-        let pattern = bytes_of(patterns, id);
-        if !holds_any(&set, pattern) {
-            mark(&mut set, rarest(pattern), ignore_case);
-        }
+        add_rarest(&mut set, bytes_of(patterns, id), ignore_case);
     }
     set
 }
@@ -107,7 +97,7 @@ fn raise(offsets: &mut [u8; 256], byte: u8, offset: u8)
 
 /// Raises the offset of each byte of the pattern, in both cases where case is ignored, to that of
 /// its last place.
-fn raise_all(offsets: &mut [u8; 256], pattern: &[u8], ignore_case: bool)
+pub(super) fn raise_all(offsets: &mut [u8; 256], pattern: &[u8], ignore_case: bool)
     requires { length pattern.now ≤ 255 }
     ensures { (b : ℕ) → slice_index offsets.new b ≡ max (slice_index offsets.old b)
         (offset_below ignore_case b pattern.now (length pattern.now)) }
@@ -143,10 +133,9 @@ pub(super) fn all_short(patterns: &Patterns) -> bool
     true
 }
 
-/// The table of the bytes of the set with these distances, if it has one to three bytes.
-pub(super) fn table_of(set: &ByteSet, offsets: &[u8; 256]) -> Option<ByteTable>
-    requires { (b : ℕ) → slice_index offsets.now b ≤ 254 }
-    ensures { result ≡ if_small (table_of (contains set.now) (slice_index offsets.now)) }
+/// The distance of each byte of the set.
+pub(super) fn distances(set: &CountedSet, offsets: &[u8; 256]) -> [Option<u8>; 256]
+    ensures { result ≡ table_of (contains set.now) (slice_index offsets.now) }
 {
     let mut distances = [None; 256];
     for byte in 0..256usize {
@@ -154,5 +143,5 @@ pub(super) fn table_of(set: &ByteSet, offsets: &[u8; 256]) -> Option<ByteTable>
             distances[byte] = Some(offsets[byte]);
         }
     }
-    ByteTable::if_small(distances)
+    distances
 }

@@ -5,36 +5,34 @@ use Rattle.literal_prefilters.proofs.prefilter.Builder.build.Goals as goal
 
 pub packed-requires-clause-picked : goal.packed-requires-clause-picked
 packed-requires-clause-picked c =
-    let start = c.start-start.result in
-    let rare = c.rare-rare.result in
-    pick_short c.args.self.now start rare (tables_of c.self.inside c.args.self.now c.is_empty.result start
-    (option_copied c.as_ref.result) rare (option_copied c.as_ref-2.result) c.is_short_list.result true c.self.invariant
-    c.self.view_is c.is_empty.ensures c.if-is_empty.false (sym c.is_one_pattern.ensures ∙ c.if-is_one_pattern.false)
-    c.start-start.ensures.table c.rare-rare.ensures.table c.as_ref.ensures.value c.as_ref-2.ensures.value
-    c.is_short_list.ensures c.if-is_short_list.true)
+    let start = c.start_table-start.result in
+    let rare = c.rare_table-rare.result in
+    pick_short c.args.self.now start rare (tables_of c.args.self.now c.is_empty.result c.is_one_pattern.result
+        c.is_short_list.result true
+    start (option_copied c.as_ref.result) rare (option_copied c.as_ref-2.result) c.is_empty.ensures c.if-is_empty.false
+    c.is_one_pattern.ensures c.if-is_one_pattern.false c.start_table-start.ensures.table c.rare_table-rare.ensures.table
+    c.as_ref.ensures.value c.as_ref-2.ensures.value c.is_short_list.ensures c.if-is_short_list.true)
 
 pub packed-requires-in-None-None-clause-picked : goal.packed-requires-in-None-None-clause-picked
 packed-requires-in-None-None-clause-picked c =
-    let start = c.start-start.result in
-    let rare = c.rare-rare.result in
-    let at = tables_of c.self.inside c.args.self.now c.is_empty.result start
-    (option_copied c.as_ref.result) rare (option_copied c.as_ref-2.result) c.is_short_list.result false c.self.invariant
-    c.self.view_is c.is_empty.ensures c.if-is_empty.false (sym c.is_one_pattern.ensures ∙ c.if-is_one_pattern.false)
-    c.start-start.ensures.table c.rare-rare.ensures.table c.as_ref.ensures.value c.as_ref-2.ensures.value
-    c.is_short_list.ensures c.if-is_short_list.false in
+    let start = c.start_table-start.result in
+    let rare = c.rare_table-rare.result in
+    let at = tables_of c.args.self.now c.is_empty.result c.is_one_pattern.result c.is_short_list.result false
+    start (option_copied c.as_ref.result) rare (option_copied c.as_ref-2.result) c.is_empty.ensures c.if-is_empty.false
+    c.is_one_pattern.ensures c.if-is_one_pattern.false c.start_table-start.ensures.table c.rare_table-rare.ensures.table
+    c.as_ref.ensures.value c.as_ref-2.ensures.value c.is_short_list.ensures c.if-is_short_list.false in
     pick_last c.args.self.now (subst (λ s. IsByTables c.args.self.now s None false) c.in-None-None.is-0
     (subst (λ r. IsByTables c.args.self.now start r false) c.in-None-None.is-1 at))
     (sym c.is_last_resort.ensures ∙ c.if-is_last_resort.true)
 
 pub returns-in-Some-None-clause-pick : goal.returns-in-Some-None-clause-pick
 returns-in-Some-None-clause-pick c =
-    let start = c.start-start.result in
-    let rare = c.rare-rare.result in
-    let at = tables_of c.self.inside c.args.self.now c.is_empty.result start
-    (option_copied c.as_ref.result) rare (option_copied c.as_ref-2.result) c.is_short_list.result false c.self.invariant
-    c.self.view_is c.is_empty.ensures c.if-is_empty.false (sym c.is_one_pattern.ensures ∙ c.if-is_one_pattern.false)
-    c.start-start.ensures.table c.rare-rare.ensures.table c.as_ref.ensures.value c.as_ref-2.ensures.value
-    c.is_short_list.ensures c.if-is_short_list.false in
+    let start = c.start_table-start.result in
+    let rare = c.rare_table-rare.result in
+    let at = tables_of c.args.self.now c.is_empty.result c.is_one_pattern.result c.is_short_list.result false
+    start (option_copied c.as_ref.result) rare (option_copied c.as_ref-2.result) c.is_empty.ensures c.if-is_empty.false
+    c.is_one_pattern.ensures c.if-is_one_pattern.false c.start_table-start.ensures.table c.rare_table-rare.ensures.table
+    c.as_ref.ensures.value c.as_ref-2.ensures.value c.is_short_list.ensures c.if-is_short_list.false in
     ap Some c.start.ensures ∙ sym (pick_start c.args.self.now c.in-Some-None.start
     (subst (λ s. IsByTables c.args.self.now s None false) c.in-Some-None.is-0
     (subst (λ r. IsByTables c.args.self.now start r false) c.in-Some-None.is-1 at)))

@@ -1,59 +1,42 @@
-use Rattle.std.proofs.Common.{◌+◌, is_some, get_or, None, count_by, take, sum_by, sym, ap, ◌∙◌, arith}
-use Rattle.std.specs.List.{enumerate_from}
-use Rattle.std.proofs.lemmas.Bool.{cond-true, cond-false}
-use Rattle.std.proofs.lemmas.List.{take_all}
-use Rattle.std.proofs.lemmas.List.Sums.{count_by_more_yes, count_by_more_no}
-use Rattle.std.proofs.lemmas.List.FromFn.{length-enumerate_from}
-use Rattle.literal_base.specs.Rank.{rank_of}
-use Rattle.literal_prefilters.specs.Table.{rank_at}
-use Rattle.literal_prefilters.proofs.lemmas.Ranks.{rank_sum_more}
+use Rattle.std.proofs.Common.{◌≡◌, ◌&&◌, cond, length, nat_le, true, Some, None, slice_index, sym, ap, ◌∙◌}
+use Rattle.std.proofs.lemmas.Bool.{and_parts, cond-true, cond-false, leb-true}
+use Rattle.literal_base.specs.Bytes.{contains}
+use Rattle.literal_prefilters.specs.Table.{rank_sum_of, size}
+use Rattle.literal_prefilters.specs.Tables.{of_set, table_of}
+use Rattle.literal_prefilters.proofs.lemmas.Reach.{distance_of-table_of-le}
+use Rattle.literal_prefilters.proofs.lemmas.Sets.{rank_sum-of_set, size-of_set}
+use Rattle.literal_prefilters.proofs.lemmas.TableOf.{length-table_of}
 use Rattle.literal_prefilters.proofs.prefilter.byte_table.ByteTable.if_small.Goals as goal
-use Rattle.literal_prefilters.proofs.prefilter.byte_table.ByteTable.if_small.Goals.{then-is_some, else-is_some}
 
-pub loop-byte-preserved : goal.loop-byte-preserved
-loop-byte-preserved c =
-    let ds = c.args.distances in
-    let i = c.loop-byte.byte in
-    let before = c.loop-byte.invariant in
-    let more = rank_sum_more ds i (omega arith) in
-    elim c.if-is_some.branch [
-      | then-is_some w ↦
-          let here = sym c.is_some.ensures ∙ w.if-is_some.true in
-          let counted = count_by_more_yes is_some ds i None (omega arith) here in
-          let ranked = more ∙ ap (λ n. sum_by rank_at (take i (enumerate_from 0 ds)) + n)
-          (cond-true (is_some (get_or ds i None)) (rank_of i) 0 here) in
-          record {
-            counted = omega arith;
-            few = omega arith;
-            ranked = omega arith;
-            low = omega arith;
-          }
-      | else-is_some w ↦
-          let here = sym c.is_some.ensures ∙ w.if-is_some.false in
-          let counted = count_by_more_no is_some ds i None (omega arith) here in
-          let ranked = more ∙ ap (λ n. sum_by rank_at (take i (enumerate_from 0 ds)) + n)
-          (cond-false (is_some (get_or ds i None)) (rank_of i) 0 here) in
-          record {
-            counted = omega arith;
-            few = omega arith;
-            ranked = omega arith;
-            low = omega arith;
-          }
-    ]
+pub returns-then-not-fits_a_table : goal.returns-then-not-fits_a_table
+returns-then-not-fits_a_table c =
+    let set = contains c.args.set.now in
+    let far = slice_index c.args.offsets.now in
+    sym (ap (λ n. cond (nat_le 1 n && nat_le n 3) (Some (table_of set far)) None) (size-of_set set far)
+    ∙ cond-false _ _ _ (sym c.fits_a_table.ensures ∙ c.if-not-fits_a_table.true))
 
 pub invariant_of-result : goal.invariant_of-result
 invariant_of-result c =
-    let ds = c.args.distances in
-    let i = c.loop-byte.byte in
-    let counted = c.loop-byte.invariant.counted ∙ ap (count_by is_some) (take_all i ds (omega arith)) in
-    let ranked = c.loop-byte.invariant.ranked
-    ∙ ap (sum_by rank_at) (take_all i (enumerate_from 0 ds) (omega (arith, length-enumerate_from 0 ds))) in
+    let set = contains c.args.set.now in
+    let far = slice_index c.args.offsets.now in
+    let few = size-of_set set far in
+    let ranked = rank_sum-of_set set far in
+    let fits : (nat_le 1 (size (of_set set)) && nat_le (size (of_set set)) 3) ≡ true =
+    sym c.fits_a_table.ensures ∙ c.if-not-fits_a_table.false in
+    let parts = and_parts _ _ fits in
     record {
-      whole = c.requires.whole;
-      near = c.requires.near;
-      counted = counted;
-      not_empty = omega arith;
-      small = omega arith;
-      ranked = ranked;
-      low = c.loop-byte.invariant.low;
+      whole = ap length c.distances.ensures ∙ length-table_of set far;
+      counted = c.count.ensures ∙ sym (ap size c.distances.ensures ∙ few);
+      not_empty = rw (c.distances.ensures, few) (leb-true 1 (size (of_set set)) parts.0);
+      small = rw (c.distances.ensures, few) (leb-true (size (of_set set)) 3 parts.1);
+      ranked = c.rank_sum.ensures.value ∙ sym (ap rank_sum_of c.distances.ensures ∙ ranked);
+      low = rw c.count.ensures c.rank_sum.ensures.low;
+      near = rw c.distances.ensures (distance_of-table_of-le 254 set far c.requires);
     }
+
+pub returns : goal.returns
+returns c =
+    let set = contains c.args.set.now in
+    let far = slice_index c.args.offsets.now in
+    ap Some c.distances.ensures ∙ sym (ap (λ n. cond (nat_le 1 n && nat_le n 3) (Some (table_of set far)) None)
+    (size-of_set set far) ∙ cond-true _ _ _ (sym c.fits_a_table.ensures ∙ c.if-not-fits_a_table.false))

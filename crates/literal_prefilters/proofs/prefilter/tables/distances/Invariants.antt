@@ -1,6 +1,6 @@
 use Rattle.std.proofs.Common.{◌≡◌, ℕ, ◌<◌, ◌≤◌, length, get_or, cond, Some, None, slice_index}
 use Rattle.literal_base.specs.Bytes.{contains}
-use Rattle.literal_prefilters.proofs.prefilter.tables.table_of.Given as goal
+use Rattle.literal_prefilters.proofs.prefilter.tables.distances.Given as goal
 
 abbrev pub invariant-loop-byte : goal.invariant-loop-byte
 invariant-loop-byte l = record {

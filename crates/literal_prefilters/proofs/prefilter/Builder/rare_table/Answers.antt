@@ -1,0 +1,13 @@
+use Rattle.std.proofs.Common.{rules}
+use Rattle.literal_packed.specs.State.{kept_of}
+use Rattle.literal_prefilters.proofs.lemmas.Choice.{kept_not_empty}
+use Rattle.literal_prefilters.proofs.lemmas.Covers.{rare_table-covers}
+use Rattle.literal_prefilters.proofs.prefilter.Builder.rare_table.Goals as goal
+
+pub returns-clause-table : goal.returns-clause-table
+returns-clause-table c = search rules
+
+pub returns-clause-covers : goal.returns-clause-covers
+returns-clause-covers c = rw (returns-clause-table c)
+    (rare_table-covers c.args.self.now.ignore_case (kept_of c.args.self.now.state)
+    (kept_not_empty c.self.inside c.args.self.now c.self.invariant c.self.view_is))

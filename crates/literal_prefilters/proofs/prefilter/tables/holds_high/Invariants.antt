@@ -1,6 +1,0 @@
-use Rattle.std.proofs.Common.{◌≡◌, ℕ, ◌<◌, false}
-use Rattle.literal_base.specs.Bytes.{contains}
-use Rattle.literal_prefilters.proofs.prefilter.tables.holds_high.Given as goal
-
-abbrev pub invariant-loop-byte : goal.invariant-loop-byte
-invariant-loop-byte l = (b : ℕ) → 127 < b → b < l.byte → contains l.set b ≡ false

@@ -1,0 +1,53 @@
+-- What the builder of a prefilter keeps of its patterns beside them, while it takes one after the other.
+use Rattle.std.specs.Prelude.{◌≡◌, ◌<◌, ◌≤◌, ℕ, Bool, false, not, List, [], ◌∷◌, length, nat_lt, nat_le, slice_index}
+use Rattle.std.specs.List.{list_all}
+use Rattle.literal_base.specs.Bytes.{contains}
+use Rattle.literal_prefilters.specs.declared.prefilter.running.Came.{Came}
+use Rattle.literal_prefilters.specs.declared.prefilter.running.Came.TheVariants.{Nothing, One, Several}
+use Rattle.literal_prefilters.specs.declared.prefilter.running.Running.{Running}
+use Rattle.literal_prefilters.specs.declared.prefilter.running.RunningRare.{RunningRare}
+use Rattle.literal_prefilters.specs.declared.prefilter.running.RunningStart.{RunningStart}
+use Rattle.literal_prefilters.specs.Table.{size}
+use Rattle.literal_prefilters.specs.Tables.{of_set, is_start_byte, is_rare_byte, largest_offset}
+
+-- whether no pattern came, one, or several
+abbrev pub came_of : List (List ℕ) → Came
+came_of [] = Nothing
+came_of (pattern ∷ []) = One
+came_of (first ∷ second ∷ patterns) = Several
+
+-- one pattern more came
+abbrev pub one_more : Came → Came
+one_more Nothing = One
+one_more One = Several
+one_more Several = Several
+
+-- no pattern is longer than a rare table allows
+abbrev pub are_short : List (List ℕ) → Bool
+are_short patterns = list_all (λ p. nat_le (length p) 255) patterns
+
+-- the set is the wanted one; or both have more than three bytes, so that there is no table of the wanted one, and with
+-- more patterns never will be: then the set need not be kept up
+pub record IsUpTo (set wanted : ℕ → Bool) : Type 0 where
+  pub exact : size (of_set set) ≤ 3 → (b : ℕ) → set b ≡ wanted b
+  pub past : 3 < size (of_set set) → 3 < size (of_set wanted)
+
+-- the start bytes of the patterns, as far as they are kept up
+pub record IsRunningStart (ignore_case : Bool) (patterns : List (List ℕ)) (start : RunningStart) : Type 0 where
+  pub set : IsUpTo (contains start.set) (is_start_byte ignore_case patterns)
+
+-- the rare bytes of the patterns and their largest offsets, as far as they are kept up: once a long pattern came there
+-- is no rare table and never will be, and neither set nor offsets need be kept up
+pub record IsRunningRare (ignore_case : Bool) (patterns : List (List ℕ)) (rare : RunningRare) : Type 0 where
+  pub long : rare.has_long ≡ not (are_short patterns)
+  pub set : rare.has_long ≡ false → IsUpTo (contains rare.set) (is_rare_byte ignore_case patterns)
+  pub some : rare.has_long ≡ false → nat_lt 0 (length patterns) ≡ nat_le 1 (size (of_set (contains rare.set)))
+  pub offsets : rare.has_long ≡ false → size (of_set (contains rare.set)) ≤ 3
+      → (b : ℕ) → slice_index rare.offsets b ≡ largest_offset ignore_case patterns b
+  pub near : (b : ℕ) → slice_index rare.offsets b ≤ 254
+
+-- what is kept of the patterns
+pub record IsRunning (ignore_case : Bool) (patterns : List (List ℕ)) (running : Running) : Type 0 where
+  pub came : running.came ≡ came_of patterns
+  pub start : IsRunningStart ignore_case patterns running.start
+  pub rare : IsRunningRare ignore_case patterns running.rare

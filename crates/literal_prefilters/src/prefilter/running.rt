@@ -1,0 +1,170 @@
+//! What a builder keeps of its patterns beside them, so that it makes their tables without a walk over
+//! the list.
+ghost use Rattle.std.specs.Prelude.{◌≡◌, ◌==◌, ◌<◌, ◌≤◌, ◌++◌, ◌∷◌, [], ℕ, Bool, List, length, slice_index};
+ghost use Rattle.literal_prefilters.specs.Inside.Running.{IsRunning, IsRunningRare, IsRunningStart, came_of, one_more};
+ghost use Rattle.literal_prefilters.specs.Tables.{start_table, rare_table};
+
+use super::ByteTable;
+use super::counted_set::CountedSet;
+use super::tables::{LONGEST, add_rarest, add_start, raise_all};
+
+/// What is kept of the patterns so far.
+#[derive(Drop)]
+pub(super) struct Running {
+    came: Came,
+    start: RunningStart,
+    rare: RunningRare,
+}
+
+impl Running {
+    /// No pattern.
+    pub(super) fn new() -> Running
+        ensures { (ignore_case : Bool) → IsRunning ignore_case [] result }
+    {
+        Running {
+            came: Came::Nothing,
+            start: RunningStart::new(),
+            rare: RunningRare::new(),
+        }
+    }
+
+    /// Takes one pattern more.
+    pub(super) fn push(&mut self, pattern: &[u8], ignore_case: bool)
+        requires { 0 < length pattern.now }
+        ensures { (patterns : List (List ℕ)) → IsRunning ignore_case patterns self.old
+            → IsRunning ignore_case (patterns ++ pattern.now ∷ []) self.new }
+    {
+        self.came = self.came.one_more();
+        self.start.add(pattern, ignore_case);
+        self.rare.add(pattern, ignore_case);
+    }
+
+    /// No pattern came.
+    pub(super) fn is_empty(&self) -> bool
+        ensures { (ignore_case : Bool) (patterns : List (List ℕ)) → IsRunning ignore_case patterns self.now
+            → result ≡ (length patterns == 0) }
+    {
+        match self.came {
+            Came::Nothing => true,
+            Came::One | Came::Several => false,
+        }
+    }
+
+    /// Just one pattern came.
+    pub(super) fn is_one(&self) -> bool
+        ensures { (ignore_case : Bool) (patterns : List (List ℕ)) → IsRunning ignore_case patterns self.now
+            → result ≡ (length patterns == 1) }
+    {
+        match self.came {
+            Came::One => true,
+            Came::Nothing | Came::Several => false,
+        }
+    }
+
+    /// The start table of the patterns.
+    pub(super) fn start_table(&self) -> Option<ByteTable>
+        ensures { (ignore_case : Bool) (patterns : List (List ℕ)) → IsRunning ignore_case patterns self.now
+            → result ≡ start_table ignore_case patterns }
+    {
+        ByteTable::of_start_bytes(&self.start.set)
+    }
+
+    /// The rare table of the patterns.
+    pub(super) fn rare_table(&self) -> Option<ByteTable>
+        requires { (b : ℕ) → slice_index self.now.rare.offsets b ≤ 254 }
+        ensures { (ignore_case : Bool) (patterns : List (List ℕ)) → IsRunning ignore_case patterns self.now
+            → result ≡ rare_table ignore_case patterns }
+    {
+        self.rare.table()
+    }
+}
+
+/// How many patterns came.
+#[derive(Clone, Copy, Drop)]
+enum Came {
+    Nothing,
+    One,
+    Several,
+}
+
+impl Came {
+    fn one_more(self) -> Came
+        ensures { result ≡ one_more self }
+    {
+        match self {
+            Came::Nothing => Came::One,
+            Came::One | Came::Several => Came::Several,
+        }
+    }
+}
+
+/// The bytes with which patterns begin. Once they are too many for a table no more are added.
+#[derive(Drop)]
+struct RunningStart {
+    set: CountedSet,
+}
+
+impl RunningStart {
+    fn new() -> RunningStart
+        ensures { (ignore_case : Bool) → IsRunningStart ignore_case [] result }
+    {
+        RunningStart {
+            set: CountedSet::empty(),
+        }
+    }
+
+    fn add(&mut self, pattern: &[u8], ignore_case: bool)
+        requires { 0 < length pattern.now }
+        ensures { (patterns : List (List ℕ)) → IsRunningStart ignore_case patterns self.old
+            → IsRunningStart ignore_case (patterns ++ pattern.now ∷ []) self.new }
+    {
+        if !self.set.is_past_a_table() {
+            add_start(&mut self.set, pattern, ignore_case);
+        }
+    }
+}
+
+/// A rare byte of each pattern, and how far each byte stands from the beginning of a pattern at most.
+/// Once these bytes are too many for a table, or a pattern is too long for one, nothing more is kept up.
+#[derive(Drop)]
+struct RunningRare {
+    set: CountedSet,
+    offsets: [u8; 256],
+    has_long: bool,
+}
+
+impl RunningRare {
+    fn new() -> RunningRare
+        ensures { (ignore_case : Bool) → IsRunningRare ignore_case [] result }
+    {
+        RunningRare {
+            set: CountedSet::empty(),
+            offsets: [0; 256],
+            has_long: false,
+        }
+    }
+
+    fn add(&mut self, pattern: &[u8], ignore_case: bool)
+        requires { 0 < length pattern.now }
+        ensures { (patterns : List (List ℕ)) → IsRunningRare ignore_case patterns self.old
+            → IsRunningRare ignore_case (patterns ++ pattern.now ∷ []) self.new }
+    {
+        if pattern.len() > LONGEST {
+            self.has_long = true;
+        } else if !self.has_long && !self.set.is_past_a_table() {
+            add_rarest(&mut self.set, pattern, ignore_case);
+            raise_all(&mut self.offsets, pattern, ignore_case);
+        }
+    }
+
+    fn table(&self) -> Option<ByteTable>
+        requires { (b : ℕ) → slice_index self.now.offsets b ≤ 254 }
+        ensures { (ignore_case : Bool) (patterns : List (List ℕ)) → IsRunningRare ignore_case patterns self.now
+            → result ≡ rare_table ignore_case patterns }
+    {
+        if self.has_long {
+            return None;
+        }
+        ByteTable::if_small(&self.set, &self.offsets)
+    }
+}
