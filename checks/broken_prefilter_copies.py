@@ -1,7 +1,7 @@
 """Copies that each break a rule in the exact prefilters, the confirming search, or the program's search.
 Their form is that of broken_copies.py.
 """
-from broken_copies import RUN, append, before, replace
+from broken_copies import BASE_SEARCH, RUN, append, before, replace
 from search_tables import BYTE_TABLE, CONFIRMING, ENGINE, EXACT, KINDS, PREFILTER
 
 # Places at which an edit puts code: one in each function that takes a haystack.
@@ -157,6 +157,13 @@ ONCE = [
         PREFILTER, "\nfn peek(builder: &Builder) -> bool {\n    builder.build().is_ok()\n}\n")]),
     ("copy_as_a_value", "callers", [append(
         EXACT, "\nfn peek(pre: Option<&Memmem>) -> bool {\n    pre.map(Memmem::try_clone).is_some()\n}\n")]),
+    ("iteration_of_its_own_tally", "signatures", [append(
+        CONFIRMING, "\nfn peek(iteration: &mut FindIter<'_, '_>) -> bool {\n    iteration.next().is_some()\n}\n")]),
+    ("length_of_another_trait", "names", [append(
+        BASE_SEARCH, "\npub trait Peek {\n    fn len(self) -> usize;\n}\n")]),
+    ("length_that_reads", "names", [append(
+        BASE_SEARCH, "\nimpl Peek for &[u8] {\n    fn len(self) -> usize {\n        self[0] as usize\n    }\n}\n")]),
+    ("struct_named_as_a_search", "names", [append(BASE_SEARCH, "\npub struct best_at(pub usize, pub usize);\n")]),
     ("prefilter_made_by_self", "callers", [in_body("memmem", "let _ = Self::new(&self.patterns, tally);")]),
     ("prefilter_made_by_a_type_in_brackets", "forms", [in_body("memmem", "let _ = <Memmem>::new(&self.patterns, tally);")]),
     ("search_as_a_value_in_a_helper", "reads", [append(
@@ -180,6 +187,8 @@ PROGRAM = [
     ("program_asks_in_a_closure", "bodies", [replace(
         ENGINE, RUN, "    let ask = || searcher.lines(alloc, input.as_slice());\n    let text = ask()?;")]),
     ("program_reads_by_itself", "bodies", [before(ENGINE, LEFTMOST_LINE, '    if input.starts_with(b"a") {}')]),
+    ("program_keeps_a_search", "program", [append(
+        ENGINE, "\nconst AGAIN: fn(&Searcher, &[u8]) -> Option<Match> = Searcher::find;\n")]),
     ("program_runs_twice", "program", [append(ENGINE, "\nfn again() {\n    run();\n    run();\n}\n")]),
 ]
 

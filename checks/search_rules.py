@@ -246,6 +246,8 @@ def names(sources):
     for function in sources.functions:
         if function.item.name in TAKERS and function.key not in list(COUNTED) + list(UNCOUNTED):
             yield f"{function} has the name of a search"
+        if function.item.name == "len" and (function.owner[:1] == ("trait",) or "for" in function.owner):
+            yield f"{function} has the name by which a haystack is measured"
         for token in function.item.generics:
             if token.text in tables.OWN_NAMES and token.text != "PrefilterI":
                 yield f"{function}: the parameter {token.text}"
@@ -256,7 +258,7 @@ def is_taken(path, item):
     own = tables.OWN_NAMES.get(item.name)
     if own:
         return path != own or item.kind not in ("struct", "trait")
-    if item.name in tables.STD_TYPES:
+    if item.name in tables.STD_TYPES or (item.name in TAKERS and item.kind != "fn"):
         return True
     return item.name in tables.VALUE_TYPES and (is_of_searches(path) or item.kind not in ("struct", "enum"))
 
@@ -349,12 +351,13 @@ def signatures(sources):
     lengths = {item.name for _, item in search_items(sources) if item.kind == "const" and item.name.isupper()}
     known = set(tables.PLAIN_TYPES) | set(tables.TYPE_PATHS) | declared_types(sources) | lengths
     for function in search_functions(sources):
+        taken = known if function.path in tables.LAW_FILES else known - set(tables.NOT_TAKEN)
         haystacks = lent = 0
         for param in function.item.params:
             kind = kind_of(param)
             haystacks += kind == "haystack"
             lent += kind == "tally"
-            if kind == "odd" or (kind == "other" and not is_plain(function, param, known)):
+            if kind == "odd" or (kind == "other" and not is_plain(function, param, taken)):
                 yield f"{function} takes {' '.join(texts(param))}"
         yield from odd_result(function, known)
         yield from odd_counts(function, haystacks, lent)
@@ -637,6 +640,10 @@ def ticks(sources):
 
 def program(sources):
     """The program makes one search: each name that leads to one stands once, in the function beside it."""
+    for path, items in sources.items.items():
+        for item in (each for outer in items for each in [outer] + outer.children):
+            if path.startswith("crates/litfind/") and item.kind in ("const", "static") and set(texts(item.body)) & TAKERS:
+                yield f"{path}:{item.line}: {item.kind} {item.name} names a search"
     for function in sources.functions:
         if function.path.startswith("crates/litfind/"):
             body = texts(function.item.body or ())

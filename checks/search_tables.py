@@ -228,6 +228,9 @@ PLAIN_TYPES = STD_TYPES + VALUE_TYPES
 # Of those that the crates declare, the ones that no struct holds: what was read of a haystack ends with the search.
 NOT_KEPT = ("TableByte", "FindIter")
 
+# And the one that no function takes but laws: it goes on in a tally of its own.
+NOT_TAKEN = ("FindIter",)
+
 # Modules by which such a type is named, where two types have one name.
 TYPE_PATHS = ("packed",)
 
