@@ -24,10 +24,10 @@ SORT = "        entries.sort_by_key("
 SCANNED = "            tally.tick_scanned();"
 NEXT = "        let Some(found) = self\n"
 ALL = "        let mut all = Vec::new"
-RUN = "    let text = lines(alloc, &searcher, input.as_slice())?;"
+RUN = "    let text = searcher.lines(alloc, input.as_slice())?;"
 LINE = "        let line = Line(found);"
 CONFIG = "    /// The usual configuration.\n    pub fn config()"
-KINDS_OF_PREFILTER = "        match &self.finder {\n            Finder::StartBytesOne(pre) => pre"
+KINDS_OF_PREFILTER = "        match &self.finder {\n            Finder::Memmem(pre) => pre.find_in"
 USE_TALLY = "use literal_base::count::Tally;"
 
 

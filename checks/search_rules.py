@@ -93,7 +93,8 @@ def listed(sources):
     """Each place that the tables list is there, and each search without a tally has its words held."""
     there = {function.key for function in sources.functions}
     named = [place(*key) for where in tables.TICKS.values() for key in where]
-    named += [place(*key) for where in tables.MAKERS.values() for key in where]
+    named += [place(*key) for table in (tables.MAKERS, tables.CALLERS) for where in table.values() for key in where]
+    named += [place(*key) for key in tables.PROGRAM_SEARCH.values()]
     for table in (COUNTED, UNCOUNTED, LAWS, FIELD_READERS, TALLY_MAKERS, TALLY_TAKERS, OTHER_SIGNATURES, CLOSURES,
                   BUCKET_READERS, BODIES, STATEMENTS, named):
         for path, owner, name in table:
@@ -209,6 +210,8 @@ def odd_form(body, at, token):
         return "a closure"
     if token.text == "{" and before and before.text == "Self":
         return "a struct by the name Self"
+    if token.text == "::" and before and before.text == ">":
+        return "a path that begins with a type in brackets"
     return None
 
 
@@ -243,6 +246,8 @@ def names(sources):
     for function in sources.functions:
         if function.item.name in TAKERS and function.key not in list(COUNTED) + list(UNCOUNTED):
             yield f"{function} has the name of a search"
+        if function.item.name == "len" and (function.owner[:1] == ("trait",) or "for" in function.owner):
+            yield f"{function} has the name by which a haystack is measured"
         for token in function.item.generics:
             if token.text in tables.OWN_NAMES and token.text != "PrefilterI":
                 yield f"{function}: the parameter {token.text}"
@@ -253,7 +258,7 @@ def is_taken(path, item):
     own = tables.OWN_NAMES.get(item.name)
     if own:
         return path != own or item.kind not in ("struct", "trait")
-    if item.name in tables.STD_TYPES:
+    if item.name in tables.STD_TYPES or (item.name in TAKERS and item.kind != "fn"):
         return True
     return item.name in tables.VALUE_TYPES and (is_of_searches(path) or item.kind not in ("struct", "enum"))
 
@@ -290,7 +295,7 @@ def odd_impl(path, item, own):
 
 def structs(sources):
     """Guarded structs stand word for word; the others hold no bytes, and have no type parameter."""
-    known = set(tables.PLAIN_TYPES) | declared_types(sources)
+    known = (set(tables.PLAIN_TYPES) | declared_types(sources)) - set(tables.NOT_KEPT)
     for path, item in search_items(sources):
         held = tables.STRUCTS.get(item.name)
         if item.kind == "struct" and held:
@@ -346,12 +351,13 @@ def signatures(sources):
     lengths = {item.name for _, item in search_items(sources) if item.kind == "const" and item.name.isupper()}
     known = set(tables.PLAIN_TYPES) | set(tables.TYPE_PATHS) | declared_types(sources) | lengths
     for function in search_functions(sources):
+        taken = known if function.path in tables.LAW_FILES else known - set(tables.NOT_TAKEN)
         haystacks = lent = 0
         for param in function.item.params:
             kind = kind_of(param)
             haystacks += kind == "haystack"
             lent += kind == "tally"
-            if kind == "odd" or (kind == "other" and not is_plain(function, param, known)):
+            if kind == "odd" or (kind == "other" and not is_plain(function, param, taken)):
                 yield f"{function} takes {' '.join(texts(param))}"
         yield from odd_result(function, known)
         yield from odd_counts(function, haystacks, lent)
@@ -392,7 +398,7 @@ def odd_result(function, known):
     if odd and function.key not in OTHER_SIGNATURES and not (odd == ["Item"]):
         yield f"{function} gives {' '.join(odd)}"
     generics = [t for t in function.item.generics if t.kind == "name"]
-    if generics and function.key not in OTHER_SIGNATURES:
+    if generics and function.key not in OTHER_SIGNATURES and function.key not in GENERIC_PREFILTERS:
         yield f"{function} has a type parameter"
 
 
@@ -438,9 +444,11 @@ def uncounted_calls(function, body):
     for at, token in enumerate(body):
         if token.text in FREE_TAKERS and not (texts(body[at + 1 : at + 2]) == ("(",) and has_tally(function, body, at + 1)):
             yield f"{function} names a search otherwise: {line_of(body, at)}"
-    for at in range(2, len(body)):
-        if body[at].text == "(" and body[at - 1].text in TAKERS and body[at - 2].text in (".", "::"):
-            if not has_tally(function, body, at):
+    for at in range(1, len(body)):
+        if body[at].text in TAKERS and body[at - 1].text in (".", "::"):
+            if texts(body[at + 1 : at + 2]) != ("(",):
+                yield f"{function} names a search with no call: {line_of(body, at)}"
+            elif not has_tally(function, body, at + 1):
                 yield f"{function} searches in no tally: {line_of(body, at)}"
 
 
@@ -632,11 +640,16 @@ def ticks(sources):
 
 def program(sources):
     """The program makes one search: each name that leads to one stands once, in the function beside it."""
+    for path, items in sources.items.items():
+        for item in (each for outer in items for each in [outer] + outer.children):
+            if path.startswith("crates/litfind/") and item.kind in ("const", "static") and set(texts(item.body)) & TAKERS:
+                yield f"{path}:{item.line}: {item.kind} {item.name} names a search"
     for function in sources.functions:
         if function.path.startswith("crates/litfind/"):
             body = texts(function.item.body or ())
             for at, word in enumerate(body):
-                if word in TAKERS and word not in tables.PROGRAM_SEARCH and body[at - 1] in (".", "::"):
+                is_named = word in FREE_TAKERS or (word in TAKERS and body[at - 1] in (".", "::"))
+                if is_named and word not in tables.PROGRAM_SEARCH:
                     yield f"{function} calls {word}"
             for name, where in tables.PROGRAM_SEARCH.items():
                 if body.count(name) > (function.key == place(*where)):
@@ -656,6 +669,15 @@ def entries(sources):
             made = len([at for at in range(len(body) - 1) if body[at] == name and body[at + 1] == "{"])
             if made > (function.key in [place(*key) for key in where]):
                 yield f"{function} makes a {name}, or takes one apart"
+
+
+def callers(sources):
+    """Functions and fields that are listed by their words are named where that is listed."""
+    for function in search_functions(sources):
+        body = texts(function.item.body or ())
+        for called, where in tables.CALLERS.items():
+            if find_words(body, words(called)) and function.key not in [place(*key) for key in where]:
+                yield f"{function} names {called}"
 
 
 def bodies(sources):
@@ -695,5 +717,5 @@ def stands_in(body, at, name, form):
 
 RULES = [
     parsed, listed, attributes, imports, kinds, forms, constants, names, impls, structs, signatures, reads, laws, tallies,
-    ticks, program, entries, bodies, statements,
+    ticks, program, entries, callers, bodies, statements,
 ]

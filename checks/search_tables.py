@@ -20,6 +20,7 @@ EXACT = "crates/literal_prefilters/src/prefilter/exact.rt"
 KINDS = "crates/literal_prefilters/src/prefilter/kinds.rt"
 TABLES = "crates/literal_prefilters/src/prefilter/tables.rt"
 ENGINE = "crates/litfind/src/engine.rt"
+MAIN = "crates/litfind/src/main.rt"
 
 # Crates that hold tests alone, which no other crate stands on.
 TEST_CRATES = ("literal_tests", "refused_memory")
@@ -127,6 +128,36 @@ PROGRAM_SEARCH = {
     "all_lines": (ENGINE, "impl Searching", "lines"),
     "leftmost_line": (ENGINE, "impl Searching", "lines"),
     "lines": (ENGINE, "", "run"),
+    "run": (MAIN, "", "main"),
+}
+
+# The functions that alone may name others, or a field, by their words: what compares stands where a place
+# is tried or a bucket entry is read, and no search makes buckets or a copy, also not by a function that it calls.
+CALLERS = {
+    "find_at": [(API, "impl Searcher", "find_in_counted"), (EXACT, "impl Memmem", "find")],
+    "look_up": [(RABIN_KARP, "impl RabinKarp", "find_at")],
+    "stands_at": [(RABIN_KARP, "impl RabinKarp", "look_up")],
+    "matches_at": [(RABIN_KARP, "", "stands_at"), (CONFIRMING, "", "best_at")],
+    "best_at": [(CONFIRMING, "", "confirm"), (CONFIRMING, "", "confirm_by_table")],
+    "distances": [
+        (BYTE_TABLE, "impl ByteTable", "if_small"), (BYTE_TABLE, "impl ByteTable", "copy"),
+        (BYTE_TABLE, "impl ByteTable", "distance"), (BYTE_TABLE, "impl ByteTable", "find"), (TABLES, "", "table_of"),
+    ],
+    "try_clone": [
+        (API, "impl Builder", "build"), (API, "impl Builder", "try_clone"), (API, "impl Searcher", "try_clone"),
+        (EXACT, "impl Memmem", "new"), (EXACT, "impl Memmem", "try_clone"), (EXACT, "impl Packed", "try_clone"),
+        (PREFILTER, "impl Prefilter", "try_clone"),
+    ],
+    "build": [
+        (API, "impl Searcher", "new"), (EXACT, "impl Packed", "new"), (CONFIRMING, "impl ConfirmingSearch", "of_builder"),
+    ],
+    "of_builder": [(CONFIRMING, "impl ConfirmingSearch", "build")],
+    ".packed": [(PREFILTER, "impl Builder", "build")],
+    "RabinKarp::new": [(API, "impl Builder", "build"), (EXACT, "impl Memmem", "new")],
+    "Memmem::new": [(PREFILTER, "impl Builder", "build")],
+    "Packed::new": [(PREFILTER, "impl Builder", "packed")],
+    "Searcher::new": [],
+    "Self::new": [],
 }
 
 # --- Bytes of patterns, and what is generic --------------------------------------------------------
@@ -161,7 +192,6 @@ OTHER_SIGNATURES = {
     (PREFILTER, "impl fmt::Debug for Prefilter", "fmt"): "a writer",
     (PREFILTER, "impl Builder", "add"): "a pattern",
     (PREFILTER, "impl fmt::Debug for Builder", "fmt"): "a writer",
-    (CONFIRMING, "", "confirm"): "a prefilter of any kind",
     (CONFIRMING, "impl ConfirmingSearch", "build"): "patterns by an iterator",
     (BYTE_TABLE, "impl ByteTable", "if_small"): "the offset of each byte",
     (BYTE_TABLE, "impl ByteTable", "distance"): "a byte",
@@ -203,6 +233,12 @@ STD_TYPES = (
 )
 VALUE_TYPES = ("PatternID", "Match", "MatchKind", "Span", "ByteSet")
 PLAIN_TYPES = STD_TYPES + VALUE_TYPES
+
+# Of those that the crates declare, the ones that no struct holds: what was read of a haystack ends with the search.
+NOT_KEPT = ("TableByte", "FindIter")
+
+# And the one that no function takes but laws: it goes on in a tally of its own.
+NOT_TAKEN = ("FindIter",)
 
 # Modules by which such a type is named, where two types have one name.
 TYPE_PATHS = ("packed",)
@@ -282,6 +318,8 @@ MAKERS = {
     "ConfirmingSearch": [(CONFIRMING, "impl ConfirmingSearch", "of_builder")],
     "Memmem": [(EXACT, "impl Memmem", "new"), (EXACT, "impl Memmem", "try_clone")],
     "Packed": [(EXACT, "impl Packed", "new"), (EXACT, "impl Packed", "try_clone")],
+    "ByteTable": [(BYTE_TABLE, "impl ByteTable", "if_small"), (BYTE_TABLE, "impl ByteTable", "copy")],
+    "TableByte": [(BYTE_TABLE, "impl ByteTable", "find")],
 }
 
 # Where the list of bucket entries is named, the field or a variable that becomes it. Their words are held below.
@@ -332,7 +370,8 @@ STRUCTS = {
     "TableByte": "#[derive(Clone, Copy, Drop)] pub(super) struct TableByte { pub(super) place: usize, pub(super) distance: u8, }",
 }
 
-# The bodies that read bytes of the haystack, read bucket entries, tick, or make a tally for a search.
+# The bodies that read bytes of the haystack, read bucket entries, tick, or make a tally for a search, and
+# those by which the program makes its one search.
 BODIES = {
     (API, "impl Searcher", "find"): "self.find_in(haystack, Span { start: 0, end: haystack.len(), },)",
     (API, "impl Searcher", "find_in"): "let mut tally = Tally::new(); self.find_in_counted(haystack, span, &mut tally)",
@@ -389,11 +428,44 @@ BODIES = {
         self.before = self.value();
         self.change = (new as usize).wrapping_sub((old as usize).wrapping_mul(self.power));""",
     (RABIN_KARP, "impl Rolling", "value"): "self.before.wrapping_shl(1).wrapping_add(self.change)",
+    (ENGINE, "", "all_lines"): """
+        let mut text = String::new(alloc);
+        for found in searcher.find_iter(input) {
+            let line = Line(found);
+            write!(text, "{line}")?;
+        }
+        Ok(text)""",
+    (ENGINE, "", "leftmost_line"): """
+        let mut text = String::new(alloc);
+        let span = Span { start: 0, end: input.len(), };
+        let Some(found) = search.find_in(input, span) else { return Ok(text); };
+        let line = Line(found);
+        write!(text, "{line}")?;
+        Ok(text)""",
+    (ENGINE, "impl Searching", "lines"): """
+        match self {
+            Searching::All(searcher) => all_lines(alloc, searcher, input),
+            Searching::Leftmost(search) => leftmost_line(alloc, search, input),
+        }""",
+    (ENGINE, "", "run"): """
+        let searcher = searcher(alloc, words)?;
+        let input = read_to_end(alloc, reader)?;
+        let text = searcher.lines(alloc, input.as_slice())?;
+        let bytes = text.as_bytes();
+        match write_whole(writer, bytes) {
+            Ok(()) => Ok(!bytes.is_empty()),
+            Err(Failed) => Err(Fault::WriteFailed),
+        }""",
 }
 
+# A place that is tried is counted, and the patterns are compared there.
+TRY = "tally.tick_tried(); if let Some(id) = best_at(patterns, ignore_case, haystack, span, start, tally)"
+
 # Statements that stand once in a body, and hold all that the body has of the names beside them: the two
-# reads of the hash. Elsewhere in the body a name may stand in the listed forms alone.
+# reads of the hash, and the place that is tried. Elsewhere in the body a name may stand in the listed forms alone.
 STATEMENTS = {
+    (CONFIRMING, "", "confirm"): ([TRY], {"tick_tried": [], "best_at": []}),
+    (CONFIRMING, "", "confirm_by_table"): ([TRY], {"tick_tried": [], "best_at": []}),
     (RABIN_KARP, "impl RabinKarp", "find_at"): (
         [
             "let mut rolling = Rolling::new(minimum_len);",
