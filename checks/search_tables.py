@@ -141,7 +141,7 @@ CALLERS = {
     "best_at": [(CONFIRMING, "", "confirm"), (CONFIRMING, "", "confirm_by_table")],
     "distances": [
         (BYTE_TABLE, "impl ByteTable", "if_small"), (BYTE_TABLE, "impl ByteTable", "copy"),
-        (BYTE_TABLE, "impl ByteTable", "distance"), (BYTE_TABLE, "impl ByteTable", "find"), (TABLES, "", "table_of"),
+        (BYTE_TABLE, "impl ByteTable", "distance"), (BYTE_TABLE, "impl ByteTable", "find"), (TABLES, "", "distances"),
     ],
     "try_clone": [
         (API, "impl Builder", "build"), (API, "impl Builder", "try_clone"), (API, "impl Searcher", "try_clone"),
