@@ -18,6 +18,7 @@ pub mod Rarest
 pub mod Reach
 pub mod Sizes
 pub mod Sound
+pub mod Spends
 pub mod Stands
 pub mod TableOf
 pub mod Tries
