@@ -9,7 +9,6 @@ use Rattle.literal_packed.specs.Pairs.{counts_after}
 use Rattle.literal_prefilters.specs.declared.prefilter.Candidate.{Candidate}
 use Rattle.literal_prefilters.specs.declared.prefilter.Candidate.TheVariants as candidate
 use Rattle.literal_prefilters.specs.Answers.{match_of}
-use Rattle.literal_prefilters.specs.Sound.{Coverage}
 
 -- the search for one pattern, for which the kind of match makes no difference
 abbrev pub query_of_one : List ℕ → Query

@@ -1,14 +1,12 @@
 -- The answers of searches as those of prefilters, and what they cover.
 -- For the exact kinds of prefilter and for `Prefilter::find_in`.
-use Rattle.std.proofs.Common.{◌≡◌, ℕ, ◌<◌, false, List, length, Option, Some, None, sym, ap, ◌∙◌, subst, arith}
-use Rattle.literal_base.specs.declared.packed.MatchKind.{MatchKind}
+use Rattle.std.proofs.Common.{◌≡◌, ℕ, false, List, Option, Some, None, ap, ◌∙◌, subst}
 use Rattle.literal_base.specs.declared.search.Span.{Span}
 use Rattle.literal_base.specs.Counts.{Counts}
-use Rattle.literal_base.specs.Leftmost.{IsBetter, IsLeftmost, IsLeftmostMatch}
+use Rattle.literal_base.specs.Leftmost.{IsLeftmost}
 use Rattle.literal_base.specs.MatchValue.{MatchValue}
 use Rattle.literal_base.specs.Query.{Query}
 use Rattle.literal_packed.specs.Pairs.{counts_after}
-use Rattle.literal_packed.proofs.lemmas.Ties.{better_asymmetric}
 use Rattle.literal_prefilters.specs.declared.prefilter.Candidate.{Candidate}
 use Rattle.literal_prefilters.specs.declared.prefilter.Candidate.TheVariants as candidate
 use Rattle.literal_prefilters.specs.Exact.{IsExactStep}

@@ -1,16 +1,16 @@
 -- One try of a confirming search.
-use Rattle.std.proofs.Common.{◌≡◌, ℕ, ◌+◌, ◌-◌, ◌<◌, ◌≤◌, zero, suc, max, fold, Bool, List, [], ◌∷◌, length, get_or, slice_index, Option, None, Some, sym, ap, ◌∙◌, ⊎_elim, unwrap_or, arith}
+use Rattle.std.proofs.Common.{◌≡◌, ℕ, ◌+◌, ◌-◌, ◌<◌, ◌≤◌, zero, suc, max, fold, Bool, List, [], ◌∷◌, get_or, slice_index, Option, None, Some, sym, ap, ◌∙◌, ⊎_elim, unwrap_or, arith}
 use Rattle.std.specs.List.{All}
 use Rattle.std.proofs.lemmas.Bool.{cases_lt}
 use Rattle.literal_base.specs.Counts.{Counts}
 use Rattle.literal_base.specs.declared.search.Span.{Span}
 use Rattle.literal_prefilters.specs.declared.prefilter.byte_table.TableByte.{TableByte}
 use Rattle.literal_base.specs.Bytes.{AreBytes}
-use Rattle.literal_base.specs.Occurs.{IsValidSpan, Occurs, pattern_at}
+use Rattle.literal_base.specs.Occurs.{IsValidSpan, Occurs}
 use Rattle.literal_prefilters.specs.Near.{near_count}
 use Rattle.literal_prefilters.specs.Inside.Confirming.{IsKept, read_to}
 use Rattle.literal_base.specs.Occurs.{NothingOccurs}
-use Rattle.literal_prefilters.specs.Table.{distance_of, first, reach_of, step_back, Covers}
+use Rattle.literal_prefilters.specs.Table.{distance_of, first, step_back, Covers}
 use Rattle.literal_prefilters.specs.Table.{IsFirst}
 use Rattle.literal_prefilters.proofs.lemmas.First.{IsFree, is_first_from, first_is}
 use Rattle.literal_prefilters.proofs.lemmas.Near.{valid_rest, first_later, near_count-tried}
@@ -115,4 +115,3 @@ most_at : (t : List (Option ℕ)) (a b : ℕ) → unwrap_or (get_or t b None) 0 
 most_at [] a b = omega arith
 most_at (o ∷ t) a zero = omega (arith, most_kept t (max a (unwrap_or o 0)))
 most_at (o ∷ t) a (suc b) = most_at t (max a (unwrap_or o 0)) b
-

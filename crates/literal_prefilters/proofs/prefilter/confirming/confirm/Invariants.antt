@@ -1,4 +1,4 @@
-use Rattle.std.proofs.Common.{ℕ, ◌≤◌, ◌-◌, ◌+◌, ◌*◌}
+use Rattle.std.proofs.Common.{◌≤◌, ◌-◌, ◌+◌, ◌*◌}
 use Rattle.literal_prefilters.proofs.lemmas.Asks.{NoneBefore}
 use Rattle.literal_prefilters.proofs.prefilter.confirming.confirm.Given as goal
 
