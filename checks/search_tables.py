@@ -53,6 +53,7 @@ COUNTED = {
     (CONFIRMING, "", "next_byte"): "hands it to the table",
     (CONFIRMING, "", "confirm_by_table"): "hands it to `next_byte` and to `best_at`",
     (CONFIRMING, "impl ConfirmingSearch", "find_in_counted"): "hands it to the table's search or to the prefilter",
+    (CONFIRMING, "impl ConfirmingSearch", "find_all"): "searches what is left, again and again",
     (EXACT, "impl Memmem", "find"): "cuts the haystack at the end of the span",
     (EXACT, "impl PrefilterI for Memmem", "find_in"): "hands it to `find`",
     (EXACT, "impl PrefilterI for Packed", "find_in"): "hands it to the searcher",
@@ -364,7 +365,7 @@ STRUCTS = {
     "RunningRare": """#[derive(Drop)]
         struct RunningRare { set: CountedSet, offsets: [u8; 256], has_long: bool, }""",
     "ConfirmingSearch": """#[derive(Drop)]
-        pub struct ConfirmingSearch { patterns: Patterns, ignore_case: bool, prefilter: Prefilter, }""",
+        pub struct ConfirmingSearch { alloc: Global, patterns: Patterns, ignore_case: bool, prefilter: Prefilter, }""",
     "Memmem": "#[derive(Drop)] pub struct Memmem { patterns: Patterns, rabin_karp: RabinKarp, }",
     "Packed": "#[derive(Drop)] pub struct Packed { searcher: Searcher, }",
     "TableByte": "#[derive(Clone, Copy, Drop)] pub(super) struct TableByte { pub(super) place: usize, pub(super) distance: u8, }",

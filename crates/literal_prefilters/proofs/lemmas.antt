@@ -19,6 +19,7 @@ pub mod Running
 pub mod Sets
 pub mod Sizes
 pub mod Sound
+pub mod Spends
 pub mod Stands
 pub mod TableOf
 pub mod Tries

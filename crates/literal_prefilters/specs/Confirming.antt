@@ -3,8 +3,9 @@ use Rattle.std.specs.Prelude.{◌≡◌, ℕ, ◌+◌, ◌-◌, ◌*◌, ◌≤�
 use Rattle.literal_base.specs.declared.search.Span.{Span}
 use Rattle.literal_base.specs.Counts.{Counts}
 use Rattle.literal_base.specs.MatchValue.{MatchValue}
-use Rattle.literal_base.specs.Occurs.{between}
+use Rattle.literal_base.specs.Occurs.{between, whole_of}
 use Rattle.literal_packed.specs.Pairs.{counts_after}
+use Rattle.literal_packed.specs.Spending.{SpendsWithin}
 use Rattle.literal_prefilters.specs.Exact.{query_of_one}
 use Rattle.literal_prefilters.specs.Near.{near_count}
 use Rattle.literal_prefilters.specs.PrefilterValue.{PrefilterValue, by_table, by_pattern, by_search}
@@ -40,3 +41,23 @@ CountsConfirming (by_pattern pattern) patterns haystack span answer old new =
     new ≡ counts_after old (query_of_one pattern) haystack span answer
 CountsConfirming (by_search query) patterns haystack span answer old new =
     new ≡ counts_after old query haystack span answer
+
+-- what the searches by a table up to a place of a haystack, one match after another, count together: at most each
+-- byte before the place scanned, each near place before it tried, and at each of these every pattern compared
+pub record SpendsTries (table : List (Option ℕ)) (patterns : List (List ℕ)) (haystack : List ℕ) (to : ℕ)
+    (old new : Counts) : Type 0 where
+  pub scanned : new.scanned ≤ old.scanned + to
+  pub tried : new.tried ≤ old.tried + near_count table haystack (whole_of haystack) to
+  pub compared : new.compared ≤ old.compared + (new.tried - old.tried) * length patterns
+  pub scanned_grows : old.scanned ≤ new.scanned
+  pub tried_grows : old.tried ≤ new.tried
+  pub compared_grows : old.compared ≤ new.compared
+  pub others : new ≡ record old { compared = new.compared; scanned = new.scanned; tried = new.tried }
+
+-- what the searches of a whole haystack count together: by a table their tries, and by an exact prefilter at most
+-- its bytes and its pairs, with nothing scanned or tried
+abbrev pub SpendsConfirming : PrefilterValue → List (List ℕ) → List ℕ → Counts → Counts → Type 0
+SpendsConfirming (by_table table) patterns haystack old new =
+    SpendsTries table patterns haystack (length haystack) old new
+SpendsConfirming (by_pattern pattern) patterns haystack old new = SpendsWithin (query_of_one pattern) haystack old new
+SpendsConfirming (by_search query) patterns haystack old new = SpendsWithin query haystack old new

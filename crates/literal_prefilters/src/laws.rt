@@ -1,8 +1,10 @@
 //! Laws of tables and prefilters. Each is the contract of a function: of one that does nothing where
 //! the law is about definitions, and else of one that makes the call that the law is about.
-ghost use Rattle.std.specs.Prelude.{◌≡◌, ◌↔◌, ◌≤◌, ◌<◌, ◌++◌, ◌∷◌, [], ℕ, Bool, List, Option, None, Some, IfSome};
+ghost use Rattle.std.specs.Prelude.{◌≡◌, ◌↔◌, ◌-◌, ◌≤◌, ◌<◌, ◌++◌, ◌∷◌, [], ℕ, Bool, List, Option, None, Some, IfSome};
 ghost use Rattle.std.specs.Prelude.{false, true, is_some, slice_index, length};
 ghost use Rattle.std.specs.List.{All};
+ghost use Rattle.literal_base.specs.Leftmost.{IsLeftmost, IsLeftmostMatch};
+ghost use Rattle.literal_base.specs.MatchValue.{MatchValue};
 ghost use Rattle.literal_base.specs.Query.{Query};
 ghost use Rattle.literal_base.specs.declared.search.Span.{Span};
 ghost use Rattle.literal_base.specs.Occurs.{NoneIsEmpty, NothingOccurs, IsValidSpan};
@@ -10,6 +12,7 @@ ghost use Rattle.literal_prefilters.specs.Answers.{candidate_of};
 ghost use Rattle.literal_base.specs.Bytes.{AreBytes};
 ghost use Rattle.literal_packed.specs.State.{kept_of};
 ghost use Rattle.literal_prefilters.specs.Choice.{pick, suits_packed};
+ghost use Rattle.literal_prefilters.specs.Confirming.{scanned_once};
 ghost use Rattle.literal_prefilters.specs.PrefilterBuilderValue.{PrefilterBuilderValue};
 ghost use Rattle.literal_prefilters.specs.PrefilterValue.{exact_query, prefilter_reach, table_of};
 ghost use Rattle.literal_prefilters.specs.Sound.{Sound};
@@ -46,6 +49,25 @@ pub fn start_bytes_begin_variants()
     ensures { (ignore_case : Bool) (patterns : List (List ℕ))
         → NoneIsEmpty patterns
         → StartsVariants ignore_case patterns }
+{}
+
+/// By a table that covers the patterns, the scan for a match ends before the match does, and no scan is
+/// longer than its span.
+pub fn scans_end_with_the_match()
+    ensures found { (table : List (Option ℕ)) (query : Query) (ignore_case : Bool) (haystack : List ℕ) (span : Span)
+        (found : MatchValue)
+        → All (Covers table ignore_case) query.patterns
+        → AreBytes haystack
+        → IsValidSpan haystack span
+        → IsLeftmostMatch query ignore_case haystack span found
+        → scanned_once table haystack span (Some found) ≤ found.end - span.start }
+    ensures any { (table : List (Option ℕ)) (query : Query) (ignore_case : Bool) (haystack : List ℕ) (span : Span)
+        (answer : Option MatchValue)
+        → All (Covers table ignore_case) query.patterns
+        → AreBytes haystack
+        → IsValidSpan haystack span
+        → IsLeftmost query ignore_case haystack span answer
+        → scanned_once table haystack span answer ≤ span.end - span.start }
 {}
 
 /// The distance of a byte in a rare table is the largest offset at which it stands in any case

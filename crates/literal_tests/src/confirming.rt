@@ -3,7 +3,7 @@ ghost use Rattle.literal_base.specs.Occurs.{IsValidSpan};
 ghost use Rattle.literal_tests.specs.Covered.{IsCovered};
 
 use crate::asserted::{assert_holds, assert_same};
-use crate::made::{Place, place};
+use crate::made::{Place, place, places};
 use crate::plain::leftmost_plainly;
 use crate::uses_of_prefilters::{Covered, confirm_covered, covered_patterns};
 use MatchKind::{LeftmostFirst, LeftmostLongest};
@@ -193,6 +193,88 @@ fn finds_the_leftmost_by_tables(rt: HostRuntime) -> Result<(), Fail> {
 fn finds_the_leftmost_by_searches(rt: HostRuntime) -> Result<(), Fail> {
     for row in &BY_SEARCHES {
         assert_row(&rt, rt.alloc(), row)?;
+    }
+    Ok(())
+}
+
+/// What a case shows, the kind of match, its patterns, whether case is ignored, a haystack, and all
+/// matches in it.
+type ListRow = (
+    &'static str,
+    MatchKind,
+    &'static [&'static [u8]],
+    bool,
+    &'static [u8],
+    &'static [Place],
+);
+
+static LISTED: [ListRow; 7] = [
+    (
+        "three words with case kept",
+        LeftmostFirst,
+        &[b"apple", b"maple", b"Snapple"],
+        false,
+        b"Nobody likes maple in their apple flavored Snapple.",
+        &[(1, 13, 18), (0, 28, 33), (2, 43, 50)],
+    ),
+    (
+        "three words with case ignored",
+        LeftmostFirst,
+        &[b"apple", b"maple", b"snapple"],
+        true,
+        b"Nobody likes maple in their apple flavored Snapple.",
+        &[(1, 13, 18), (0, 28, 33), (2, 43, 50)],
+    ),
+    (
+        "one pattern, one after the other",
+        LeftmostFirst,
+        &[b"aa"],
+        false,
+        b"aaaaa",
+        &[(0, 0, 2), (0, 2, 4)],
+    ),
+    (
+        "a packed search",
+        LeftmostLongest,
+        &[b"a", b"ab", b"b", b"c", b"d"],
+        false,
+        b"zabzdb",
+        &[(1, 1, 3), (4, 4, 5), (2, 5, 6)],
+    ),
+    (
+        "the longest of a table, up to the end",
+        LeftmostLongest,
+        &[b"ab", b"ABC"],
+        true,
+        b"abcAB",
+        &[(1, 0, 3), (0, 3, 5)],
+    ),
+    (
+        "no match by a table",
+        LeftmostFirst,
+        &[b"foo", b"bar"],
+        false,
+        b"xxbafo",
+        &[],
+    ),
+    (
+        "an empty haystack",
+        LeftmostFirst,
+        &[b"foo"],
+        false,
+        b"",
+        &[],
+    ),
+];
+
+#[test]
+fn lists_all_matches(rt: HostRuntime) -> Result<(), Fail> {
+    for &(case, kind, patterns, ignore_case, haystack, wanted) in &LISTED {
+        let search = built(rt.alloc(), kind, ignore_case, patterns)?;
+        let search = search.ok_or("there is no prefilter")?;
+        let all = search.find_all(haystack, &mut Tally::new())?;
+        let listed = places(rt.alloc(), &all)?;
+        assert_same(&rt, listed.as_slice(), wanted, case);
     }
     Ok(())
 }

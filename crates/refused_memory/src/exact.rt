@@ -1,5 +1,6 @@
 //! What takes memory of exact prefilters. Each function tells whether a call was refused at first, and
 //! fails where what it needs was refused.
+use literal_prefilters::count::Tally;
 use literal_prefilters::prefilter::{Builder, ConfirmingSearch, Prefilter};
 use literal_prefilters::{MatchKind, Span, packed};
 use std::alloc::{AllocError, Global};
@@ -143,4 +144,42 @@ fn refused_build_of_confirming_by_a_search(rt: HostRuntime) {
 #[test]
 fn succeeds_build_of_confirming_by_a_search(rt: HostRuntime) {
     assert!(rt; !builds_confirming(&rt, rt.alloc(), false));
+}
+
+fn lists_confirming(rt: &impl Abort, alloc: Global, ignore_case: bool) -> Result<bool, AllocError> {
+    let search = confirming(alloc, ignore_case)?.expect(rt, "there is no prefilter");
+    let haystack = b"qqbyby";
+    let first = search.find_all(haystack, &mut Tally::new());
+    let refused = first.is_err();
+    let all = if refused {
+        search
+            .find_all(haystack, &mut Tally::new())
+            .expect(rt, "a second request was refused")
+    } else {
+        first.expect(rt, "no request was refused")
+    };
+    assert_eq!(rt; all.len(), 2);
+    Ok(refused)
+}
+
+#[test]
+fn refused_find_all_by_a_table(rt: HostRuntime) {
+    let _ = lists_confirming(&rt, rt.alloc(), true);
+}
+
+#[test]
+fn succeeds_find_all_by_a_table(rt: HostRuntime) -> Result<(), AllocError> {
+    assert!(rt; !lists_confirming(&rt, rt.alloc(), true)?);
+    Ok(())
+}
+
+#[test]
+fn refused_find_all_by_a_search(rt: HostRuntime) {
+    let _ = lists_confirming(&rt, rt.alloc(), false);
+}
+
+#[test]
+fn succeeds_find_all_by_a_search(rt: HostRuntime) -> Result<(), AllocError> {
+    assert!(rt; !lists_confirming(&rt, rt.alloc(), false)?);
+    Ok(())
 }

@@ -1,7 +1,7 @@
 -- A greedy list and its counts, match by match, and how its matches lie.
--- For `Searcher::find_all`, and the laws on iterations.
-use Rattle.std.proofs.Common.{◌≡◌, ℕ, ◌-◌, ◌<◌, ◌≤◌, false, List, [], ◌∷◌, ◌++◌, length, Some, None, append_assoc}
-use Rattle.std.proofs.Common.{append-nil, sym, ap, ◌∙◌, subst, arith}
+-- For `Searcher::find_all`, lists of confirming searches, and the laws on iterations.
+use Rattle.std.proofs.Common.{◌≡◌, ℕ, ◌-◌, ◌<◌, ◌≤◌, Bool, false, List, [], ◌∷◌, ◌++◌, length, Some, None}
+use Rattle.std.proofs.Common.{append_assoc, append-nil, sym, ap, ◌∙◌, subst, arith}
 use Rattle.literal_base.specs.Counts.{Counts}
 use Rattle.literal_base.specs.MatchValue.{MatchValue}
 use Rattle.literal_base.specs.Occurs.{NoneIsEmpty, NothingOccurs, pattern_at, rest_from, between}
@@ -14,24 +14,26 @@ use Rattle.literal_packed.specs.Spending.{counts_after_all}
 use Rattle.literal_packed.proofs.lemmas.Windows.{none_empty}
 
 -- the matches so far, before a place: whatever is greedy from there on goes on from them
-pub record IsGreedyBefore (query : Query) (haystack : List ℕ) (done : List MatchValue) (at : ℕ) : Type 0 where
-  pub goes_on : (more : List MatchValue) → IsGreedy query false haystack at more
-      → IsGreedy query false haystack 0 (done ++ more)
+pub record IsGreedyBefore (query : Query) (ignore_case : Bool) (haystack : List ℕ) (done : List MatchValue)
+    (at : ℕ) : Type 0 where
+  pub goes_on : (more : List MatchValue) → IsGreedy query ignore_case haystack at more
+      → IsGreedy query ignore_case haystack 0 (done ++ more)
 
-pub greedy_more : (query : Query) (haystack : List ℕ) (done : List MatchValue) (at : ℕ) (found : MatchValue)
-    → IsGreedyBefore query haystack done at
-    → IsLeftmostMatch query false haystack (rest_from haystack at) found
-    → IsGreedyBefore query haystack (done ++ found ∷ []) found.end
-greedy_more query haystack done at found before leftmost = record {
-  goes_on = λ more greedy. subst (IsGreedy query false haystack 0) (sym (append_assoc done (found ∷ []) more))
+pub greedy_more : (query : Query) (ignore_case : Bool) (haystack : List ℕ) (done : List MatchValue) (at : ℕ)
+    (found : MatchValue) → IsGreedyBefore query ignore_case haystack done at
+    → IsLeftmostMatch query ignore_case haystack (rest_from haystack at) found
+    → IsGreedyBefore query ignore_case haystack (done ++ found ∷ []) found.end
+greedy_more query ignore_case haystack done at found before leftmost = record {
+  goes_on = λ more greedy. subst (IsGreedy query ignore_case haystack 0) (sym (append_assoc done (found ∷ []) more))
       (before.goes_on (found ∷ more) (leftmost, greedy));
 }
 
-pub greedy_all : (query : Query) (haystack : List ℕ) (done : List MatchValue) (at : ℕ)
-    → IsGreedyBefore query haystack done at
-    → NothingOccurs query.patterns false haystack (rest_from haystack at) → IsGreedy query false haystack 0 done
-greedy_all query haystack done at before nothing = subst (IsGreedy query false haystack 0) (append-nil done)
-    (before.goes_on [] nothing)
+pub greedy_all : (query : Query) (ignore_case : Bool) (haystack : List ℕ) (done : List MatchValue) (at : ℕ)
+    → IsGreedyBefore query ignore_case haystack done at
+    → NothingOccurs query.patterns ignore_case haystack (rest_from haystack at)
+    → IsGreedy query ignore_case haystack 0 done
+greedy_all query ignore_case haystack done at before nothing =
+    subst (IsGreedy query ignore_case haystack 0) (append-nil done) (before.goes_on [] nothing)
 
 -- the counts so far: whatever follows, they go on from them
 pub record CountsBefore (query : Query) (haystack : List ℕ) (old now : Counts) (done : List MatchValue)

@@ -62,7 +62,7 @@ counts_of_run first last ended (found ∷ more) run nothing =
 pub record IsGathering (query : Query) (haystack : List ℕ) (done : List MatchValue) (now : FindIterValue) : Type 0 where
   pub query_is : now.query ≡ query
   pub haystack_is : now.haystack ≡ haystack
-  pub greedy : IsGreedyBefore now.query now.haystack done now.at
+  pub greedy : IsGreedyBefore now.query false now.haystack done now.at
 
 pub gathers_all : (query : Query) (haystack : List ℕ) (done : List MatchValue) (old new : FindIterValue)
     → IsGathering query haystack done old → FindsNext old None new
@@ -70,7 +70,7 @@ pub gathers_all : (query : Query) (haystack : List ℕ) (done : List MatchValue)
 gathers_all query haystack done old new so_far nothing =
     subst (λ (s : Query). IsGreedy s false haystack 0 done) so_far.query_is
     (subst (λ h. IsGreedy old.query false h 0 done) so_far.haystack_is
-    (greedy_all old.query old.haystack done old.at so_far.greedy nothing.leftmost))
+    (greedy_all old.query false old.haystack done old.at so_far.greedy nothing.leftmost))
 
 -- a search that stands at the end of the haystack finds nothing
 nothing_at_end : (old new : FindIterValue) (found : MatchValue) → StandsAtEnd old

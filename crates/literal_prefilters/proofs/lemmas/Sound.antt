@@ -80,6 +80,17 @@ module _ (table : List (Option ℕ)) (patterns : List (List ℕ)) (c : Bool) (co
         far = subst F (read e.offset e.inside) e.far;
       }
 
+  -- the first place of the table in the span lies before the end of an occurrence
+  pub first_in_occurrence : (place : ℕ) → IsFirst table haystack span place → (i at : ℕ)
+      → Occurs patterns c haystack span i at → place < at + length (pattern_at patterns i)
+  first_in_occurrence place f i at o =
+      let r = reached i at o in
+      let after = o.after_start in
+      ⊎_elim
+      (λ (h : at + r.offset < place). absurd
+      (let no = f.none_before (at + r.offset) (omega arith) h in let yes = r.here in cc))
+      (λ (h : place ≤ at + r.offset). omega (arith, r.inside)) (cases_lt (at + r.offset) place)
+
   -- the first place of the table in the span does not lead past an occurrence
   pub none_before_step : (place : ℕ) → IsFirst table haystack span place → (i at : ℕ)
       → Occurs patterns c haystack span i at → step_back table haystack span.start place ≤ at

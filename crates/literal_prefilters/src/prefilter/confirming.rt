@@ -1,11 +1,13 @@
 //! The confirming search: a prefilter proposes places, and the patterns are compared there.
 ghost use Rattle.std.specs.Prelude.{◌≡◌, ◌+◌, ◌-◌, ◌*◌, ◌≤◌, length, take, IfOk, IfSome, MatchOption, option_map, slice_index, Some};
 ghost use Rattle.std.specs.List.{All};
+ghost use Rattle.literal_base.specs.Greedy.{IsGreedy};
 ghost use Rattle.literal_base.specs.Leftmost.{IsLeftmost};
-ghost use Rattle.literal_base.specs.Occurs.{IsValidSpan};
+ghost use Rattle.literal_base.specs.Occurs.{IsValidSpan, NoneIsEmpty};
 ghost use Rattle.literal_packed.specs.Inside.Place.{IsBestAt, NoneStandsAt};
 ghost use Rattle.literal_packed.specs.PatternsValue.{IsInOrder, query_of};
-ghost use Rattle.literal_prefilters.specs.Confirming.{CountsConfirming, scanned_once, tried_places};
+ghost use Rattle.literal_prefilters.specs.Confirming.{CountsConfirming, SpendsConfirming, scanned_once, tried_places};
+ghost use Rattle.literal_prefilters.specs.PrefilterValue.{CoveredBy};
 ghost use Rattle.literal_packed.specs.Lending.{CanBeTaken};
 ghost use Rattle.literal_base.specs.Kinds.{root_kind_of};
 ghost use Rattle.literal_prefilters.specs.ConfirmingValue.{BuildsConfirming, confirming_of};
@@ -172,6 +174,7 @@ fn confirm_by_table(
 /// ignored, and what the prefilter goes by.
 #[derive(Drop)]
 pub struct ConfirmingSearch {
+    alloc: Global,
     patterns: Patterns,
     ignore_case: bool,
     prefilter: Prefilter,
@@ -222,9 +225,11 @@ impl ConfirmingSearch {
         let Some(prefilter) = builder.build()? else {
             return Ok(None);
         };
+        let alloc = builder.alloc;
         let ignore_case = builder.ascii_case_insensitive;
         let patterns = builder.into_patterns(kind)?;
         Ok(Some(ConfirmingSearch {
+            alloc,
             patterns,
             ignore_case,
             prefilter,
@@ -267,6 +272,39 @@ impl ConfirmingSearch {
                 .find_in_counted(haystack, span, tally)
                 .into_match(),
         }
+    }
+
+    /// All matches in the haystack, from the left, none of which overlaps another: first the leftmost
+    /// match of the haystack, and after each match the leftmost one of what is left behind it. The
+    /// steps that this takes are added to a tally, those before memory was refused too. By a table no
+    /// more bytes are scanned than the haystack has, and no more places tried than lie near a byte of
+    /// the table; by an exact prefilter it counts no more than
+    /// [`Searcher::find_all`](literal_packed::Searcher::find_all) may.
+    pub fn find_all(&self, haystack: &[u8], tally: &mut Tally) -> Result<Vec<Match>, AllocError>
+        ensures greedy { IfOk result
+            (λ all. IsGreedy self.now.query self.now.ignore_case haystack.now 0 all.items) }
+        ensures counted { SpendsConfirming self.now.prefilter self.now.query.patterns haystack.now
+            tally.old tally.new }
+    {
+        self.covers_its_patterns();
+        let mut all = Vec::new(self.alloc);
+        let mut rest = Span {
+            start: 0,
+            end: haystack.len(),
+        };
+        while let Some(found) = self.find_in_counted(haystack, rest, tally) {
+            all.push(found)?;
+            rest.start = found.end();
+        }
+        Ok(all)
+    }
+
+    /// The prefilter covers the patterns, none of which is empty.
+    fn covers_its_patterns(&self)
+        ensures covered { CoveredBy self.now.prefilter self.now.query self.now.ignore_case }
+        ensures not_empty { NoneIsEmpty self.now.query.patterns }
+    {
+        let _ = self.patterns.len(); // (its contract says that no pattern is empty)
     }
 }
 

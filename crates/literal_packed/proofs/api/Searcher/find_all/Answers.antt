@@ -35,10 +35,10 @@ loop-found-preserved c =
     record {
       within = omega arith;
       to_end = c.loop-found.invariant.to_end;
-      greedy = subst (λ (xs : List MatchValue). IsGreedyBefore query haystack xs c.end.result)
+      greedy = subst (λ (xs : List MatchValue). IsGreedyBefore query false haystack xs c.end.result)
           (sym c.in_ok-push.ensures.items)
-          (subst (λ e. IsGreedyBefore query haystack (c.loop-found.all.items ++ found ∷ []) e) (sym end_is)
-          (greedy_more query haystack c.loop-found.all.items start found c.loop-found.invariant.greedy leftmost));
+          (subst (λ e. IsGreedyBefore query false haystack (c.loop-found.all.items ++ found ∷ []) e) (sym end_is)
+          (greedy_more query false haystack c.loop-found.all.items start found c.loop-found.invariant.greedy leftmost));
       exact = subst (λ (xs : List MatchValue). CountsBefore query haystack c.args.tally.now c.find_in_counted.new.tally
           xs c.end.result) (sym c.in_ok-push.ensures.items)
           (subst (λ e. CountsBefore query haystack c.args.tally.now c.find_in_counted.new.tally
@@ -56,7 +56,7 @@ pub returns-clause-greedy : goal.returns-clause-greedy
 returns-clause-greedy c =
     let query = c.args.self.now in
     let haystack = c.args.haystack.now in
-    greedy_all query haystack c.loop-found.all.items c.loop-found.rest.start c.loop-found.invariant.greedy
+    greedy_all query false haystack c.loop-found.all.items c.loop-found.rest.start c.loop-found.invariant.greedy
     (subst (λ (s : Span). NothingOccurs query.patterns false haystack s)
     (rest_is haystack c.loop-found.rest c.loop-found.invariant.to_end) c.in_default.ensures.leftmost)
 
