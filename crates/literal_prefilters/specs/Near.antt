@@ -1,5 +1,6 @@
 -- The places of a span at which a confirming search by a table tries the patterns.
-use Rattle.std.specs.Prelude.{ℕ, ◌+◌, ◌-◌, Bool, false, List, Option, count_by, nat_le, option_map, slice_index, unwrap_or}
+use Rattle.std.specs.Prelude.{ℕ, ◌+◌, ◌-◌, Bool, false, List, Option, count_by, nat_le, option_map, slice_index}
+use Rattle.std.specs.Prelude.{unwrap_or}
 use Rattle.std.specs.List.{range_with_len}
 use Rattle.literal_base.specs.declared.search.Span.{Span}
 use Rattle.literal_base.specs.Occurs.{between}

@@ -1,5 +1,6 @@
 -- A table of bytes: for each of the 256 bytes its distance, if it has one.
-use Rattle.std.specs.Prelude.{◌≡◌, ℕ, ◌+◌, ◌-◌, ◌<◌, ◌≤◌, true, false, max, unwrap_or, Bool, List, Option, None, Some, IfSome, MatchOption}
+use Rattle.std.specs.Prelude.{◌≡◌, ℕ, ◌+◌, ◌-◌, ◌<◌, ◌≤◌, true, false, max, unwrap_or, Bool, List, Option, None, Some}
+use Rattle.std.specs.Prelude.{IfSome, MatchOption}
 use Rattle.std.specs.Prelude.{is_some, option_map, position, fold, sum_by, count_by, slice_index, slice_index_or}
 use Rattle.std.specs.Prelude.{slice_range, if◌then◌else◌}
 use Rattle.std.specs.List.{enumerate_from}

@@ -45,7 +45,7 @@ pub short_more : (ps : List (List ℕ)) (p : List ℕ) (long : Bool) → long �
     → long ≡ not (are_short (ps ++ p ∷ []))
 short_more ps p long is short =
     is ∙ ap not (sym (are_short-push ps p ∙ (ap (λ t. are_short ps && t) (le-leb (length p) 255 short)
-        ∙ and_true (are_short ps))))
+    ∙ and_true (are_short ps))))
 
 pub some_more : (ps : List (List ℕ)) (p : List ℕ) (n : ℕ) → 1 ≤ n → nat_lt 0 (length (ps ++ p ∷ [])) ≡ nat_le 1 n
 some_more [] p n some = sym (le-leb 1 n some)
@@ -104,7 +104,7 @@ module _ (c : Bool) (ps : List (List ℕ)) (p : List ℕ) (set : ℕ → Bool) w
 no_small : (p : ℕ → Bool) (f : ℕ → ℕ) → 3 < size (of_set p) → if_small (table_of p f) ≡ None
 no_small p f many =
     let past : nat_le (size (table_of p f)) 3 ≡ false = lt-leb (size (table_of p f)) 3 (omega
-        (arith, size-of_set p f)) in
+    (arith, size-of_set p f)) in
     from (nat_le 1 (size (table_of p f))) (nat_le (size (table_of p f)) 3) past
   where
     from : (a b : Bool) → b ≡ false → cond (a && b) (Some (table_of p f)) None ≡ None
@@ -128,7 +128,7 @@ start_table-up_to c ps set u =
     (λ (many : 3 < size (of_set set)). no_low (of_set set) (no_small set (λ _. 0) many)
     ∙ sym (no_low (of_set wanted) (no_small wanted (λ _. 0) (u.past many))))
     (λ (few : size (of_set set) ≤ 3). ap if_low (table_of_agree set wanted (λ (_ : ℕ). 0) (λ _. 0) (u.exact few)
-        (λ b. refl)))
+    (λ b. refl)))
     (cases_lt 3 (size (of_set set)))
 
 -- there is no rare table where a pattern is long
@@ -157,7 +157,7 @@ rare_table-up_to c ps set far short u some offsets =
     (lt-leb (size (table_of wanted most)) 3 (let was = u.past many in omega (arith, size-of_set wanted most)))))
     (λ (few : size (of_set set) ≤ 3).
     let same : table_of set far ≡ table_of wanted most = table_of_agree set wanted far most (u.exact few)
-        (offsets few) in
+    (offsets few) in
     ap if_small same
     ∙ ap (λ t. cond (t && nat_le (size (table_of wanted most)) 3) (Some (table_of wanted most)) None)
     (ap (λ n. nat_le 1 n) (ap size (sym same) ∙ size-of_set set far)

@@ -42,8 +42,8 @@ size-of_set p f =
     (λ k d below.
     let inside : k < 256 = omega (arith, length-by_byte (λ b. cond (p b) (Some (f b)) None)) in
     ap one (get_or-by_byte (λ b. cond (p b) (Some (f b)) None) k d inside)
-        ∙ (ap (λ t. cond {A = ℕ} t 1 0) (some_is (p k) (f k) 0)
-        ∙ sym (ap one (get_or-by_byte (λ b. entry (p b)) k d inside))))
+    ∙ (ap (λ t. cond {A = ℕ} t 1 0) (some_is (p k) (f k) 0)
+    ∙ sym (ap one (get_or-by_byte (λ b. entry (p b)) k d inside))))
 
 -- one byte more
 some_more : (q t : Bool) → t ≡ false → entry (q || t) ≡ entry q
@@ -64,10 +64,10 @@ of_set-more p q x byte each =
     by_byte_is (λ b. entry (q b)) (set (of_set p) x (Some 0)) None (length-set (of_set p) x (Some 0) ∙ long) (λ k below.
     ⊎_elim
     (λ (e : k ≡ x). ap (λ j. get_or (set (of_set p) x (Some 0)) j None) e
-        ∙ (get_or-set_same (of_set p) x (Some 0) None (omega arith) ∙ (some_new (p k) (k == x) (eq-eqb k x e)
-        ∙ ap entry (sym (each k)))))
+    ∙ (get_or-set_same (of_set p) x (Some 0) None (omega arith) ∙ (some_new (p k) (k == x) (eq-eqb k x e)
+    ∙ ap entry (sym (each k)))))
     (λ (ne : k ≡ x → ⊥). get_or-set_other (of_set p) x k (Some 0) None ne ∙ (get_or-by_byte here k None below
-        ∙ (sym (some_more (p k) (k == x) (ne_eqb k x ne)) ∙ ap entry (sym (each k)))))
+    ∙ (sym (some_more (p k) (k == x) (ne_eqb k x ne)) ∙ ap entry (sym (each k)))))
     (cases_eq k x))
 
 module _ (p q : ℕ → Bool) (x : ℕ) (byte : x < 256) (each : (b : ℕ) → q b ≡ (p b || b == x)) where
@@ -93,7 +93,7 @@ enumerate-set (x ∷ xs) n zero y =
 enumerate-set (x ∷ xs) n (suc i) y =
     let e : (n + 1) + i ≡ n + suc i = omega arith in
     ap (λ es. (n, x) ∷ es) (enumerate-set xs (n + 1) i y) ∙ ap (λ k. (n, x) ∷ set (enumerate_from (n + 1) xs) i
-        (k, y)) e
+    (k, y)) e
 
 module _ (p q : ℕ → Bool) (x : ℕ) (byte : x < 256) (each : (b : ℕ) → q b ≡ (p b || b == x)) where
   pub rank_sum-more : p x ≡ false → rank_sum_of (of_set q) ≡ rank_sum_of (of_set p) + rank_of x
@@ -104,13 +104,13 @@ module _ (p q : ℕ → Bool) (x : ℕ) (byte : x < 256) (each : (b : ℕ) → q
       let zero_x : 0 + x ≡ x = omega arith in
       let none : get_or t x None ≡ None = get_or-by_byte (λ b. entry (p b)) x None byte ∙ ap entry new in
       let at : get_or (enumerate_from 0 t) x (0, None) ≡ (x, None) = get_or-enumerate_from 0 t x (0, None) inside
-          ∙ (ap (λ o. (0 + x, o)) none ∙ ap (λ k. (k, None)) zero_x) in
+      ∙ (ap (λ o. (0 + x, o)) none ∙ ap (λ k. (k, None)) zero_x) in
       let old : rank_at (get_or (enumerate_from 0 t) x (0, None)) ≡ 0 = ap rank_at at in
       let changed = sum_by-set rank_at (enumerate_from 0 t) x (0 + x, Some 0) (0, None) (omega
-          (arith, length-enumerate_from 0 t)) in
+      (arith, length-enumerate_from 0 t)) in
       let added : rank_at (0 + x, Some 0) ≡ rank_of x = ap rank_of zero_x in
       ap rank_sum_of (sym (of_set-more p q x byte each)) ∙ (ap (sum_by rank_at) (enumerate-set t 0 x (Some 0))
-          ∙ omega arith)
+      ∙ omega arith)
 
 -- at most 256 bytes
 pub size-of_set-le : (p : ℕ → Bool) → size (of_set p) ≤ 256
@@ -151,13 +151,13 @@ rank_sum-of_set p f =
     let u = of_set p in
     sum_agree rank_at rank_at (enumerate_from 0 t) (enumerate_from 0 u)
     (length-enumerate_from 0 t ∙ (length-table_of p f ∙ sym (length-enumerate_from 0 u
-        ∙ length-table_of p (λ _. 0)))) (λ k d below.
+    ∙ length-table_of p (λ _. 0)))) (λ k d below.
     let inside : k < 256 = omega (arith, length-enumerate_from 0 t, length-table_of p f) in
     ap rank_at (get_or-enumerate_from 0 t k d (omega (arith, length-table_of p f))
-        ∙ ap (λ o. (0 + k, o)) (get_or-by_byte (λ b. cond (p b) (Some (f b)) None) k d.1 inside))
+    ∙ ap (λ o. (0 + k, o)) (get_or-by_byte (λ b. cond (p b) (Some (f b)) None) k d.1 inside))
     ∙ (ap (λ s. cond s (rank_of (0 + k)) 0) (some_is (p k) (f k) 0)
     ∙ sym (ap rank_at (get_or-enumerate_from 0 u k d (omega (arith, length-table_of p (λ _. 0)))
-        ∙ ap (λ o. (0 + k, o)) (get_or-by_byte (λ b. entry (p b)) k d.1 inside)))))
+    ∙ ap (λ o. (0 + k, o)) (get_or-by_byte (λ b. entry (p b)) k d.1 inside)))))
 
 pub size-agree : (p q : ℕ → Bool) → ((b : ℕ) → p b ≡ q b) → size (of_set p) ≡ size (of_set q)
 size-agree p q same = ap size (table_of_agree p q (λ (_ : ℕ). 0) (λ _. 0) same (λ b. refl))

@@ -8,7 +8,7 @@ packed-requires-clause-picked c =
     let start = c.start_table-start.result in
     let rare = c.rare_table-rare.result in
     pick_short c.args.self.now start rare (tables_of c.args.self.now c.is_empty.result c.is_one_pattern.result
-        c.is_short_list.result true
+    c.is_short_list.result true
     start (option_copied c.as_ref.result) rare (option_copied c.as_ref-2.result) c.is_empty.ensures c.if-is_empty.false
     c.is_one_pattern.ensures c.if-is_one_pattern.false c.start_table-start.ensures.table c.rare_table-rare.ensures.table
     c.as_ref.ensures.value c.as_ref-2.ensures.value c.is_short_list.ensures c.if-is_short_list.true)

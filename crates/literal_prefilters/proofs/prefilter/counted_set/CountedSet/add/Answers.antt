@@ -14,7 +14,7 @@ overflow_add-self-then-not-contains c =
     let few = size-of_set-le (contains c.add.new.self) in
     let new = sym c.contains.ensures ∙ c.if-not-contains.true in
     let more = size-more (contains c.self.inside.set) (contains c.add.new.self) c.args.byte
-        (omega arith) c.add.ensures.each new in
+    (omega arith) c.add.ensures.each new in
     let is = c.self.invariant.counted in
     let low = c.self.invariant.low in
     omega arith
@@ -25,9 +25,9 @@ invariant_of-self c =
     let rank = c.from.ensures in
     let ranks = c.freq_rank.ensures in
     let more = size-more (contains c.self.inside.set) (contains c.add.new.self) c.args.byte
-        (omega arith) c.add.ensures.each new in
+    (omega arith) c.add.ensures.each new in
     let ranked = rank_sum-more (contains c.self.inside.set) (contains c.add.new.self) c.args.byte
-        (omega arith) c.add.ensures.each new in
+    (omega arith) c.add.ensures.each new in
     let is = c.self.invariant.counted in
     let sum_is = c.self.invariant.ranked in
     let low = c.self.invariant.low in
