@@ -42,10 +42,10 @@ IsCountedAnswer (by_pattern pattern) haystack span answer old new =
 IsCountedAnswer (by_search query) haystack span answer old new = IsExactStep query haystack span answer old new
 
 -- the table, if it goes by one
-abbrev pub table_of : PrefilterValue → Option (List (Option ℕ))
-table_of (by_table table) = Some table
-table_of (by_pattern pattern) = None
-table_of (by_search query) = None
+abbrev pub prefilter_table : PrefilterValue → Option (List (Option ℕ))
+prefilter_table (by_table table) = Some table
+prefilter_table (by_pattern pattern) = None
+prefilter_table (by_search query) = None
 
 -- it holds patterns, so that to make it takes memory
 abbrev pub TakesMemory : PrefilterValue → Type 0

@@ -1,25 +1,25 @@
 //! Laws of tables and prefilters. Each is the contract of a function: of one that does nothing where
 //! the law is about definitions, and else of one that makes the call that the law is about.
 ghost use Rattle.std.specs.Prelude.{◌≡◌, ◌↔◌, ◌-◌, ◌≤◌, ◌<◌, ◌++◌, ◌∷◌, [], ℕ, Bool, List, Option, None, Some, IfSome};
-ghost use Rattle.std.specs.Prelude.{false, true, is_some, slice_index, length};
+ghost use Rattle.std.specs.Prelude.{false, true, codes, is_some, slice_index, length, ◌==◌, ◌||◌};
 ghost use Rattle.std.specs.List.{All};
 ghost use Rattle.literal_base.specs.Leftmost.{IsLeftmost, IsLeftmostMatch};
 ghost use Rattle.literal_base.specs.MatchValue.{MatchValue};
 ghost use Rattle.literal_base.specs.Query.{Query};
 ghost use Rattle.literal_base.specs.declared.search.Span.{Span};
-ghost use Rattle.literal_base.specs.Occurs.{NoneIsEmpty, NothingOccurs, IsValidSpan};
+ghost use Rattle.literal_base.specs.Occurs.{NoneIsEmpty, NothingOccurs, IsValidSpan, between};
 ghost use Rattle.literal_prefilters.specs.Answers.{candidate_of};
 ghost use Rattle.literal_base.specs.Bytes.{AreBytes};
 ghost use Rattle.literal_packed.specs.State.{kept_of};
 ghost use Rattle.literal_prefilters.specs.Choice.{pick, suits_packed};
-ghost use Rattle.literal_prefilters.specs.Confirming.{scanned_once};
+ghost use Rattle.literal_prefilters.specs.Confirming.{scanned_once, tried_places};
 ghost use Rattle.literal_prefilters.specs.PrefilterBuilderValue.{PrefilterBuilderValue};
-ghost use Rattle.literal_prefilters.specs.PrefilterValue.{exact_query, prefilter_reach, table_of};
+ghost use Rattle.literal_prefilters.specs.PrefilterValue.{exact_query, prefilter_reach, prefilter_table};
 ghost use Rattle.literal_prefilters.specs.Sound.{Sound};
 ghost use Rattle.literal_prefilters.specs.Rarest.{IsRarest};
 ghost use Rattle.literal_prefilters.specs.Table.{Covers, IsFirst, distance_of, first, is_in, reach_of, step};
 ghost use Rattle.literal_prefilters.specs.Tables.{if_small, is_rare_byte, is_start_byte, rarest, start_bytes};
-ghost use Rattle.literal_prefilters.specs.Tables.{start_table, with_rarest};
+ghost use Rattle.literal_prefilters.specs.Tables.{start_table, table_of, with_rarest};
 ghost use Rattle.literal_prefilters.specs.Variants.{StartsVariants, IsLargestOffset};
 
 use crate::prefilter::{Candidate, Prefilter};
@@ -133,7 +133,7 @@ pub fn prefilters_reach_254_bytes(pre: &Prefilter)
 /// A prefilter by single bytes answers nothing exactly if the span holds no byte of its table.
 pub fn none_without_a_byte(pre: &Prefilter, haystack: &[u8], span: Span) -> Candidate
     requires { IsValidSpan haystack.now span }
-    ensures { IfSome (table_of pre.now) (λ table. (result ≡ Candidate.None)
+    ensures { IfSome (prefilter_table pre.now) (λ table. (result ≡ Candidate.None)
         ↔ ((place : ℕ) → span.start ≤ place → place < span.end
         → is_in table (slice_index haystack.now place) ≡ false)) }
 {
@@ -158,4 +158,28 @@ pub fn up_to_128_patterns_have_a_prefilter()
         → 0 < length (kept_of builder.state)
         → length (kept_of builder.state) ≤ 128
         → is_some (pick builder) ≡ true }
+{}
+
+/// What confirming searches by tables count, worked by hand. By the first bytes of `foo` and `bar` the
+/// places of both first bytes are tried in `xxbafoo`, and five bytes scanned. By the byte `k` with the distance 7,
+/// which it has in `Sherlock` and `lockjaw`, three places are tried in `Shlockjaw`, each of which the same `k` proposes; up to
+/// its byte 8 nothing is found, after six. By the byte `p` with the distance 4 three places are tried before `maple` is
+/// found.
+pub fn worked_counts()
+    ensures start_table { let table : List (Option ℕ) = table_of (λ b. b == 0x66 || b == 0x62) (λ _. 0) in
+        let answer : Option MatchValue = Some (record { pattern = 0; start = 4; end = 7 }) in
+        (tried_places table (codes "xxbafoo") (between 0 7) answer ≡ 2)
+        × (scanned_once table (codes "xxbafoo") (between 0 7) answer ≡ 5) }
+    ensures rare_table { let table : List (Option ℕ) = table_of (λ b. b == 0x6B) (λ _. 7) in
+        let answer : Option MatchValue = Some (record { pattern = 1; start = 2; end = 9 }) in
+        (tried_places table (codes "Shlockjaw") (between 0 9) answer ≡ 3)
+        × (scanned_once table (codes "Shlockjaw") (between 0 9) answer ≡ 6) }
+    ensures no_match { let table : List (Option ℕ) = table_of (λ b. b == 0x6B) (λ _. 7) in
+        (tried_places table (codes "Shlockjaw") (between 0 8) None ≡ 6)
+        × (scanned_once table (codes "Shlockjaw") (between 0 8) None ≡ 8) }
+    ensures words { let table : List (Option ℕ) = table_of (λ b. b == 0x70) (λ _. 4) in
+        let haystack = codes "Nobody likes maple in their apple flavored Snapple." in
+        let answer : Option MatchValue = Some (record { pattern = 1; start = 13; end = 18 }) in
+        (tried_places table haystack (between 0 51) answer ≡ 3)
+        × (scanned_once table haystack (between 0 51) answer ≡ 16) }
 {}

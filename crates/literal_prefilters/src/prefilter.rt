@@ -9,7 +9,7 @@ ghost use Rattle.literal_prefilters.specs.Answers.{match_of, start_of};
 ghost use Rattle.literal_prefilters.specs.Choice.{IsBuiltFor, has_fewer_start_bytes, is_last_resort, is_one_pattern};
 ghost use Rattle.literal_prefilters.specs.Choice.{is_short_list, is_start_nearly_as_rare, packed_search, pick, suits_packed};
 ghost use Rattle.literal_prefilters.specs.PrefilterValue.{CoveredBy, IsAnswer, IsCountedAnswer, TakesMemory};
-ghost use Rattle.literal_prefilters.specs.PrefilterValue.{by_table, prefilter_reach, table_of};
+ghost use Rattle.literal_prefilters.specs.PrefilterValue.{by_table, prefilter_reach, prefilter_table};
 ghost use Rattle.literal_prefilters.specs.PrefilterBuilderValue.{PrefilterBuilderValue, pattern_limit, with_added};
 ghost use Rattle.literal_packed.specs.PatternsValue.{IsInOrder};
 ghost use Rattle.literal_packed.specs.State.{WouldKeep, kept_of};
@@ -143,7 +143,7 @@ impl Prefilter {
 
     /// The table, if the prefilter goes by one.
     fn table(&self) -> Option<&ByteTable>
-        ensures { option_copied result ≡ table_of self.now }
+        ensures { option_copied result ≡ prefilter_table self.now }
     {
         match &self.finder {
             Finder::Memmem(_) | Finder::Packed(_) => None,
