@@ -1,7 +1,7 @@
 //! Laws of tables and prefilters. Each is the contract of a function: of one that does nothing where
 //! the law is about definitions, and else of one that makes the call that the law is about.
 ghost use Rattle.std.specs.Prelude.{◌≡◌, ◌↔◌, ◌-◌, ◌≤◌, ◌<◌, ◌++◌, ◌∷◌, [], ℕ, Bool, List, Option, None, Some, IfSome};
-ghost use Rattle.std.specs.Prelude.{false, true, codes, is_some, slice_index, length, ◌==◌, ◌||◌};
+ghost use Rattle.std.specs.Prelude.{false, true, codes, is_some, slice_index, length, ◌==◌, ◌||◌, ◌+◌};
 ghost use Rattle.std.specs.List.{All};
 ghost use Rattle.literal_base.specs.Leftmost.{IsLeftmost, IsLeftmostMatch};
 ghost use Rattle.literal_base.specs.MatchValue.{MatchValue};
@@ -163,8 +163,8 @@ pub fn up_to_128_patterns_have_a_prefilter()
 /// What confirming searches by tables count, worked by hand. By the first bytes of `foo` and `bar` the
 /// places of both first bytes are tried in `xxbafoo`, and five bytes scanned. By the byte `k` with the distance 7,
 /// which it has in `Sherlock` and `lockjaw`, three places are tried in `Shlockjaw`, each of which the same `k` proposes; up to
-/// its byte 8 nothing is found, after six. By the byte `p` with the distance 4 three places are tried before `maple` is
-/// found.
+/// its byte 8 nothing is found, after six. By the byte `p` with the distance 4 three places are tried up to `maple`, and
+/// nine in all until no word is left.
 pub fn worked_counts()
     ensures start_table { let table : List (Option ℕ) = table_of (λ b. b == 0x66 || b == 0x62) (λ _. 0) in
         let answer : Option MatchValue = Some (record { pattern = 0; start = 4; end = 7 }) in
@@ -182,4 +182,13 @@ pub fn worked_counts()
         let answer : Option MatchValue = Some (record { pattern = 1; start = 13; end = 18 }) in
         (tried_places table haystack (between 0 51) answer ≡ 3)
         × (scanned_once table haystack (between 0 51) answer ≡ 16) }
+    ensures list { let table : List (Option ℕ) = table_of (λ b. b == 0x70) (λ _. 4) in
+        let haystack = codes "Nobody likes maple in their apple flavored Snapple." in
+        let maple : Option MatchValue = Some (record { pattern = 1; start = 13; end = 18 }) in
+        let apple : Option MatchValue = Some (record { pattern = 0; start = 28; end = 33 }) in
+        let snapple : Option MatchValue = Some (record { pattern = 2; start = 43; end = 50 }) in
+        (tried_places table haystack (between 0 51) maple + tried_places table haystack (between 18 51) apple
+        + tried_places table haystack (between 33 51) snapple + tried_places table haystack (between 50 51) None ≡ 9)
+        × (scanned_once table haystack (between 0 51) maple + scanned_once table haystack (between 18 51) apple
+        + scanned_once table haystack (between 33 51) snapple + scanned_once table haystack (between 50 51) None ≡ 43) }
 {}

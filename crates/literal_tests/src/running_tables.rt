@@ -262,3 +262,32 @@ fn long_patterns_are_told_apart(rt: HostRuntime) -> Result<(), Fail> {
     ];
     assert_steps(&rt, rt.alloc(), "255 bytes and 256", false, &steps)
 }
+
+/// Adds a pattern of three bytes to the builder and to the list, and compares.
+fn add_to_both(
+    rt: &impl Abort,
+    builder: &mut Builder,
+    patterns: &mut Patterns,
+    bytes: &[u8; 3],
+) -> Result<(), Fail> {
+    if patterns.len() >= 129 {
+        return Err("no more patterns are meant".into());
+    }
+    builder.add(bytes)?;
+    patterns.add(bytes)?;
+    assert_table(rt, &builder.build()?, patterns, false, "of 129 patterns");
+    Ok(())
+}
+
+/// The patterns `a00` to `a42`, `b00` to `b42` and `c00` to `c42`, one after another.
+#[test]
+fn tables_of_129_patterns_are_kept_up(rt: HostRuntime) -> Result<(), Fail> {
+    let mut builder = Builder::new(rt.alloc(), MatchKind::Standard);
+    let mut patterns = Patterns::new(rt.alloc());
+    for number in 0..129u8 {
+        let (letter, rest) = (number / 43, number % 43);
+        let bytes = [b'a' + letter, b'0' + rest / 10, b'0' + rest % 10];
+        add_to_both(&rt, &mut builder, &mut patterns, &bytes)?;
+    }
+    Ok(())
+}

@@ -17,3 +17,7 @@ returns-clause-no_match c = (refl, refl)
 pub returns-clause-words : goal.returns-clause-words
 unfolding by_byte
 returns-clause-words c = (refl, refl)
+
+pub returns-clause-list : goal.returns-clause-list
+unfolding by_byte
+returns-clause-list c = (refl, refl)
