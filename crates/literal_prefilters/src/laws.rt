@@ -1,7 +1,7 @@
 //! Laws of tables and prefilters. Each is the contract of a function: of one that does nothing where
 //! the law is about definitions, and else of one that makes the call that the law is about.
 ghost use Rattle.std.specs.Prelude.{◌≡◌, ◌↔◌, ◌-◌, ◌≤◌, ◌<◌, ◌++◌, ◌∷◌, [], ℕ, Bool, List, Option, None, Some, IfSome};
-ghost use Rattle.std.specs.Prelude.{false, true, codes, is_some, slice_index, length, ◌==◌, ◌||◌, ◌+◌};
+ghost use Rattle.std.specs.Prelude.{false, true, codes, is_some, slice_index, length, ◌==◌, ◌||◌, ◌+◌, replicate};
 ghost use Rattle.std.specs.List.{All};
 ghost use Rattle.literal_base.specs.Leftmost.{IsLeftmost, IsLeftmostMatch};
 ghost use Rattle.literal_base.specs.MatchValue.{MatchValue};
@@ -164,7 +164,8 @@ pub fn up_to_128_patterns_have_a_prefilter()
 /// places of both first bytes are tried in `xxbafoo`, and five bytes scanned. By the byte `k` with the distance 7,
 /// which it has in `Sherlock` and `lockjaw`, three places are tried in `Shlockjaw`, each of which the same `k` proposes; up to
 /// its byte 8 nothing is found, after six. By the byte `p` with the distance 4 three places are tried up to `maple`, and
-/// nine in all until no word is left.
+/// nine in all until no word is left. By a byte with the distance 254 at the end of 255 bytes each place is tried, and each
+/// byte scanned once.
 pub fn worked_counts()
     ensures start_table { let table : List (Option ℕ) = table_of (λ b. b == 0x66 || b == 0x62) (λ _. 0) in
         let answer : Option MatchValue = Some (record { pattern = 0; start = 4; end = 7 }) in
@@ -191,4 +192,8 @@ pub fn worked_counts()
         + tried_places table haystack (between 33 51) snapple + tried_places table haystack (between 50 51) None ≡ 9)
         × (scanned_once table haystack (between 0 51) maple + scanned_once table haystack (between 18 51) apple
         + scanned_once table haystack (between 33 51) snapple + scanned_once table haystack (between 50 51) None ≡ 43) }
+    ensures every_place { let table : List (Option ℕ) = table_of (λ b. b == 0x51) (λ _. 254) in
+        let haystack = replicate 254 0x7A ++ 0x51 ∷ [] in
+        (tried_places table haystack (between 0 255) None ≡ 255)
+        × (scanned_once table haystack (between 0 255) None ≡ 255) }
 {}

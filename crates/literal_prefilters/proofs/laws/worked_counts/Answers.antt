@@ -21,3 +21,7 @@ returns-clause-words c = (refl, refl)
 pub returns-clause-list : goal.returns-clause-list
 unfolding by_byte
 returns-clause-list c = (refl, refl)
+
+pub returns-clause-every_place : goal.returns-clause-every_place
+unfolding by_byte
+returns-clause-every_place c = (refl, refl)
