@@ -56,7 +56,7 @@ is_start_nearly_as_rare _ _ = false
 abbrev pub is_last_resort : PrefilterBuilderValue → Bool
 is_last_resort b = suits_packed b && nat_le (length (kept_of b.state)) 128
 
--- the prefilter that is built for the patterns of a builder, if one is: the first case that it is decides
+-- the prefilter that is built for the patterns of a builder, if one is: the first line that applies decides
 abbrev pub pick : PrefilterBuilderValue → Option PrefilterValue
 pick b =
     let patterns = kept_of b.state in

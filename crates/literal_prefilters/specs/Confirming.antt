@@ -17,6 +17,11 @@ scanned_once table haystack span None = span.end - span.start
 scanned_once table haystack span (Some found) =
     unwrap_or (first table haystack (between found.start span.end)) 0 + 1 - span.start
 
+-- where an answer ends, and where there is none the span
+abbrev pub answer_end : Span → Option MatchValue → ℕ
+answer_end span None = span.end
+answer_end span (Some found) = found.end
+
 -- how many places are tried: the near ones up to the match's start, or all
 abbrev pub tried_places : List (Option ℕ) → List ℕ → Span → Option MatchValue → ℕ
 tried_places table haystack span None = near_count table haystack span span.end

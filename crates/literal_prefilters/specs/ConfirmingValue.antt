@@ -1,11 +1,12 @@
 -- A confirming search, as contracts see it, and what it is built from.
-use Rattle.std.specs.Prelude.{◌≡◌, ℕ, Bool, List, Option, map, option_map}
+use Rattle.std.specs.Prelude.{◌≡◌, ◌⊎◌, ℕ, Bool, List, Option, Some, IsTrue, is_some, map}
+use Rattle.std.specs.Prelude.{option_map}
 use Rattle.std.specs.Borrow.{Bor}
-use Rattle.std.specs.Iterator.{Drains}
+use Rattle.std.specs.Iterator.{Drains, Yields}
 use Rattle.literal_base.specs.declared.packed.MatchKind.{MatchKind}
 use Rattle.literal_base.specs.Kinds.{root_kind_of}
 use Rattle.literal_base.specs.Query.{Query}
-use Rattle.literal_packed.specs.State.{kept_of, state_of}
+use Rattle.literal_packed.specs.State.{WouldKeep, kept_of, state_of}
 use Rattle.literal_prefilters.specs.Choice.{pick}
 use Rattle.literal_prefilters.specs.PrefilterBuilderValue.{PrefilterBuilderValue, pattern_limit}
 use Rattle.literal_prefilters.specs.PrefilterValue.{PrefilterValue}
@@ -37,3 +38,23 @@ abbrev pub BuildsConfirming : {U T : Type 0} → (U → T → Type 0) → (T →
 BuildsConfirming {U} {T} becomes steps kind ignore_case patterns answer =
     (it : T) × (items : List (Bor (List ℕ))) × becomes patterns it × Drains steps it items
     × (answer ≡ confirming_of kind (prefilter_builder kind ignore_case (map (λ p. p.now) items)))
+
+module _ {U T : Type 0} (becomes : U → T → Type 0) (steps : T → Option (Bor (List ℕ)) → T → Type 0)
+    (kind : MatchKind) (ignore_case : Bool) (patterns : U) where
+  -- the prefilter's builder would keep an item of the iterator, after those before it
+  pub record WouldKeepItem : Type 0 where
+    pub iterator : T
+    pub items : List (Bor (List ℕ))
+    pub refused : Bor (List ℕ)
+    pub before : T
+    pub after : T
+    pub is_iterator : becomes patterns iterator
+    pub gave : Yields steps iterator items before
+    pub gives : steps before (Some refused) after
+    pub would_keep : WouldKeep pattern_limit (state_of pattern_limit (map (λ p. p.now) items)) refused.now
+
+  -- memory was refused: for an item that is kept, or after all items, where there is a prefilter for them
+  abbrev pub RefusesConfirming : Type 0
+  RefusesConfirming = WouldKeepItem
+      ⊎ ((it : T) × (items : List (Bor (List ℕ))) × becomes patterns it × Drains steps it items
+      × IsTrue (is_some (pick (prefilter_builder kind ignore_case (map (λ p. p.now) items)))))

@@ -14,7 +14,7 @@ ghost use Rattle.literal_packed.specs.State.{kept_of};
 ghost use Rattle.literal_prefilters.specs.Choice.{pick, suits_packed};
 ghost use Rattle.literal_prefilters.specs.Confirming.{scanned_once, tried_places};
 ghost use Rattle.literal_prefilters.specs.PrefilterBuilderValue.{PrefilterBuilderValue};
-ghost use Rattle.literal_prefilters.specs.PrefilterValue.{exact_query, prefilter_reach, prefilter_table};
+ghost use Rattle.literal_prefilters.specs.PrefilterValue.{CoveredBy, exact_query, prefilter_reach, prefilter_table};
 ghost use Rattle.literal_prefilters.specs.Sound.{Sound};
 ghost use Rattle.literal_prefilters.specs.Rarest.{IsRarest};
 ghost use Rattle.literal_prefilters.specs.Table.{Covers, IsFirst, distance_of, first, is_in, reach_of, step};
@@ -22,7 +22,7 @@ ghost use Rattle.literal_prefilters.specs.Tables.{if_small, is_rare_byte, is_sta
 ghost use Rattle.literal_prefilters.specs.Tables.{start_table, table_of, with_rarest};
 ghost use Rattle.literal_prefilters.specs.Variants.{StartsVariants, IsLargestOffset};
 
-use crate::prefilter::{Candidate, Prefilter};
+use crate::prefilter::{Candidate, ConfirmingSearch, Prefilter};
 use literal_base::search::Span;
 
 /// What a table proposes passes over no occurrence of patterns that it covers: in every haystack and
@@ -148,6 +148,14 @@ pub fn none_without_an_occurrence(pre: &Prefilter, haystack: &[u8], span: Span) 
         ↔ NothingOccurs query.patterns false haystack.now span) }
 {
     pre.find_in(haystack, span)
+}
+
+/// The prefilter of a confirming search covers its patterns, none of which is empty.
+pub fn confirming_searches_cover_their_patterns(search: &ConfirmingSearch)
+    ensures covered { CoveredBy search.now.prefilter search.now.query search.now.ignore_case }
+    ensures not_empty { NoneIsEmpty search.now.query.patterns }
+{
+    search.covers_its_patterns();
 }
 
 /// For a leftmost kind of match, with case kept, there is a prefilter for each list of 1 to 128

@@ -1,31 +1,15 @@
 //! Which prefilter is built for which patterns, and what it answers: each case of the choice, and each
 //! of its limits from both sides.
 use crate::asserted::{assert_holds, assert_same};
-use crate::made::{Place, place};
+use crate::made::{Answer, answer_of, place};
 use crate::plain::leftmost_plainly;
 use MatchKind::{LeftmostFirst, LeftmostLongest, Standard};
 use literal_prefilters::count::Tally;
-use literal_prefilters::prefilter::{Builder, Candidate, Prefilter, PrefilterI};
+use literal_prefilters::prefilter::{Builder, Prefilter, PrefilterI};
 use literal_prefilters::{MatchKind, Span, packed};
 use std::alloc::Global;
 use std::process::Abort;
 use std::test::Fail;
-
-/// What a prefilter says: a match, or a place at which one may begin.
-#[derive(Clone, Copy, Debug, PartialEq, Drop)]
-enum Answer {
-    Nothing,
-    Start(usize),
-    Found(Place),
-}
-
-fn answer_of(candidate: Candidate) -> Answer {
-    match candidate {
-        Candidate::None => Answer::Nothing,
-        Candidate::Match(found) => Answer::Found(place(found)),
-        Candidate::PossibleStartOfMatch(start) => Answer::Start(start),
-    }
-}
 
 /// What a case shows, the kinds of match that it is for, the prefilter that is built, its patterns,
 /// whether case is ignored, a haystack, and what is answered for all of it.

@@ -1,6 +1,7 @@
 //! What tests of several modules make, and how they tell matches.
 use literal_prefilters::Match;
 use literal_prefilters::packed::{Builder, Config, MatchKind, Searcher};
+use literal_prefilters::prefilter::Candidate;
 use std::alloc::{AllocError, Global};
 use std::test::Fail;
 
@@ -17,6 +18,22 @@ pub fn places(alloc: Global, found: &[Match]) -> Result<Vec<Place>, AllocError> 
         places.push(place(*it))?;
     }
     Ok(places)
+}
+
+/// What a prefilter says: a match, or a place at which one may begin.
+#[derive(Clone, Copy, Debug, PartialEq, Drop)]
+pub enum Answer {
+    Nothing,
+    Start(usize),
+    Found(Place),
+}
+
+pub fn answer_of(candidate: Candidate) -> Answer {
+    match candidate {
+        Candidate::None => Answer::Nothing,
+        Candidate::Match(found) => Answer::Found(place(found)),
+        Candidate::PossibleStartOfMatch(start) => Answer::Start(start),
+    }
 }
 
 /// Adds patterns one after another.

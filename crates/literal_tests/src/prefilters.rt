@@ -21,16 +21,7 @@ type Row = (
 );
 
 /// Rare bytes, and how far back from them.
-static BACK_FROM_RARE_BYTES: [Row; 6] = [
-    (
-        "back from the rare byte",
-        "Prefilter(RareBytesOne)",
-        &[b"Sherlock", b"lockjaw"],
-        false,
-        b"I am lockjaw",
-        0,
-        Some(1),
-    ),
+static BACK_FROM_RARE_BYTES: [Row; 5] = [
     (
         "back to the start of the span",
         "Prefilter(RareBytesOne)",
@@ -79,16 +70,7 @@ static BACK_FROM_RARE_BYTES: [Row; 6] = [
 ];
 
 /// Start bytes.
-static START_BYTES: [Row; 4] = [
-    (
-        "a start byte of the second",
-        "Prefilter(StartBytesTwo)",
-        &[b"foo", b"bar"],
-        false,
-        b"xxbafoo",
-        0,
-        Some(2),
-    ),
+static START_BYTES: [Row; 2] = [
     (
         "one start byte",
         "Prefilter(StartBytesOne)",
@@ -97,15 +79,6 @@ static START_BYTES: [Row; 4] = [
         b"xxbafoo",
         0,
         Some(4),
-    ),
-    (
-        "the other case",
-        "Prefilter(StartBytesTwo)",
-        &[b"foo"],
-        true,
-        b"xxFOO",
-        0,
-        Some(2),
     ),
     (
         "no byte",
@@ -118,8 +91,8 @@ static START_BYTES: [Row; 4] = [
     ),
 ];
 
-/// Bytes that are no letters, and three letters.
-static BESIDE_LETTERS: [Row; 4] = [
+/// Bytes that are no letters.
+static BESIDE_LETTERS: [Row; 3] = [
     (
         "what comes after the letters",
         "Prefilter(StartBytesOne)",
@@ -139,15 +112,6 @@ static BESIDE_LETTERS: [Row; 4] = [
         Some(2),
     ),
     (
-        "three start bytes",
-        "Prefilter(StartBytesThree)",
-        &[b"a", b"b", b"c"],
-        false,
-        b"zzb",
-        0,
-        Some(2),
-    ),
-    (
         "no character",
         "Prefilter(RareBytesOne)",
         &[b"\xC0"],
@@ -159,7 +123,7 @@ static BESIDE_LETTERS: [Row; 4] = [
 ];
 
 /// Rare bytes of several words.
-static OF_WORDS: [Row; 3] = [
+static OF_WORDS: [Row; 2] = [
     (
         "three words",
         "Prefilter(RareBytesOne)",
@@ -177,15 +141,6 @@ static OF_WORDS: [Row; 3] = [
         b"in an apple",
         9,
         None,
-    ),
-    (
-        "a word in the other case",
-        "Prefilter(RareBytesTwo)",
-        &[b"sherlock"],
-        true,
-        b"xxSHERLOCK",
-        0,
-        Some(2),
     ),
 ];
 

@@ -6,7 +6,6 @@ use Rattle.std.proofs.lemmas.Bool.{cases_lt}
 use Rattle.std.proofs.lemmas.List.{length-take-le}
 use Rattle.literal_base.specs.declared.packed.MatchKind.{MatchKind}
 use Rattle.literal_base.specs.declared.search.Span.{Span}
-use Rattle.literal_base.specs.MatchValue.{MatchValue}
 use Rattle.literal_base.specs.Leftmost.{IsLeftmostMatch}
 use Rattle.literal_base.specs.Occurs.{pattern_at, case_folded, Occurs, NothingOccurs, StandsAt, IsValidSpan}
 use Rattle.literal_packed.proofs.lemmas.CutHaystack.{cut_range}
@@ -56,20 +55,6 @@ module _ (patterns : List (List ℕ)) (ignore_case : Bool) (haystack : List ℕ)
         | inl h ↦ before i at h o
         | inr late ↦ let no : s ≤ at = possible.none_before i at (in_rest from i at late o) in absurd (omega arith)
       ]
-
-  -- the leftmost match of the rest is that of the span
-  pub leftmost_from_rest : (kind : MatchKind) (from : ℕ) (found : MatchValue) → span.start ≤ from → NoneBefore from
-      → IsLeftmostMatch (record { kind = kind; patterns = patterns }) ignore_case haystack (rest from) found
-      → IsLeftmostMatch (record { kind = kind; patterns = patterns }) ignore_case haystack span found
-  leftmost_from_rest kind from found later before l = record {
-    occurs = in_span from found.pattern found.start later l.occurs;
-    whole = l.whole;
-    earliest = λ i at early o. elim (cases_lt at from) [
-      | inl h ↦ before i at h o
-      | inr late ↦ l.earliest i at early (in_rest from i at late o)
-    ];
-    best = λ i better o. l.best i better (in_rest from i found.start l.occurs.after_start o);
-  }
 
   module _ (valid : IsValidSpan haystack span) where
     abbrev front : List ℕ

@@ -1,7 +1,7 @@
 -- What is picked in the cases where the search needs a hint.
--- For `build`, `start_table` and `rare_table` of the builder of prefilters.
+-- For `build`, `start_table` and `rare_table` of the builder of prefilters, and `ConfirmingSearch::of_builder`.
 use Rattle.std.proofs.Common.{◌≡◌, ◌==◌, ◌&&◌, ◌||◌, not, ℕ, Bool, true, false, List, [], length, Option, Some, None}
-use Rattle.std.proofs.Common.{is_some}
+use Rattle.std.proofs.Common.{is_some, IsSomeAnd, IsTrue, Result, Ok, Err, OnErr}
 use Rattle.std.proofs.Common.{◌<◌, ◌≤◌, nat_lt, get_or, option_map, cond, sym, refl, ap, ◌∙◌, arith}
 use Rattle.std.specs.Option.{option_or}
 use Rattle.std.proofs.lemmas.Bool.{and_parts, ltb-true}
@@ -16,7 +16,7 @@ use Rattle.literal_prefilters.specs.Choice.{is_start_nearly_as_rare, packed_sear
 use Rattle.literal_prefilters.specs.PrefilterBuilderValue.{PrefilterBuilderValue, pattern_limit}
 use Rattle.literal_prefilters.specs.Inside.Prefilter.{builder_value, IsSound}
 use Rattle.literal_prefilters.specs.declared.prefilter.Builder.TheInside.{Inside}
-use Rattle.literal_prefilters.specs.PrefilterValue.{PrefilterValue, by_table, by_pattern, by_search}
+use Rattle.literal_prefilters.specs.PrefilterValue.{PrefilterValue, TakesMemory, by_table, by_pattern, by_search}
 use Rattle.literal_prefilters.specs.Tables.{start_table, rare_table}
 
 -- there are several patterns or case is ignored, these are the tables, and the list is a short one or not
@@ -120,3 +120,10 @@ pick_some b suits some few =
     let packed = some_is (packed_search b) (some_packed b suits) in
     rw (not_empty, packed.1) (either_some (is_one_pattern b) (by_pattern (pattern_at ps 0)) _
     (some_of_tables b packed.0 (start_table b.ignore_case ps) (rare_table b.ignore_case ps) last))
+
+-- memory is refused where a prefilter takes it, so where one is picked
+pub refused_where_picked : {A E : Type 0} (picked : Option PrefilterValue) (built : Result A E)
+    → IsSomeAnd picked TakesMemory → OnErr built (IsTrue (is_some picked))
+refused_where_picked picked (Ok answer) takes = tt
+refused_where_picked (Some value) (Err error) takes = refl
+refused_where_picked None (Err error) takes = absurd takes

@@ -2,21 +2,12 @@
 -- For `rare_set`, `add_rarest` and `Running`.
 use Rattle.std.proofs.Common.{◌≡◌, ℕ, ◌+◌, ◌++◌, ◌<◌, ◌||◌, ◌&&◌, not, Bool, true, false, List, [], ◌∷◌, length, get_or}
 use Rattle.std.proofs.Common.{take}
-use Rattle.std.proofs.Common.{refl, sym, ap, ◌∙◌, eq-eqb}
+use Rattle.std.proofs.Common.{refl, ap, ◌∙◌, eq-eqb}
 use Rattle.std.specs.List.{list_any}
 use Rattle.std.proofs.lemmas.List.Sums.{fold_more, fold_push}
-use Rattle.literal_prefilters.proofs.lemmas.Lists.{or_false, list_any_agree}
+use Rattle.literal_prefilters.proofs.lemmas.Lists.{list_any_agree}
 use Rattle.literal_base.specs.Occurs.{same_byte}
 use Rattle.literal_prefilters.specs.Tables.{rarest, with_rarest, is_rare_byte}
-
-pub with_rarest-kept : (c : Bool) (f : ℕ → Bool) (p : List ℕ) (b : ℕ) → list_any f p ≡ true
-    → f b ≡ with_rarest c f p b
-with_rarest-kept c f p b held =
-    sym (ap (λ t. f b || (not t && same_byte c b (rarest p))) held ∙ or_false (f b))
-
-pub with_rarest-added : (c : Bool) (f : ℕ → Bool) (p : List ℕ) (b : ℕ) → list_any f p ≡ false
-    → (f b || same_byte c b (rarest p)) ≡ with_rarest c f p b
-with_rarest-added c f p b held = sym (ap (λ t. f b || (not t && same_byte c b (rarest p))) held)
 
 -- the same of the same set
 pub with_rarest-agree : (c : Bool) (f g : ℕ → Bool) → ((b : ℕ) → f b ≡ g b) → (p : List ℕ) (b : ℕ)

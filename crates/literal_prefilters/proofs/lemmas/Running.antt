@@ -10,7 +10,7 @@ use Rattle.literal_base.specs.Occurs.{same_byte}
 use Rattle.literal_prefilters.specs.Table.{size}
 use Rattle.literal_prefilters.specs.Tables.{of_set, table_of, if_low, if_small, is_start_byte, start_table, with_rarest}
 use Rattle.literal_prefilters.specs.Tables.{is_rare_byte, offset_below, largest_offset, rare_table}
-use Rattle.literal_prefilters.specs.Inside.Running.{IsUpTo, are_short, came_of, one_more}
+use Rattle.literal_prefilters.specs.Inside.Running.{IsUpTo, are_short}
 use Rattle.literal_prefilters.proofs.lemmas.Lists.{or_false}
 use Rattle.literal_prefilters.proofs.lemmas.Rare.{is_rare_byte-push, with_rarest-agree}
 use Rattle.literal_prefilters.proofs.lemmas.Sets.{size-of_set, size-agree, size-grows}
@@ -19,11 +19,6 @@ use Rattle.literal_prefilters.proofs.lemmas.TableOf.{table_of_agree}
 and_true : (x : Bool) → (x && true) ≡ x
 and_true true = refl
 and_true false = refl
-
-pub came_of-push : (ps : List (List ℕ)) (p : List ℕ) → came_of (ps ++ p ∷ []) ≡ one_more (came_of ps)
-came_of-push [] p = refl
-came_of-push (q ∷ []) p = refl
-came_of-push (q ∷ r ∷ ps) p = refl
 
 is_start_byte-push : (c : Bool) (ps : List (List ℕ)) (p : List ℕ) (b : ℕ)
     → is_start_byte c (ps ++ p ∷ []) b ≡ (is_start_byte c ps b || same_byte c b (slice_index p 0))
@@ -130,17 +125,6 @@ start_table-up_to c ps set u =
     (λ (few : size (of_set set) ≤ 3). ap if_low (table_of_agree set wanted (λ (_ : ℕ). 0) (λ _. 0) (u.exact few)
     (λ b. refl)))
     (cases_lt 3 (size (of_set set)))
-
--- there is no rare table where a pattern is long
-pub rare_table-long : (c : Bool) (ps : List (List ℕ)) → true ≡ not (are_short ps) → None ≡ rare_table c ps
-rare_table-long c ps long =
-    from (nat_lt 0 (length ps)) (are_short ps) _ long
-  where
-    from : (a b d : Bool) → true ≡ not b → None ≡ cond ((a && b) && d) (Some (table_of (is_rare_byte c ps)
-        (largest_offset c ps))) None
-    from a true d e = absurd cc
-    from true false d e = refl
-    from false false d e = refl
 
 -- elsewhere it is that of the set and the offsets
 pub rare_table-up_to : (c : Bool) (ps : List (List ℕ)) (set : ℕ → Bool) (far : ℕ → ℕ)

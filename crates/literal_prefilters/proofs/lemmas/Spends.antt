@@ -11,7 +11,7 @@ use Rattle.literal_base.specs.MatchValue.{MatchValue}
 use Rattle.literal_base.specs.Occurs.{IsValidSpan, NothingOccurs, Occurs, between, rest_from}
 use Rattle.literal_base.specs.Query.{Query}
 use Rattle.literal_packed.specs.Spending.{SpendsAtMost}
-use Rattle.literal_packed.proofs.lemmas.Spending.{rest_is, spends_found, spends_last, spends_nothing, spends_within}
+use Rattle.literal_packed.proofs.lemmas.Spending.{rest_is, spends_found, spends_last, spends_within}
 use Rattle.literal_prefilters.specs.Confirming.{CountsConfirming, CountsTries, SpendsConfirming, SpendsTries}
 use Rattle.literal_prefilters.specs.Confirming.{scanned_once}
 use Rattle.literal_prefilters.specs.Exact.{CoversPattern, query_of_one}
@@ -99,20 +99,6 @@ abbrev pub SpendsTo : PrefilterValue → List (List ℕ) → List ℕ → ℕ �
 SpendsTo (by_table table) patterns haystack to old new = SpendsTries table patterns haystack to old new
 SpendsTo (by_pattern pattern) patterns haystack to old new = SpendsAtMost (query_of_one pattern) haystack 0 to old new
 SpendsTo (by_search query) patterns haystack to old new = SpendsAtMost query haystack 0 to old new
-
-pub spends_start : (pre : PrefilterValue) (patterns : List (List ℕ)) (haystack : List ℕ) (old : Counts)
-    → SpendsTo pre patterns haystack 0 old old
-spends_start (by_table table) patterns haystack old = record {
-  scanned = omega arith;
-  tried = omega arith;
-  compared = omega arith;
-  scanned_grows = omega arith;
-  tried_grows = omega arith;
-  compared_grows = omega arith;
-  others = refl;
-}
-spends_start (by_pattern pattern) patterns haystack old = spends_nothing (query_of_one pattern) haystack 0 old
-spends_start (by_search query) patterns haystack old = spends_nothing query haystack 0 old
 
 -- at the end, or wherever the searches were given up
 pub spends_whole : (pre : PrefilterValue) (patterns : List (List ℕ)) (haystack : List ℕ) (to : ℕ) (old new : Counts)

@@ -1,16 +1,17 @@
 //! The confirming search: a prefilter proposes places, and the patterns are compared there.
-ghost use Rattle.std.specs.Prelude.{◌≡◌, ◌+◌, ◌-◌, ◌*◌, ◌≤◌, length, take, IfOk, IfSome, MatchOption, option_map, slice_index, Some};
+ghost use Rattle.std.specs.Prelude.{◌≡◌, ◌+◌, ◌-◌, ◌*◌, ◌≤◌, length, take, IfOk, OnErr, IfSome, IsTrue, MatchOption, is_some, option_map, slice_index, Some};
 ghost use Rattle.std.specs.List.{All};
 ghost use Rattle.literal_base.specs.Greedy.{IsGreedy};
 ghost use Rattle.literal_base.specs.Leftmost.{IsLeftmost};
 ghost use Rattle.literal_base.specs.Occurs.{IsValidSpan, NoneIsEmpty};
 ghost use Rattle.literal_packed.specs.Inside.Place.{IsBestAt, NoneStandsAt};
 ghost use Rattle.literal_packed.specs.PatternsValue.{IsInOrder, query_of};
-ghost use Rattle.literal_prefilters.specs.Confirming.{CountsConfirming, SpendsConfirming, scanned_once, tried_places};
+ghost use Rattle.literal_prefilters.specs.Confirming.{CountsConfirming, SpendsConfirming, answer_end, scanned_once, tried_places};
 ghost use Rattle.literal_prefilters.specs.PrefilterValue.{CoveredBy};
 ghost use Rattle.literal_packed.specs.Lending.{CanBeTaken};
+ghost use Rattle.literal_prefilters.specs.Choice.{pick};
 ghost use Rattle.literal_base.specs.Kinds.{root_kind_of};
-ghost use Rattle.literal_prefilters.specs.ConfirmingValue.{BuildsConfirming, confirming_of};
+ghost use Rattle.literal_prefilters.specs.ConfirmingValue.{BuildsConfirming, RefusesConfirming, confirming_of};
 ghost use Rattle.literal_prefilters.specs.Inside.Confirming.{IsKept, read_to};
 ghost use Rattle.literal_prefilters.specs.Table.{Covers, distance_of, first};
 
@@ -138,6 +139,7 @@ fn confirm_by_table(
     requires valid { IsValidSpan haystack.now span }
     ensures leftmost { IsLeftmost (query_of patterns.now) ignore_case haystack.now span result }
     ensures scanned { tally.new.scanned ≡ tally.old.scanned + scanned_once table.now haystack.now span result }
+    ensures within { tally.new.scanned ≤ tally.old.scanned + (answer_end span result - span.start) }
     ensures tried { tally.new.tried ≡ tally.old.tried + tried_places table.now haystack.now span result }
     ensures compared { tally.new.compared ≤ tally.old.compared
         + (tally.new.tried - tally.old.tried) * length patterns.now.patterns }
@@ -196,7 +198,8 @@ impl Model for ConfirmingSearch {
 impl ConfirmingSearch {
     /// The search for the patterns that the iterator gives, with this kind of match and ASCII case
     /// ignored or not, and `None` exactly where [`Builder::build`] has no prefilter for them. The
-    /// iterator has to end.
+    /// iterator has to end. Memory is asked for only for a pattern that [`Builder::add`] keeps, and behind
+    /// the last of them only where there is a prefilter.
     pub fn build<'a, I: IntoIterator<Item = &'a [u8]>>(
         alloc: Global,
         kind: packed::MatchKind,
@@ -204,8 +207,10 @@ impl ConfirmingSearch {
         patterns: I,
     ) -> Result<Option<ConfirmingSearch>, AllocError>
         requires { CanBeTaken I.into_iter_gives I.IntoIter.can_next I.IntoIter.remaining patterns }
-        ensures { IfOk result
+        ensures ok { IfOk result
             (BuildsConfirming I.into_iter_gives I.IntoIter.next_gives kind ignore_case patterns) }
+        ensures no_memory { OnErr result
+            (RefusesConfirming I.into_iter_gives I.IntoIter.next_gives kind ignore_case patterns) }
     {
         let mut builder = Builder::new(alloc, root_kind(kind)).ascii_case_insensitive(ignore_case);
         for bytes in patterns {
@@ -220,7 +225,8 @@ impl ConfirmingSearch {
         kind: packed::MatchKind,
     ) -> Result<Option<ConfirmingSearch>, AllocError>
         requires { builder.kind ≡ root_kind_of kind }
-        ensures { IfOk result (λ built. built ≡ confirming_of kind builder) }
+        ensures ok { IfOk result (λ built. built ≡ confirming_of kind builder) }
+        ensures no_memory { OnErr result (IsTrue (is_some (pick builder))) }
     {
         let Some(prefilter) = builder.build()? else {
             return Ok(None);
@@ -247,13 +253,14 @@ impl ConfirmingSearch {
     }
 
     /// Answers as [`ConfirmingSearch::find_in`], and adds the steps that it takes to a tally. By a table
-    /// of bytes each byte is scanned at most once, and at each place that is tried each pattern is
-    /// compared at most once; by an exact prefilter it is one search.
+    /// of bytes each byte is scanned at most once, and none behind the match's end; at each place that is
+    /// tried each pattern is compared at most once. By an exact prefilter it is one search.
     pub fn find_in_counted(&self, haystack: &[u8], span: Span, tally: &mut Tally) -> Option<Match>
         requires { IsValidSpan haystack.now span }
         ensures leftmost { IsLeftmost self.now.query self.now.ignore_case haystack.now span result }
         ensures counted { CountsConfirming self.now.prefilter self.now.query.patterns haystack.now span result
             tally.old tally.new }
+        ensures within { tally.new.scanned ≤ tally.old.scanned + (answer_end span result - span.start) }
     {
         match self.prefilter.table() {
             Some(table) => {
@@ -300,7 +307,7 @@ impl ConfirmingSearch {
     }
 
     /// The prefilter covers the patterns, none of which is empty.
-    fn covers_its_patterns(&self)
+    pub(crate) fn covers_its_patterns(&self)
         ensures covered { CoveredBy self.now.prefilter self.now.query self.now.ignore_case }
         ensures not_empty { NoneIsEmpty self.now.query.patterns }
     {

@@ -12,6 +12,7 @@ use Rattle.literal_prefilters.proofs.lemmas.First.{free_from_first}
 use Rattle.literal_packed.specs.PatternsValue.{query_of}
 use Rattle.literal_prefilters.proofs.lemmas.Asks.{none_before_next, leftmost_here}
 use Rattle.literal_prefilters.proofs.lemmas.Near.{valid_rest, near_count-free}
+use Rattle.literal_prefilters.proofs.lemmas.Spends.{scan_ends_in_match}
 use Rattle.literal_prefilters.proofs.lemmas.Tries.{counts_are, one_try, none_before_tried, nothing_from_rest}
 use Rattle.literal_prefilters.proofs.prefilter.confirming.confirm_by_table.Goals as goal
 
@@ -59,6 +60,14 @@ returns-in-Some-best_at-clause-scanned c =
     let value : unwrap_or (first t h (rest c.new.result.start)) 0 ≡ found.place = ap
     (λ s. unwrap_or (first t h (rest s)) 0) is ∙ ap (λ o. unwrap_or o 0) y.first_from_start in
     omega (arith, value, k.after_start, k.behind, y.read)
+
+pub returns-in-Some-best_at-clause-within : goal.returns-in-Some-best_at-clause-within
+returns-in-Some-best_at-clause-within c =
+    let h = c.args.haystack.now in
+    let within = scan_ends_in_match c.args.table.now (query_of c.args.patterns.now) c.args.ignore_case
+    c.requires.covered h (are_bytes h (λ k. omega (arith, c.type_inv.haystack k))) c.args.span c.requires.valid
+    c.new.result (returns-in-Some-best_at-clause-leftmost c) in
+    omega (arith, within, returns-in-Some-best_at-clause-scanned c)
 
 pub returns-in-Some-best_at-clause-tried : goal.returns-in-Some-best_at-clause-tried
 returns-in-Some-best_at-clause-tried c =
