@@ -23,4 +23,4 @@ returns c =
     b.4 ∙ ap (λ added. confirming_of c.args.kind (prefilter_builder c.args.kind c.args.ignore_case added))
     (ap (map (λ (p : Bor (List ℕ)). p.now)) items ∙ (c.loop-pattern.invariant
     ∙ ap (map string_bytes) (take_all c.loop-pattern.pattern-index c.args.patterns.now c.loop-pattern-test.false))))
-    c.build.ensures
+    c.build.ensures.ok
