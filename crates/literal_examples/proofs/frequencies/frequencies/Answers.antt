@@ -1,0 +1,42 @@
+use Rattle.literal_base.specs.Query.{Query}
+use Rattle.std.proofs.Common.{ap, ◌∙◌, ◌≡◌, ◌==◌, ◌<◌, length, slice_index, arith}
+use Rattle.std.proofs.lemmas.List.{get_or_default}
+use Rattle.std.proofs.lemmas.List.Sums.{count_by-le-length}
+use Rattle.literal_base.specs.MatchValue.{MatchValue}
+use Rattle.literal_packed.proofs.lemmas.Callers.{greedy_from_run}
+use Rattle.literal_examples.proofs.frequencies.frequencies.Goals as goal
+
+pub overflow_add-index_mut : goal.overflow_add-index_mut
+overflow_add-index_mut c =
+    let found = c.in-Some.found in
+    let finds = c.in-Some.ensures.steps in
+    let most = count_by-le-length (λ (m : MatchValue). m.pattern == found.pattern) c.loop-found.yielded in
+    let is_pattern = finds.leftmost.occurs.is_pattern in
+    let same = ap (λ (q : Query). length q.patterns) c.loop-found.invariant.query_is in
+    let within : found.pattern < c.args.patterns = omega (arith, c.requires) in
+    let count = c.loop-found.invariant.counted found.pattern within in
+    let now = c.index_mut.ensures.value in
+    let index_is : c.as_usize.result ≡ found.pattern = c.as_usize.ensures.value ∙ c.pattern.ensures in
+    let items = c.loop-found.counts.items in
+    let inside : c.as_usize.result < length items = omega (arith, index_is, within, c.loop-found.invariant.len) in
+    let read : c.index_mut.result.now ≡ slice_index items found.pattern =
+    now ∙ (get_or_default items c.as_usize.result c.index_mut.result.now 0 inside ∙ ap (slice_index items) index_is) in
+    omega (
+      arith,
+      read,
+      count,
+      most,
+      c.loop-found.invariant.few,
+      finds.leftmost.occurs.after_start,
+      finds.not_empty,
+      c.end.ensures.end,
+      c.end.type_inv,
+    )
+
+pub returns : goal.returns
+returns c = (
+  c.loop-found.yielded,
+  greedy_from_run c.args.searcher.now c.args.haystack.now _ _ _ _ (cc) c.loop-found.yielded_by c.in-None.ensures.steps,
+  c.loop-found.invariant.len,
+  c.loop-found.invariant.counted,
+)

@@ -1,0 +1,14 @@
+use Rattle.std.proofs.Common.{◌≡◌, ◌==◌, ◌<◌, ◌≤◌, ℕ, count_by, length, slice_index}
+use Rattle.literal_base.specs.MatchValue.{MatchValue}
+use Rattle.literal_examples.proofs.frequencies.frequencies.Given as goal
+
+abbrev pub invariant-loop-found : goal.invariant-loop-found
+invariant-loop-found l = record {
+  query_is : l.found-iterator.query ≡ l.searcher;
+  haystack_is : l.found-iterator.haystack ≡ l.haystack;
+  within : l.found-iterator.at ≤ length l.haystack;
+  few : length l.yielded ≤ l.found-iterator.at;
+  len : length l.counts.items ≡ l.patterns;
+  counted : (i : ℕ) → i < l.patterns
+      → slice_index l.counts.items i ≡ count_by (λ (m : MatchValue). m.pattern == i) l.yielded;
+}

@@ -1,0 +1,16 @@
+use Rattle.std.proofs.Common.{[], ap, ◌∙◌, append-nil}
+use Rattle.std.proofs.Common.{List, ℕ, map}
+use Rattle.std.specs.Borrow.{Bor}
+use Rattle.literal_packed.proofs.lemmas.Callers.{greedy_from_run}
+use Rattle.literal_examples.specs.Replaced.{replaced}
+use Rattle.literal_examples.proofs.replace.replace_all.Goals as goal
+
+pub returns : goal.returns
+returns c =
+    let with_ = map (λ (r : Bor (List ℕ)). r.now) c.args.replacements.now in (
+      c.loop-found.yielded,
+      greedy_from_run c.args.searcher.now c.args.haystack.now _ _ _ _ (cc) c.loop-found.yielded_by
+          c.in-None.ensures.steps,
+      c.in_ok-extend_from_slice-3.ensures.items ∙ (c.loop-found.invariant.text []
+          ∙ ap (replaced c.args.haystack.now with_ 0) (append-nil c.loop-found.yielded)),
+    )

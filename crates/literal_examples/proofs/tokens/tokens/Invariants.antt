@@ -1,0 +1,13 @@
+use Rattle.std.proofs.Common.{◌≡◌, ◌≤◌, length}
+use Rattle.literal_examples.specs.Tokens.{Tiles, matched}
+use Rattle.literal_examples.proofs.tokens.tokens.Given as goal
+
+abbrev pub invariant-loop-found : goal.invariant-loop-found
+invariant-loop-found l = record {
+  query_is : l.found-iterator.query ≡ l.searcher;
+  haystack_is : l.found-iterator.haystack ≡ l.haystack;
+  at_is : l.found-iterator.at ≡ l.at;
+  within : l.at ≤ length l.haystack;
+  tiles : Tiles 0 l.at l.all.items;
+  matched_are : matched l.all.items ≡ l.yielded;
+}

@@ -1,0 +1,24 @@
+-- A text that is cut into tokens.
+use Rattle.std.specs.Prelude.{◌≡◌, ℕ, ◌<◌, List, [], ◌∷◌, ◌++◌, Option, Some, None, nat_lt, if◌then◌else◌}
+use Rattle.literal_base.specs.declared.search.Span.{Span}
+use Rattle.literal_base.specs.MatchValue.{MatchValue}
+use Rattle.literal_examples.specs.declared.tokens.Token.{Token}
+
+-- one after another the tokens are the part of a text from an offset up to another, and none of them is empty
+abbrev pub Tiles : ℕ → ℕ → List Token → Type 0
+Tiles from to [] = from ≡ to
+Tiles from to (token ∷ more) = (token.span.start ≡ from) × (from < token.span.end) × Tiles token.span.end to more
+
+-- the match that a token is, if it is one
+abbrev pub match_of : Span → Option ℕ → List MatchValue
+match_of span None = []
+match_of span (Some pattern) = record { pattern = pattern; start = span.start; end = span.end } ∷ []
+
+-- the matches among the tokens
+abbrev pub matched : List Token → List MatchValue
+matched [] = []
+matched (token ∷ more) = match_of token.span token.pattern ++ matched more
+
+-- what lies between two offsets, as a token if it is not empty
+abbrev pub between : ℕ → ℕ → List Token
+between from to = if nat_lt from to then record { span = record { start = from; end = to }; pattern = None } ∷ [] else []

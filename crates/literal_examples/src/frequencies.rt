@@ -1,0 +1,28 @@
+//! How often each pattern is a match.
+ghost use Rattle.std.specs.Prelude.{◌≡◌, ◌==◌, ◌<◌, ◌≤◌, ℕ, List, IfOk, false, count_by, length, slice_index};
+ghost use Rattle.literal_base.specs.Greedy.{IsGreedy};
+ghost use Rattle.literal_base.specs.MatchValue.{MatchValue};
+
+use literal_prefilters::packed::Searcher;
+use std::alloc::{AllocError, Global};
+
+/// How often each of the first so many patterns is a match, of those from the left that do not overlap.
+/// The searcher has no more patterns.
+pub fn frequencies(
+    alloc: Global,
+    searcher: &Searcher,
+    patterns: usize,
+    haystack: &[u8],
+) -> Result<Vec<usize>, AllocError>
+    requires { length searcher.now.patterns ≤ patterns }
+    ensures { IfOk result (λ counts. (all : List MatchValue) × IsGreedy searcher.now false haystack.now 0 all
+        × (length counts.items ≡ patterns)
+        × ((i : ℕ) → i < patterns → slice_index counts.items i ≡ count_by (λ m. m.pattern == i) all)) }
+{
+    let mut counts = Vec::from_elem(alloc, 0, patterns)?;
+    for found in searcher.find_iter(haystack) {
+        let _ = found.end(); // (a `usize`, which no count passes)
+        counts[found.pattern().as_usize()] += 1;
+    }
+    Ok(counts)
+}

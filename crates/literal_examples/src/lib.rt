@@ -1,0 +1,10 @@
+//! What stands on the searches: parts of programs to copy, each proved from public contracts, laws and
+//! the lemmas for callers alone.
+#![tactic(auto)]
+
+pub mod frequencies;
+pub mod keywords;
+pub mod replace;
+#[cfg(test)]
+mod tests;
+pub mod tokens;

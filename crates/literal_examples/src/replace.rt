@@ -1,0 +1,31 @@
+//! Every match replaced by a text of its pattern.
+ghost use Rattle.std.specs.Prelude.{◌≡◌, ◌≤◌, List, IfOk, false, length, map};
+ghost use Rattle.literal_base.specs.Greedy.{IsGreedy};
+ghost use Rattle.literal_base.specs.MatchValue.{MatchValue};
+ghost use Rattle.literal_examples.specs.Replaced.{replaced};
+
+use literal_prefilters::packed::Searcher;
+use std::alloc::{AllocError, Global};
+
+/// The haystack with the replacement of its pattern in place of each match, where matches are taken
+/// from the left and do not overlap. There is a replacement for each pattern, by its identifier.
+pub fn replace_all(
+    alloc: Global,
+    searcher: &Searcher,
+    haystack: &[u8],
+    replacements: &[&[u8]],
+) -> Result<Vec<u8>, AllocError>
+    requires { length searcher.now.patterns ≤ length replacements.now }
+    ensures { IfOk result (λ text. (all : List MatchValue) × IsGreedy searcher.now false haystack.now 0 all
+        × (text.items ≡ replaced haystack.now (map (λ r. r.now) replacements.now) 0 all)) }
+{
+    let mut text = Vec::new(alloc);
+    let mut at = 0;
+    for found in searcher.find_iter(haystack) {
+        text.extend_from_slice(&haystack[at..found.start()])?;
+        text.extend_from_slice(replacements[found.pattern().as_usize()])?;
+        at = found.end();
+    }
+    text.extend_from_slice(&haystack[at..])?;
+    Ok(text)
+}
