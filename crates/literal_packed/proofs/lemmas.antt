@@ -9,6 +9,7 @@ pub mod GreedyLists
 pub mod Iterations
 pub mod LaidOut
 pub mod Lending
+pub mod Limits
 pub mod Lists
 pub mod LongestOrder
 pub mod LookUp

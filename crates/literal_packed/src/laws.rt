@@ -9,10 +9,12 @@ ghost use Rattle.literal_base.specs.declared.packed.MatchKind.{MatchKind};
 ghost use Rattle.literal_base.specs.declared.packed.MatchKind.TheVariants.{LeftmostFirst, LeftmostLongest};
 ghost use Rattle.literal_base.specs.Counts.{none_yet};
 ghost use Rattle.literal_base.specs.MatchValue.{MatchValue};
-ghost use Rattle.literal_base.specs.Occurs.{IsValidSpan, NothingOccurs, pattern_at, whole_of};
+ghost use Rattle.literal_base.specs.Occurs.{IsValidSpan, NoneIsEmpty, NothingOccurs, pattern_at, whole_of};
 ghost use Rattle.literal_base.specs.Leftmost.{IsBetter, IsLeftmost, is_better};
 ghost use Rattle.literal_base.specs.Greedy.{IsGreedy};
 ghost use Rattle.literal_base.specs.Query.{Query};
+ghost use Rattle.literal_packed.specs.BuilderValue.{IsBuildable, builder_of, searcher_of};
+ghost use Rattle.literal_packed.specs.ConfigValue.{ConfigValue};
 ghost use Rattle.literal_packed.specs.PatternsValue.{minimum_len_of};
 ghost use Rattle.literal_packed.specs.Sum.{sum_of};
 ghost use Rattle.literal_packed.specs.Pairs.{counts_after};
@@ -20,7 +22,7 @@ ghost use Rattle.literal_base.specs.Apart.{LieApart};
 ghost use Rattle.literal_packed.specs.FindIterValue.{FindIterValue, FindsNext, StandsAtEnd};
 ghost use Rattle.literal_packed.specs.Spending.{SpendsAtMost, SpendsWithin, counts_after_all};
 
-use crate::{FindIter, Searcher};
+use crate::{Builder, Config, FindIter, Searcher};
 use literal_base::count::Tally;
 use literal_base::laws::{greedy_is_unique, leftmost_is_unique};
 use literal_base::{Match, Span};
@@ -43,6 +45,29 @@ pub fn minimum_len_is_the_least_length()
         → (i : ℕ) × i < length patterns × (length (pattern_at patterns i) ≡ minimum_len_of patterns) }
     ensures none { minimum_len_of [] ≡ 2 ^ 64 - 1 }
 {}
+
+/// A configuration builds a searcher of exactly the lists of non-empty patterns, one to its limit, and
+/// it is for these patterns and the kind that is configured.
+pub fn lists_up_to_the_limit_build()
+    ensures searcher { (config : ConfigValue) (added : List (List ℕ)) → 1 ≤ length added
+        → length added ≤ config.pattern_limit → NoneIsEmpty added
+        → searcher_of (builder_of config added) ≡ Some (record { kind = config.kind; patterns = added }) }
+    ensures no_others { (config : ConfigValue) (added : List (List ℕ)) → IsBuildable (builder_of config added)
+        → (1 ≤ length added) × (length added ≤ config.pattern_limit) × NoneIsEmpty added }
+{}
+
+/// A builder has the limit that was set when it was made. No later change of its configuration reaches
+/// the builder, as one to `later` patterns.
+pub fn builders_keep_their_limit(alloc: Global, config: &mut Config, later: usize) -> Builder
+    requires some { 1 ≤ later }
+    requires few { later ≤ Config.MAX_PATTERN_LIMIT }
+    ensures builder { result ≡ builder_of config.old [] }
+    ensures config { config.new ≡ record config.old { pattern_limit = later } }
+{
+    let builder = config.builder(alloc);
+    config.pattern_limit(later);
+    builder
+}
 
 /// The test of which pattern is better tells just that.
 pub fn better_is_tested()

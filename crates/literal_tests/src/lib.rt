@@ -19,6 +19,8 @@ pub mod counts;
 mod identifiers;
 pub mod inputs;
 #[cfg(test)]
+mod limits;
+#[cfg(test)]
 mod made;
 #[cfg(test)]
 mod paths;
