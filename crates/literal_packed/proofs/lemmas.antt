@@ -14,6 +14,7 @@ pub mod Lists
 pub mod LongestOrder
 pub mod LookUp
 pub mod MinimumLen
+pub mod MostPatterns
 pub mod OneValue
 pub mod Occupied
 pub mod Order

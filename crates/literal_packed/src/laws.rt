@@ -1,7 +1,8 @@
 //! Laws of the definitions that contracts cite, and of the searches. Each is the contract of a
 //! function: of one that does nothing where the law is about definitions, and else of one that makes
 //! the calls that the law is about.
-ghost use Rattle.std.specs.Prelude.{◌≡◌, ◌<◌, ◌≤◌, ◌-◌, ◌*◌, ◌^◌, ◌%◌, ◌↔◌, ℕ, List, [], ◌∷◌, length, map, sum};
+ghost use Rattle.std.specs.Prelude.{◌≡◌, ◌<◌, ◌≤◌, ◌-◌, ◌*◌, ◌^◌, ◌/◌, ◌%◌, ◌↔◌, ℕ, List, [], ◌∷◌, length, map};
+ghost use Rattle.std.specs.Prelude.{sum};
 ghost use Rattle.std.specs.Prelude.{slice_index, codes, true, false, IsTrue, IsNone, Option, Some, None, IfOk};
 ghost use Rattle.std.specs.Iterator.{Yields};
 ghost use Rattle.std.specs.List.{All, range_with_len};
@@ -211,4 +212,16 @@ pub fn worked_counts()
     ensures shared_bucket { counts_after none_yet (record { kind = LeftmostLongest; patterns = codes "a" ∷ [] })
         (codes "!!!!") (whole_of (codes "!!!!")) None
         ≡ record { hashed = 4; entries = 4; compared = 0; scanned = 0; tried = 0 } }
+{}
+
+/// The counts of a search for 65535 patterns, worked by hand. They are the two bytes of the numbers from
+/// 0 to 65534, and the haystack is those of the last. No other two bytes have their sum, so one pattern is
+/// compared.
+pub fn worked_counts_of_65535_patterns()
+    ensures { (patterns : List (List ℕ)) → length patterns ≡ 65535
+        → ((n : ℕ) → n < 65535 → pattern_at patterns n ≡ n / 256 ∷ n % 256 ∷ [])
+        → let counts = counts_after none_yet (record { kind = LeftmostFirst; patterns = patterns })
+        (0xFF ∷ 0xFE ∷ []) (whole_of (0xFF ∷ 0xFE ∷ []))
+        (Some (record { pattern = 65534; start = 0; end = 2 })) in
+        (counts.hashed ≡ 2) × (counts.compared ≡ 1) }
 {}

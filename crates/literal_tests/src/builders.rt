@@ -24,11 +24,7 @@ pub fn assert_state(
 }
 
 /// Whatever is added to it, and to a copy.
-pub fn assert_stays_inert(
-    rt: &impl Abort,
-    builder: &mut Builder,
-    case: &str,
-) -> Result<(), Fail> {
+pub fn assert_stays_inert(rt: &impl Abort, builder: &mut Builder, case: &str) -> Result<(), Fail> {
     assert_state(rt, builder, INERT, case)?;
     builder.add(b"more")?;
     assert_state(rt, builder, INERT, case)?;
