@@ -85,8 +85,8 @@ impl Config {
         self
     }
 
-    /// Sets how many patterns a builder keeps at most: one pattern to [`Config::MAX_PATTERN_LIMIT`],
-    /// which is a condition. Builders that were made before keep the limit of their making.
+    /// Sets how many patterns a builder keeps at most: from 1 to [`Config::MAX_PATTERN_LIMIT`]. A
+    /// builder that was made before keeps the limit of its making.
     pub fn pattern_limit(&mut self, n: usize) -> &mut Config
         requires some { 1 ≤ n }
         requires few { n ≤ Config.MAX_PATTERN_LIMIT }
@@ -323,8 +323,8 @@ fn unwrapped(lent: Result<Lent<'_>, AllocError>) -> Result<&mut Builder, AllocEr
     }
 }
 
-/// Searches for the patterns that it was built for: one of them up to the limit of the configuration
-/// that it was built by, none empty.
+/// Searches for the patterns that it was built for: from one to the limit of the builder's
+/// configuration, none empty.
 #[derive(Drop)]
 pub struct Searcher {
     patterns: Patterns,
@@ -448,8 +448,8 @@ impl Searcher {
         Ok(all)
     }
 
-    /// Which occurrence is the match. A searcher has one pattern up to
-    /// [`Config::MAX_PATTERN_LIMIT`], none of them empty.
+    /// Which occurrence is the match. A searcher has 1 to [`Config::MAX_PATTERN_LIMIT`] patterns, none
+    /// of them empty.
     pub fn match_kind(&self) -> &MatchKind
         ensures kind { result.now ≡ self.now.kind }
         ensures patterns { IsSearcher self.now }

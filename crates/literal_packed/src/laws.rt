@@ -47,8 +47,8 @@ pub fn minimum_len_is_the_least_length()
     ensures none { minimum_len_of [] ≡ 2 ^ 64 - 1 }
 {}
 
-/// A configuration builds a searcher of exactly the lists of non-empty patterns, one to its limit, and
-/// it is for these patterns and the kind that is configured.
+/// A configuration builds a searcher of exactly the lists of non-empty patterns, one to its limit. It is
+/// for these patterns and the kind that is configured.
 pub fn lists_up_to_the_limit_build()
     ensures searcher { (config : ConfigValue) (added : List (List ℕ)) → 1 ≤ length added
         → length added ≤ config.pattern_limit → NoneIsEmpty added
@@ -57,8 +57,7 @@ pub fn lists_up_to_the_limit_build()
         → (1 ≤ length added) × (length added ≤ config.pattern_limit) × NoneIsEmpty added }
 {}
 
-/// A builder has the limit that was set when it was made. No later change of its configuration reaches
-/// the builder, as one to `later` patterns.
+/// A builder keeps the limit that its configuration had when it was made, whatever limit is set later.
 pub fn builders_keep_their_limit(alloc: Global, config: &mut Config, later: usize) -> Builder
     requires some { 1 ≤ later }
     requires few { later ≤ Config.MAX_PATTERN_LIMIT }

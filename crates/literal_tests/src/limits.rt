@@ -4,6 +4,7 @@ ghost use Rattle.std.specs.Prelude.{◌≤◌};
 use crate::asserted::{assert_holds, assert_same};
 use crate::builders::{INERT, assert_state, assert_stays_inert};
 use crate::made::{built, one_of_129, place};
+use literal_packed::laws::builders_keep_their_limit;
 use literal_prefilters::packed::{Builder, Config, MatchKind};
 use std::alloc::{AllocError, Global};
 use std::process::Abort;
@@ -67,6 +68,13 @@ fn keeps_the_limit_of_its_making(rt: HostRuntime) -> Result<(), Fail> {
     config.pattern_limit(3);
     assert_keeps(&rt, &mut old, 2, "made before")?;
     assert_keeps(&rt, &mut config.builder(rt.alloc()), 3, "made after")
+}
+
+#[test]
+fn no_later_limit_reaches_a_builder(rt: HostRuntime) -> Result<(), Fail> {
+    let mut config = Config::new();
+    let mut old = builders_keep_their_limit(rt.alloc(), config.pattern_limit(2), 3);
+    assert_keeps(&rt, &mut old, 2, "by the law")
 }
 
 #[test]
