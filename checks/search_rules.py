@@ -40,6 +40,7 @@ CLOSURES = places(tables.CLOSURES)
 BUCKET_READERS = places(tables.BUCKET_READERS)
 BODIES = places(tables.BODIES)
 STATEMENTS = places(tables.STATEMENTS)
+ITEM_CONSTANTS = places(tables.ITEM_CONSTANTS)
 TAKERS = {name for _, _, name in list(COUNTED) + list(UNCOUNTED)}
 FREE_TAKERS = {name for _, owner, name in COUNTED if not owner}
 GENERIC_PREFILTERS = places(tables.GENERIC_PREFILTERS)
@@ -150,7 +151,9 @@ def kinds(sources):
             for word in {"macro_rules", "unsafe", "extern", "async"} & set(texts(item.tokens)):
                 yield f"{path}:{item.line}: {item.kind} {item.name} has {word}"
             for child in item.children:
-                if is_of_searches(path) and child.kind not in ("fn", "ghost") and not is_item_type(sources, item, child):
+                if is_of_searches(path) and child.kind not in ("fn", "ghost") and not (
+                    is_item_type(sources, item, child) or is_item_constant(path, item, child)
+                ):
                     yield f"{path}:{child.line}: {child.kind} {child.name} in an impl or a trait"
             if is_of_searches(path) and item.kind in ("type", "static") and not is_alias(path, item):
                 yield f"{path}:{item.line}: {item.kind} {item.name}"
@@ -160,6 +163,12 @@ def is_alias(path, item):
     """Whether it is one of the listed aliases, word for word."""
     held = tables.ALIASES.get((path, item.name))
     return held is not None and normal(texts(item.tokens)) == normal(words(f"pub type {item.name} = {held};"))
+
+
+def is_item_constant(path, item, child):
+    """Whether it is one of the listed constants of an impl, word for word."""
+    held = ITEM_CONSTANTS.get((path, texts(item.head), child.name))
+    return held is not None and texts(child.tokens) == words(f"pub const {child.name}: {held};")
 
 
 def has_type_parameter(generics):

@@ -274,6 +274,12 @@ ALIASES = {
     (KINDS, "RareBytesThree"): "RareBytes<3>",
 }
 
+# Constants in an impl of the crates of searches, word for word: numbers that a caller may name.
+ITEM_CONSTANTS = {
+    (API, "impl Config", "DEFAULT_PATTERN_LIMIT"): "usize = 128",
+    (API, "impl Config", "MAX_PATTERN_LIMIT"): "usize = 65535",
+}
+
 # Attributes of items outside of tests; `derive` and `tactic` have their own rule.
 ATTRIBUTES = ("inline", "inline(always)", "inline(never)", "cold", "must_use")
 

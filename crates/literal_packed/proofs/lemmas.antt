@@ -9,10 +9,12 @@ pub mod GreedyLists
 pub mod Iterations
 pub mod LaidOut
 pub mod Lending
+pub mod Limits
 pub mod Lists
 pub mod LongestOrder
 pub mod LookUp
 pub mod MinimumLen
+pub mod MostPatterns
 pub mod OneValue
 pub mod Occupied
 pub mod Order

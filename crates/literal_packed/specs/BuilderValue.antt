@@ -4,12 +4,8 @@ use Rattle.std.specs.Borrow.{Bor}
 use Rattle.std.specs.Iterator.{Drains}
 use Rattle.literal_base.specs.Occurs.{NoneIsEmpty}
 use Rattle.literal_base.specs.Query.{Query}
-use Rattle.literal_packed.specs.ConfigValue.{ConfigValue, default_config}
+use Rattle.literal_packed.specs.ConfigValue.{ConfigValue, default_config, max_pattern_limit}
 use Rattle.literal_packed.specs.State.{kept_of, state_of, state_after}
-
--- how many patterns a builder keeps at most
-abbrev pub pattern_limit : ℕ
-pattern_limit = 128
 
 -- what it was made by, and its patterns, or None where it is inert
 pub record BuilderValue : Type 0 where
@@ -18,11 +14,11 @@ pub record BuilderValue : Type 0 where
 
 -- the builder of a configuration to which these patterns were added
 abbrev pub builder_of : ConfigValue → List (List ℕ) → BuilderValue
-builder_of config added = record { config = config; state = state_of pattern_limit added }
+builder_of config added = record { config = config; state = state_of config.pattern_limit added }
 
 -- a builder after more patterns were added
 abbrev pub with_added : BuilderValue → List (List ℕ) → BuilderValue
-with_added b more = record { config = b.config; state = state_after pattern_limit b.state more }
+with_added b more = record { config = b.config; state = state_after b.config.pattern_limit b.state more }
 
 -- a searcher can be built: the builder keeps a pattern
 abbrev pub IsBuildable : BuilderValue → Type 0
@@ -34,10 +30,10 @@ searcher_of b =
     if nat_lt 0 (length (kept_of b.state)) then Some
     (record { kind = b.config.kind; patterns = kept_of b.state }) else None
 
--- what a searcher searches for: one pattern up to the limit, none of them empty
+-- what a searcher searches for: one pattern up to the largest limit, none of them empty
 pub record IsSearcher (query : Query) : Type 0 where
   pub some : 0 < length query.patterns
-  pub few : length query.patterns ≤ pattern_limit
+  pub few : length query.patterns ≤ max_pattern_limit
   pub not_empty : NoneIsEmpty query.patterns
 
 -- after an addition of references to patterns

@@ -1,11 +1,22 @@
 -- A configuration, as contracts see it.
+use Rattle.std.specs.Prelude.{ℕ, ◌≤◌}
 use Rattle.literal_base.specs.declared.packed.MatchKind.{MatchKind}
 use Rattle.literal_base.specs.declared.packed.MatchKind.TheVariants.{LeftmostFirst}
 
--- which occurrence is the match
+-- which occurrence is the match, and how many patterns a builder keeps at most
 pub record ConfigValue : Type 0 where
   pub kind : MatchKind
+  pub pattern_limit : ℕ
 
 -- the usual configuration
 abbrev pub default_config : ConfigValue
-default_config = record { kind = LeftmostFirst }
+default_config = record { kind = LeftmostFirst; pattern_limit = 128 }
+
+-- the largest limit of patterns
+abbrev pub max_pattern_limit : ℕ
+max_pattern_limit = 65535
+
+-- a limit of patterns that a configuration may have
+pub record IsPatternLimit (n : ℕ) : Type 0 where
+  pub some : 1 ≤ n
+  pub few : n ≤ max_pattern_limit

@@ -2,7 +2,7 @@
 use Rattle.std.specs.Prelude.{ℕ, ◌⊎◌, List, [], Option, Some, Result}
 use Rattle.std.specs.Borrow.{Bor, MutBor, Fml, RestsIfErr}
 use Rattle.std.specs.Iterator.{Count, Drains, IsFinite, Yields}
-use Rattle.literal_packed.specs.BuilderValue.{AddsAll, BuilderValue, IsBuildable, builder_of, pattern_limit}
+use Rattle.literal_packed.specs.BuilderValue.{AddsAll, BuilderValue, IsBuildable, builder_of}
 use Rattle.literal_packed.specs.ConfigValue.{default_config}
 use Rattle.literal_packed.specs.State.{WouldKeep}
 use Rattle.literal_packed.specs.declared.api.Lent.{Lent}
@@ -40,7 +40,7 @@ module _ {U T : Type 0} (becomes : U → T → Type 0) (steps : T → Option (Bo
     pub gave : Yields steps iterator items before
     pub gives : steps before (Some refused) after
     pub adds : AddsAll old items new
-    pub would_keep : WouldKeep pattern_limit new.state refused.now
+    pub would_keep : WouldKeep new.config.pattern_limit new.state refused.now
 
 module _ {U T : Type 0} (becomes : U → T → Type 0) (steps : T → Option (Bor (List ℕ)) → T → Type 0) (patterns : U) where
   -- memory was refused where a new builder takes the items of an iterator and builds: for an item that it would keep,

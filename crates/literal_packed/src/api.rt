@@ -1,5 +1,5 @@
 //! The configuration, the builder, and the searcher.
-ghost use Rattle.std.specs.Prelude.{◌≡◌, ◌<◌, ◌⊎◌, ◌∷◌, [], length, Ok, Err, false, IsOk, IfOk, OnOk, OnErr, IfSome};
+ghost use Rattle.std.specs.Prelude.{◌≡◌, ◌<◌, ◌≤◌, ◌⊎◌, ◌∷◌, [], length, Ok, Err, false, IsOk, IfOk, OnOk, OnErr, IfSome};
 ghost use Rattle.std.specs.Prelude.{MatchResult};
 ghost use Rattle.std.specs.Borrow.{sem};
 ghost use Rattle.literal_base.specs.Occurs.{IsValidSpan, whole_of};
@@ -7,9 +7,9 @@ ghost use Rattle.literal_base.specs.Leftmost.{IsLeftmost};
 ghost use Rattle.literal_base.specs.Greedy.{IsGreedy};
 ghost use Rattle.literal_base.specs.Counts.{none_yet};
 ghost use Rattle.literal_packed.specs.PatternsValue.{minimum_len_of};
-ghost use Rattle.literal_packed.specs.BuilderValue.{IsSearcher, BuildsItems, IsBuildable, builder_of, pattern_limit};
+ghost use Rattle.literal_packed.specs.BuilderValue.{IsSearcher, BuildsItems, IsBuildable, builder_of};
 ghost use Rattle.literal_packed.specs.BuilderValue.{searcher_of, with_added};
-ghost use Rattle.literal_packed.specs.ConfigValue.{default_config};
+ghost use Rattle.literal_packed.specs.ConfigValue.{IsPatternLimit, default_config};
 ghost use Rattle.literal_packed.specs.State.{IsState, WouldKeep, kept_of};
 ghost use Rattle.literal_packed.specs.Pairs.{counts_after};
 ghost use Rattle.literal_packed.specs.FindIterValue.{FindsNext, bytes_left};
@@ -26,39 +26,51 @@ use std::alloc::{AllocError, Global};
 use std::fmt;
 use std::marker::Model;
 
-/// How many patterns a builder keeps at most: a search for a few patterns loses its use beyond.
-const PATTERN_LIMIT: usize = 128;
-
-/// What a [`Builder`] is made by: which occurrence is the match.
+/// What a [`Builder`] is made by: which occurrence is the match, and how many patterns it keeps at
+/// most.
 #[derive(Clone, Debug, Drop)]
 pub struct Config {
     kind: MatchKind,
+    pattern_limit: usize,
 }
 
 impl Model for Config {
-    ghost use Rattle.literal_packed.specs.ConfigValue.{ConfigValue};
+    ghost use Rattle.literal_packed.specs.ConfigValue.{ConfigValue, IsPatternLimit};
 
     ghost Value = { ConfigValue };
 
-    ghost view = { λ config. record { kind = config.kind } };
+    ghost view = { λ config. record { kind = config.kind; pattern_limit = config.pattern_limit } };
+
+    ghost invariant = { λ config. IsPatternLimit config.pattern_limit };
 }
 
 impl Config {
-    /// The usual configuration: [`MatchKind::LeftmostFirst`].
+    /// How many patterns a builder keeps at most where no other limit is set, 128: a search for a few
+    /// patterns loses its use beyond.
+    pub const DEFAULT_PATTERN_LIMIT: usize = 128;
+
+    /// The largest limit that may be set, 65535 patterns.
+    pub const MAX_PATTERN_LIMIT: usize = 65535;
+
+    /// The usual configuration: [`MatchKind::LeftmostFirst`], and at most
+    /// [`Config::DEFAULT_PATTERN_LIMIT`] patterns.
     pub fn new() -> Config
         ensures { result ≡ default_config }
     {
         Config {
             kind: MatchKind::LeftmostFirst,
+            pattern_limit: Config::DEFAULT_PATTERN_LIMIT,
         }
     }
 
-    /// A builder of this configuration, with no pattern.
+    /// A builder of this configuration as it is now, with no pattern. A later change of the
+    /// configuration does not reach the builder.
     pub fn builder(&self, alloc: Global) -> Builder
-        ensures { result ≡ builder_of self.now [] }
+        ensures builder { result ≡ builder_of self.now [] }
+        ensures limit { IsPatternLimit self.now.pattern_limit }
     {
         Builder {
-            config: Config { kind: self.kind },
+            config: self.copy(),
             inert: false,
             patterns: Patterns::new(alloc),
         }
@@ -73,6 +85,18 @@ impl Config {
         self
     }
 
+    /// Sets how many patterns a builder keeps at most: from 1 to [`Config::MAX_PATTERN_LIMIT`]. A
+    /// builder that was made before keeps the limit of its making.
+    pub fn pattern_limit(&mut self, n: usize) -> &mut Config
+        requires some { 1 ≤ n }
+        requires few { n ≤ Config.MAX_PATTERN_LIMIT }
+        ensures same { result.ghost_name ≡ self.entry.ghost_name }
+        ensures now { result.now ≡ record self.old { pattern_limit = n } }
+    {
+        self.pattern_limit = n;
+        self
+    }
+
     /// Changes nothing: Rabin and Karp's search is the only algorithm that there is.
     pub fn only_rabin_karp(&mut self, yes: bool) -> &mut Config
         ensures same { result.ghost_name ≡ self.entry.ghost_name }
@@ -80,6 +104,15 @@ impl Config {
     {
         let _ = yes; // (the original takes it)
         self
+    }
+
+    fn copy(&self) -> Config
+        ensures { result ≡ self.now }
+    {
+        Config {
+            kind: self.kind,
+            pattern_limit: self.pattern_limit,
+        }
     }
 }
 
@@ -92,9 +125,10 @@ impl Default for Config {
     }
 }
 
-/// Collects patterns, and builds a searcher for them. It keeps up to 128 patterns that are not
-/// empty. An empty pattern, or one more than 128, makes it *inert* for good: it then keeps no
-/// pattern, and builds no searcher, whatever is added later.
+/// Collects patterns, and builds a searcher for them. It keeps patterns that are not empty, up to
+/// the limit of its configuration ([`Config::pattern_limit`]). An empty pattern, or one past the limit,
+/// makes it *inert* for good: it then keeps no pattern, and builds no searcher, whatever is added
+/// later.
 #[derive(Drop)]
 pub struct Builder {
     config: Config,
@@ -142,15 +176,15 @@ impl Builder {
         }))
     }
 
-    /// Adds a copy of a pattern, unless the builder is inert. An empty pattern, and one more than
-    /// 128, makes it so. Where memory is refused, all stays as it was; where the pattern is not kept
-    /// no memory is asked for.
+    /// Adds a copy of a pattern, unless the builder is inert. An empty pattern, and one past the
+    /// limit of the configuration, makes it so. Where memory is refused, all stays as it was; where the
+    /// pattern is not kept no memory is asked for.
     pub fn add(&mut self, bytes: &[u8]) -> Result<&mut Builder, AllocError>
         // After an error the builder is as before.
         ensures* as_before { sem 𝓛 (RestsAtErr (λ b. b ≡ self.old) self.entry result) }
         ensures same { IfOk result (λ b. b.ghost_name ≡ self.entry.ghost_name) }
         ensures ok { IfOk result (λ b. b.now ≡ with_added self.old (bytes.now ∷ [])) }
-        ensures no_memory { OnErr result (WouldKeep pattern_limit self.old.state bytes.now) }
+        ensures no_memory { OnErr result (WouldKeep self.old.config.pattern_limit self.old.state bytes.now) }
     {
         // Two steps: only where the builder is lent in a struct is there a generated proof of what
         // holds of it after an error.
@@ -161,7 +195,7 @@ impl Builder {
         ensures* as_before { sem 𝓛 (LentRestsAtErr (λ b. b ≡ self.old) self.entry result) }
         ensures same { IfOk result (λ l. l.builder.ghost_name ≡ self.entry.ghost_name) }
         ensures ok { IfOk result (λ l. l.builder.now ≡ with_added self.old (bytes.now ∷ [])) }
-        ensures no_memory { OnErr result (WouldKeep pattern_limit self.old.state bytes.now) }
+        ensures no_memory { OnErr result (WouldKeep self.old.config.pattern_limit self.old.state bytes.now) }
     {
         self.put(bytes)?;
         Ok(Lent { builder: self })
@@ -169,13 +203,13 @@ impl Builder {
 
     fn put(&mut self, bytes: &[u8]) -> Result<(), AllocError>
         ensures ok { OnOk result (self.new ≡ with_added self.old (bytes.now ∷ [])) }
-        ensures no_memory { OnErr result (WouldKeep pattern_limit self.old.state bytes.now) }
+        ensures no_memory { OnErr result (WouldKeep self.old.config.pattern_limit self.old.state bytes.now) }
         ensures err { OnErr result (self.new ≡ self.old) }
     {
         if self.inert {
             return Ok(());
         }
-        if bytes.is_empty() || self.patterns.len() >= PATTERN_LIMIT {
+        if bytes.is_empty() || self.patterns.len() >= self.config.pattern_limit {
             self.inert = true;
             self.patterns.reset();
             return Ok(());
@@ -231,10 +265,11 @@ impl Builder {
         Ok(())
     }
 
-    /// The number of patterns that are kept, 0 where the builder is inert.
+    /// The number of patterns that are kept, at most the limit of the configuration, and 0 where the
+    /// builder is inert.
     pub fn len(&self) -> usize
         ensures len { result ≡ length (kept_of self.now.state) }
-        ensures kept { IsState pattern_limit self.now.state }
+        ensures kept { IsState self.now.config.pattern_limit self.now.state }
     {
         self.patterns.len()
     }
@@ -252,9 +287,7 @@ impl Builder {
         ensures { IfOk result (λ copy. copy ≡ self.now) }
     {
         Ok(Builder {
-            config: Config {
-                kind: self.config.kind,
-            },
+            config: self.config.copy(),
             inert: self.inert,
             patterns: self.patterns.try_clone()?,
         })
@@ -265,11 +298,12 @@ impl Builder {
 impl fmt::Debug for Builder {
     fn fmt<W: fmt::Write>(&self, f: &mut fmt::Formatter<W>) -> fmt::Result {
         let kind = self.config.kind;
+        let limit = self.config.pattern_limit;
         let inert = self.inert;
         let len = self.patterns.len();
         write!(
             f,
-            "Builder {{ kind: {kind:?}, inert: {inert:?}, len: {len} }}"
+            "Builder {{ kind: {kind:?}, pattern_limit: {limit:?}, inert: {inert:?}, len: {len} }}"
         )
     }
 }
@@ -289,7 +323,8 @@ fn unwrapped(lent: Result<Lent<'_>, AllocError>) -> Result<&mut Builder, AllocEr
     }
 }
 
-/// Searches for the patterns that it was built for: one to 128 of them, none empty.
+/// Searches for the patterns that it was built for: from one to the limit of the builder's
+/// configuration, none empty.
 #[derive(Drop)]
 pub struct Searcher {
     patterns: Patterns,
@@ -299,14 +334,14 @@ pub struct Searcher {
 impl Model for Searcher {
     ghost use Rattle.literal_base.specs.Query.{Query};
     ghost use Rattle.std.specs.Prelude.{◌≤◌, length};
-    ghost use Rattle.literal_packed.specs.BuilderValue.{pattern_limit};
+    ghost use Rattle.literal_packed.specs.ConfigValue.{max_pattern_limit};
     ghost use Rattle.literal_packed.specs.RabinKarpValue.{IsMadeFor};
 
     ghost Value = { Query };
 
     ghost view = { λ a. record { kind = a.patterns.kind; patterns = a.patterns.patterns } };
 
-    ghost invariant = { λ a. IsMadeFor a.patterns a.rabin_karp × (length a.patterns.patterns ≤ pattern_limit) };
+    ghost invariant = { λ a. IsMadeFor a.patterns a.rabin_karp × (length a.patterns.patterns ≤ max_pattern_limit) };
 }
 
 impl Searcher {
@@ -413,7 +448,8 @@ impl Searcher {
         Ok(all)
     }
 
-    /// Which occurrence is the match.
+    /// Which occurrence is the match. A searcher has 1 to [`Config::MAX_PATTERN_LIMIT`] patterns, none
+    /// of them empty.
     pub fn match_kind(&self) -> &MatchKind
         ensures kind { result.now ≡ self.now.kind }
         ensures patterns { IsSearcher self.now }

@@ -1,7 +1,8 @@
 //! Laws of the definitions that contracts cite, and of the searches. Each is the contract of a
 //! function: of one that does nothing where the law is about definitions, and else of one that makes
 //! the calls that the law is about.
-ghost use Rattle.std.specs.Prelude.{◌≡◌, ◌<◌, ◌≤◌, ◌-◌, ◌*◌, ◌^◌, ◌%◌, ◌↔◌, ℕ, List, [], ◌∷◌, length, map, sum};
+ghost use Rattle.std.specs.Prelude.{◌≡◌, ◌<◌, ◌≤◌, ◌-◌, ◌*◌, ◌^◌, ◌/◌, ◌%◌, ◌↔◌, ℕ, List, [], ◌∷◌, length, map};
+ghost use Rattle.std.specs.Prelude.{sum};
 ghost use Rattle.std.specs.Prelude.{slice_index, codes, true, false, IsTrue, IsNone, Option, Some, None, IfOk};
 ghost use Rattle.std.specs.Iterator.{Yields};
 ghost use Rattle.std.specs.List.{All, range_with_len};
@@ -9,10 +10,12 @@ ghost use Rattle.literal_base.specs.declared.packed.MatchKind.{MatchKind};
 ghost use Rattle.literal_base.specs.declared.packed.MatchKind.TheVariants.{LeftmostFirst, LeftmostLongest};
 ghost use Rattle.literal_base.specs.Counts.{none_yet};
 ghost use Rattle.literal_base.specs.MatchValue.{MatchValue};
-ghost use Rattle.literal_base.specs.Occurs.{IsValidSpan, NothingOccurs, pattern_at, whole_of};
+ghost use Rattle.literal_base.specs.Occurs.{IsValidSpan, NoneIsEmpty, NothingOccurs, pattern_at, whole_of};
 ghost use Rattle.literal_base.specs.Leftmost.{IsBetter, IsLeftmost, is_better};
 ghost use Rattle.literal_base.specs.Greedy.{IsGreedy};
 ghost use Rattle.literal_base.specs.Query.{Query};
+ghost use Rattle.literal_packed.specs.BuilderValue.{IsBuildable, builder_of, searcher_of};
+ghost use Rattle.literal_packed.specs.ConfigValue.{ConfigValue};
 ghost use Rattle.literal_packed.specs.PatternsValue.{minimum_len_of};
 ghost use Rattle.literal_packed.specs.Sum.{sum_of};
 ghost use Rattle.literal_packed.specs.Pairs.{counts_after};
@@ -20,7 +23,7 @@ ghost use Rattle.literal_base.specs.Apart.{LieApart};
 ghost use Rattle.literal_packed.specs.FindIterValue.{FindIterValue, FindsNext, StandsAtEnd};
 ghost use Rattle.literal_packed.specs.Spending.{SpendsAtMost, SpendsWithin, counts_after_all};
 
-use crate::{FindIter, Searcher};
+use crate::{Builder, Config, FindIter, Searcher};
 use literal_base::count::Tally;
 use literal_base::laws::{greedy_is_unique, leftmost_is_unique};
 use literal_base::{Match, Span};
@@ -43,6 +46,28 @@ pub fn minimum_len_is_the_least_length()
         → (i : ℕ) × i < length patterns × (length (pattern_at patterns i) ≡ minimum_len_of patterns) }
     ensures none { minimum_len_of [] ≡ 2 ^ 64 - 1 }
 {}
+
+/// A configuration builds a searcher of exactly the lists of non-empty patterns, one to its limit. It is
+/// for these patterns and the kind that is configured.
+pub fn lists_up_to_the_limit_build()
+    ensures searcher { (config : ConfigValue) (added : List (List ℕ)) → 1 ≤ length added
+        → length added ≤ config.pattern_limit → NoneIsEmpty added
+        → searcher_of (builder_of config added) ≡ Some (record { kind = config.kind; patterns = added }) }
+    ensures no_others { (config : ConfigValue) (added : List (List ℕ)) → IsBuildable (builder_of config added)
+        → (1 ≤ length added) × (length added ≤ config.pattern_limit) × NoneIsEmpty added }
+{}
+
+/// A builder keeps the limit that its configuration had when it was made, whatever limit is set later.
+pub fn builders_keep_their_limit(alloc: Global, config: &mut Config, later: usize) -> Builder
+    requires some { 1 ≤ later }
+    requires few { later ≤ Config.MAX_PATTERN_LIMIT }
+    ensures builder { result ≡ builder_of config.old [] }
+    ensures config { config.new ≡ record config.old { pattern_limit = later } }
+{
+    let builder = config.builder(alloc);
+    config.pattern_limit(later);
+    builder
+}
 
 /// The test of which pattern is better tells just that.
 pub fn better_is_tested()
@@ -186,4 +211,16 @@ pub fn worked_counts()
     ensures shared_bucket { counts_after none_yet (record { kind = LeftmostLongest; patterns = codes "a" ∷ [] })
         (codes "!!!!") (whole_of (codes "!!!!")) None
         ≡ record { hashed = 4; entries = 4; compared = 0; scanned = 0; tried = 0 } }
+{}
+
+/// The counts of a search for 65535 patterns, worked by hand. They are the two bytes of the numbers from
+/// 0 to 65534, and the haystack is those of the last. No other two bytes have their sum, so one pattern is
+/// compared.
+pub fn worked_counts_of_65535_patterns()
+    ensures { (patterns : List (List ℕ)) → length patterns ≡ 65535
+        → ((n : ℕ) → n < 65535 → pattern_at patterns n ≡ n / 256 ∷ n % 256 ∷ [])
+        → let counts = counts_after none_yet (record { kind = LeftmostFirst; patterns = patterns })
+        (0xFF ∷ 0xFE ∷ []) (whole_of (0xFF ∷ 0xFE ∷ []))
+        (Some (record { pattern = 65534; start = 0; end = 2 })) in
+        (counts.hashed ≡ 2) × (counts.compared ≡ 1) }
 {}

@@ -7,11 +7,16 @@ use std::process::Abort;
 use std::test::Fail;
 
 /// How many patterns a builder keeps, the length of the shortest, and whether it builds a searcher.
-type State = (usize, usize, bool);
+pub type State = (usize, usize, bool);
 
-const INERT: State = (0, usize::MAX, false);
+pub const INERT: State = (0, usize::MAX, false);
 
-fn assert_state(rt: &impl Abort, builder: &Builder, wanted: State, case: &str) -> Result<(), Fail> {
+pub fn assert_state(
+    rt: &impl Abort,
+    builder: &Builder,
+    wanted: State,
+    case: &str,
+) -> Result<(), Fail> {
     let builds = builder.build()?.is_some();
     let state = (builder.len(), builder.minimum_len(), builds);
     assert_same(rt, state, wanted, case);
@@ -19,7 +24,7 @@ fn assert_state(rt: &impl Abort, builder: &Builder, wanted: State, case: &str) -
 }
 
 /// Whatever is added to it, and to a copy.
-fn assert_stays_inert(rt: &impl Abort, builder: &mut Builder, case: &str) -> Result<(), Fail> {
+pub fn assert_stays_inert(rt: &impl Abort, builder: &mut Builder, case: &str) -> Result<(), Fail> {
     assert_state(rt, builder, INERT, case)?;
     builder.add(b"more")?;
     assert_state(rt, builder, INERT, case)?;

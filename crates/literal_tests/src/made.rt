@@ -1,4 +1,6 @@
 //! What tests of several modules make, and how they tell matches.
+ghost use Rattle.std.specs.Prelude.{◌<◌};
+
 use literal_prefilters::Match;
 use literal_prefilters::packed::{Builder, Config, MatchKind, Searcher};
 use literal_prefilters::prefilter::Candidate;
@@ -52,4 +54,13 @@ pub fn searcher(alloc: Global, kind: MatchKind, patterns: &[&[u8]]) -> Result<Se
     let mut builder = Config::new().match_kind(kind).builder(alloc);
     add_all(&mut builder, patterns)?;
     built(&builder)
+}
+
+/// The pattern of a number of 129 patterns of three bytes: `a00` to `a42`, `b00` to `b42` and `c00` to
+/// `c42`.
+pub fn one_of_129(number: u8) -> [u8; 3]
+    requires { number < 129 }
+{
+    let digits = number % 43;
+    [b'a' + number / 43, b'0' + digits / 10, b'0' + digits % 10]
 }

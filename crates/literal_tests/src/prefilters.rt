@@ -1,5 +1,6 @@
 //! Worked cases of prefilters.
 use crate::asserted::{assert_holds, assert_same};
+use crate::made::one_of_129;
 use literal_prefilters::count::Tally;
 use literal_prefilters::prefilter::{Builder, Candidate, Prefilter, PrefilterI};
 use literal_prefilters::search::{Match, Span};
@@ -279,13 +280,10 @@ fn goes_back_no_255_bytes(rt: HostRuntime) -> Result<(), Fail> {
     Ok(())
 }
 
-/// 129 patterns of three bytes: `a00` to `a42`, `b00` to `b42` and `c00` to `c42`.
 fn of_129_patterns(alloc: Global) -> Result<Builder, AllocError> {
     let mut builder = Builder::new(alloc, MatchKind::LeftmostFirst);
-    for letter in b"abc" {
-        for number in 0..43u8 {
-            builder.add(&[*letter, b'0' + number / 10, b'0' + number % 10])?;
-        }
+    for number in 0..129u8 {
+        builder.add(&one_of_129(number))?;
     }
     Ok(builder)
 }

@@ -28,7 +28,8 @@ pub fn built_by_kind(
     a: &[u8],
     b: &[u8],
 ) -> Result<Option<Searcher>, AllocError>
-    ensures { IfOk result (λ built. built ≡ searcher_of (builder_of (record { kind = kind }) (a.now ∷ b.now ∷ []))) }
+    ensures { IfOk result (λ built. built ≡ searcher_of
+        (builder_of (record default_config { kind = kind }) (a.now ∷ b.now ∷ []))) }
 {
     Config::new()
         .match_kind(kind)

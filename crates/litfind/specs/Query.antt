@@ -6,6 +6,7 @@ use Rattle.literal_base.specs.declared.packed.MatchKind.{MatchKind}
 use Rattle.literal_base.specs.declared.packed.MatchKind.TheVariants.{LeftmostFirst, LeftmostLongest}
 use Rattle.literal_base.specs.Query.{Query}
 use Rattle.literal_packed.specs.BuilderValue.{BuilderValue, builder_of, searcher_of}
+use Rattle.literal_packed.specs.ConfigValue.{default_config}
 use Rattle.literal_prefilters.specs.ConfirmingValue.{confirming_of, prefilter_builder}
 
 -- what is asked for: all matches of some patterns, or the leftmost one with ASCII case ignored or not
@@ -34,7 +35,7 @@ words_ask (mode ∷ (first ∷ more)) = mode_asks mode (first ∷ more)
 
 -- the builder to which the patterns of a query were added
 abbrev pub builder_for : Query → BuilderValue
-builder_for query = builder_of (record { kind = query.kind }) query.patterns
+builder_for query = builder_of (record default_config { kind = query.kind }) query.patterns
 
 -- there is no searcher for what is asked: a packed search or a confirming one cannot be built
 abbrev pub IsWithoutSearcher : Asked → Type 0

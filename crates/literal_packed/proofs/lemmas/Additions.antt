@@ -12,7 +12,6 @@ use Rattle.literal_base.specs.Query.{Query}
 use Rattle.literal_packed.specs.ConfigValue.{ConfigValue, default_config}
 use Rattle.literal_packed.specs.Lending.{HoldsAll, RefusedItems}
 use Rattle.literal_packed.specs.BuilderValue.{AddsAll, BuilderValue, BuildsItems, IsBuildable, builder_of}
-use Rattle.literal_packed.specs.BuilderValue.{pattern_limit}
 use Rattle.literal_packed.specs.BuilderValue.{searcher_of, with_added}
 
 abbrev is_some : List ℕ → Bool
@@ -46,7 +45,7 @@ state_after-append limit (Some kept) (first ∷ a) (next ∷ b) =
 -- the same of builders
 pub added_more : (config : ConfigValue) (a b : List (List ℕ))
     → with_added (builder_of config a) b ≡ builder_of config (a ++ b)
-added_more config a b = ap (λ s. record { config = config; state = s }) (state_after-state_of pattern_limit a b)
+added_more config a b = ap (λ s. record { config = config; state = s }) (state_after-state_of config.pattern_limit a b)
 
 -- one item more of an iterator
 pub added_all_more : (old now new : BuilderValue) (items : List (Bor (List ℕ))) (item : Bor (List ℕ))
@@ -56,7 +55,7 @@ added_all_more old now new items item so_far next =
     next
     ∙ (ap (λ b. with_added b (item.now ∷ [])) so_far
     ∙ (ap (λ s. record { config = old.config; state = s })
-    (state_after-append pattern_limit old.state (map (λ p. p.now) items) (item.now ∷ []))
+    (state_after-append old.config.pattern_limit old.state (map (λ p. p.now) items) (item.now ∷ []))
     ∙ ap (with_added old) (sym (map_push (λ (p : Bor (List ℕ)). p.now) items item))))
 
 -- what a new builder builds from all items of an iterator

@@ -22,7 +22,8 @@ pub added_two : (config : ConfigValue) (a b : List ℕ) (mid new : BuilderValue)
     → mid ≡ with_added (builder_of config []) (a ∷ [])
     → new ≡ with_added mid (b ∷ []) → new ≡ builder_of config (a ∷ b ∷ [])
 added_two config a b mid new first second =
-    second ∙ (ap (λ m. with_added m (b ∷ [])) first ∙ added_more config (a ∷ []) (b ∷ []))
+    let one : mid ≡ builder_of config (a ∷ []) = first ∙ added_more config [] (a ∷ []) in
+    second ∙ (ap (λ m. with_added m (b ∷ [])) one ∙ added_more config (a ∷ []) (b ∷ []))
 
 -- the number of patterns of an iteration, and their identifiers
 pub length_in_order : (c : PatternsValue) → IsWellFormed c → length (in_order c) ≡ length c.patterns

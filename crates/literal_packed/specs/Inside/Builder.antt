@@ -3,7 +3,7 @@ use Rattle.std.specs.Prelude.{◌≡◌, [], Some, None, true, if◌then◌else�
 use Rattle.literal_base.specs.declared.packed.MatchKind.TheVariants.{LeftmostFirst}
 use Rattle.literal_packed.specs.declared.api.Builder.TheInside.{Inside}
 use Rattle.literal_packed.specs.PatternsValue.{IsInOrder}
-use Rattle.literal_packed.specs.BuilderValue.{BuilderValue, pattern_limit}
+use Rattle.literal_packed.specs.BuilderValue.{BuilderValue}
 use Rattle.literal_packed.specs.State.{state_of}
 
 -- what a caller sees
@@ -13,6 +13,6 @@ builder_value a = record { config = a.config; state = if a.inert then None else 
 -- what the fields keep: an inert builder has dropped its patterns, and the others may be kept
 pub record IsSound (a : Inside) : Type 0 where
   pub emptied : a.inert ≡ true → a.patterns.patterns ≡ []
-  pub allowed : state_of pattern_limit a.patterns.patterns ≡ Some a.patterns.patterns
+  pub allowed : state_of a.config.pattern_limit a.patterns.patterns ≡ Some a.patterns.patterns
   pub first : a.patterns.kind ≡ LeftmostFirst
   pub in_order : IsInOrder a.patterns

@@ -5,6 +5,7 @@ ghost use Rattle.literal_base.specs.Leftmost.{IsLeftmost};
 ghost use Rattle.literal_base.specs.Occurs.{IsValidSpan, pattern_at};
 ghost use Rattle.literal_base.specs.declared.packed.MatchKind.TheVariants.{LeftmostFirst};
 ghost use Rattle.literal_packed.specs.BuilderValue.{builder_of, searcher_of};
+ghost use Rattle.literal_packed.specs.ConfigValue.{default_config};
 ghost use Rattle.literal_packed.specs.Pairs.{counts_after};
 ghost use Rattle.literal_packed.specs.PatternsValue.{IsInOrder};
 ghost use Rattle.literal_prefilters.specs.Exact.{query_of_one};
@@ -121,7 +122,8 @@ impl Packed {
         patterns: &Patterns,
         kind: MatchKind,
     ) -> Result<Option<Packed>, AllocError>
-        ensures { IfOk result (λ built. built ≡ searcher_of (builder_of (record { kind = kind }) patterns.now.patterns)) }
+        ensures { IfOk result (λ built. built ≡ searcher_of
+            (builder_of (record default_config { kind = kind }) patterns.now.patterns)) }
     {
         let mut config = Config::new();
         config.match_kind(kind);

@@ -29,7 +29,7 @@ use Rattle.std.specs.contracts.alloc.AllocError.{the_row as E}
 use Rattle.std.proofs.alloc.AllocError.TheLaws.{the_row_laws as refusal_laws}
 use Rattle.literal_packed.specs.BuilderValue.{BuilderValue}
 use Rattle.literal_packed.specs.State.{WouldKeep}
-use Rattle.literal_packed.specs.BuilderValue.{pattern_limit, with_added}
+use Rattle.literal_packed.specs.BuilderValue.{with_added}
 use Rattle.literal_packed.specs.Lending.{LentRestsAtErr}
 use Rattle.literal_packed.specs.declared.api.Lent.{Lent}
 use Rattle.literal_packed.specs.contracts.api.Builder.{the_row as R}
@@ -68,7 +68,7 @@ add_spec 𝓤 𝓛 𝓜 𝓡 wired =
     let X = RS.the_row (lent_row (named_lft 2 0 tt κs)) E in let Y = RS.the_row (MutRef (named 0) κs.0 R) E in
     let Named = λ (b : MutBor BuilderValue). b.ghost_name ≡ a.0.ghost_name in
     let Added = λ (b : MutBor BuilderValue). b.now ≡ with_added a.0.now (a.1.0.now ∷ []) in
-    let Refused = WouldKeep pattern_limit a.0.now.state a.1.0.now in
+    let Refused = WouldKeep a.0.now.config.pattern_limit a.0.now.state a.1.0.now in
     qed 𝓛 (raw (G.pre y) ∷ []) ∵ enter ! _ _ _ _ _ $ alloc_all !
     (λ l. pass_all ! refl ((tt, tt), ((tt, (tt, (record { fits = are.1.0.0.1.0 }, tt))), tt)) $
     sets ! (addr ! (through ! refl (stop !))) refl (tt, tt) $
