@@ -131,11 +131,12 @@ class Patterns:
     def __init__(self, dice):
         self.dice = dice
         self.alphabet = dice.choice(ALPHABETS)
-        self.lengths = self.length_style()
+        self.least = dice.choice((1, 1, 2))
+        self.lengths = [length for length in self.length_style() if length >= self.least]
         count = self.count()
         # In some lists all patterns begin with one of a few bytes, so that there may be a table of these.
         self.heads = None
-        if dice.random() < (0.7 if count > 99 else 0.4):
+        if dice.random() < (0.7 if count > 13 else 0.4):
             self.heads = dice.choices(self.alphabet, k=dice.choice((1, 2, 3, 3, 4)))
         # And in some each holds a byte that is rarer than most others.
         self.rare = dice.choice(b"\x06\x0bQjk") if dice.random() < 0.15 else None
@@ -155,11 +156,11 @@ class Patterns:
         dice, roll = self.dice, self.dice.random()
         if roll < 0.02:
             return 0
-        if roll < 0.68 or self.lengths is not SHORT:
+        if roll < 0.62 or max(self.lengths) > max(SHORT):
             return dice.randint(1, 6)
-        if roll < 0.9:
-            return dice.choice((dice.randint(7, 40), dice.randint(14, 18)))
-        return dice.randint(125, 131)
+        if roll < 0.7:
+            return dice.randint(7, 40)
+        return dice.randint(14, 18) if roll < 0.9 else dice.randint(125, 131)
 
     def pattern(self):
         """A new pattern, or one that is made of another."""
@@ -179,7 +180,8 @@ class Patterns:
         return self.changed(other) if way == 4 else other.swapcase()
 
     def marked(self, pattern):
-        """The pattern with the first byte and the rare byte of its list, if it has such."""
+        """The pattern, no shorter than all have to be, with the first byte and the rare byte of its list."""
+        pattern += bytes(self.dice.choices(self.alphabet, k=max(0, self.least - len(pattern))))
         if self.heads:
             pattern = bytes((self.dice.choice(self.heads),)) + pattern[1:]
         if self.rare is not None and len(pattern) > 1:

@@ -42,11 +42,11 @@ impl<'l> Case<'l> {
 
     /// Whether ASCII case is ignored.
     pub fn ignores_case(&self) -> Result<bool, Refusal> {
-        let word = self.word(2)?;
-        if word != "kept" && word != "nocase" {
-            return Err(Refusal::NoCase);
+        match self.word(2)? {
+            "kept" => Ok(false),
+            "nocase" => Ok(true),
+            _ => Err(Refusal::NoCase),
         }
-        Ok(word == "nocase")
     }
 
     /// The patterns, or other lists of bytes in their place.

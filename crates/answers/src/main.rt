@@ -11,6 +11,8 @@
 //! - the haystack;
 //! - the span, `START..END`, in bytes of the haystack.
 //!
+//! Behind `opposite` stand bytes, behind `ids` a number, and behind `span_contains` a start, an end and an offset.
+//!
 //! A case that breaks a condition of the call is answered by `unmet`, and a line that is no case by `no case`.
 #![tactic(auto)]
 
