@@ -22,8 +22,8 @@ TABLES = "crates/literal_prefilters/src/prefilter/tables.rt"
 ENGINE = "crates/litfind/src/engine.rt"
 MAIN = "crates/litfind/src/main.rt"
 
-# Crates that hold tests and examples alone, which no other crate stands on.
-TEST_CRATES = ("literal_tests", "literal_examples", "refused_memory")
+# Crates that hold tests and examples, or serve tests, which no other crate stands on.
+TEST_CRATES = ("literal_tests", "literal_examples", "refused_memory", "answers")
 
 # Crates whose code may have a haystack in hand.
 SEARCH_CRATES = ("literal_packed", "literal_prefilters")
