@@ -104,6 +104,9 @@ REPOSITORY = [
     ("long_file", "lengths", [append(BASE_SEARCH, "\n" * 801)]),
     ("definition_unexplained", "definitions", [
         append("crates/literal_base/specs/Counts.antt", "\nabbrev pub another_word : Counts\nanother_word = none_yet\n")]),
+    ("example_in_no_test", "examples", [replace("README.md", "let searcher = built", "let search = built")]),
+    ("example_in_a_comment", "examples", [append(API, "\n/// ```rust\n/// let peek = 0;\n/// ```\nfn peek() {}\n")]),
+    ("example_changed_in_its_test", "examples", [replace("crates/literal_examples/src/tests.rt", "[1, 0, 2]", "[1, 0]")]),
     ("stray_build_file", "strays", [write("BUILD.bazel", "")]),
     ("code_in_another_file", "strays", [write("crates/literal_packed/src/peek.inc", "")]),
     ("source_elsewhere", "strays", [write("crates/literal_packed/proofs/peek.rt", "")]),

@@ -140,7 +140,26 @@ def definitions(repository):
                     yield f"{path}: {name} is not in docs/DEFINITIONS.md"
 
 
-RULES = [handles, crates, walks, citations, holes, lengths, strays, definitions]
+def plain_lines(text):
+    """The lines of a text without what they are indented by."""
+    return [line.strip() for line in text.splitlines()]
+
+
+def examples(repository):
+    """Each example in a document or a comment of documentation stands, line for line, in a test."""
+    tests = ["\n".join(plain_lines(text)) for path, text in repository.texts.items() if re.match(r"crates/\w+/src/(?:\w+/)*tests\.rt$", path)]
+    for path, text in repository.texts.items():
+        if path.endswith(".rt"):
+            text = "\n".join(re.sub(r"^\s*//[/!] ?", "", line) for line in text.splitlines() if re.match(r"\s*//[/!]", line))
+        elif not path.endswith(".md"):
+            continue
+        for block in re.findall(r"^```rust\n(.*?)^```$", text, re.M | re.S):
+            lines = "\n".join(plain_lines(block))
+            if not any(lines in test for test in tests):
+                yield f"{path}: an example stands in no test: {lines.splitlines()[0]}"
+
+
+RULES = [handles, crates, walks, citations, holes, lengths, strays, definitions, examples]
 
 
 def broken_rules(repository):

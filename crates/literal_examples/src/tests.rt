@@ -80,3 +80,19 @@ fn counts_words(rt: HostRuntime) -> Result<(), Fail> {
     assert!(rt; counts.as_slice() == [2, 2].as_slice());
     Ok(())
 }
+
+#[test]
+fn does_as_the_readme_says(rt: HostRuntime) -> Result<(), Fail> {
+    let alloc = rt.alloc();
+    let built = Searcher::new(alloc, [b"apple".as_slice(), b"maple", b"Snapple"])?;
+    let searcher = built.ok_or("no searcher for these patterns")?;
+    let haystack = b"Nobody likes maple in their apple flavored Snapple.";
+    let first = searcher.find(haystack).map(|found| found.span());
+    assert!(rt; first == Some(Span { start: 13, end: 18 }));
+    let mut patterns = Vec::new(alloc);
+    for found in searcher.find_iter(haystack) {
+        patterns.push(found.pattern().as_usize())?;
+    }
+    assert!(rt; patterns.as_slice() == [1, 0, 2].as_slice());
+    Ok(())
+}
