@@ -1,6 +1,7 @@
 //! What tests of several modules make, and how they tell matches.
 use literal_prefilters::Match;
 use literal_prefilters::packed::{Builder, Config, MatchKind, Searcher};
+use literal_prefilters::prefilter::{Candidate, ConfirmingSearch};
 use std::alloc::{AllocError, Global};
 use std::test::Fail;
 
@@ -35,4 +36,24 @@ pub fn searcher(alloc: Global, kind: MatchKind, patterns: &[&[u8]]) -> Result<Se
     let mut builder = Config::new().match_kind(kind).builder(alloc);
     add_all(&mut builder, patterns)?;
     built(&builder)
+}
+
+/// A confirming search, if one is built.
+pub fn confirming(
+    alloc: Global,
+    kind: MatchKind,
+    ignore_case: bool,
+    patterns: &[&[u8]],
+) -> Result<Option<ConfirmingSearch>, AllocError> {
+    let items = Vec::from_slice(alloc, patterns)?;
+    ConfirmingSearch::build(alloc, kind, ignore_case, items)
+}
+
+/// The place that a prefilter by single bytes proposes.
+pub fn proposed(candidate: Candidate) -> Result<Option<usize>, &'static str> {
+    match candidate {
+        Candidate::None => Ok(None),
+        Candidate::PossibleStartOfMatch(start) => Ok(Some(start)),
+        Candidate::Match(_) => Err("a table of bytes confirms no match"),
+    }
 }
