@@ -183,7 +183,8 @@ fn goes_back_by_each_distance(rt: HostRuntime) -> Result<(), Fail> {
     Ok(())
 }
 
-/// By a distance of 254 each place of 255 bytes is tried, and none of them in earnest.
+/// By a distance of 254 each place of 255 bytes is tried, and no pattern stands there. `confirm` may scan 255 bytes for
+/// each of them, 65025 in all.
 #[test]
 fn tries_each_place_in_vain(rt: HostRuntime) -> Result<(), Fail> {
     let bytes = ends_with_q(254);

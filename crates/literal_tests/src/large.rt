@@ -1,5 +1,5 @@
 //! A long pattern, and long haystacks. What bounds the time of each search is what its contract says that it counts.
-use crate::asserted::{assert_holds, assert_same};
+use crate::asserted::assert_same;
 use crate::chosen::assert_confirms;
 use crate::made::{place, searcher};
 use literal_prefilters::packed::MatchKind;
@@ -46,10 +46,10 @@ fn assert_finds_long(
 fn finds_a_long_pattern(rt: HostRuntime) -> Result<(), Fail> {
     let pattern = long_pattern(rt.alloc())?;
     let haystack = behind_x(rt.alloc(), &pattern)?;
-    let (whole, found) = (haystack.as_slice(), Some((0, 1, 100_001)));
-    assert_holds(&rt, whole.len() == 100_001, "an x, and the pattern");
-    assert_finds_long(&rt, rt.alloc(), &pattern, whole, found)?;
-    assert_finds_long(&rt, rt.alloc(), &pattern, &whole[..100_000], None)
+    let (_, front) = haystack.split_last().ok_or("it is empty")?;
+    let found = Some((0, 1, 100_001));
+    assert_finds_long(&rt, rt.alloc(), &pattern, &haystack, found)?;
+    assert_finds_long(&rt, rt.alloc(), &pattern, front, None)
 }
 
 /// How many bytes a haystack of one byte has. `checks/program` has longer ones.

@@ -136,7 +136,9 @@ fn disabled_builders_take_no_memory(rt: HostRuntime) -> Result<(), AllocError> {
     builder.add(b"ab")?;
     for pattern in [b"".as_slice(), b"more", b""] {
         assert!(rt; builder.add(pattern).is_ok());
-        let built = builder.build().expect(&rt, "a disabled builder took memory");
+        let built = builder
+            .build()
+            .expect(&rt, "a disabled builder took memory");
         assert!(rt; built.is_none());
     }
     Ok(())

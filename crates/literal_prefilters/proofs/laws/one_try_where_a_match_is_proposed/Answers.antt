@@ -27,16 +27,17 @@ one_try table haystack span place found valid f e =
     let empty : near_count table haystack span span.start ≡ 0 =
     ap (λ k. count_by (is_near table haystack span.end) (range_with_len span.start k)) none in
     let tried : near_count table haystack span (step_back table haystack span.start place + 1)
-        ≡ near_count table haystack span span.start + 1 =
+    ≡ near_count table haystack span span.start + 1 =
     near_count-tried table haystack span valid span.start place (omega arith) f in
     let from : span.start ≤ found.start = omega (arith, e) in
     let to : found.start ≤ place = omega (arith, e, f.after_start) in
     let again : first table haystack (between found.start span.end) ≡ Some place =
     first_is table haystack (between found.start span.end)
     (valid_rest table haystack span valid found.start (omega (arith, f.before_end))) place
-    (first_later table haystack span valid span.start place found.start f from to) in
-    (ap (λ s. near_count table haystack span (s + 1)) (sym e) ∙ omega (arith, tried, empty),
-    ap (λ o. unwrap_or o 0 + 1 - span.start) again)
+    (first_later table haystack span valid span.start place found.start f from to) in (
+      ap (λ s. near_count table haystack span (s + 1)) (sym e) ∙ omega (arith, tried, empty),
+      ap (λ o. unwrap_or o 0 + 1 - span.start) again,
+    )
 
 pub returns-clause-proposed : goal.returns-clause-proposed
 returns-clause-proposed c table haystack span place found valid at proposed =
