@@ -1,16 +1,16 @@
 //! Laws of the definitions that contracts cite, and of the searches. Each is the contract of a
 //! function: of one that does nothing where the law is about definitions, and else of one that makes
 //! the calls that the law is about.
-ghost use Rattle.std.specs.Prelude.{◌≡◌, ◌<◌, ◌≤◌, ◌-◌, ◌*◌, ◌^◌, ◌/◌, ◌%◌, ◌↔◌, ℕ, List, [], ◌∷◌, length, map};
-ghost use Rattle.std.specs.Prelude.{sum};
+ghost use Rattle.std.specs.Prelude.{◌≡◌, ◌<◌, ◌≤◌, ◌+◌, ◌-◌, ◌*◌, ◌^◌, ◌/◌, ◌%◌, ◌↔◌, ℕ, List, [], ◌∷◌, ◌++◌};
+ghost use Rattle.std.specs.Prelude.{length, map, replicate, sum};
 ghost use Rattle.std.specs.Prelude.{slice_index, codes, true, false, IsTrue, IsNone, Option, Some, None, IfOk};
 ghost use Rattle.std.specs.Iterator.{Yields};
 ghost use Rattle.std.specs.List.{All, range_with_len};
 ghost use Rattle.literal_base.specs.declared.packed.MatchKind.{MatchKind};
 ghost use Rattle.literal_base.specs.declared.packed.MatchKind.TheVariants.{LeftmostFirst, LeftmostLongest};
-ghost use Rattle.literal_base.specs.Counts.{none_yet};
+ghost use Rattle.literal_base.specs.Counts.{Counts, none_yet};
 ghost use Rattle.literal_base.specs.MatchValue.{MatchValue};
-ghost use Rattle.literal_base.specs.Occurs.{IsValidSpan, NoneIsEmpty, NothingOccurs, pattern_at, whole_of};
+ghost use Rattle.literal_base.specs.Occurs.{IsValidSpan, NoneIsEmpty, NothingOccurs, between, pattern_at, whole_of};
 ghost use Rattle.literal_base.specs.Leftmost.{IsBetter, IsLeftmost, is_better};
 ghost use Rattle.literal_base.specs.Greedy.{IsGreedy};
 ghost use Rattle.literal_base.specs.Query.{Query};
@@ -223,4 +223,34 @@ pub fn worked_counts_of_65535_patterns()
         (0xFF ∷ 0xFE ∷ []) (whole_of (0xFF ∷ 0xFE ∷ []))
         (Some (record { pattern = 65534; start = 0; end = 2 })) in
         (counts.hashed ≡ 2) × (counts.compared ≡ 1) }
+{}
+
+/// An empty span counts nothing, whatever is searched for there, if no pattern is empty.
+pub fn empty_spans_count_nothing()
+    ensures { (old : Counts) (query : Query) (haystack : List ℕ) (at : ℕ) → NoneIsEmpty query.patterns
+        → counts_after old query haystack (between at at) None ≡ old }
+{}
+
+/// The counts of searches for patterns chosen to have the sum of what they do not stand in, worked by hand. The bytes
+/// 19 + k and 254 - 2k have the sum 292 for each k, and so have 146 and 0. So 127 patterns are compared there in vain,
+/// and of 128 the last is found. 69 `a` and a `b` have the sum of the same with an `x` for the first `a`, which counts
+/// for a multiple of 2 to the power of 64: there is one comparison.
+pub fn counts_of_chosen_patterns()
+    ensures equal_sums { let patterns : ℕ → List (List ℕ) =
+        λ n. map (λ k. (19 + k) ∷ (254 - 2 * k) ∷ []) (range_with_len 0 n) in
+        let haystack : List ℕ = 146 ∷ 0 ∷ [] in
+        let last : Option MatchValue = Some (record { pattern = 127; start = 0; end = 2 }) in
+        ((kind : MatchKind) → counts_after none_yet (record { kind = kind; patterns = patterns 127 }) haystack
+        (whole_of haystack) None
+        ≡ record { hashed = 2; entries = 127; compared = 127; scanned = 0; tried = 0 })
+        × (counts_after none_yet (record { kind = LeftmostFirst; patterns = patterns 128 }) haystack
+        (whole_of haystack) last
+        ≡ record { hashed = 2; entries = 128; compared = 128; scanned = 0; tried = 0 })
+        × (counts_after none_yet (record { kind = LeftmostLongest; patterns = patterns 128 }) haystack
+        (whole_of haystack) last
+        ≡ record { hashed = 2; entries = 128; compared = 128; scanned = 0; tried = 0 }) }
+    ensures long { (kind : MatchKind) → let haystack : List ℕ = 0x78 ∷ (replicate 68 0x61 ++ 0x62 ∷ []) in
+        counts_after none_yet (record { kind = kind; patterns = (replicate 69 0x61 ++ 0x62 ∷ []) ∷ [] })
+        haystack (whole_of haystack) None
+        ≡ record { hashed = 70; entries = 1; compared = 1; scanned = 0; tried = 0 } }
 {}

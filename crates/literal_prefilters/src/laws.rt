@@ -205,3 +205,26 @@ pub fn worked_counts()
         (tried_places table haystack (between 0 255) None ≡ 255)
         × (scanned_once table haystack (between 0 255) None ≡ 255) }
 {}
+
+/// Where a match begins at the place that its table proposes first, that place alone is tried, and the bytes up to the
+/// first of the table are scanned. So it is for a byte with each distance that a table may have, at the end of a pattern
+/// behind ten other bytes.
+pub fn one_try_where_a_match_is_proposed()
+    ensures proposed { (table : List (Option ℕ)) (haystack : List ℕ) (span : Span) (place : ℕ) (found : MatchValue)
+        → IsValidSpan haystack span
+        → first table haystack span ≡ Some place
+        → step table haystack span ≡ Some found.start
+        → (tried_places table haystack span (Some found) ≡ 1)
+        × (scanned_once table haystack span (Some found) ≡ place + 1 - span.start) }
+    ensures each_distance { (d : ℕ) → 1 ≤ d → let table : List (Option ℕ) = table_of (λ b. b == 0x51) (λ _. d) in
+        let haystack : List ℕ = (replicate 10 0x7A ++ 0xC0 ∷ replicate (d - 1) 0x65) ++ 0x51 ∷ [] in
+        let answer : Option MatchValue = Some (record { pattern = 0; start = 10; end = 11 + d }) in
+        (tried_places table haystack (between 0 (11 + d)) answer ≡ 1)
+        × (scanned_once table haystack (between 0 (11 + d)) answer ≡ 11 + d) }
+{}
+
+/// A search by a table in an empty span counts nothing.
+pub fn empty_spans_count_nothing()
+    ensures { (table : List (Option ℕ)) (haystack : List ℕ) (at : ℕ)
+        → (tried_places table haystack (between at at) None ≡ 0) × (scanned_once table haystack (between at at) None ≡ 0) }
+{}

@@ -3,7 +3,7 @@ ghost use Rattle.literal_base.specs.Occurs.{IsValidSpan};
 ghost use Rattle.literal_tests.specs.Covered.{IsCovered};
 
 use crate::asserted::{assert_holds, assert_same};
-use crate::made::{Place, place, places};
+use crate::made::{Place, confirming, place, places};
 use crate::plain::leftmost_plainly;
 use crate::uses_of_prefilters::{Covered, confirm_covered, covered_patterns};
 use MatchKind::{LeftmostFirst, LeftmostLongest};
@@ -11,7 +11,7 @@ use literal_prefilters::Span;
 use literal_prefilters::count::Tally;
 use literal_prefilters::packed::MatchKind;
 use literal_prefilters::prefilter::{Candidate, ConfirmingSearch, Prefilter, PrefilterI, confirm};
-use std::alloc::{AllocError, Global};
+use std::alloc::Global;
 use std::cell::Cell;
 use std::process::Abort;
 use std::test::Fail;
@@ -142,17 +142,6 @@ static BY_SEARCHES: [Row; 3] = [
     ),
 ];
 
-/// A confirming search, if one is built.
-fn built(
-    alloc: Global,
-    kind: MatchKind,
-    ignore_case: bool,
-    patterns: &[&[u8]],
-) -> Result<Option<ConfirmingSearch>, AllocError> {
-    let items = Vec::from_slice(alloc, patterns)?;
-    ConfirmingSearch::build(alloc, kind, ignore_case, items)
-}
-
 /// All calls answer the same in a span of a haystack, which has to be valid.
 fn assert_finds(
     rt: &impl Abort,
@@ -175,7 +164,7 @@ fn assert_finds(
 
 fn assert_row(rt: &impl Abort, alloc: Global, row: &Row) -> Result<(), Fail> {
     let (case, kind, patterns, ignore_case, haystack, end, wanted) = *row;
-    let search = built(alloc, kind, ignore_case, patterns)?;
+    let search = confirming(alloc, kind, ignore_case, patterns)?;
     let search = search.ok_or("there is no prefilter")?;
     assert_finds(rt, &search, haystack, Span { start: 0, end }, wanted, case);
     Ok(())
@@ -270,7 +259,7 @@ static LISTED: [ListRow; 7] = [
 #[test]
 fn lists_all_matches(rt: HostRuntime) -> Result<(), Fail> {
     for &(case, kind, patterns, ignore_case, haystack, wanted) in &LISTED {
-        let search = built(rt.alloc(), kind, ignore_case, patterns)?;
+        let search = confirming(rt.alloc(), kind, ignore_case, patterns)?;
         let search = search.ok_or("there is no prefilter")?;
         let all = search.find_all(haystack, &mut Tally::new())?;
         let listed = places(rt.alloc(), &all)?;
@@ -290,7 +279,7 @@ static OF_NOTHING: [(&str, bool, &[&[u8]]); 4] = [
 #[test]
 fn builds_nothing_without_a_prefilter(rt: HostRuntime) -> Result<(), Fail> {
     for &(case, ignore_case, patterns) in &OF_NOTHING {
-        let search = built(rt.alloc(), LeftmostFirst, ignore_case, patterns)?;
+        let search = confirming(rt.alloc(), LeftmostFirst, ignore_case, patterns)?;
         assert_holds(&rt, search.is_none(), case);
     }
     Ok(())
@@ -471,7 +460,7 @@ fn compare_covered(
 fn searches_as_is_found_plainly(rt: HostRuntime) -> Result<(), Fail> {
     for &(list, ignore_case) in &LISTS {
         for kind in [LeftmostFirst, LeftmostLongest] {
-            let search = built(rt.alloc(), kind, ignore_case, list)?;
+            let search = confirming(rt.alloc(), kind, ignore_case, list)?;
             let search = search.ok_or("there is no prefilter")?;
             assert_same(
                 &rt,

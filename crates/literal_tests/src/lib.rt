@@ -8,6 +8,8 @@ mod asserted;
 mod builders;
 #[cfg(test)]
 mod choices;
+#[cfg(test)]
+mod chosen;
 pub mod classes;
 #[cfg(test)]
 mod compared;
@@ -18,6 +20,8 @@ pub mod counts;
 #[cfg(test)]
 mod identifiers;
 pub mod inputs;
+#[cfg(test)]
+mod large;
 #[cfg(test)]
 mod laws;
 #[cfg(test)]

@@ -3,7 +3,7 @@ ghost use Rattle.std.specs.Prelude.{◌<◌};
 
 use literal_prefilters::Match;
 use literal_prefilters::packed::{Builder, Config, MatchKind, Searcher};
-use literal_prefilters::prefilter::Candidate;
+use literal_prefilters::prefilter::{Candidate, ConfirmingSearch};
 use std::alloc::{AllocError, Global};
 use std::test::Fail;
 
@@ -63,4 +63,24 @@ pub fn one_of_129(number: u8) -> [u8; 3]
 {
     let digits = number % 43;
     [b'a' + number / 43, b'0' + digits / 10, b'0' + digits % 10]
+}
+
+/// A confirming search, if one is built.
+pub fn confirming(
+    alloc: Global,
+    kind: MatchKind,
+    ignore_case: bool,
+    patterns: &[&[u8]],
+) -> Result<Option<ConfirmingSearch>, AllocError> {
+    let items = Vec::from_slice(alloc, patterns)?;
+    ConfirmingSearch::build(alloc, kind, ignore_case, items)
+}
+
+/// The place that a prefilter by single bytes proposes.
+pub fn proposed(candidate: Candidate) -> Result<Option<usize>, &'static str> {
+    match candidate {
+        Candidate::None => Ok(None),
+        Candidate::PossibleStartOfMatch(start) => Ok(Some(start)),
+        Candidate::Match(_) => Err("a table of bytes confirms no match"),
+    }
 }

@@ -1,6 +1,6 @@
 //! Worked cases of prefilters.
 use crate::asserted::{assert_holds, assert_same};
-use crate::made::one_of_129;
+use crate::made::{one_of_129, proposed};
 use literal_prefilters::count::Tally;
 use literal_prefilters::prefilter::{Builder, Candidate, Prefilter, PrefilterI};
 use literal_prefilters::search::{Match, Span};
@@ -167,15 +167,6 @@ fn prefilter(
     Ok(builder(alloc, kind, ignore_case, patterns)?.build()?)
 }
 
-/// The place that a prefilter by single bytes proposes.
-fn place(candidate: Candidate) -> Result<Option<usize>, &'static str> {
-    match candidate {
-        Candidate::None => Ok(None),
-        Candidate::PossibleStartOfMatch(start) => Ok(Some(start)),
-        Candidate::Match(_) => Err("a table of bytes confirms no match"),
-    }
-}
-
 /// All three calls propose the same place of the haystack from a start on.
 fn assert_proposes(
     rt: &impl Abort,
@@ -188,10 +179,10 @@ fn assert_proposes(
     let end = haystack.len();
     assert_holds(rt, start <= end, case);
     let (span, tally) = (Span { start, end }, &mut Tally::new());
-    assert_same(rt, place(pre.find_in(haystack, span)), Ok(wanted), case);
-    let counted = place(pre.find_in_counted(haystack, span, tally));
+    assert_same(rt, proposed(pre.find_in(haystack, span)), Ok(wanted), case);
+    let counted = proposed(pre.find_in_counted(haystack, span, tally));
     assert_same(rt, counted, Ok(wanted), format_args!("{case}, counted"));
-    let by_trait = place(PrefilterI::find_in(pre, haystack, span, tally));
+    let by_trait = proposed(PrefilterI::find_in(pre, haystack, span, tally));
     assert_same(
         rt,
         by_trait,

@@ -1,16 +1,22 @@
-//! Requests for memory that are refused: a test for each call that takes memory, which is run again
-//! and again, each time with another request refused.
+//! Requests for memory that are refused: a test for each call that takes memory, and one for calls that take
+//! none. `checks/refusals` runs each again and again, each time with another request refused, until a run has
+//! none refused.
 //!
-//! A test `refused_*` passes whichever request is refused: where one is refused to the call, the call
-//! fails, what it was called on answers as before, and the same call succeeds afterwards. A test
-//! `succeeds_*` makes the same calls, and passes only where none was refused, so it shows at which
-//! request a sweep may end.
+//! Where a request is refused to the call, the call fails, what it was called on answers as before, and the same
+//! call succeeds afterwards. Where one is refused to what the call needs, the test ends with that error.
+//! Where none is refused, it passes.
 #![tactic(auto)]
 
 #[cfg(test)]
 mod builders;
 #[cfg(test)]
+mod confirming;
+#[cfg(test)]
 mod exact;
+#[cfg(test)]
+mod made;
+#[cfg(test)]
+mod no_memory;
 #[cfg(test)]
 mod pattern_lists;
 #[cfg(test)]

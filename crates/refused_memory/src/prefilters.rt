@@ -1,49 +1,51 @@
-//! Calls of the prefilter's `Builder`. Each function tells whether a call was refused at first, and
-//! fails where what it needs was refused.
+//! Calls of the prefilter's `Builder`.
 use literal_prefilters::prefilter::Builder;
 use literal_prefilters::{MatchKind, Span};
 use std::alloc::{AllocError, Global};
 use std::process::Abort;
 
-/// What the builder's prefilter proposes in the haystack `xxfoo`, and `None` where it builds none.
-/// Nothing in this asks for memory.
-fn proposed(rt: &impl Abort, builder: &Builder) -> Option<usize> {
-    let built = builder
-        .build()
-        .expect(rt, "a table of bytes takes no memory");
-    built?
-        .find_in(b"xxfoo", Span { start: 0, end: 5 })
-        .into_option()
+/// The places that are proposed in `xxfoo` and `oxof` for no word, for `foo`, and for `foo` and `of`.
+const PROPOSED: [[Option<usize>; 2]; 3] = [[None, None], [Some(2), Some(3)], [Some(1), Some(2)]];
+
+/// The place that the builder's prefilter proposes, and `None` where it builds none. Nothing in this asks
+/// for memory, since the prefilter goes by a table.
+fn proposed(rt: &impl Abort, builder: &Builder, haystack: &[u8]) -> Option<usize> {
+    let built = builder.build().expect(rt, "a table of bytes took memory");
+    let (start, end) = (0, haystack.len());
+    built?.find_in(haystack, Span { start, end }).into_option()
 }
 
-fn adds(rt: &impl Abort, alloc: Global) -> Result<bool, AllocError> {
-    let mut builder = Builder::new(alloc, MatchKind::Standard).ascii_case_insensitive(true);
-    let first = builder.add(b"foo").is_err();
-    if first {
-        assert_eq!(rt; proposed(rt, &builder), None);
-        assert!(rt; builder.add(b"foo").is_ok());
-    }
-    assert_eq!(rt; proposed(rt, &builder), Some(2));
-    let second = builder.add(b"of").is_err();
-    if second {
-        assert_eq!(rt; proposed(rt, &builder), Some(2));
-        assert!(rt; builder.add(b"of").is_ok());
-    }
-    assert_eq!(rt; proposed(rt, &builder), Some(1));
-    for bytes in [b"".as_slice(), b"bar".as_slice()] {
-        assert!(rt; builder.add(bytes).is_ok());
-        assert_eq!(rt; proposed(rt, &builder), None);
-    }
-    Ok(first || second)
+/// What a builder of so many words builds.
+fn assert_builds(rt: &impl Abort, builder: &Builder, count: usize) {
+    assert!(rt; count < 3);
+    assert!(rt; proposed(rt, builder, b"xxfoo") == PROPOSED[count][0]);
+    assert!(rt; proposed(rt, builder, b"oxof") == PROPOSED[count][1]);
 }
 
-#[test]
-fn refused_add_of_prefilter_builder(rt: HostRuntime) {
-    let _ = adds(&rt, rt.alloc());
+/// Adds a word to a builder of so many words.
+fn adds(rt: &impl Abort, builder: &mut Builder, count: usize, word: &[u8]) {
+    assert!(rt; count < 2);
+    if builder.add(word).is_err() {
+        assert_builds(rt, builder, count);
+        assert!(rt; builder.add(word).is_ok());
+    }
+    assert_builds(rt, builder, count + 1);
+}
+
+/// A builder with case ignored, to which no word was added.
+fn of_none(alloc: Global) -> Builder {
+    Builder::new(alloc, MatchKind::Standard).ascii_case_insensitive(true)
 }
 
 #[test]
-fn succeeds_add_of_prefilter_builder(rt: HostRuntime) -> Result<(), AllocError> {
-    assert!(rt; !adds(&rt, rt.alloc())?);
+fn first_add_of_prefilter_builder(rt: HostRuntime) {
+    adds(&rt, &mut of_none(rt.alloc()), 0, b"foo");
+}
+
+#[test]
+fn second_add_of_prefilter_builder(rt: HostRuntime) -> Result<(), AllocError> {
+    let mut builder = of_none(rt.alloc());
+    builder.add(b"foo")?;
+    adds(&rt, &mut builder, 1, b"of");
     Ok(())
 }

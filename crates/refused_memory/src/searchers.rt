@@ -1,146 +1,65 @@
-//! Calls of `Searcher`, and calls that take no memory. The functions that return a `bool` tell
-//! whether a call was refused at first, and fail where what it needs was refused.
+//! Calls of `Searcher`.
+use crate::made::{assert_place, words};
 use literal_prefilters::Span;
 use literal_prefilters::count::Tally;
-use literal_prefilters::packed::pattern::Patterns;
-use literal_prefilters::packed::{Builder, MatchKind, Searcher};
+use literal_prefilters::packed::{MatchKind, Searcher};
 use std::alloc::{AllocError, Global};
 use std::process::Abort;
 
-const WORDS: [&[u8]; 2] = [b"ab", b"bc"];
-
+/// All calls of a searcher for 24 words answer as they should that ask for no memory.
 fn assert_searches(rt: &impl Abort, searcher: &Searcher) {
-    assert_eq!(rt; *searcher.match_kind(), MatchKind::LeftmostFirst);
-    assert_eq!(rt; searcher.minimum_len(), 0);
-    let haystack = b"xabc";
-    let found = searcher.find(haystack);
-    assert_eq!(rt;
-        found.map(|it| (it.pattern().as_usize(), it.start(), it.end())),
-        Some((0, 1, 3))
-    );
-    let span = Span { start: 2, end: 4 };
-    let found = searcher.find_in(haystack, span);
-    assert_eq!(rt;
-        found.map(|it| (it.pattern().as_usize(), it.start(), it.end())),
-        Some((1, 2, 4))
-    );
+    assert!(rt; *searcher.match_kind() == MatchKind::LeftmostFirst);
+    assert!(rt; searcher.minimum_len() == 0);
+    let haystack = b"xabcd";
+    assert_place(rt, searcher.find(haystack), 1, (1, 3));
+    let found = searcher.find_in(haystack, Span { start: 2, end: 5 });
+    assert_place(rt, found, 2, (2, 5));
     let span = Span { start: 2, end: 3 };
-    let found = searcher.find_in_counted(haystack, span, &mut Tally::new());
-    assert!(rt; found.is_none());
+    assert!(rt;
+        searcher
+            .find_in_counted(haystack, span, &mut Tally::new())
+            .is_none()
+    );
+    assert!(rt; searcher.find_iter(b"ab c bcd").count() == 3);
 }
 
-fn made(rt: &impl Abort, alloc: Global) -> bool {
-    if let Ok(made) = Searcher::new(alloc, WORDS) {
-        assert!(rt; made.is_some());
-        return false;
-    }
-    let made = Searcher::new(alloc, WORDS).expect(rt, "a second request was refused");
-    assert_searches(rt, &made.expect(rt, "two patterns make nothing"));
-    true
+/// A searcher for 24 words.
+fn made(rt: &impl Abort, alloc: Global) -> Result<Searcher, AllocError> {
+    Ok(Searcher::new(alloc, words())?.expect(rt, "patterns make nothing"))
 }
 
-fn clones(rt: &impl Abort, alloc: Global) -> Result<bool, AllocError> {
-    let searcher = Searcher::new(alloc, WORDS)?.expect(rt, "two patterns make nothing");
-    if let Ok(copy) = searcher.try_clone() {
-        assert_searches(rt, &copy);
-        return Ok(false);
-    }
-    assert_searches(rt, &searcher);
-    let copy = searcher
-        .try_clone()
-        .expect(rt, "a second request was refused");
-    assert_searches(rt, &copy);
-    Ok(true)
+#[test]
+fn new(rt: HostRuntime) {
+    let made = match made(&rt, rt.alloc()) {
+        Ok(made) => made,
+        Err(_) => made(&rt, rt.alloc()).expect(&rt, "it was refused again"),
+    };
+    assert_searches(&rt, &made);
 }
 
-fn lists(rt: &impl Abort, alloc: Global) -> Result<bool, AllocError> {
-    let searcher = Searcher::new(alloc, WORDS)?.expect(rt, "two patterns make nothing");
-    let haystack = b"ab bc abc";
-    if let Ok(all) = searcher.find_all(haystack, &mut Tally::new()) {
-        assert_eq!(rt; all.len(), 3);
-        return Ok(false);
-    }
-    assert_searches(rt, &searcher);
-    let all = searcher
-        .find_all(haystack, &mut Tally::new())
-        .expect(rt, "a second request was refused");
-    assert_eq!(rt; all.len(), 3);
-    Ok(true)
-}
-
-/// An inert builder takes any pattern and builds nothing.
-fn assert_inert(rt: &impl Abort, builder: &mut Builder) {
-    for pattern in [b"".as_slice(), b"more", b""] {
-        assert!(rt; builder.add(pattern).is_ok());
-        assert_eq!(rt; builder.len(), 0);
-        assert_eq!(rt; builder.minimum_len(), usize::MAX);
-        let built = builder.build().expect(rt, "an inert builder took memory");
-        assert!(rt; built.is_none());
-    }
-}
-
-/// Fails where what the calls need was refused; the calls themselves make no request.
-fn takes_no_memory(rt: &impl Abort, alloc: Global) -> Result<(), AllocError> {
-    let built = Builder::new(alloc)
-        .build()
-        .expect(rt, "an empty builder took memory");
-    assert!(rt; built.is_none());
-    assert_inert(rt, &mut Builder::new(alloc));
-    let mut patterns = Patterns::new(alloc);
-    patterns.add(b"ab")?;
-    let mut builder = Builder::new(alloc);
-    builder.extend(WORDS)?;
-    let searcher = builder.build()?.expect(rt, "two patterns build nothing");
-    assert_eq!(rt; patterns.total_pattern_bytes(), 2);
-    assert_eq!(rt; patterns.iter().count(), 1);
-    patterns.reset();
-    assert!(rt; patterns.is_empty());
-    assert_eq!(rt; builder.len(), 2);
-    assert_eq!(rt; builder.minimum_len(), 2);
-    assert_inert(rt, &mut builder);
-    assert_searches(rt, &searcher);
-    assert_eq!(rt; searcher.find_iter(b"ab bc abc").count(), 3);
+#[test]
+fn try_clone_of_searcher(rt: HostRuntime) -> Result<(), AllocError> {
+    let searcher = made(&rt, rt.alloc())?;
+    let copy = match searcher.try_clone() {
+        Ok(copy) => copy,
+        Err(_) => searcher.try_clone().expect(&rt, "it was refused again"),
+    };
+    assert_searches(&rt, &searcher);
+    assert_searches(&rt, &copy);
     Ok(())
 }
 
 #[test]
-fn refused_new(rt: HostRuntime) {
-    let _ = made(&rt, rt.alloc());
-}
-
-#[test]
-fn succeeds_new(rt: HostRuntime) {
-    assert!(rt; !made(&rt, rt.alloc()));
-}
-
-#[test]
-fn refused_try_clone_of_searcher(rt: HostRuntime) {
-    let _ = clones(&rt, rt.alloc());
-}
-
-#[test]
-fn succeeds_try_clone_of_searcher(rt: HostRuntime) -> Result<(), AllocError> {
-    assert!(rt; !clones(&rt, rt.alloc())?);
+fn find_all(rt: HostRuntime) -> Result<(), AllocError> {
+    let searcher = made(&rt, rt.alloc())?;
+    let all = match searcher.find_all(b"ab c bcd", &mut Tally::new()) {
+        Ok(all) => all,
+        Err(_) => {
+            assert_searches(&rt, &searcher);
+            let again = searcher.find_all(b"ab c bcd", &mut Tally::new());
+            again.expect(&rt, "it was refused again")
+        }
+    };
+    assert!(rt; all.len() == 3);
     Ok(())
-}
-
-#[test]
-fn refused_find_all(rt: HostRuntime) {
-    let _ = lists(&rt, rt.alloc());
-}
-
-#[test]
-fn succeeds_find_all(rt: HostRuntime) -> Result<(), AllocError> {
-    assert!(rt; !lists(&rt, rt.alloc())?);
-    Ok(())
-}
-
-#[test]
-fn refused_no_memory_is_needed(rt: HostRuntime) {
-    let _ = takes_no_memory(&rt, rt.alloc());
-}
-
-#[test]
-fn succeeds_no_memory_is_needed(rt: HostRuntime) -> Result<(), AllocError> {
-    takes_no_memory(&rt, rt.alloc())
 }

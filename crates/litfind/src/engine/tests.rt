@@ -223,27 +223,73 @@ fn prints_the_leftmost_match(rt: HostRuntime) -> Result<(), Fail> {
     Ok(())
 }
 
+/// What is answered to words for an input, and what of it is written.
+fn answer_to(
+    alloc: Global,
+    words: &[String],
+    input: &[u8],
+    writer: &mut SlowWriter,
+) -> Result<bool, Fault> {
+    run(
+        alloc,
+        words,
+        &mut Checked::new(input),
+        &mut Checked::new(writer),
+    )
+}
+
 #[test]
-fn asks_for_a_mode_and_few_patterns(rt: HostRuntime) -> Result<(), Fail> {
-    let mut words = Vec::new(rt.alloc());
-    let no_words = answer_to(rt.alloc(), words.as_slice());
-    assert_eq!(rt; no_words, Err(Fault::Usage));
-    words.push(String::from_str(rt.alloc(), "first")?)?;
-    for _ in 0..128 {
-        words.push(String::from_str(rt.alloc(), "likes")?)?;
+fn asks_for_a_mode(rt: HostRuntime) {
+    let mut writer = SlowWriter::new(64);
+    let answer = answer_to(rt.alloc(), &[], INPUT, &mut writer);
+    assert_ends(&rt, answer, Err(Fault::Usage), &writer, b"", "no word");
+}
+
+/// A mode, and so many times `foo`.
+fn of_foos(alloc: Global, mode: &str, count: usize) -> Result<Vec<String>, AllocError> {
+    let mut words = Vec::new(alloc);
+    words.push(String::from_str(alloc, mode)?)?;
+    for _ in 0..count {
+        words.push(String::from_str(alloc, "foo")?)?;
     }
-    let many = answer_to(rt.alloc(), words.as_slice());
-    assert_eq!(rt; many, Ok(true));
-    words.push(String::from_str(rt.alloc(), "likes")?)?;
-    let too_many = answer_to(rt.alloc(), words.as_slice());
-    assert_eq!(rt; too_many, Err(Fault::NoSearcher));
+    Ok(words)
+}
+
+#[test]
+fn takes_128_patterns(rt: HostRuntime) -> Result<(), Fail> {
+    for (mode, count, want, output) in [
+        ("first", 128, Ok(true), b"0 0 3\n".as_slice()),
+        ("longest", 128, Ok(true), b"0 0 3\n"),
+        ("first", 129, Err(Fault::NoSearcher), b""),
+        ("longest", 129, Err(Fault::NoSearcher), b""),
+    ] {
+        let (words, mut writer) = (of_foos(rt.alloc(), mode, count)?, SlowWriter::new(64));
+        let answer = answer_to(rt.alloc(), words.as_slice(), b"foo", &mut writer);
+        assert_ends(
+            &rt,
+            answer,
+            want,
+            &writer,
+            output,
+            format_args!("{mode}, {count} words"),
+        );
+    }
     Ok(())
 }
 
-fn answer_to(alloc: Global, words: &[String]) -> Result<bool, Fault> {
-    let mut reader = Checked::new(INPUT);
-    let mut writer = Checked::new(SlowWriter::new(64));
-    run(alloc, words, &mut reader, &mut writer)
+#[test]
+fn takes_no_empty_pattern(rt: HostRuntime) -> Result<(), Fail> {
+    for words in [
+        "first  foo bar",
+        "first foo  bar",
+        "first foo bar ",
+        "longest  foo bar",
+        "longest foo  bar",
+        "longest foo bar ",
+    ] {
+        assert_prints(&rt, rt.alloc(), words, b"foo", Err(Fault::NoSearcher), b"")?;
+    }
+    Ok(())
 }
 
 /// A read of this number that fails is reported, and then nothing is written.
@@ -360,65 +406,45 @@ fn says_what_is_wrong(rt: HostRuntime) -> Result<(), Fail> {
     Ok(())
 }
 
-const CONFIRMING_WORDS: &str = "nocase-first apple maple snapple";
-
-const CONFIRMING_OUTPUT: &[u8] = b"1 13 18\n";
-
-/// Whichever request for memory is refused, nothing is written then, and the run made again
-/// succeeds.
-fn runs_though_refused(
+/// Where a request for memory is refused nothing is written, and the run made again succeeds.
+fn assert_runs(
     rt: &impl Abort,
     alloc: Global,
     words: &str,
+    input: &[u8],
     output: &[u8],
-) -> Result<(), Fail> {
-    let Ok(words) = split(alloc, words) else {
-        return Ok(());
-    };
-    for _ in 0..2 {
-        let mut writer = SlowWriter::new(64);
-        let answer = run(
-            alloc,
-            words.as_slice(),
-            &mut Checked::new(INPUT),
-            &mut Checked::new(&mut writer),
-        );
-        match answer {
-            Err(Fault::OutOfMemory) => assert_eq!(rt; writer.held(), b"".as_slice()),
-            answer => {
-                assert_eq!(rt; answer, Ok(true));
-                assert_eq!(rt; writer.held(), output);
-            }
-        }
+) -> Result<(), AllocError> {
+    let words = split(alloc, words)?;
+    let mut writer = SlowWriter::new(64);
+    let mut answer = answer_to(alloc, words.as_slice(), input, &mut writer);
+    if answer == Err(Fault::OutOfMemory) {
+        assert_eq!(rt; writer.held(), b"".as_slice());
+        answer = answer_to(alloc, words.as_slice(), input, &mut writer);
     }
+    assert_ends(rt, answer, Ok(true), &writer, output, "though refused");
     Ok(())
 }
 
 #[test]
-fn refused_run(rt: HostRuntime) -> Result<(), Fail> {
-    runs_though_refused(&rt, rt.alloc(), WORDS, OUTPUT)
+fn refused_run_for_all_matches(rt: HostRuntime) -> Result<(), AllocError> {
+    assert_runs(&rt, rt.alloc(), WORDS, INPUT, OUTPUT)
 }
 
 #[test]
-fn refused_run_confirming(rt: HostRuntime) -> Result<(), Fail> {
-    runs_though_refused(&rt, rt.alloc(), CONFIRMING_WORDS, CONFIRMING_OUTPUT)
-}
-
-/// Where no request for memory is refused, the run succeeds.
-#[test]
-fn succeeds_run(rt: HostRuntime) -> Result<(), Fail> {
-    let words = split(rt.alloc(), WORDS)?;
-    let answer = answer_to(rt.alloc(), words.as_slice());
-    assert_eq!(rt; answer, Ok(true));
-    Ok(())
+fn refused_run_by_a_table(rt: HostRuntime) -> Result<(), AllocError> {
+    let words = "nocase-first apple maple snapple";
+    assert_runs(&rt, rt.alloc(), words, INPUT, b"1 13 18\n")
 }
 
 #[test]
-fn succeeds_run_confirming(rt: HostRuntime) -> Result<(), Fail> {
-    let words = split(rt.alloc(), CONFIRMING_WORDS)?;
-    let answer = answer_to(rt.alloc(), words.as_slice());
-    assert_eq!(rt; answer, Ok(true));
-    Ok(())
+fn refused_run_by_a_search(rt: HostRuntime) -> Result<(), AllocError> {
+    assert_runs(
+        &rt,
+        rt.alloc(),
+        "confirm-longest a ab b c d",
+        b"zab",
+        b"1 1 3\n",
+    )
 }
 
 /// What is written for an input, over memory, where both ends tell their bytes.

@@ -1,0 +1,68 @@
+//! Calls of `ConfirmingSearch`.
+use crate::made::{assert_place, words_with_a_table, words_without_a_table};
+use literal_prefilters::Span;
+use literal_prefilters::count::Tally;
+use literal_prefilters::packed::MatchKind;
+use literal_prefilters::prefilter::ConfirmingSearch;
+use std::alloc::{AllocError, Global};
+use std::process::Abort;
+
+/// A search for 24 patterns: by a table with case ignored, or by a packed search with case kept.
+fn built(rt: &impl Abort, alloc: Global, by_table: bool) -> Result<ConfirmingSearch, AllocError> {
+    let words = if by_table {
+        words_with_a_table()
+    } else {
+        words_without_a_table()
+    };
+    let built = ConfirmingSearch::build(alloc, MatchKind::LeftmostLongest, by_table, words)?;
+    Ok(built.expect(rt, "there is no prefilter"))
+}
+
+/// It finds the longest of the patterns that begin with `ax`.
+fn assert_finds(rt: &impl Abort, search: &ConfirmingSearch, by_table: bool) {
+    let found = search.find_in(b"qqaxe", Span { start: 1, end: 5 });
+    let (number, end) = if by_table { (1, 5) } else { (0, 4) };
+    assert_place(rt, found, number, (2, end));
+}
+
+fn builds(rt: &impl Abort, alloc: Global, by_table: bool) {
+    let search = match built(rt, alloc, by_table) {
+        Ok(search) => search,
+        Err(_) => built(rt, alloc, by_table).expect(rt, "it was refused again"),
+    };
+    assert_finds(rt, &search, by_table);
+}
+
+fn lists(rt: &impl Abort, alloc: Global, by_table: bool) -> Result<(), AllocError> {
+    let (search, haystack) = (built(rt, alloc, by_table)?, b"qqaxeaxe");
+    let all = match search.find_all(haystack, &mut Tally::new()) {
+        Ok(all) => all,
+        Err(_) => {
+            assert_finds(rt, &search, by_table);
+            let again = search.find_all(haystack, &mut Tally::new());
+            again.expect(rt, "it was refused again")
+        }
+    };
+    assert!(rt; all.len() == 2);
+    Ok(())
+}
+
+#[test]
+fn build_of_confirming_by_a_table(rt: HostRuntime) {
+    builds(&rt, rt.alloc(), true);
+}
+
+#[test]
+fn build_of_confirming_by_a_search(rt: HostRuntime) {
+    builds(&rt, rt.alloc(), false);
+}
+
+#[test]
+fn find_all_by_a_table(rt: HostRuntime) -> Result<(), AllocError> {
+    lists(&rt, rt.alloc(), true)
+}
+
+#[test]
+fn find_all_by_a_search(rt: HostRuntime) -> Result<(), AllocError> {
+    lists(&rt, rt.alloc(), false)
+}
