@@ -1,4 +1,4 @@
-use Rattle.std.proofs.Common.{◌≡◌, ℕ, ◌-◌, List, Option, ap, arith, count_by}
+use Rattle.std.proofs.Common.{◌≡◌, ◌-◌, ap, arith, count_by}
 use Rattle.std.specs.List.{range_with_len}
 use Rattle.literal_prefilters.specs.Near.{is_near}
 use Rattle.literal_prefilters.proofs.laws.empty_spans_count_nothing.Goals as goal

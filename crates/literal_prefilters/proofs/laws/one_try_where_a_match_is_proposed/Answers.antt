@@ -1,5 +1,5 @@
 use Rattle.std.proofs.Common.{◌≡◌, ℕ, ◌+◌, ◌-◌, ◌≤◌, ◌==◌, true, false, List, [], ◌∷◌, ◌++◌, length, get_or, max}
-use Rattle.std.proofs.Common.{replicate, Option, Some, refl, sym, ap, subst, ◌∙◌, arith, option_map, unwrap_or, count_by}
+use Rattle.std.proofs.Common.{replicate, Option, Some, refl, sym, ap, ◌∙◌, arith, option_map, unwrap_or, count_by}
 use Rattle.std.specs.List.{All, range_with_len}
 use Rattle.std.proofs.Math.ListN.{get_or-append, length-append, length-replicate}
 use Rattle.std.proofs.Math.Seq.{get_or-append_seam}
