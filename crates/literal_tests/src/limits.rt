@@ -39,12 +39,6 @@ fn has_named_limits(rt: HostRuntime) {
 }
 
 #[test]
-fn keeps_the_usual_limit(rt: HostRuntime) -> Result<(), Fail> {
-    let mut builder = Config::new().builder(rt.alloc());
-    assert_keeps(&rt, &mut builder, 128, "as usual")
-}
-
-#[test]
 fn keeps_a_limit(rt: HostRuntime) -> Result<(), Fail> {
     assert_keeps(&rt, &mut limited(rt.alloc(), 1), 1, "one")?;
     assert_keeps(&rt, &mut limited(rt.alloc(), 129), 129, "129")

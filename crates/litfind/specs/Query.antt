@@ -1,8 +1,6 @@
 -- What the words of a run ask for.
 use Rattle.std.specs.Prelude.{◌≡◌, ℕ, Bool, true, false, List, [], ◌∷◌, Option, Some, None, codes, if◌then◌else◌}
-use Rattle.std.specs.Option.{option_map}
 use Rattle.std.specs.Str.{bytes_eq}
-use Rattle.literal_base.specs.declared.packed.MatchKind.{MatchKind}
 use Rattle.literal_base.specs.declared.packed.MatchKind.TheVariants.{LeftmostFirst, LeftmostLongest}
 use Rattle.literal_base.specs.Query.{Query}
 use Rattle.literal_packed.specs.BuilderValue.{BuilderValue, builder_of, searcher_of}

@@ -64,7 +64,8 @@ module _ (patterns : List (List ℕ)) (many : length patterns ≡ 65535)
 
   none : (i : ℕ) → i < 65534 → counts i ≡ false
   none i below =
-      let other : equal i ≡ false = ne_eqb _ _ (λ e. omega (arith, below, e, window_is, key_is i (omega (arith, below)))) in
+      let key = key_is i (omega (arith, below)) in
+      let other : equal i ≡ false = ne_eqb _ _ (λ e. omega (arith, below, e, window_is, key)) in
       ap (λ b. b && (i == 65534 || is_better LeftmostFirst patterns i 65534)) other
 
   last : counts 65534 ≡ true

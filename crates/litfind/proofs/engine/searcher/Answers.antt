@@ -1,7 +1,6 @@
 use Rattle.std.proofs.Common.{◌≡◌, ℕ, Bool, true, false, cond, List, Option, Some, None, option_map, map, string_bytes}
 use Rattle.std.proofs.Common.{sym, ap, ◌∙◌, arith}
 use Rattle.literal_base.specs.declared.packed.MatchKind.{MatchKind}
-use Rattle.literal_base.specs.Query.{Query}
 use Rattle.literal_base.specs.Kinds.{root_kind_of}
 use Rattle.literal_packed.specs.State.{kept_of, may_keep}
 use Rattle.literal_prefilters.specs.Choice.{pick}
