@@ -134,7 +134,9 @@ fn searcher(alloc: Global, words: &[String]) -> Result<Searching, Fault>
     }
 }
 
-/// A line for each match, all of which are searched for.
+/// A line for each match, all of which are searched for. It stays out of line, by which the loop of the
+/// search comes to lie in the program where no jump of it crosses 32 bytes (docs/DECISIONS.md).
+#[inline(never)]
 fn all_lines(alloc: Global, searcher: &Searcher, input: &[u8]) -> Result<String, AllocError>
     ensures { IfOk result (λ text. AreLinesOf (all_matches searcher.now) input.now (string_bytes text)) }
 {
