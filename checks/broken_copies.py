@@ -107,6 +107,8 @@ REPOSITORY = [
     ("example_in_no_test", "examples", [replace("README.md", "let searcher = built", "let search = built")]),
     ("example_in_a_comment", "examples", [append(API, "\n/// ```rust\n/// let peek = 0;\n/// ```\nfn peek() {}\n")]),
     ("example_changed_in_its_test", "examples", [replace("crates/literal_examples/src/tests.rt", "[1, 0, 2]", "[1, 0]")]),
+    ("example_in_a_plain_function", "examples", [
+        replace("crates/literal_examples/src/shown.rt", "#[test]\nfn shows_spans", "fn shows_spans")]),
     ("stray_build_file", "strays", [write("BUILD.bazel", "")]),
     ("code_in_another_file", "strays", [write("crates/literal_packed/src/peek.inc", "")]),
     ("source_elsewhere", "strays", [write("crates/literal_packed/proofs/peek.rt", "")]),

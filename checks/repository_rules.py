@@ -146,8 +146,11 @@ def plain_lines(text):
 
 
 def examples(repository):
-    """Each example in a document or a comment of documentation stands, line for line, in a test."""
-    tests = ["\n".join(plain_lines(text)) for path, text in repository.texts.items() if re.match(r"crates/\w+/src/(?:\w+/)*tests\.rt$", path)]
+    """Each example in a document or a comment of documentation stands, line for line, in a function that is a test."""
+    tests = []
+    for path, text in repository.texts.items():
+        if path.endswith(".rt"):
+            tests += ["\n".join(plain_lines(test)) for test in re.findall(r"^#\[test\]\n(.*?)^\}$", text, re.M | re.S)]
     for path, text in repository.texts.items():
         if path.endswith(".rt"):
             text = "\n".join(re.sub(r"^\s*//[/!] ?", "", line) for line in text.splitlines() if re.match(r"\s*//[/!]", line))

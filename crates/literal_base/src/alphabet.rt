@@ -11,6 +11,14 @@ use std::marker::Model;
 
 /// A class for each of the 256 bytes, which is a number from 0 to 255. Contracts see the list of the
 /// classes, from that of byte 0 up.
+///
+/// ```rust
+/// let mut set = ByteClassSet::empty();
+/// set.set_range(b'a', b'z');
+/// let classes = set.byte_classes();
+/// assert!(rt; classes.alphabet_len() == 3 && classes.stride2() == 2);
+/// assert!(rt; classes.get(b'A') == 0 && classes.get(b'm') == 1 && classes.get(b'~') == 2);
+/// ```
 #[derive(Clone, Copy, Debug)]
 pub struct ByteClasses {
     classes: [u8; 256],

@@ -19,6 +19,13 @@ use std::ops::Range;
 /// The end is never beyond the haystack's length, and the start never more than one beyond the end.
 /// The bounds are a valid span of the haystack, except where the start is one beyond the end: there
 /// no search is left, as [`Input::is_done`] tells.
+///
+/// ```rust
+/// let mut input = Input::new(b"abcabc").range(1..4);
+/// assert!(rt; input.get_span().of(input.haystack()) == b"bca".as_slice());
+/// input.set_start(input.end() + 1);
+/// assert!(rt; input.is_done());
+/// ```
 #[derive(Debug, Drop)]
 pub struct Input<'h> {
     haystack: &'h [u8],
@@ -265,6 +272,12 @@ impl Clone for Input<'_> {
 /// A part of a haystack, in bytes: from `start` up to and not including `end`. A span may be written
 /// down whatever its numbers are; it is a valid span of a haystack where `start` is at most `end`
 /// and `end` at most the haystack's length.
+///
+/// ```rust
+/// let span = Span { start: 5, end: 9 };
+/// assert!(rt; span.of(b"I am here") == b"here".as_slice());
+/// assert!(rt; span.contains(5) && !span.contains(9));
+/// ```
 #[derive(Clone, Copy, PartialEq, Eq, Hash)]
 pub struct Span {
     /// The offset of the first byte.

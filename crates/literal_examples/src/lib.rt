@@ -6,5 +6,7 @@ pub mod frequencies;
 pub mod keywords;
 pub mod replace;
 #[cfg(test)]
+mod shown;
+#[cfg(test)]
 mod tests;
 pub mod tokens;

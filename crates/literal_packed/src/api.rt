@@ -28,6 +28,14 @@ use std::marker::Model;
 
 /// What a [`Builder`] is made by: which occurrence is the match, and how many patterns it keeps at
 /// most.
+///
+/// ```rust
+/// let mut builder = Config::new().pattern_limit(1).builder(alloc);
+/// builder.add(b"foo")?;
+/// assert!(rt; builder.build()?.is_some());
+/// builder.add(b"bar")?;
+/// assert!(rt; builder.build()?.is_none());
+/// ```
 #[derive(Clone, Debug, Drop)]
 pub struct Config {
     kind: MatchKind,
@@ -129,6 +137,14 @@ impl Default for Config {
 /// the limit of its configuration ([`Config::pattern_limit`]). An empty pattern, or one past the limit,
 /// makes it *inert* for good: it then keeps no pattern, and builds no searcher, whatever is added
 /// later.
+///
+/// ```rust
+/// let mut builder = Builder::new(alloc);
+/// builder.extend([b"foo".as_slice(), b"quux"])?;
+/// assert!(rt; builder.len() == 2 && builder.minimum_len() == 3);
+/// builder.add(b"")?;
+/// assert!(rt; builder.len() == 0 && builder.build()?.is_none());
+/// ```
 #[derive(Drop)]
 pub struct Builder {
     config: Config,
@@ -375,6 +391,14 @@ impl Searcher {
     }
 
     /// The leftmost match in the haystack: [`Searcher::find_in`] of all of it.
+    ///
+    /// ```rust
+    /// let built = Searcher::new(alloc, [b"foobar".as_slice(), b"foo"])?;
+    /// let searcher = built.ok_or("no searcher for these patterns")?;
+    /// let haystack = b"a foobar, a foo";
+    /// let found = searcher.find(haystack).ok_or("nothing is found")?;
+    /// assert!(rt; found.pattern().as_usize() == 0 && found.range() == (2..8));
+    /// ```
     pub fn find(&self, haystack: &[u8]) -> Option<Match>
         ensures leftmost { IsLeftmost self.now false haystack.now (whole_of haystack.now) result }
         ensures not_empty { IfSome result (λ found. found.start < found.end) }
@@ -392,6 +416,12 @@ impl Searcher {
     /// in the span the one that begins first, and of those that begin there the one that the match
     /// kind prefers. Offsets, in the answer too, are in the whole haystack. The span has to be
     /// valid: its `start` at most its `end`, and that at most the haystack's length.
+    ///
+    /// ```rust
+    /// // Only what lies whole in the span is a match, and its offsets are in the whole haystack.
+    /// let found = searcher.find_in(haystack, Span { start: 2, end: 7 });
+    /// assert!(rt; found.map(|it| it.range()) == Some(2..5));
+    /// ```
     pub fn find_in(&self, haystack: &[u8], span: Span) -> Option<Match>
         requires { IsValidSpan haystack.now span }
         ensures leftmost { IsLeftmost self.now false haystack.now span result }
@@ -418,6 +448,14 @@ impl Searcher {
     /// All matches in the haystack, from the left, none of which overlaps another: first the leftmost
     /// match of the haystack, and after each match the leftmost one of what is left behind it. The
     /// iterator borrows the haystack, and ends with the first `None`.
+    ///
+    /// ```rust
+    /// let mut starts = Vec::new(alloc);
+    /// for found in searcher.find_iter(haystack) {
+    ///     starts.push(found.start())?;
+    /// }
+    /// assert!(rt; starts.as_slice() == [2, 12].as_slice());
+    /// ```
     pub fn find_iter<'s, 'h>(&'s self, haystack: &'h [u8]) -> FindIter<'s, 'h>
         ensures { result ≡ record { query = self.now; haystack = haystack.now; at = 0; counts = none_yet } }
     {

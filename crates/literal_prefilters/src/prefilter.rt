@@ -260,6 +260,15 @@ pub trait PrefilterI {
 /// pattern, and builds no prefilter, whatever is added later.
 ///
 /// Beside the patterns it keeps what their tables are made of, so that no pattern is read again for them.
+///
+/// ```rust
+/// let mut builder = prefilter::Builder::new(alloc, MatchKind::LeftmostFirst);
+/// builder.add(b"Sherlock")?;
+/// builder.add(b"lockjaw")?;
+/// let pre = builder.build()?.ok_or("no prefilter for these patterns")?;
+/// let candidate = pre.find_in(b"I am lockjaw", Span { start: 0, end: 12 });
+/// assert!(rt; candidate.into_option() == Some(1));
+/// ```
 #[derive(Drop)]
 pub struct Builder {
     alloc: Global,

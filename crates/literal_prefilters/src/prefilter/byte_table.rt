@@ -23,6 +23,17 @@ pub(super) const MOST_BYTES: usize = 3;
 /// A table of one to three bytes, each with a *distance*: from a place of the byte in a haystack, how
 /// many bytes further back an occurrence with it may begin, at most 254. Contracts see the distance
 /// of each of the 256 bytes, if it is in the table.
+///
+/// ```rust
+/// let mut patterns = Patterns::new(alloc);
+/// patterns.add(b"Sherlock")?;
+/// patterns.add(b"lockjaw")?;
+/// let table = ByteTable::rare(&patterns, false).ok_or("no table for these patterns")?;
+/// assert!(rt; table.count() == 1 && table.distance(b'k') == Some(7));
+/// let span = Span { start: 0, end: 12 };
+/// let place = table.scan(b"I am lockjaw", span, &mut Tally::new());
+/// assert!(rt; place == Some(8));
+/// ```
 #[derive(Drop)]
 pub struct ByteTable {
     distances: [Option<u8>; 256],

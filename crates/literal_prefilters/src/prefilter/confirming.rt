@@ -63,6 +63,17 @@ fn best_at(
 ///
 /// At most as many places are tried as the span has bytes. At most as many bytes are scanned as the
 /// span has, and for each place tried as many more as the prefilter may read past it.
+///
+/// ```rust
+/// let mut builder = prefilter::Builder::new(alloc, MatchKind::LeftmostFirst);
+/// builder.add(b"lockjaw")?;
+/// let pre = builder.build()?.ok_or("no prefilter for these patterns")?;
+/// let mut patterns = Patterns::new(alloc);
+/// patterns.add(b"lockjaw")?;
+/// let (haystack, span) = (b"I am lockjaw", Span { start: 0, end: 12 });
+/// let found = confirm(&pre, &patterns, false, haystack, span, &mut Tally::new());
+/// assert!(rt; found.map(|it| it.range()) == Some(5..12));
+/// ```
 pub fn confirm<P: PrefilterI>(
     pre: &P,
     patterns: &Patterns,
@@ -174,6 +185,14 @@ fn confirm_by_table(
 
 /// Searches for patterns by the prefilter that suits them. Contracts see the patterns, whether case is
 /// ignored, and what the prefilter goes by.
+///
+/// ```rust
+/// let (kind, words) = (packed::MatchKind::LeftmostFirst, [b"watson".as_slice()]);
+/// let built = ConfirmingSearch::build(alloc, kind, true, words)?;
+/// let search = built.ok_or("no prefilter for these patterns")?;
+/// let found = search.find_in(b"Dr. WATSON", Span { start: 0, end: 10 });
+/// assert!(rt; found.map(|it| it.range()) == Some(4..10));
+/// ```
 #[derive(Drop)]
 pub struct ConfirmingSearch {
     alloc: Global,
