@@ -1,2 +1,4 @@
 -- Lemmas that several proofs share, by topic.
+pub mod Lists
+pub mod Runs
 pub mod Shared

@@ -48,6 +48,7 @@ mod spans;
 pub mod steps;
 #[cfg(test)]
 mod tables;
+pub mod together;
 pub mod uses;
 pub mod uses_of_ids;
 pub mod uses_of_prefilters;

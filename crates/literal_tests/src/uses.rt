@@ -6,7 +6,9 @@ ghost use Rattle.literal_base.specs.Greedy.{IsGreedy};
 ghost use Rattle.literal_packed.specs.BuilderValue.{BuilderValue, builder_of, searcher_of, with_added, BuildsItems};
 ghost use Rattle.literal_packed.specs.ConfigValue.{default_config};
 ghost use Rattle.literal_packed.specs.Lending.{HoldsAll};
+ghost use Rattle.literal_tests.specs.Together.{IsIteration};
 
+use literal_prefilters::packed::laws::next_is_bounded;
 use literal_prefilters::packed::pattern::{Pattern, PatternIter, Patterns};
 use literal_prefilters::packed::{Builder, Config, MatchKind, Searcher};
 use literal_prefilters::{Match, PatternID};
@@ -115,8 +117,10 @@ pub fn taken_in_turn(
     searcher: &Searcher,
     haystack: &[u8],
 ) -> Result<Vec<Match>, AllocError>
-    ensures { IfOk result (λ all. IsGreedy searcher.now false haystack.now 0 all.items) }
+    ensures greedy { IfOk result (λ all. IsGreedy searcher.now false haystack.now 0 all.items) }
+    ensures iteration { IfOk result (λ all. IsIteration searcher.now haystack.now all.items) }
 {
+    next_is_bounded();
     let mut all = Vec::new(alloc);
     for found in searcher.find_iter(haystack) {
         all.push(found)?;

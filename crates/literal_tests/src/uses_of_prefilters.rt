@@ -1,5 +1,5 @@
 //! Callers of prefilters that rely on contracts alone.
-ghost use Rattle.std.specs.Prelude.{◌≡◌, ◌≤◌, ◌+◌, ◌-◌, ◌*◌, ℕ, Bool, MatchOption, IfOk, IfSome};
+ghost use Rattle.std.specs.Prelude.{◌≡◌, ◌≤◌, ◌+◌, ◌-◌, ◌*◌, ℕ, Bool, MatchOption, IfOk, IfSome, map};
 ghost use Rattle.literal_base.specs.declared.packed.MatchKind.{MatchKind};
 ghost use Rattle.literal_base.specs.Leftmost.{IsLeftmost};
 ghost use Rattle.literal_packed.specs.PatternsValue.{query_of};
@@ -15,7 +15,7 @@ use literal_prefilters::laws::prefilters_reach_254_bytes;
 use literal_prefilters::packed::pattern::Patterns;
 use literal_prefilters::packed::{self};
 use literal_prefilters::prefilter::{Builder, Candidate, Prefilter, PrefilterI, confirm};
-use literal_prefilters::{Match, PatternID, Span};
+use literal_prefilters::{Match, MatchKind, PatternID, Span};
 use std::alloc::{AllocError, Global};
 
 /// From where on the span has to be searched, by a prefilter of any kind: no occurrence of what it
@@ -64,13 +64,30 @@ pub fn covered_patterns(
     list: &[&[u8]],
 ) -> Result<Option<Covered>, AllocError>
     ensures { IfOk result (λ made. IfSome made (λ covered.
-        (covered.patterns.kind ≡ kind) × IsCovered ignore_case covered.patterns covered.prefilter)) }
+        (query_of covered.patterns ≡ record { kind = kind; patterns = map (λ p. p.now) list.now })
+        × IsCovered ignore_case covered.patterns covered.prefilter)) }
 {
-    let root_kind = match kind {
-        packed::MatchKind::LeftmostFirst => literal_prefilters::MatchKind::LeftmostFirst,
-        packed::MatchKind::LeftmostLongest => literal_prefilters::MatchKind::LeftmostLongest,
+    let built_for = match kind {
+        packed::MatchKind::LeftmostFirst => MatchKind::LeftmostFirst,
+        packed::MatchKind::LeftmostLongest => MatchKind::LeftmostLongest,
     };
-    let mut builder = Builder::new(alloc, root_kind).ascii_case_insensitive(ignore_case);
+    covered_by(alloc, kind, built_for, ignore_case, list)
+}
+
+/// The same by a prefilter that is built for this kind of match or for standard semantics.
+pub fn covered_by(
+    alloc: Global,
+    kind: packed::MatchKind,
+    built_for: MatchKind,
+    ignore_case: bool,
+    list: &[&[u8]],
+) -> Result<Option<Covered>, AllocError>
+    requires { Serves built_for kind }
+    ensures { IfOk result (λ made. IfSome made (λ covered.
+        (query_of covered.patterns ≡ record { kind = kind; patterns = map (λ p. p.now) list.now })
+        × IsCovered ignore_case covered.patterns covered.prefilter)) }
+{
+    let mut builder = Builder::new(alloc, built_for).ascii_case_insensitive(ignore_case);
     let mut patterns = Patterns::new(alloc);
     for bytes in list {
         if bytes.is_empty() || patterns.len() >= PatternID::LIMIT {

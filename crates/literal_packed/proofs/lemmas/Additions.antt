@@ -47,17 +47,6 @@ pub added_more : (config : ConfigValue) (a b : List (List ℕ))
     → with_added (builder_of config a) b ≡ builder_of config (a ++ b)
 added_more config a b = ap (λ s. record { config = config; state = s }) (state_after-state_of config.pattern_limit a b)
 
--- one item more of an iterator
-pub added_all_more : (old now new : BuilderValue) (items : List (Bor (List ℕ))) (item : Bor (List ℕ))
-    → AddsAll old items now
-    → new ≡ with_added now (item.now ∷ []) → AddsAll old (items ++ item ∷ []) new
-added_all_more old now new items item so_far next =
-    next
-    ∙ (ap (λ b. with_added b (item.now ∷ [])) so_far
-    ∙ (ap (λ s. record { config = old.config; state = s })
-    (state_after-append old.config.pattern_limit old.state (map (λ p. p.now) items) (item.now ∷ []))
-    ∙ ap (with_added old) (sym (map_push (λ (p : Bor (List ℕ)). p.now) items item))))
-
 -- what a new builder builds from all items of an iterator
 pub builds_items : {U T E : Type 0} (becomes : U → T → Type 0) (steps : T → Option (Bor (List ℕ)) → T → Type 0)
     (patterns : U)

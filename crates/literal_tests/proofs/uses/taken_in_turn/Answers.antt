@@ -1,13 +1,26 @@
-use Rattle.std.proofs.Common.{false, List, sym, subst}
+use Rattle.std.proofs.Common.{◌≡◌, false, List, sym, subst, arith}
+use Rattle.literal_base.specs.Counts.{none_yet}
 use Rattle.literal_base.specs.MatchValue.{MatchValue}
 use Rattle.literal_base.specs.Greedy.{IsGreedy}
+use Rattle.literal_packed.specs.FindIterValue.{FindIterValue}
 use Rattle.literal_packed.proofs.lemmas.Callers.{greedy_from_run}
+use Rattle.literal_tests.specs.Together.{IsIteration}
+use Rattle.literal_tests.proofs.lemmas.Runs.{iteration_of_run}
 use Rattle.literal_tests.proofs.uses.taken_in_turn.Goals as goal
 
-pub returns : goal.returns
-returns c =
+pub returns-clause-greedy : goal.returns-clause-greedy
+returns-clause-greedy c =
     let query = c.args.searcher.now in
     let haystack = c.args.haystack.now in
     subst (λ (items : List MatchValue). IsGreedy query false haystack 0 items)
     (sym c.loop-found.invariant)
     (greedy_from_run query haystack _ _ _ _ (cc) c.loop-found.yielded_by c.in-None.ensures.steps)
+
+pub returns-clause-iteration : goal.returns-clause-iteration
+returns-clause-iteration c =
+    let query = c.args.searcher.now in
+    let haystack = c.args.haystack.now in
+    subst (λ (items : List MatchValue). IsIteration query haystack items)
+    (sym c.loop-found.invariant)
+    (iteration_of_run query haystack _ _ _ _ c.next_is_bounded.ensures (cc) c.loop-found.yielded_by
+    c.in-None.ensures.steps)
