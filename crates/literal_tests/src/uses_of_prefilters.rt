@@ -15,7 +15,7 @@ use literal_prefilters::laws::prefilters_reach_254_bytes;
 use literal_prefilters::packed::pattern::Patterns;
 use literal_prefilters::packed::{self};
 use literal_prefilters::prefilter::{Builder, Candidate, Prefilter, PrefilterI, confirm};
-use literal_prefilters::{Match, MatchKind, PatternID, Span};
+use literal_prefilters::{Match, PatternID, Span};
 use std::alloc::{AllocError, Global};
 
 /// From where on the span has to be searched, by a prefilter of any kind: no occurrence of what it
@@ -68,8 +68,8 @@ pub fn covered_patterns(
         × IsCovered ignore_case covered.patterns covered.prefilter)) }
 {
     let built_for = match kind {
-        packed::MatchKind::LeftmostFirst => MatchKind::LeftmostFirst,
-        packed::MatchKind::LeftmostLongest => MatchKind::LeftmostLongest,
+        packed::MatchKind::LeftmostFirst => literal_prefilters::MatchKind::LeftmostFirst,
+        packed::MatchKind::LeftmostLongest => literal_prefilters::MatchKind::LeftmostLongest,
     };
     covered_by(alloc, kind, built_for, ignore_case, list)
 }
@@ -78,7 +78,7 @@ pub fn covered_patterns(
 pub fn covered_by(
     alloc: Global,
     kind: packed::MatchKind,
-    built_for: MatchKind,
+    built_for: literal_prefilters::MatchKind,
     ignore_case: bool,
     list: &[&[u8]],
 ) -> Result<Option<Covered>, AllocError>
