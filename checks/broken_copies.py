@@ -7,6 +7,7 @@ from search_tables import API, BYTE_TABLE, COUNT, ENGINE, PACKED_LAWS, PATTERN, 
 
 LIB = "crates/literal_packed/src/lib.rt"
 BASE_SEARCH = "crates/literal_base/src/search.rt"
+CALLING = "docs/CALLING.md"
 
 # Places in the sources, at which an edit puts code.
 CUT = "        let haystack = &haystack[..span.end];"
@@ -109,6 +110,13 @@ REPOSITORY = [
     ("example_changed_in_its_test", "examples", [replace("crates/literal_examples/src/tests.rt", "[1, 0, 2]", "[1, 0]")]),
     ("example_in_a_plain_function", "examples", [
         replace("crates/literal_examples/src/shown.rt", "#[test]\nfn shows_spans", "fn shows_spans")]),
+    ("example_changed_in_its_caller", "examples", [replace("crates/literal_tests/src/inputs.rt", "return &[];", "return &[][..];")]),
+    ("example_changed_in_its_proof", "examples", [replace(CALLING, "take l.word-index l.words", "take l.index l.words")]),
+    ("example_within_the_program", None, [replace(CALLING, "marks.push(b'[')?;", "marks.push(b'{')?;")]),
+    ("program_is_no_file", "examples", [replace(CALLING, "`crates/marker/src/main.rt`", "The program:")]),
+    ("quoted_clause_is_weaker", "quotes", [replace(CALLING, "value < PatternID.LIMIT", "value ≤ PatternID.LIMIT")]),
+    ("quoted_clause_of_another", "quotes", [replace(CALLING, "fn match_kind(&self) -> &MatchKind", "fn minimum_len(&self) -> usize")]),
+    ("quoted_function_is_none", "quotes", [replace(CALLING, "fn match_kind(&self)", "fn kind_of_match(&self)")]),
     ("stray_build_file", "strays", [write("BUILD.bazel", "")]),
     ("code_in_another_file", "strays", [write("crates/literal_packed/src/peek.inc", "")]),
     ("source_elsewhere", "strays", [write("crates/literal_packed/proofs/peek.rt", "")]),

@@ -27,7 +27,8 @@ class Report:
     """
 
     def __init__(self, said, crate):
-        self.is_judged = "\nlogic=" in said
+        # (`only=0` is what a first look says, which proves nothing)
+        self.is_judged = re.search(r"^(logic=|only=[1-9])", said, re.M) is not None
         self.fault = next((line for line in said.split("\n") if re.search(r"error[:\[]", line)), said[-200:].strip())[:200]
         self.lines = dict(re.findall(rf"^(?:fn|impl) {crate.name}::(\S+): (.*)", said, re.M))
         self.refusals = {}

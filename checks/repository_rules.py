@@ -3,8 +3,10 @@ import functools
 import os
 import re
 
+import calling_page
 import search_rules
 import search_tables
+from calling_page import blocks_of, page_of, quotes_of, words_of
 from rattle_items import Sources
 
 # The only proofs that are walked by hand: a walk elsewhere could forge a count of steps.
@@ -25,6 +27,12 @@ CITATIONS = re.compile(
 )
 
 LONGEST_FILE = 800
+
+# Where an example on the page for callers, of code or of a proof, may stand.
+EXAMPLES = {
+    "rust": re.compile(r"crates/\w+/src/(?:\w+/)*tests\.rt|crates/literal_(?:tests|examples)/src/\w+\.rt"),
+    "antt": re.compile(r"crates/\w+/proofs/.*\.antt"),
+}
 
 
 class Repository:
@@ -108,9 +116,15 @@ def holes(repository):
     """No proof is left open."""
     for path, text in repository.texts.items():
         if path.endswith(".antt"):
-            for number, line in enumerate(text.splitlines(), 1):
-                if re.search(r"(?:^|[ (=])\?(?:$|[ );])", line.split("--")[0]):
-                    yield f"{path}:{number}: a hole"
+            for number in lines_with_holes(text):
+                yield f"{path}:{number}: a hole"
+
+
+@functools.lru_cache(maxsize=None)
+def lines_with_holes(text):
+    """The numbers of the lines of a text that leave a proof open."""
+    hole = re.compile(r"(?:^|[ (=])\?(?:$|[ );])")
+    return [number for number, line in enumerate(text.splitlines(), 1) if hole.search(line.split("--")[0])]
 
 
 def lengths(repository):
@@ -140,29 +154,67 @@ def definitions(repository):
                     yield f"{path}: {name} is not in docs/DEFINITIONS.md"
 
 
+@functools.lru_cache(maxsize=None)
 def plain_lines(text):
     """The lines of a text without what they are indented by."""
-    return [line.strip() for line in text.splitlines()]
+    return "\n".join(line.strip() for line in text.splitlines())
+
+
+def documents(repository):
+    """The documents, and the comments of documentation of each source, by their paths."""
+    for path, text in repository.texts.items():
+        if path.endswith(".md"):
+            yield path, text
+        elif path.endswith(".rt"):
+            yield path, comments_of(text)
+
+
+@functools.lru_cache(maxsize=None)
+def comments_of(text):
+    """The comments of documentation of a source."""
+    return "\n".join(re.sub(r"^\s*//[/!] ?", "", line) for line in text.splitlines() if re.match(r"\s*//[/!]", line))
 
 
 def examples(repository):
-    """Each example in a document or a comment of documentation stands, line for line, in a function that is a test."""
-    tests = []
-    for path, text in repository.texts.items():
-        if path.endswith(".rt"):
-            tests += ["\n".join(plain_lines(test)) for test in re.findall(r"^#\[test\]\n(.*?)^\}$", text, re.M | re.S)]
-    for path, text in repository.texts.items():
-        if path.endswith(".rt"):
-            text = "\n".join(re.sub(r"^\s*//[/!] ?", "", line) for line in text.splitlines() if re.match(r"\s*//[/!]", line))
-        elif not path.endswith(".md"):
-            continue
-        for block in re.findall(r"^```rust\n(.*?)^```$", text, re.M | re.S):
-            lines = "\n".join(plain_lines(block))
-            if not any(lines in test for test in tests):
-                yield f"{path}: an example stands in no test: {lines.splitlines()[0]}"
+    """Each example in a document or a comment of documentation stands, line for line, in a function that is a test. On the
+    page for callers it may stand in a function that shows how the crates are called, and each of a proof stands in a
+    proof file. The files of the program that `checks/used` proves stand nowhere else."""
+    held = {kind: [plain_lines(text) for path, text in repository.texts.items() if place.fullmatch(path)]
+            for kind, place in EXAMPLES.items()}
+    tests = [plain_lines(test) for path, text in repository.texts.items() if path.endswith(".rt") for test in tests_of(text)]
+    for path, text in documents(repository):
+        is_page = path == calling_page.PATH
+        proved = page_of(text).files.values() if is_page else ()
+        for kind, block, _ in blocks_of(text):
+            lines = plain_lines(block)
+            places = tests if kind == "rust" and not is_page else held.get(kind)
+            if places is not None and block not in proved and not any(lines in one for one in places):
+                yield f"{path}: an example stands in no test, caller or proof: {lines.splitlines()[0]}"
 
 
-RULES = [handles, crates, walks, citations, holes, lengths, strays, definitions, examples]
+@functools.lru_cache(maxsize=None)
+def tests_of(text):
+    """The functions of a source that are tests and stand in no inner module."""
+    return re.findall(r"^#\[test\]\n(.*?)^\}$", text, re.M | re.S)
+
+
+def quotes(repository):
+    """Each contract that a document quotes is that of a function: its signature, and some of its clauses."""
+    sources = [text for path, text in repository.texts.items() if path.endswith(".rt")]
+    functions = [function for text in sources for function in functions_of(text)]
+    for path, text in repository.texts.items():
+        for signature, clauses in quotes_of(text) if path.endswith(".md") else ():
+            if not any(it.startswith(signature) and all(clause in it for clause in clauses) for it in functions):
+                yield f"{path}: no function has this contract: {signature}"
+
+
+@functools.lru_cache(maxsize=None)
+def functions_of(text):
+    """The functions of a source, in single spaces."""
+    return re.findall(r"\bfn \w.*?(?= fn \w|$)", words_of(text))
+
+
+RULES = [handles, crates, walks, citations, holes, lengths, strays, definitions, examples, quotes]
 
 
 def broken_rules(repository):
