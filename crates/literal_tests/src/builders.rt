@@ -162,16 +162,20 @@ fn assert_finds_all(rt: &impl Abort, searcher: &Searcher, rows: &[Row]) {
     }
 }
 
+/// What two searchers find that a builder of `ab` builds before it keeps `a` too.
+fn assert_builds_two(rt: &impl Abort, builder: &mut Builder) -> Result<(), Fail> {
+    let (one, another) = (built(builder)?, built(builder)?);
+    builder.add(b"a")?;
+    assert_finds_all(rt, &one, &BY_AB);
+    assert_finds_all(rt, &another, &BY_AB);
+    Ok(())
+}
+
 #[test]
 fn builds_more_than_once(rt: HostRuntime) -> Result<(), Fail> {
     let mut builder = Builder::new(rt.alloc());
     builder.add(b"ab")?;
-    let one = built(&builder)?;
-    let another = built(&builder)?;
-    builder.add(b"a")?;
-    assert_finds_all(&rt, &one, &BY_AB);
-    assert_finds_all(&rt, &another, &BY_AB);
-    Ok(())
+    assert_builds_two(&rt, &mut builder)
 }
 
 /// A builder that keeps `ab` and `a`.
@@ -188,15 +192,19 @@ fn copy_with_c(builder: &Builder) -> Result<Builder, AllocError> {
     Ok(copy)
 }
 
+/// A builder of `ab` and `a`, and a copy of it that keeps `c` too.
+fn assert_copied(rt: &impl Abort, builder: &Builder, copy: &Builder) -> Result<(), Fail> {
+    assert_state(rt, builder, (2, 1, true), "the copied one")?;
+    assert_state(rt, copy, (3, 1, true), "the copy")?;
+    assert_finds_all(rt, &built(copy)?, &BY_AB_A_AND_C);
+    Ok(())
+}
+
 #[test]
 fn builds_from_a_copy(rt: HostRuntime) -> Result<(), Fail> {
     let builder = of_ab_and_a(rt.alloc())?;
     assert_state(&rt, &builder, (2, 1, true), "before")?;
-    let copy = copy_with_c(&builder)?;
-    assert_state(&rt, &builder, (2, 1, true), "the copied one")?;
-    assert_state(&rt, &copy, (3, 1, true), "the copy")?;
-    assert_finds_all(&rt, &built(&copy)?, &BY_AB_A_AND_C);
-    Ok(())
+    assert_copied(&rt, &builder, &copy_with_c(&builder)?)
 }
 
 /// What builders of a configuration find of `a` and `ab`.

@@ -1,13 +1,13 @@
 //! Which prefilter is built for which patterns, and what it answers: each case of the choice, and each
 //! of its limits from both sides.
 use crate::asserted::{assert_holds, assert_same};
-use crate::made::{Answer, answer_of, place};
+use crate::made::{Answer, answer_of, place, prefilter};
 use crate::plain::leftmost_plainly;
 use MatchKind::{LeftmostFirst, LeftmostLongest, Standard};
 use literal_prefilters::count::Tally;
 use literal_prefilters::prefilter::{Builder, Prefilter, PrefilterI};
 use literal_prefilters::{MatchKind, Span, packed};
-use std::alloc::Global;
+use std::alloc::{AllocError, Global};
 use std::process::Abort;
 use std::test::Fail;
 
@@ -340,23 +340,6 @@ static OF_TABLES: [Row; 5] = [
     ),
 ];
 
-fn builder(
-    alloc: Global,
-    kind: MatchKind,
-    ignore_case: bool,
-    patterns: &[&[u8]],
-) -> Result<Builder, Fail> {
-    let mut builder = Builder::new(alloc, kind).ascii_case_insensitive(ignore_case);
-    for bytes in patterns {
-        builder.add(bytes)?;
-    }
-    Ok(builder)
-}
-
-fn built(builder: &Builder) -> Result<Prefilter, Fail> {
-    Ok(builder.build()?.ok_or("there is no prefilter")?)
-}
-
 /// All calls of a prefilter answer the same for a haystack.
 fn assert_answers(rt: &impl Abort, pre: &Prefilter, haystack: &[u8], wanted: Answer, case: &str) {
     let end = haystack.len();
@@ -380,16 +363,23 @@ fn assert_kind(
     Ok(())
 }
 
+/// A prefilter is as the row says.
+fn assert_is(
+    rt: &impl Abort,
+    alloc: Global,
+    pre: &Prefilter,
+    (case, _, wanted, _, _, haystack, answer): &Row,
+) -> Result<(), Fail> {
+    assert_kind(rt, alloc, pre, wanted, case)?;
+    assert_answers(rt, pre, haystack, *answer, case);
+    Ok(())
+}
+
 /// What is built is as the row says, and so is a copy of it.
 fn assert_row(rt: &impl Abort, alloc: Global, row: &Row, kind: MatchKind) -> Result<(), Fail> {
-    let (case, _, wanted, patterns, ignore_case, haystack, answer) = row;
-    let pre = built(&builder(alloc, kind, *ignore_case, patterns)?)?;
-    assert_kind(rt, alloc, &pre, wanted, case)?;
-    assert_answers(rt, &pre, haystack, *answer, case);
-    let copy = pre.try_clone()?;
-    assert_kind(rt, alloc, &copy, wanted, case)?;
-    assert_answers(rt, &copy, haystack, *answer, case);
-    Ok(())
+    let pre = prefilter(alloc, kind, row.4, row.3)?;
+    assert_is(rt, alloc, &pre, row)?;
+    assert_is(rt, alloc, &pre.try_clone()?, row)
 }
 
 /// What is built for each kind of match of each row is as the row says.
@@ -437,37 +427,77 @@ fn takes_a_table(rt: HostRuntime) -> Result<(), Fail> {
     assert_rows(&rt, rt.alloc(), &OF_TABLES)
 }
 
-/// A builder of so many patterns of one byte, which is their number.
-fn of_single_bytes(alloc: Global, kind: MatchKind, count: u8) -> Result<Builder, Fail> {
+/// What is built for so many patterns of one byte, which is their number.
+fn of_single_bytes(
+    alloc: Global,
+    kind: MatchKind,
+    count: u8,
+) -> Result<Option<Prefilter>, AllocError> {
     let mut builder = Builder::new(alloc, kind);
     for byte in 0..count {
         builder.add(&[byte])?;
     }
-    Ok(builder)
+    builder.build()
+}
+
+/// 128 of them have a packed search, which finds the last.
+fn assert_finds_the_last_of_128(
+    rt: &impl Abort,
+    alloc: Global,
+    kind: MatchKind,
+) -> Result<(), Fail> {
+    let pre = of_single_bytes(alloc, kind, 128)?.ok_or("there is no prefilter")?;
+    assert_kind(rt, alloc, &pre, "Prefilter(Packed)", "128 patterns")?;
+    let last = Answer::Found((127, 1, 2));
+    assert_answers(rt, &pre, b"\xFF\x7F", last, "128 patterns");
+    Ok(())
+}
+
+/// So many of them have no prefilter.
+fn assert_builds_nothing(
+    rt: &impl Abort,
+    alloc: Global,
+    kind: MatchKind,
+    count: u8,
+    case: &str,
+) -> Result<(), Fail> {
+    assert_holds(rt, of_single_bytes(alloc, kind, count)?.is_none(), case);
+    Ok(())
 }
 
 #[test]
 fn searches_for_up_to_128_patterns_without_a_table(rt: HostRuntime) -> Result<(), Fail> {
+    let alloc = rt.alloc();
     for kind in LEFTMOST {
-        let pre = built(&of_single_bytes(rt.alloc(), *kind, 128)?)?;
-        assert_kind(&rt, rt.alloc(), &pre, "Prefilter(Packed)", "128 patterns")?;
-        assert_answers(
-            &rt,
-            &pre,
-            b"\xFF\x7F",
-            Answer::Found((127, 1, 2)),
-            "128 patterns",
-        );
-        let more = of_single_bytes(rt.alloc(), *kind, 129)?.build()?;
-        assert_holds(&rt, more.is_none(), "129 patterns");
+        assert_finds_the_last_of_128(&rt, alloc, *kind)?;
+        assert_builds_nothing(&rt, alloc, *kind, 129, "129 patterns")?;
     }
-    let standard = of_single_bytes(rt.alloc(), Standard, 128)?.build()?;
-    assert_holds(
-        &rt,
-        standard.is_none(),
-        "128 patterns with standard semantics",
-    );
+    let case = "128 patterns with standard semantics";
+    assert_builds_nothing(&rt, alloc, Standard, 128, case)
+}
+
+/// A pattern of 256 bytes and one of two that begins as it does have a packed search.
+fn assert_finds_256_bytes(
+    rt: &impl Abort,
+    alloc: Global,
+    kind: MatchKind,
+    long: &[u8],
+) -> Result<(), Fail> {
+    let pre = prefilter(alloc, kind, false, &[long, b"\xC0Q"])?;
+    assert_kind(rt, alloc, &pre, "Prefilter(Packed)", "256 bytes")?;
+    assert_answers(rt, &pre, long, Answer::Found((0, 0, 256)), "256 bytes");
     Ok(())
+}
+
+/// One of 255 bytes and one of two have a table.
+fn assert_has_a_table(
+    rt: &impl Abort,
+    alloc: Global,
+    kind: MatchKind,
+    short: &[u8],
+) -> Result<(), Fail> {
+    let pre = prefilter(alloc, kind, false, &[short, b"\xC0Q"])?;
+    assert_kind(rt, alloc, &pre, "Prefilter(RareBytesTwo)", "255 bytes")
 }
 
 /// A pattern of 256 bytes has no rare table, and its first byte no start table.
@@ -477,19 +507,10 @@ fn searches_for_long_patterns(rt: HostRuntime) -> Result<(), Fail> {
     long[0] = 0xC0;
     let long: &[u8] = &long;
     for kind in LEFTMOST {
-        let pre = built(&builder(rt.alloc(), *kind, false, &[long, b"\xC0Q"])?)?;
-        assert_kind(&rt, rt.alloc(), &pre, "Prefilter(Packed)", "256 bytes")?;
-        assert_answers(&rt, &pre, long, Answer::Found((0, 0, 256)), "256 bytes");
-        let short = built(&builder(rt.alloc(), *kind, false, &[&long[1..], b"\xC0Q"])?)?;
-        assert_kind(
-            &rt,
-            rt.alloc(),
-            &short,
-            "Prefilter(RareBytesTwo)",
-            "255 bytes",
-        )?;
+        assert_finds_256_bytes(&rt, rt.alloc(), *kind, long)?;
+        assert_has_a_table(&rt, rt.alloc(), *kind, &long[1..])?;
     }
-    let one = built(&builder(rt.alloc(), Standard, false, &[long])?)?;
+    let one = prefilter(rt.alloc(), Standard, false, &[long])?;
     assert_answers(&rt, &one, long, Answer::Found((0, 0, 256)), "one pattern");
     Ok(())
 }
@@ -542,18 +563,25 @@ fn compare(rt: &impl Abort, pre: &Prefilter, patterns: &[&[u8]], kind: packed::M
     spans
 }
 
+/// Compares for a list of patterns and a kind of match.
+fn assert_list(
+    rt: &impl Abort,
+    alloc: Global,
+    patterns: &[&[u8]],
+    kind: MatchKind,
+) -> Result<(), Fail> {
+    let as_packed = kind.as_packed().ok_or("no leftmost kind")?;
+    let pre = prefilter(alloc, kind, false, patterns)?;
+    let spans = compare(rt, &pre, patterns, as_packed);
+    assert_same(rt, spans, 15625, format_args!("{patterns:?}"));
+    Ok(())
+}
+
 #[test]
 fn finds_what_is_found_plainly(rt: HostRuntime) -> Result<(), Fail> {
     for patterns in &EXACT {
         for kind in LEFTMOST {
-            let pre = built(&builder(rt.alloc(), *kind, false, patterns)?)?;
-            let kind = kind.as_packed().ok_or("no leftmost kind")?;
-            assert_same(
-                &rt,
-                compare(&rt, &pre, patterns, kind),
-                15625,
-                format_args!("{patterns:?}"),
-            );
+            assert_list(&rt, rt.alloc(), patterns, *kind)?;
         }
     }
     Ok(())

@@ -1,16 +1,19 @@
 //! Patterns and haystacks chosen to mislead a search: equal sums, as many patterns as there may be, spans of no
 //! byte, each distance that a table may have, and bytes that are no text. What they count stands in
 //! `literal_packed::laws` and `literal_prefilters::laws`.
-ghost use Rattle.std.specs.Prelude.{◌≤◌, length};
+ghost use Rattle.std.specs.Prelude.{◌≤◌};
 
-use crate::asserted::{assert_holds, assert_same};
-use crate::made::{Place, add_all, built, confirming, place, proposed, searcher};
-use crate::uses_of_prefilters::{confirm_covered, covered_patterns};
+use crate::asserted::assert_same;
+use crate::builders::{INERT, assert_state};
+use crate::made::{
+    Place, add_all, built, confirming_search, covered, place, prefilter, proposed, searcher,
+};
+use crate::uses_of_prefilters::confirm_covered;
 use MatchKind::{LeftmostFirst, LeftmostLongest};
 use literal_prefilters::Span;
 use literal_prefilters::count::Tally;
 use literal_prefilters::packed::{Builder, Config, MatchKind, Searcher};
-use literal_prefilters::prefilter::{self, ConfirmingSearch, Prefilter};
+use literal_prefilters::prefilter::Prefilter;
 use std::alloc::{AllocError, Global};
 use std::process::Abort;
 use std::test::Fail;
@@ -63,45 +66,61 @@ fn of_foos(alloc: Global, kind: MatchKind, count: usize) -> Result<Builder, Allo
     Ok(builder)
 }
 
+fn assert_takes_the_first_of_128(
+    rt: &impl Abort,
+    alloc: Global,
+    kind: MatchKind,
+) -> Result<(), Fail> {
+    let found = built(&of_foos(alloc, kind, 128)?)?.find(b"foo");
+    assert_same(rt, found.map(place), Some((0, 0, 3)), "128 patterns");
+    Ok(())
+}
+
 #[test]
 fn takes_the_first_of_128_equal_patterns(rt: HostRuntime) -> Result<(), Fail> {
     for kind in KINDS {
-        let found = built(&of_foos(rt.alloc(), kind, 128)?)?.find(b"foo");
-        assert_same(&rt, found.map(place), Some((0, 0, 3)), "128 patterns");
+        assert_takes_the_first_of_128(&rt, rt.alloc(), kind)?;
         let builder = of_foos(rt.alloc(), kind, 129)?;
-        assert_same(&rt, builder.len(), 0, "129 patterns");
-        assert_holds(&rt, builder.build()?.is_none(), "129 patterns");
+        assert_state(&rt, &builder, INERT, "129 patterns")?;
     }
     Ok(())
 }
 
-/// The starts of what is found in an empty span at a place.
-fn starts_at(
-    searcher: &Searcher,
-    pre: &Prefilter,
-    search: &ConfirmingSearch,
-    haystack: &[u8],
-    at: usize,
-) -> [Option<usize>; 3]
-    requires { at ≤ length haystack.now }
+const FOO: [&[u8]; 1] = [b"foo"];
+
+/// Where a searcher finds `foo` in an empty span of `foo`.
+fn found_at(alloc: Global, at: usize) -> Result<Option<usize>, Fail>
+    requires { at ≤ 3 }
 {
-    let span = Span { start: at, end: at };
-    [
-        searcher.find_in(haystack, span).map(|it| it.start()),
-        pre.find_in(haystack, span).into_option(),
-        search.find_in(haystack, span).map(|it| it.start()),
-    ]
+    let found = searcher(alloc, LeftmostFirst, &FOO)?.find_in(b"foo", Span { start: at, end: at });
+    Ok(found.map(|it| it.start()))
+}
+
+/// Where a prefilter proposes it.
+fn proposed_at(alloc: Global, at: usize) -> Result<Option<usize>, Fail>
+    requires { at ≤ 3 }
+{
+    let candidate = prefilter_of(alloc, &FOO)?.find_in(b"foo", Span { start: at, end: at });
+    Ok(candidate.into_option())
+}
+
+/// Where a confirming search finds it.
+fn confirmed_at(alloc: Global, at: usize) -> Result<Option<usize>, Fail>
+    requires { at ≤ 3 }
+{
+    let search = confirming_search(alloc, LeftmostFirst, false, &FOO)?;
+    let found = search.find_in(b"foo", Span { start: at, end: at });
+    Ok(found.map(|it| it.start()))
 }
 
 #[test]
 fn finds_nothing_in_an_empty_span(rt: HostRuntime) -> Result<(), Fail> {
-    let (kind, patterns) = (LeftmostFirst, [b"foo".as_slice()]);
-    let searcher = searcher(rt.alloc(), kind, &patterns)?;
-    let pre = prefilter_of(rt.alloc(), &patterns)?;
-    let search = confirming(rt.alloc(), kind, false, &patterns)?;
-    let search = search.ok_or("there is no prefilter")?;
     for at in 0..4 {
-        let starts = starts_at(&searcher, &pre, &search, b"foo", at);
+        let starts = [
+            found_at(rt.alloc(), at)?,
+            proposed_at(rt.alloc(), at)?,
+            confirmed_at(rt.alloc(), at)?,
+        ];
         assert_same(&rt, starts, [None; 3], format_args!("at {at}"));
     }
     Ok(())
@@ -110,11 +129,15 @@ fn finds_nothing_in_an_empty_span(rt: HostRuntime) -> Result<(), Fail> {
 /// The prefilter of some patterns, for the first of them that stands.
 fn prefilter_of(alloc: Global, patterns: &[&[u8]]) -> Result<Prefilter, Fail> {
     let kind = literal_prefilters::MatchKind::LeftmostFirst;
-    let mut builder = prefilter::Builder::new(alloc, kind);
-    for bytes in patterns {
-        builder.add(bytes)?;
-    }
-    Ok(builder.build()?.ok_or("there is no prefilter")?)
+    prefilter(alloc, kind, false, patterns)
+}
+
+/// What confirming by a prefilter of any kind finds in a haystack, with case kept.
+fn confirmed(alloc: Global, patterns: &[&[u8]], haystack: &[u8]) -> Result<Option<Place>, Fail> {
+    let (start, end, tally) = (0, haystack.len(), &mut Tally::new());
+    let covered = covered(alloc, LeftmostFirst, false, patterns)?;
+    let found = confirm_covered(&covered, false, haystack, Span { start, end }, tally);
+    Ok(found.map(place))
 }
 
 /// What is found in a haystack by both confirming searches, with case kept.
@@ -126,21 +149,12 @@ pub fn assert_confirms(
     wanted: Option<Place>,
     case: &str,
 ) -> Result<(), Fail> {
-    let (start, end, tally) = (0, haystack.len(), &mut Tally::new());
-    let span = Span { start, end };
-    let search = confirming(alloc, LeftmostFirst, false, patterns)?;
-    let search = search.ok_or("there is no prefilter")?;
-    let found = search.find_in(haystack, span);
+    let (start, end) = (0, haystack.len());
+    let search = confirming_search(alloc, LeftmostFirst, false, patterns)?;
+    let found = search.find_in(haystack, Span { start, end });
     assert_same(rt, found.map(place), wanted, case);
-    let covered = covered_patterns(alloc, LeftmostFirst, false, patterns)?;
-    let covered = covered.ok_or("there is no prefilter")?;
-    let found = confirm_covered(&covered, false, haystack, span, tally);
-    assert_same(
-        rt,
-        found.map(place),
-        wanted,
-        format_args!("{case}, by confirm"),
-    );
+    let found = confirmed(alloc, patterns, haystack)?;
+    assert_same(rt, found, wanted, format_args!("{case}, by confirm"));
     Ok(())
 }
 
@@ -156,29 +170,23 @@ fn ends_with_q(distance: usize) -> [u8; 265]
 }
 
 /// The prefilter goes back from `Q` to the first byte of the pattern, which stands there.
-fn assert_goes_back(rt: &impl Abort, alloc: Global, distance: usize) -> Result<(), Fail>
+fn assert_goes_back(rt: &impl Abort, alloc: Global, distance: usize, case: &str) -> Result<(), Fail>
     requires { distance ≤ 254 }
 {
     let (bytes, start, end) = (ends_with_q(distance), 0, 11 + distance);
     let haystack = &bytes[..end];
     let patterns = [&haystack[10..], b"\xC0Q".as_slice()];
     let candidate = prefilter_of(alloc, &patterns)?.find_in(haystack, Span { start, end });
-    let note = format!(in alloc; "a distance of {distance}")?;
-    assert_same(rt, proposed(candidate), Ok(Some(10)), note.as_str());
-    assert_confirms(
-        rt,
-        alloc,
-        &patterns,
-        haystack,
-        Some((0, 10, end)),
-        note.as_str(),
-    )
+    assert_same(rt, proposed(candidate), Ok(Some(10)), case);
+    let found = Some((0, 10, end));
+    assert_confirms(rt, alloc, &patterns, haystack, found, case)
 }
 
 #[test]
 fn goes_back_by_each_distance(rt: HostRuntime) -> Result<(), Fail> {
     for distance in 1..255 {
-        assert_goes_back(&rt, rt.alloc(), distance)?;
+        let case = format!(in rt.alloc(); "a distance of {distance}")?;
+        assert_goes_back(&rt, rt.alloc(), distance, case.as_str())?;
     }
     Ok(())
 }

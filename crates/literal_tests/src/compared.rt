@@ -3,7 +3,7 @@
 //! texts of one length have equal sums, as `ab` and `b` with a grave accent; and `!` and `a`, which
 //! are 64 apart, so that all texts of one length share a bucket.
 use crate::asserted::{assert_holds, assert_same};
-use crate::made::{Place, places, searcher};
+use crate::made::{Place, assert_places, searcher};
 use crate::plain::{greedy_plainly, leftmost_plainly, none_is_empty};
 use literal_prefilters::Span;
 use literal_prefilters::packed::{MatchKind, Searcher};
@@ -195,8 +195,7 @@ fn assert_finds_all(
     assert_holds(rt, none_is_empty(patterns), case);
     let kind = MatchKind::LeftmostFirst;
     let all = greedy_plainly(alloc, patterns, kind, *ignore_case, haystack)?;
-    assert_same(rt, places(alloc, &all)?.as_slice(), *wanted, case);
-    Ok(())
+    Ok(assert_places(rt, alloc, &all, wanted, *case)?)
 }
 
 #[test]

@@ -3,15 +3,15 @@ ghost use Rattle.literal_base.specs.Occurs.{IsValidSpan};
 ghost use Rattle.literal_tests.specs.Covered.{IsCovered};
 
 use crate::asserted::{assert_holds, assert_same};
-use crate::made::{Place, confirming, place, places};
+use crate::made::{Place, assert_places, confirming, confirming_search, covered, place};
 use crate::plain::leftmost_plainly;
-use crate::uses_of_prefilters::{Covered, confirm_covered, covered_patterns};
+use crate::uses_of_prefilters::{Covered, confirm_covered};
 use MatchKind::{LeftmostFirst, LeftmostLongest};
 use literal_prefilters::Span;
 use literal_prefilters::count::Tally;
 use literal_prefilters::packed::MatchKind;
 use literal_prefilters::prefilter::{Candidate, ConfirmingSearch, Prefilter, PrefilterI, confirm};
-use std::alloc::Global;
+use std::alloc::{AllocError, Global};
 use std::cell::Cell;
 use std::process::Abort;
 use std::test::Fail;
@@ -164,8 +164,7 @@ fn assert_finds(
 
 fn assert_row(rt: &impl Abort, alloc: Global, row: &Row) -> Result<(), Fail> {
     let (case, kind, patterns, ignore_case, haystack, end, wanted) = *row;
-    let search = confirming(alloc, kind, ignore_case, patterns)?;
-    let search = search.ok_or("there is no prefilter")?;
+    let search = confirming_search(alloc, kind, ignore_case, patterns)?;
     assert_finds(rt, &search, haystack, Span { start: 0, end }, wanted, case);
     Ok(())
 }
@@ -256,14 +255,21 @@ static LISTED: [ListRow; 7] = [
     ),
 ];
 
+fn assert_lists(
+    rt: &impl Abort,
+    alloc: Global,
+    search: &ConfirmingSearch,
+    (case, _, _, _, haystack, wanted): &ListRow,
+) -> Result<(), AllocError> {
+    let listed = search.find_all(haystack, &mut Tally::new())?;
+    assert_places(rt, alloc, &listed, wanted, *case)
+}
+
 #[test]
 fn lists_all_matches(rt: HostRuntime) -> Result<(), Fail> {
-    for &(case, kind, patterns, ignore_case, haystack, wanted) in &LISTED {
-        let search = confirming(rt.alloc(), kind, ignore_case, patterns)?;
-        let search = search.ok_or("there is no prefilter")?;
-        let all = search.find_all(haystack, &mut Tally::new())?;
-        let listed = places(rt.alloc(), &all)?;
-        assert_same(&rt, listed.as_slice(), wanted, case);
+    for row in &LISTED {
+        let search = confirming_search(rt.alloc(), row.1, row.3, row.2)?;
+        assert_lists(&rt, rt.alloc(), &search, row)?;
     }
     Ok(())
 }
@@ -354,8 +360,7 @@ static ASKED: [(&str, &[&[u8]], &[u8], usize, u32); 3] = [
 #[test]
 fn asks_from_place_to_place(rt: HostRuntime) -> Result<(), Fail> {
     for &(case, patterns, haystack, end, wanted) in &ASKED {
-        let covered = covered_patterns(rt.alloc(), LeftmostFirst, false, patterns)?;
-        let covered = covered.ok_or("there is no prefilter")?;
+        let covered = covered(rt.alloc(), LeftmostFirst, false, patterns)?;
         assert_holds(&rt, end <= haystack.len(), case);
         let times = times_asked(covered, false, haystack, Span { start: 0, end });
         assert_same(&rt, times, wanted, case);
@@ -456,36 +461,46 @@ fn compare_covered(
     spans
 }
 
+/// Compares for a list of patterns and a kind of match.
+fn assert_list(
+    rt: &impl Abort,
+    alloc: Global,
+    (list, ignore_case): (&[&[u8]], bool),
+    kind: MatchKind,
+) -> Result<(), Fail> {
+    let search = confirming_search(alloc, kind, ignore_case, list)?;
+    let spans = compare(rt, &search, list, kind, ignore_case);
+    assert_same(rt, spans, 15625, "spans");
+    Ok(())
+}
+
 #[test]
 fn searches_as_is_found_plainly(rt: HostRuntime) -> Result<(), Fail> {
-    for &(list, ignore_case) in &LISTS {
-        for kind in [LeftmostFirst, LeftmostLongest] {
-            let search = confirming(rt.alloc(), kind, ignore_case, list)?;
-            let search = search.ok_or("there is no prefilter")?;
-            assert_same(
-                &rt,
-                compare(&rt, &search, list, kind, ignore_case),
-                15625,
-                "spans",
-            );
-        }
+    for list in &LISTS {
+        assert_list(&rt, rt.alloc(), *list, LeftmostFirst)?;
+        assert_list(&rt, rt.alloc(), *list, LeftmostLongest)?;
     }
+    Ok(())
+}
+
+/// The same for confirming by a prefilter of any kind.
+fn assert_covered_list(
+    rt: &impl Abort,
+    alloc: Global,
+    (list, ignore_case): (&[&[u8]], bool),
+    kind: MatchKind,
+) -> Result<(), Fail> {
+    let covered = covered(alloc, kind, ignore_case, list)?;
+    let spans = compare_covered(rt, &covered, list, kind, ignore_case);
+    assert_same(rt, spans, 15625, "spans");
     Ok(())
 }
 
 #[test]
 fn confirms_as_is_found_plainly(rt: HostRuntime) -> Result<(), Fail> {
-    for &(list, ignore_case) in &LISTS {
-        for kind in [LeftmostFirst, LeftmostLongest] {
-            let covered = covered_patterns(rt.alloc(), kind, ignore_case, list)?;
-            let covered = covered.ok_or("there is no prefilter")?;
-            assert_same(
-                &rt,
-                compare_covered(&rt, &covered, list, kind, ignore_case),
-                15625,
-                "spans",
-            );
-        }
+    for list in &LISTS {
+        assert_covered_list(&rt, rt.alloc(), *list, LeftmostFirst)?;
+        assert_covered_list(&rt, rt.alloc(), *list, LeftmostLongest)?;
     }
     Ok(())
 }

@@ -1,6 +1,8 @@
 //! Laws that make a call: each is run once, and what it answers is looked at.
 use crate::asserted::{assert_holds, assert_same};
-use crate::made::{Answer, answer_of, place, places, searcher};
+use crate::made::{
+    Answer, answer_of, assert_places, confirming_search, place, prefilter, searcher,
+};
 use literal_prefilters::count::Tally;
 use literal_prefilters::laws::{
     confirming_searches_cover_their_patterns, none_without_a_byte, none_without_an_occurrence,
@@ -10,9 +12,10 @@ use literal_prefilters::packed::laws::{
     find_is_find_in, iteration_is_bounded, list_is_iteration, none_if_nothing_occurs,
 };
 use literal_prefilters::packed::{self, Searcher};
-use literal_prefilters::prefilter::{Builder, ConfirmingSearch, Prefilter};
+use literal_prefilters::prefilter::Prefilter;
 use literal_prefilters::{MatchKind, Span};
-use std::alloc::Global;
+use std::alloc::{AllocError, Global};
+use std::process::Abort;
 use std::test::Fail;
 
 const HAYSTACK: &[u8] = b"zfoobar";
@@ -41,24 +44,17 @@ fn answers_none_where_nothing_occurs(rt: HostRuntime) -> Result<(), Fail> {
     Ok(())
 }
 
+/// A list of all matches, and what an iteration gives.
+fn assert_lists(rt: &impl Abort, alloc: Global, searcher: &Searcher) -> Result<(), AllocError> {
+    let (listed, given) = list_is_iteration(alloc, searcher, HAYSTACK, &mut Tally::new())?;
+    let wanted = [(1, 1, 4), (0, 4, 7)];
+    assert_places(rt, alloc, &listed, &wanted, "a list")?;
+    assert_places(rt, alloc, &given, &wanted, "an iteration")
+}
+
 #[test]
 fn lists_what_an_iteration_gives(rt: HostRuntime) -> Result<(), Fail> {
-    let searcher = of_two_words(rt.alloc())?;
-    let (listed, given) = list_is_iteration(rt.alloc(), &searcher, HAYSTACK, &mut Tally::new())?;
-    let wanted = [(1, 1, 4), (0, 4, 7)];
-    assert_same(
-        &rt,
-        places(rt.alloc(), &listed)?.as_slice(),
-        &wanted,
-        "a list",
-    );
-    assert_same(
-        &rt,
-        places(rt.alloc(), &given)?.as_slice(),
-        &wanted,
-        "an iteration",
-    );
-    Ok(())
+    Ok(assert_lists(&rt, rt.alloc(), &of_two_words(rt.alloc())?)?)
 }
 
 #[test]
@@ -69,17 +65,13 @@ fn an_iteration_ends(rt: HostRuntime) -> Result<(), Fail> {
     Ok(())
 }
 
-fn prefilter(alloc: Global, patterns: &[&[u8]]) -> Result<Prefilter, Fail> {
-    let mut builder = Builder::new(alloc, MatchKind::LeftmostFirst);
-    for bytes in patterns {
-        builder.add(bytes)?;
-    }
-    Ok(builder.build()?.ok_or("there is no prefilter")?)
+fn of_words(alloc: Global, words: &[&[u8]]) -> Result<Prefilter, Fail> {
+    prefilter(alloc, MatchKind::LeftmostFirst, false, words)
 }
 
 #[test]
 fn a_table_proposes_nothing_without_its_bytes(rt: HostRuntime) -> Result<(), Fail> {
-    let pre = prefilter(rt.alloc(), &[b"bar", b"foo"])?;
+    let pre = of_words(rt.alloc(), &[b"bar", b"foo"])?;
     prefilters_reach_254_bytes(&pre);
     let (without, with) = (Span { start: 2, end: 4 }, Span { start: 2, end: 5 });
     let of_none = answer_of(none_without_a_byte(&pre, HAYSTACK, without));
@@ -91,7 +83,7 @@ fn a_table_proposes_nothing_without_its_bytes(rt: HostRuntime) -> Result<(), Fai
 
 #[test]
 fn an_exact_prefilter_answers_none_where_nothing_occurs(rt: HostRuntime) -> Result<(), Fail> {
-    let pre = prefilter(rt.alloc(), &[b"foo"])?;
+    let pre = of_words(rt.alloc(), &[b"foo"])?;
     let (cut, whole) = (Span { start: 1, end: 3 }, Span { start: 1, end: 4 });
     let of_cut = answer_of(none_without_an_occurrence(&pre, HAYSTACK, cut));
     assert_same(&rt, of_cut, Answer::Nothing, "the word runs past the span");
@@ -109,8 +101,7 @@ fn an_exact_prefilter_answers_none_where_nothing_occurs(rt: HostRuntime) -> Resu
 fn a_confirming_search_covers_its_patterns(rt: HostRuntime) -> Result<(), Fail> {
     let words: [&[u8]; 2] = [b"bar", b"foo"];
     let kind = packed::MatchKind::LeftmostFirst;
-    let built = ConfirmingSearch::build(rt.alloc(), kind, false, words)?;
-    let search = built.ok_or("there is no search")?;
+    let search = confirming_search(rt.alloc(), kind, false, &words)?;
     confirming_searches_cover_their_patterns(&search);
     let found = search
         .find_in(HAYSTACK, Span { start: 0, end: 7 })

@@ -1,10 +1,15 @@
 //! What tests of several modules make, and how they tell matches.
-ghost use Rattle.std.specs.Prelude.{◌<◌};
+ghost use Rattle.std.specs.Prelude.{◌<◌, IfOk};
+ghost use Rattle.literal_tests.specs.Covered.{IsCovered};
 
+use crate::asserted::assert_same;
+use crate::uses_of_prefilters::{Covered, covered_patterns};
 use literal_prefilters::Match;
 use literal_prefilters::packed::{Builder, Config, MatchKind, Searcher};
-use literal_prefilters::prefilter::{Candidate, ConfirmingSearch};
+use literal_prefilters::prefilter::{self, Candidate, ConfirmingSearch, Prefilter};
 use std::alloc::{AllocError, Global};
+use std::fmt::Display;
+use std::process::Abort;
 use std::test::Fail;
 
 /// The number of a pattern, and the offsets from which and up to which it stands.
@@ -20,6 +25,19 @@ pub fn places(alloc: Global, found: &[Match]) -> Result<Vec<Place>, AllocError> 
         places.push(place(*it))?;
     }
     Ok(places)
+}
+
+/// These are the matches. The note says where.
+pub fn assert_places<N: Display + Drop>(
+    rt: &impl Abort,
+    alloc: Global,
+    found: &[Match],
+    wanted: &[Place],
+    note: N,
+) -> Result<(), AllocError> {
+    let found = places(alloc, found)?;
+    assert_same(rt, found.as_slice(), wanted, note);
+    Ok(())
 }
 
 /// What a prefilter says: a match, or a place at which one may begin.
@@ -65,6 +83,31 @@ pub fn one_of_129(number: u8) -> [u8; 3]
     [b'a' + number / 43, b'0' + digits / 10, b'0' + digits % 10]
 }
 
+/// A builder of prefilters that keeps some patterns.
+pub fn prefilter_builder(
+    alloc: Global,
+    kind: literal_prefilters::MatchKind,
+    ignore_case: bool,
+    patterns: &[&[u8]],
+) -> Result<prefilter::Builder, AllocError> {
+    let mut builder = prefilter::Builder::new(alloc, kind).ascii_case_insensitive(ignore_case);
+    for bytes in patterns {
+        builder.add(bytes)?;
+    }
+    Ok(builder)
+}
+
+/// The prefilter of some patterns, which there has to be.
+pub fn prefilter(
+    alloc: Global,
+    kind: literal_prefilters::MatchKind,
+    ignore_case: bool,
+    patterns: &[&[u8]],
+) -> Result<Prefilter, Fail> {
+    let builder = prefilter_builder(alloc, kind, ignore_case, patterns)?;
+    Ok(builder.build()?.ok_or("there is no prefilter")?)
+}
+
 /// A confirming search, if one is built.
 pub fn confirming(
     alloc: Global,
@@ -74,6 +117,29 @@ pub fn confirming(
 ) -> Result<Option<ConfirmingSearch>, AllocError> {
     let items = Vec::from_slice(alloc, patterns)?;
     ConfirmingSearch::build(alloc, kind, ignore_case, items)
+}
+
+/// A confirming search, which there has to be.
+pub fn confirming_search(
+    alloc: Global,
+    kind: MatchKind,
+    ignore_case: bool,
+    patterns: &[&[u8]],
+) -> Result<ConfirmingSearch, Fail> {
+    Ok(confirming(alloc, kind, ignore_case, patterns)?.ok_or("there is no prefilter")?)
+}
+
+/// Patterns and a prefilter that covers them, which there has to be.
+pub fn covered(
+    alloc: Global,
+    kind: MatchKind,
+    ignore_case: bool,
+    patterns: &[&[u8]],
+) -> Result<Covered, Fail>
+    ensures { IfOk result (λ covered. IsCovered ignore_case covered.patterns covered.prefilter) }
+{
+    let covered = covered_patterns(alloc, kind, ignore_case, patterns)?;
+    Ok(covered.ok_or("there is no prefilter")?)
 }
 
 /// The place that a prefilter by single bytes proposes.

@@ -1,6 +1,6 @@
 //! Worked cases of prefilters.
 use crate::asserted::{assert_holds, assert_same};
-use crate::made::{one_of_129, proposed};
+use crate::made::{one_of_129, prefilter, prefilter_builder, proposed};
 use literal_prefilters::count::Tally;
 use literal_prefilters::prefilter::{Builder, Candidate, Prefilter, PrefilterI};
 use literal_prefilters::search::{Match, Span};
@@ -145,28 +145,6 @@ static OF_WORDS: [Row; 2] = [
     ),
 ];
 
-fn builder(
-    alloc: Global,
-    kind: MatchKind,
-    ignore_case: bool,
-    patterns: &[&[u8]],
-) -> Result<Builder, Fail> {
-    let mut builder = Builder::new(alloc, kind).ascii_case_insensitive(ignore_case);
-    for bytes in patterns {
-        builder.add(bytes)?;
-    }
-    Ok(builder)
-}
-
-fn prefilter(
-    alloc: Global,
-    kind: MatchKind,
-    ignore_case: bool,
-    patterns: &[&[u8]],
-) -> Result<Option<Prefilter>, Fail> {
-    Ok(builder(alloc, kind, ignore_case, patterns)?.build()?)
-}
-
 /// All three calls propose the same place of the haystack from a start on.
 fn assert_proposes(
     rt: &impl Abort,
@@ -212,7 +190,6 @@ fn assert_row(
     (case, built, patterns, ignore_case, haystack, start, wanted): &Row,
 ) -> Result<(), Fail> {
     let pre = prefilter(alloc, kind, *ignore_case, patterns)?;
-    let pre = pre.ok_or("there is no prefilter")?;
     assert_proposes(rt, &pre, haystack, *start, *wanted, case);
     assert_prints(rt, alloc, &pre, built, case)
 }
@@ -247,8 +224,9 @@ fn proposes_places_of_words(rt: HostRuntime) -> Result<(), Fail> {
 }
 
 /// The prefilter of a pattern that begins with a byte and ends with a rare one, and of both bytes alone.
-fn prefilter_of_ends(alloc: Global, pattern: &[u8]) -> Result<Option<Prefilter>, Fail> {
-    prefilter(alloc, MatchKind::Standard, false, &[pattern, b"\xC0Q"])
+fn prefilter_of_ends(alloc: Global, pattern: &[u8]) -> Result<Option<Prefilter>, AllocError> {
+    let patterns = [pattern, b"\xC0Q"];
+    prefilter_builder(alloc, MatchKind::Standard, false, &patterns)?.build()
 }
 
 #[test]
@@ -302,7 +280,7 @@ fn assert_builds_nothing(
     case: &str,
     patterns: &[&[u8]],
 ) -> Result<(), Fail> {
-    let builder = builder(alloc, MatchKind::Standard, false, patterns)?;
+    let builder = prefilter_builder(alloc, MatchKind::Standard, false, patterns)?;
     assert_holds(rt, builder.build()?.is_none(), case);
     let text = format!(in alloc; "{builder:?}")?;
     assert_holds(rt, !text.is_empty(), case);

@@ -1,6 +1,6 @@
 //! Worked cases of searches.
 use crate::asserted::{assert_holds, assert_same};
-use crate::made::{Place, place, places, searcher};
+use crate::made::{Place, assert_places, place, searcher};
 use literal_packed::laws::{iteration_is_greedy, none_is_for_good};
 use literal_prefilters::count::Tally;
 use literal_prefilters::packed::{MatchKind, Searcher};
@@ -287,14 +287,8 @@ fn assert_lists(
     (case, _, _, haystack, wanted): &Row,
 ) -> Result<(), Fail> {
     let listed = searcher.find_all(haystack, &mut Tally::new())?;
-    let listed = places(alloc, &listed)?;
-    assert_same(
-        rt,
-        listed.as_slice(),
-        *wanted,
-        format_args!("{case}, listed"),
-    );
-    Ok(())
+    let note = format_args!("{case}, listed");
+    Ok(assert_places(rt, alloc, &listed, wanted, note)?)
 }
 
 /// The matches that an iteration gives.
@@ -305,9 +299,8 @@ fn assert_gives(
     (case, _, _, haystack, wanted): &Row,
 ) -> Result<(), Fail> {
     let given = iteration_is_greedy(alloc, searcher, haystack)?;
-    let given = places(alloc, &given)?;
-    assert_same(rt, given.as_slice(), *wanted, format_args!("{case}, given"));
-    Ok(())
+    let note = format_args!("{case}, given");
+    Ok(assert_places(rt, alloc, &given, wanted, note)?)
 }
 
 /// The first match, by each call that finds one.
@@ -370,12 +363,16 @@ fn finds_several(rt: HostRuntime) -> Result<(), Fail> {
     assert_rows(&rt, rt.alloc(), &SEVERAL)
 }
 
+/// Once an iteration has ended.
+fn assert_answers_none_for_good(rt: &impl Abort, searcher: &Searcher) {
+    let mut matches = searcher.find_iter(b"abababa");
+    while matches.next().is_some() {}
+    assert!(rt; none_is_for_good(&mut matches, 3));
+}
+
 #[test]
 fn answers_none_for_good(rt: HostRuntime) -> Result<(), Fail> {
     let searcher = searcher(rt.alloc(), MatchKind::LeftmostFirst, &[b"ab", b"ba"])?;
-    let copy = searcher.try_clone()?;
-    let mut matches = copy.find_iter(b"abababa");
-    while matches.next().is_some() {}
-    assert!(rt; none_is_for_good(&mut matches, 3));
+    assert_answers_none_for_good(&rt, &searcher.try_clone()?);
     Ok(())
 }

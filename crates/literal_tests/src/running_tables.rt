@@ -218,6 +218,21 @@ fn follow(patterns: &mut Patterns, bytes: &[u8], is_disabled: bool) -> Result<()
     Ok(patterns.add(bytes)?)
 }
 
+/// What is built after a step.
+fn assert_built(
+    rt: &impl Abort,
+    alloc: Global,
+    builder: &Builder,
+    patterns: &Patterns,
+    (case, ignore_case): (&str, bool),
+    wanted: &str,
+) -> Result<(), Fail> {
+    let built = builder.build()?;
+    assert_kind(rt, alloc, &built, wanted, case)?;
+    assert_table(rt, &built, patterns, ignore_case, case);
+    Ok(())
+}
+
 fn assert_steps(
     rt: &impl Abort,
     alloc: Global,
@@ -232,17 +247,15 @@ fn assert_steps(
         builder.add(bytes)?;
         is_disabled = is_disabled || bytes.is_empty();
         follow(&mut patterns, bytes, is_disabled)?;
-        let built = builder.build()?;
-        assert_kind(rt, alloc, &built, wanted, case)?;
-        assert_table(rt, &built, &patterns, ignore_case, case);
+        assert_built(rt, alloc, &builder, &patterns, (case, ignore_case), wanted)?;
     }
     Ok(())
 }
 
 #[test]
 fn tables_are_kept_up(rt: HostRuntime) -> Result<(), Fail> {
-    for (case, ignore_case, steps) in ROWS {
-        assert_steps(&rt, rt.alloc(), case, ignore_case, steps)?;
+    for (case, ignore_case, steps) in &ROWS {
+        assert_steps(&rt, rt.alloc(), case, *ignore_case, steps)?;
     }
     Ok(())
 }

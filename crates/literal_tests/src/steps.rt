@@ -24,9 +24,10 @@ pub fn step_plainly(table: &ByteTable, haystack: &[u8], span: Span) -> Option<us
 mod tests {
     use super::step_plainly;
     use crate::asserted::{assert_holds, assert_same};
+    use crate::made::prefilter;
     use crate::plain::leftmost_plainly;
     use literal_prefilters::packed::pattern::Patterns;
-    use literal_prefilters::prefilter::{Builder, ByteTable, Candidate, Prefilter};
+    use literal_prefilters::prefilter::{ByteTable, Candidate, Prefilter};
     use literal_prefilters::{MatchKind, Span, packed};
     use std::alloc::Global;
     use std::process::Abort;
@@ -124,16 +125,6 @@ mod tests {
         Ok(table.ok_or("there is no table")?)
     }
 
-    fn prefilter_of(alloc: Global, list: &[&[u8]], ignore_case: bool) -> Result<Prefilter, Fail> {
-        let mut builder = Builder::new(alloc, MatchKind::Standard).ascii_case_insensitive(
-            ignore_case,
-        );
-        for bytes in list {
-            builder.add(bytes)?;
-        }
-        Ok(builder.build()?.ok_or("there is no prefilter")?)
-    }
-
     /// Compares for a list of patterns.
     fn assert_list(
         rt: &impl Abort,
@@ -141,7 +132,7 @@ mod tests {
         (list, ignore_case, is_start): &(&[&[u8]], bool, bool),
     ) -> Result<(), Fail> {
         let table = table_of(alloc, list, *ignore_case, *is_start)?;
-        let pre = prefilter_of(alloc, list, *ignore_case)?;
+        let pre = prefilter(alloc, MatchKind::Standard, *ignore_case, list)?;
         let cases = compare(rt, &pre, &table, (list, *ignore_case));
         assert_same(rt, cases, 15625, format_args!("{list:?}"));
         Ok(())

@@ -156,6 +156,17 @@ mod tests {
         Ok(builder)
     }
 
+    const HAYSTACK: &[u8; 12] = b"I am lockjaw";
+
+    /// From where on a span of the haystack is searched by what a builder makes.
+    fn from(builder: &Builder, span: Span) -> Result<Option<usize>, Fail>
+        requires ordered { span.start ≤ span.end }
+        requires within { span.end ≤ 12 }
+    {
+        let pre = builder.build()?.ok_or("there is no prefilter")?;
+        Ok(search_from(&pre, HAYSTACK, span, &mut Tally::new()))
+    }
+
     /// From where on a haystack is searched, and where the candidate is of what a builder makes.
     fn assert_begins(
         rt: &impl Abort,
@@ -163,19 +174,14 @@ mod tests {
         (start, end): (usize, usize),
         wanted: Option<usize>,
     ) -> Result<(), Fail> {
-        let (haystack, span) = (b"I am lockjaw", Span { start, end });
+        let span = Span { start, end };
         assert_holds(rt, start <= end && end <= 12, "no such span is meant");
-        let pre = builder.build()?.ok_or("there is no prefilter")?;
-        let from = search_from(&pre, haystack, span, &mut Tally::new());
-        assert_same(rt, from, wanted, format_args!("in {span:?}"));
-        let candidate = candidate_of(builder, haystack, span)?;
+        let note = format_args!("in {span:?}");
+        assert_same(rt, from(builder, span)?, wanted, note);
+        let candidate = candidate_of(builder, HAYSTACK, span)?;
         let candidate = candidate.ok_or("there is no prefilter")?;
-        assert_same(
-            rt,
-            candidate.into_option(),
-            wanted,
-            format_args!("in {span:?}, built"),
-        );
+        let note = format_args!("in {span:?}, built");
+        assert_same(rt, candidate.into_option(), wanted, note);
         Ok(())
     }
 

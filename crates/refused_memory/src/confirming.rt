@@ -8,14 +8,17 @@ use std::alloc::{AllocError, Global};
 use std::process::Abort;
 
 /// A search for 24 patterns: by a table with case ignored, or by a packed search with case kept.
-fn built(rt: &impl Abort, alloc: Global, by_table: bool) -> Result<ConfirmingSearch, AllocError> {
+fn build(alloc: Global, by_table: bool) -> Result<Option<ConfirmingSearch>, AllocError> {
     let words = if by_table {
         words_with_a_table()
     } else {
         words_without_a_table()
     };
-    let built = ConfirmingSearch::build(alloc, MatchKind::LeftmostLongest, by_table, words)?;
-    Ok(built.expect(rt, "there is no prefilter"))
+    ConfirmingSearch::build(alloc, MatchKind::LeftmostLongest, by_table, words)
+}
+
+fn built(rt: &impl Abort, alloc: Global, by_table: bool) -> Result<ConfirmingSearch, AllocError> {
+    Ok(build(alloc, by_table)?.expect(rt, "there is no prefilter"))
 }
 
 /// It finds the longest of the patterns that begin with `ax`.

@@ -92,11 +92,8 @@ fn inert_builders_take_no_memory(rt: HostRuntime) -> Result<(), AllocError> {
     Ok(())
 }
 
-#[test]
-fn searchers_take_no_memory(rt: HostRuntime) -> Result<(), AllocError> {
-    let alloc = rt.alloc();
-    let searcher = Searcher::new(alloc, [b"ab".as_slice(), b"bc"])?;
-    let searcher = searcher.expect(&rt, "two patterns make nothing");
+/// All calls of a searcher for `ab` and `bc`.
+fn assert_searches(rt: &impl Abort, searcher: &Searcher) {
     let (haystack, span) = (b"ab bc abc", Span { start: 1, end: 5 });
     assert!(rt; searcher.find(haystack).map(|it| it.start()) == Some(0));
     assert!(rt; searcher.find_in(haystack, span).map(|it| it.start()) == Some(3));
@@ -105,6 +102,12 @@ fn searchers_take_no_memory(rt: HostRuntime) -> Result<(), AllocError> {
     assert!(rt; searcher.find_iter(haystack).count() == 3);
     assert!(rt; *searcher.match_kind() == MatchKind::LeftmostFirst);
     assert!(rt; searcher.minimum_len() == 0);
+}
+
+#[test]
+fn searchers_take_no_memory(rt: HostRuntime) -> Result<(), AllocError> {
+    let searcher = Searcher::new(rt.alloc(), [b"ab".as_slice(), b"bc"])?;
+    assert_searches(&rt, &searcher.expect(&rt, "two patterns make nothing"));
     Ok(())
 }
 
@@ -125,76 +128,102 @@ fn tables_take_no_memory(rt: HostRuntime) -> Result<(), AllocError> {
     Ok(())
 }
 
+/// What a builder of prefilters builds. The note says what it was where it took memory.
+fn built(rt: &impl Abort, builder: &prefilter::Builder, note: &str) -> Option<Prefilter> {
+    builder.build().expect(rt, note)
+}
+
 /// An empty pattern disables a builder. Then it takes any pattern, and builds nothing.
 #[test]
 fn disabled_builders_take_no_memory(rt: HostRuntime) -> Result<(), AllocError> {
     let alloc = rt.alloc();
     let kind = literal_prefilters::MatchKind::LeftmostFirst;
     let mut builder = prefilter::Builder::new(alloc, kind).ascii_case_insensitive(false);
-    let built = builder.build().expect(&rt, "an empty builder took memory");
-    assert!(rt; built.is_none());
+    assert!(rt; built(&rt, &builder, "an empty builder took memory").is_none());
     builder.add(b"ab")?;
     for pattern in [b"".as_slice(), b"more", b""] {
         assert!(rt; builder.add(pattern).is_ok());
-        let built = builder
-            .build()
-            .expect(&rt, "a disabled builder took memory");
-        assert!(rt; built.is_none());
+        assert!(rt; built(&rt, &builder, "a disabled builder took memory").is_none());
     }
     Ok(())
 }
 
-/// What is built for some patterns, by a table or not at all, as a request for memory that is refused shows.
-fn built(rt: &impl Abort, alloc: Global, list: &[&[u8]]) -> Result<Option<Prefilter>, AllocError> {
+/// A builder of prefilters that keeps some patterns.
+fn builder(alloc: Global, list: &[&[u8]]) -> Result<prefilter::Builder, AllocError> {
     let kind = literal_prefilters::MatchKind::Standard;
     let mut builder = prefilter::Builder::new(alloc, kind);
     for bytes in list {
         builder.add(bytes)?;
     }
-    Ok(builder.build().expect(rt, "a table took memory"))
+    Ok(builder)
+}
+
+/// What is built for some patterns, by a table or not at all, as a request for memory that is refused shows.
+fn by_table(
+    rt: &impl Abort,
+    alloc: Global,
+    list: &[&[u8]],
+) -> Result<Option<Prefilter>, AllocError> {
+    Ok(built(rt, &builder(alloc, list)?, "a table took memory"))
 }
 
 #[test]
 fn builds_of_tables_take_no_memory(rt: HostRuntime) -> Result<(), AllocError> {
     let alloc = rt.alloc();
-    let by_starts = built(&rt, alloc, &[b"foo", b"bar"])?;
-    let by_rare_bytes = built(&rt, alloc, &[b"Sherlock", b"lockjaw"])?;
+    let by_starts = by_table(&rt, alloc, &[b"foo", b"bar"])?;
+    let by_rare_bytes = by_table(&rt, alloc, &[b"Sherlock", b"lockjaw"])?;
     assert!(rt; by_starts.is_some() && by_rare_bytes.is_some());
-    assert!(rt; built(&rt, alloc, &[b"a", b"b", b"c", b"d"])?.is_none());
+    assert!(rt; by_table(&rt, alloc, &[b"a", b"b", b"c", b"d"])?.is_none());
     Ok(())
 }
 
 /// All calls of a prefilter by a table.
+fn assert_proposes(rt: &impl Abort, pre: &Prefilter) {
+    let (haystack, span, tally) = (b"xxbafoo", Span { start: 1, end: 7 }, &mut Tally::new());
+    assert!(rt; pre.find_in(haystack, span).into_option() == Some(2));
+    let counted = pre.find_in_counted(haystack, span, tally);
+    assert!(rt; counted.into_option() == Some(2));
+    let by_trait = PrefilterI::find_in(pre, haystack, span, tally);
+    assert!(rt; by_trait.into_option() == Some(2));
+}
+
+/// The same of a copy.
+fn assert_copy_proposes(rt: &impl Abort, pre: &Prefilter) {
+    let copy = pre.try_clone().expect(rt, "a table took memory");
+    assert_proposes(rt, &copy);
+}
+
 #[test]
 fn prefilters_take_no_memory(rt: HostRuntime) -> Result<(), AllocError> {
-    let alloc = rt.alloc();
-    let pre = built(&rt, alloc, &[b"foo", b"bar"])?.expect(&rt, "there is no prefilter");
-    let copy = pre.try_clone().expect(&rt, "a table took memory");
-    let (haystack, span, tally) = (b"xxbafoo", Span { start: 1, end: 7 }, &mut Tally::new());
-    for pre in [&pre, &copy] {
-        assert!(rt; pre.find_in(haystack, span).into_option() == Some(2));
-        let counted = pre.find_in_counted(haystack, span, tally);
-        assert!(rt; counted.into_option() == Some(2));
-        let by_trait = PrefilterI::find_in(pre, haystack, span, tally);
-        assert!(rt; by_trait.into_option() == Some(2));
-    }
+    let pre = by_table(&rt, rt.alloc(), &[b"foo", b"bar"])?;
+    let pre = pre.expect(&rt, "there is no prefilter");
+    assert_proposes(&rt, &pre);
+    assert_copy_proposes(&rt, &pre);
     Ok(())
 }
 
 /// A search by a table where case is ignored, and else by a packed search.
-fn confirms_by(rt: &impl Abort, alloc: Global, ignore_case: bool) -> Result<(), AllocError> {
+fn confirming(alloc: Global, ignore_case: bool) -> Result<Option<ConfirmingSearch>, AllocError> {
     let words: [&[u8]; 4] = if ignore_case {
         [b"foo", b"fab", b"oaf", b"off"]
     } else {
         [b"ax", b"by", b"cz", b"dw"]
     };
-    let search = ConfirmingSearch::build(alloc, MatchKind::LeftmostFirst, ignore_case, words)?;
-    let search = search.expect(rt, "there is no prefilter");
+    ConfirmingSearch::build(alloc, MatchKind::LeftmostFirst, ignore_case, words)
+}
+
+/// It finds what stands there with case kept.
+fn assert_confirms(rt: &impl Abort, search: &ConfirmingSearch, ignore_case: bool) {
     let (haystack, span, tally) = (b"xfoby", Span { start: 1, end: 5 }, &mut Tally::new());
     let found = search.find_in(haystack, span);
     assert!(rt; found.is_some() == !ignore_case);
     let counted = search.find_in_counted(haystack, span, tally);
     assert!(rt; counted.is_some() == !ignore_case);
+}
+
+fn confirms_by(rt: &impl Abort, alloc: Global, ignore_case: bool) -> Result<(), AllocError> {
+    let search = confirming(alloc, ignore_case)?;
+    assert_confirms(rt, &search.expect(rt, "there is no prefilter"), ignore_case);
     Ok(())
 }
 
