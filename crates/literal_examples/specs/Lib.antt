@@ -1,2 +1,4 @@
+pub mod DenseValue
+pub mod Inside
 pub mod Replaced
 pub mod Tokens

@@ -2,9 +2,12 @@
 //! the lemmas for callers alone.
 #![tactic(auto)]
 
+pub mod dense;
 pub mod frequencies;
 pub mod keywords;
 pub mod replace;
 #[cfg(test)]
 mod tests;
+#[cfg(test)]
+mod tests_of_automata;
 pub mod tokens;
