@@ -1,5 +1,5 @@
 -- A deterministic automaton over bytes, as contracts see it.
-use Rattle.std.specs.Prelude.{◌≡◌, ℕ, ◌<◌, List, [], ◌∷◌, Bool, false, length, map, slice_index, slice_index_or}
+use Rattle.std.specs.Prelude.{◌≡◌, ℕ, ◌<◌, ◌≤◌, List, [], ◌∷◌, Bool, false, length, map, slice_index, slice_index_or}
 use Rattle.std.specs.Borrow.{Bor}
 use Rattle.std.specs.List.{All}
 use Rattle.literal_base.specs.Classes.{alphabet_len_of}
@@ -21,10 +21,11 @@ automaton_of classes start rows matches =
 abbrev pub IsRow : ℕ → ℕ → List ℕ → Type 0
 IsRow alphabet_len states row = (length row ≡ alphabet_len) × All (λ next. next < states) row
 
--- the class of each byte is below the length of the alphabet, and each state has a row; it is known of each whether it is
--- a match, and the automaton begins in one of them
+-- the class of each byte is below the length of the alphabet, each state has an identifier and a row, it is known of each
+-- whether it is a match, and the automaton begins in one of them
 pub record IsAutomaton (a : DenseValue) : Type 0 where
   pub classes_fit : (byte : ℕ) → byte < 256 → slice_index a.classes byte < alphabet_len_of a.classes
+  pub states_fit : length a.rows ≤ 2147483647
   pub start_fits : a.start < length a.rows
   pub rows_fit : All (IsRow (alphabet_len_of a.classes) (length a.rows)) a.rows
   pub matches_fit : length a.matches ≡ length a.rows

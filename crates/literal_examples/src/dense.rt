@@ -39,8 +39,9 @@ impl Model for Dense {
 
 impl Dense {
     /// The automaton of these parts, and `None` where they are none: each byte has to have a class below
-    /// [`ByteClasses::alphabet_len`], each row so many states, each state, the first one too, a row, and
-    /// each row a place in `matches`. Memory is asked for only where there is an automaton.
+    /// [`ByteClasses::alphabet_len`], each row so many states, each state, that in which it begins too,
+    /// a row, and each row a place in `matches`, and there may be no more rows than identifiers, which
+    /// are [`StateID::LIMIT`]. Memory is asked for only where there is an automaton.
     pub fn new(
         alloc: Global,
         classes: ByteClasses,
@@ -97,7 +98,8 @@ impl Dense {
 
     /// How many states there are.
     pub fn state_len(&self) -> usize
-        ensures { result ≡ length self.now.rows }
+        ensures len { result ≡ length self.now.rows }
+        ensures automaton { IsAutomaton self.now }
     {
         self.matches.len()
     }
@@ -119,7 +121,10 @@ fn is_automaton(
 ) -> bool
     ensures { IsTrue result ↔ IsAutomaton (automaton_of classes.now start rows.now matches.now) }
 {
-    if start.as_usize() >= rows.len() || matches.len() != rows.len() {
+    if rows.len() > StateID::LIMIT
+        || start.as_usize() >= rows.len()
+        || matches.len() != rows.len()
+    {
         return false;
     }
     classes_fit(classes) && rows_fit(classes.alphabet_len(), rows)

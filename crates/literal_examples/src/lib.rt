@@ -3,6 +3,7 @@
 #![tactic(auto)]
 
 pub mod dense;
+pub mod earliest;
 pub mod frequencies;
 pub mod keywords;
 pub mod replace;
@@ -11,3 +12,4 @@ mod tests;
 #[cfg(test)]
 mod tests_of_automata;
 pub mod tokens;
+pub mod words;

@@ -1,7 +1,16 @@
-//! The automaton for `ab` and `b`, made by hand, does what it should.
+//! Automata made by hand do what they should.
+ghost use Rattle.std.specs.Prelude.{◌≡◌, IfOk, IfSome, map};
+ghost use Rattle.literal_base.specs.declared.packed.MatchKind.TheVariants.{LeftmostFirst};
+ghost use Rattle.literal_packed.specs.State.{kept_of};
+ghost use Rattle.literal_prefilters.specs.PrefilterValue.{CoveredBy};
+ghost use Rattle.literal_examples.specs.Earliest.{CoversRecognised, Recognises};
+
 use crate::dense::Dense;
-use literal_prefilters::StateID;
+use crate::earliest::{find_earliest, find_earliest_by};
+use crate::words::stands_for_words;
 use literal_prefilters::alphabet::{ByteClassSet, ByteClasses};
+use literal_prefilters::prefilter::{Builder, Prefilter};
+use literal_prefilters::{MatchKind, Span, StateID};
 use std::alloc::{AllocError, Global};
 use std::test::Fail;
 
@@ -13,19 +22,117 @@ fn classes() -> ByteClasses {
     set.byte_classes()
 }
 
-/// The automaton. Its states are named by what was read last of a word: nothing, `a`, `b`, `ab`.
-fn automaton(alloc: Global) -> Result<Option<Dense>, AllocError> {
+/// The automaton whose states are told apart by what was read last: none of the others, `a`, `b` without
+/// an `a` before it, `ab`. These states are matches or not.
+fn automaton(alloc: Global, matches: [bool; 4]) -> Result<Option<Dense>, AllocError> {
     let (none, a, b) = (StateID::ZERO, StateID::from(1u8), StateID::from(2u8));
     let ab = StateID::from(3u8);
     let row = [none, a, b, none];
     let after_a = [none, a, ab, none];
     let rows = [&row[..], &after_a[..], &row[..], &row[..]];
-    Dense::new(alloc, classes(), none, &rows, &[false, false, true, true])
+    Dense::new(alloc, classes(), none, &rows, &matches)
+}
+
+/// The automaton, if its states stand for these words, so that it recognises the patterns.
+fn recogniser(
+    alloc: Global,
+    matches: [bool; 4],
+    patterns: &[&[u8]],
+    words: [&[u8]; 4],
+) -> Result<Option<Dense>, AllocError>
+    ensures { IfOk result (λ made. IfSome made (λ a. Recognises a (map (λ p. p.now) patterns.now))) }
+{
+    let Some(automaton) = automaton(alloc, matches)? else {
+        return Ok(None);
+    };
+    if stands_for_words(alloc, &automaton, patterns, &words)? {
+        Ok(Some(automaton))
+    } else {
+        Ok(None)
+    }
+}
+
+/// A prefilter for the patterns of a builder.
+fn prefilter(builder: &Builder) -> Result<Prefilter, Fail>
+    requires { builder.now.kind ≡ MatchKind.Standard }
+    ensures { IfOk result (λ pre. CoveredBy pre (record { kind = LeftmostFirst; patterns = kept_of builder.now.state })
+        builder.now.ignore_case) }
+{
+    match builder.build()? {
+        Some(pre) => Ok(pre),
+        None => Err("no prefilter".into()),
+    }
+}
+
+/// For `ab` and `b`: the prefilter goes by their first bytes.
+fn for_both(alloc: Global) -> Result<(Dense, Prefilter), Fail>
+    ensures { IfOk result (λ both. CoversRecognised (CoveredBy both.1) both.0) }
+{
+    let mut builder = Builder::new(alloc, MatchKind::Standard);
+    builder.add(b"ab")?;
+    builder.add(b"b")?;
+    let pre = prefilter(&builder)?;
+    let matches = [false, false, true, true];
+    let made = recogniser(alloc, matches, &[b"ab", b"b"], [b"", b"a", b"b", b"ab"])?;
+    Ok((made.ok_or("other words")?, pre))
+}
+
+/// For `ab` alone: the prefilter searches for it.
+fn for_one(alloc: Global) -> Result<(Dense, Prefilter), Fail>
+    ensures { IfOk result (λ both. CoversRecognised (CoveredBy both.1) both.0) }
+{
+    let mut builder = Builder::new(alloc, MatchKind::Standard);
+    builder.add(b"ab")?;
+    let pre = prefilter(&builder)?;
+    let matches = [false, false, false, true];
+    let made = recogniser(alloc, matches, &[b"ab"], [b"", b"a", b"", b"ab"])?;
+    Ok((made.ok_or("other words")?, pre))
+}
+
+/// Whether both ways answer as wanted.
+fn both_find(automaton: &Dense, pre: &Prefilter, haystack: &[u8], wanted: Option<usize>) -> bool
+    requires { CoversRecognised (CoveredBy pre.now) automaton.now }
+{
+    let span = Span {
+        start: 0,
+        end: haystack.len(),
+    };
+    find_earliest(automaton, haystack, span) == wanted
+        && find_earliest_by(automaton, pre, haystack, span) == wanted
+}
+
+#[test]
+fn finds_the_earliest_of_two(rt: HostRuntime) -> Result<(), Fail> {
+    let (automaton, pre) = for_both(rt.alloc())?;
+    assert!(rt; both_find(&automaton, &pre, b"xxaxxabx", Some(7)));
+    assert!(rt; both_find(&automaton, &pre, b"aab", Some(3)));
+    assert!(rt; both_find(&automaton, &pre, b"aacb", Some(4)));
+    assert!(rt; both_find(&automaton, &pre, b"acaca", None));
+    Ok(())
+}
+
+#[test]
+fn finds_the_earliest_of_one(rt: HostRuntime) -> Result<(), Fail> {
+    let (automaton, pre) = for_one(rt.alloc())?;
+    assert!(rt; both_find(&automaton, &pre, b"bbabab", Some(4)));
+    assert!(rt; both_find(&automaton, &pre, b"bba", None));
+    Ok(())
+}
+
+#[test]
+fn refuses_other_words(rt: HostRuntime) -> Result<(), Fail> {
+    let made = |patterns: &[&[u8]]| {
+        let words: [&[u8]; 4] = [b"", b"a", b"b", b"ab"];
+        recogniser(rt.alloc(), [false, false, true, true], patterns, words)
+    };
+    assert!(rt; made(&[b"b", b"ab"])?.is_some());
+    assert!(rt; made(&[b"ab"])?.is_none() && made(&[b"ab", b"b", b"a"])?.is_none());
+    Ok(())
 }
 
 #[test]
 fn reads_bytes(rt: HostRuntime) -> Result<(), Fail> {
-    let automaton = automaton(rt.alloc())?.ok_or("no automaton")?;
+    let automaton = automaton(rt.alloc(), [false, false, true, true])?.ok_or("no automaton")?;
     assert!(rt; automaton.state_len() == 4 && automaton.stride2() == 2);
     let start = automaton.start_state();
     let a = automaton.next_state(start, b'a');

@@ -29,6 +29,7 @@ returns-then-classes_fit c =
     let seen = length-map rows now in (
       λ fit. record {
         classes_fit = c.classes_fit.ensures.0 c.if-classes_fit.true;
+        states_fit = omega (arith, seen);
         start_fits = omega (arith, seen, c.as_usize.ensures.value, c.if-as_usize-rows.false);
         rows_fit = All-map (IsRow _ _) now rows
             (rows_seen rows c.alphabet_len.result _ _ c.alphabet_len.ensures.len seen (c.rows_fit.ensures.0 fit));
