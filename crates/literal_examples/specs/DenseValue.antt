@@ -21,8 +21,8 @@ automaton_of classes start rows matches =
 abbrev pub IsRow : ℕ → ℕ → List ℕ → Type 0
 IsRow alphabet_len states row = (length row ≡ alphabet_len) × All (λ next. next < states) row
 
--- the class of each byte is below the length of the alphabet, each state has an identifier and a row, it is known of each
--- whether it is a match, and the automaton begins in one of them
+-- the class of each byte is below the length of the alphabet, each state has an identifier and a row, it is known of
+-- each whether it is a match, and the automaton begins in one of them
 pub record IsAutomaton (a : DenseValue) : Type 0 where
   pub classes_fit : (byte : ℕ) → byte < 256 → slice_index a.classes byte < alphabet_len_of a.classes
   pub states_fit : length a.rows ≤ 2147483647

@@ -33,7 +33,7 @@ pub fn find_earliest(automaton: &Dense, haystack: &[u8], span: Span) -> Option<u
 
 /// Answers as [`find_earliest`], and where the automaton is in its start state it asks a prefilter, and
 /// reads nothing before the candidate. The prefilter has to cover patterns that the automaton
-/// recognises.
+/// recognises. That it asks, no clause says.
 pub fn find_earliest_by<P: PrefilterI>(
     automaton: &Dense,
     pre: &P,

@@ -9,9 +9,11 @@ use crate::dense::Dense;
 use crate::earliest::{find_earliest, find_earliest_by};
 use crate::words::stands_for_words;
 use literal_prefilters::alphabet::{ByteClassSet, ByteClasses};
-use literal_prefilters::prefilter::{Builder, Prefilter};
+use literal_prefilters::count::Tally;
+use literal_prefilters::prefilter::{Builder, Candidate, Prefilter, PrefilterI};
 use literal_prefilters::{MatchKind, Span, StateID};
 use std::alloc::{AllocError, Global};
+use std::cell::Cell;
 use std::test::Fail;
 
 /// Bytes below `a`, `a`, `b`, and bytes above `b`: four classes.
@@ -64,7 +66,7 @@ fn prefilter(builder: &Builder) -> Result<Prefilter, Fail>
     }
 }
 
-/// For `ab` and `b`: the prefilter goes by their first bytes.
+/// For `ab` and `b`: the prefilter looks for `b`, and proposes the place before it.
 fn for_both(alloc: Global) -> Result<(Dense, Prefilter), Fail>
     ensures { IfOk result (λ both. CoversRecognised (CoveredBy both.1) both.0) }
 {
@@ -116,6 +118,42 @@ fn finds_the_earliest_of_one(rt: HostRuntime) -> Result<(), Fail> {
     let (automaton, pre) = for_one(rt.alloc())?;
     assert!(rt; both_find(&automaton, &pre, b"bbabab", Some(4)));
     assert!(rt; both_find(&automaton, &pre, b"bba", None));
+    Ok(())
+}
+
+/// A prefilter that counts how often it is asked.
+#[derive(Drop)]
+struct Asked {
+    prefilter: Prefilter,
+    times: Cell<u32>,
+}
+
+impl PrefilterI for Asked {
+    ghost use Rattle.literal_prefilters.specs.PrefilterValue.{CoveredBy, IsCountedAnswer, prefilter_reach};
+
+    ghost covers = { λ asked. CoveredBy asked.prefilter };
+
+    ghost reach = { λ asked. prefilter_reach asked.prefilter };
+
+    ghost answers = { λ asked. IsCountedAnswer asked.prefilter };
+
+    fn find_in(&self, haystack: &[u8], span: Span, tally: &mut Tally) -> Candidate {
+        self.times.set(self.times.get().saturating_add(1));
+        self.prefilter.find_in_counted(haystack, span, tally)
+    }
+}
+
+/// At the start, from where one byte before the `b` is proposed, and again behind that byte.
+#[test]
+fn asks_in_the_start_state(rt: HostRuntime) -> Result<(), Fail> {
+    let (automaton, prefilter) = for_both(rt.alloc())?;
+    let asked = Asked {
+        prefilter,
+        times: Cell::new(0),
+    };
+    let span = Span { start: 0, end: 6 };
+    let found = find_earliest_by(&automaton, &asked, b"xaxxcb", span);
+    assert!(rt; (found, asked.times.get()) == (Some(6), 2));
     Ok(())
 }
 

@@ -19,8 +19,8 @@ use Rattle.literal_examples.specs.Earliest.{IsEarliest, IsEarliestEnd, Occurrenc
 use Rattle.literal_examples.specs.Inside.Skips.{GoesOn, Skips}
 
 -- a part of a part
-pub part_of_part : (haystack : List ℕ) (from end a b low high : ℕ) → a ≤ b → high ≤ end → low ≡ from + a → high ≡ from + b
-    → slice_range (slice_range haystack from end) a b ≡ slice_range haystack low high
+pub part_of_part : (haystack : List ℕ) (from end a b low high : ℕ) → a ≤ b → high ≤ end → low ≡ from + a
+    → high ≡ from + b → slice_range (slice_range haystack from end) a b ≡ slice_range haystack low high
 part_of_part haystack from end a b low high ordered within low_is high_is =
     let rest = drop from haystack in
     let left = (end - from) - a in
@@ -52,7 +52,8 @@ module _ (patterns : List (List ℕ)) (haystack : List ℕ) (from end to : ℕ) 
 
   -- what ends with a part ends there in the haystack
   pub end_in_haystack : from ≤ end → end ≤ to → end ≤ length haystack
-      → OccurrenceEnds patterns part (whole_of part) (length part) → OccurrenceEnds patterns haystack (between from to) end
+      → OccurrenceEnds patterns part (whole_of part) (length part)
+      → OccurrenceEnds patterns haystack (between from to) end
   end_in_haystack ordered within fits o =
       let long = length-slice haystack from end fits in
       let size = length (pattern_at patterns o.pattern) in
@@ -72,8 +73,8 @@ module _ (patterns : List (List ℕ)) (haystack : List ℕ) (from end to : ℕ) 
       }
 
   -- what ends in the haystack, and does not begin before a part, ends with it
-  pub end_in_part : (span : Span) (o : OccurrenceEnds patterns haystack span end) → from ≤ o.start → end ≤ length haystack
-      → OccurrenceEnds patterns part (whole_of part) (length part)
+  pub end_in_part : (span : Span) (o : OccurrenceEnds patterns haystack span end) → from ≤ o.start
+      → end ≤ length haystack → OccurrenceEnds patterns part (whole_of part) (length part)
   end_in_part span o after fits =
       let long = length-slice haystack from end fits in
       let size = length (pattern_at patterns o.pattern) in

@@ -1,10 +1,12 @@
 -- Longest ends with which a pattern begins, and why an automaton whose states stand for them recognises the patterns.
 -- For `stands_for_words`.
-use Rattle.std.proofs.Common.{◌≡◌, ℕ, ◌+◌, ◌-◌, ◌<◌, Bool, true, false, List, [], ◌∷◌, ◌++◌, suc, length, get_or, take, drop}
+use Rattle.std.proofs.Common.{◌≡◌, ℕ, ◌+◌, ◌-◌, ◌<◌, Bool, true, false, List, [], ◌∷◌, ◌++◌, suc, length, get_or}
+use Rattle.std.proofs.Common.{take, drop}
 use Rattle.std.proofs.Common.{append-nil, append_assoc, refl, sym, ap, ◌∙◌, arith, map, nat_eq, ◌||◌}
 use Rattle.std.proofs.lemmas.Bool.{cond-false, cond-true, false_from_ne_true, false≢true}
 use Rattle.std.proofs.lemmas.Bool.Decides.{Decides-eqb}
-use Rattle.std.proofs.lemmas.List.{drop_at, get_or-map, get_or_default, length-append, length-drop, take-append-drop, take_all}
+use Rattle.std.proofs.lemmas.List.{drop_at, get_or-map, get_or_default, length-append, length-drop, take-append-drop}
+use Rattle.std.proofs.lemmas.List.{take_all}
 use Rattle.std.proofs.lemmas.List.Folds.{Any-from_list_any, list_any_at}
 use Rattle.std.proofs.lemmas.Slice.Eq.{ends_is, starts_is}
 use Rattle.std.specs.Borrow.{Bor}
@@ -78,7 +80,8 @@ module _ (patterns : List (List ℕ)) where
   longest_push (first ∷ more) byte = by_test (begins_one patterns (first ∷ more)) refl (longest_push more byte)
     where
       by_test : (t : Bool) → begins_one patterns (first ∷ more) ≡ t
-          → longest_begun patterns (longest_begun patterns more ++ byte ∷ []) ≡ longest_begun patterns (more ++ byte ∷ [])
+          → longest_begun patterns (longest_begun patterns more ++ byte ∷ [])
+          ≡ longest_begun patterns (more ++ byte ∷ [])
           → longest_begun patterns (longest_begun patterns (first ∷ more) ++ byte ∷ [])
           ≡ longest_begun patterns ((first ∷ more) ++ byte ∷ [])
       by_test true is further =
@@ -201,7 +204,8 @@ recognises_by_words a patterns words fits stand text bytes =
     )
 
 -- a word, as it is passed
-pub word_read : (words : List (Bor (List ℕ))) (number state : ℕ) (d : Bor (List ℕ)) → number ≡ state → number < length words
+pub word_read : (words : List (Bor (List ℕ))) (number state : ℕ) (d : Bor (List ℕ)) → number ≡ state
+    → number < length words
     → word_of (map (λ (w : Bor (List ℕ)). w.now) words) state ≡ (get_or words number d).now
 word_read words number state d is below =
     ap (word_of (map (λ (w : Bor (List ℕ)). w.now) words)) (sym is)

@@ -22,7 +22,8 @@ dense_value a = record {
   matches = a.matches.items;
 }
 
--- what the fields keep: the rows are those of an automaton, each with 2^stride2 places, as few as have room for the classes
+-- what the fields keep: the rows are those of an automaton, each with 2^stride2 places, as few as have room for the
+-- classes
 pub record IsSound (a : Inside) : Type 0 where
   pub automaton : IsAutomaton (dense_value a)
   pub stride2 : IsStride2 a.classes a.stride2

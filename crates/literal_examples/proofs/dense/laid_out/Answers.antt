@@ -19,5 +19,6 @@ loop-row-preserved c =
     record {
       full = search rules;
       rows = grown ∙ (ap (λ rs. rs ++ row.now ∷ []) c.loop-row.invariant.rows
-          ∙ (ap (λ (r : Bor (List ℕ)). map now (take at rows) ++ r.now ∷ []) c.row-item.is ∙ sym (map_more now rows at row is_row)));
+          ∙ (ap (λ (r : Bor (List ℕ)). map now (take at rows) ++ r.now ∷ []) c.row-item.is
+          ∙ sym (map_more now rows at row is_row)));
     }

@@ -10,7 +10,8 @@ loop-span-preserved g c =
     let at = c.in_ok-at.at in
     let none : is_match_of a c.loop-span.state ≡ false = sym c.is_match.ensures ∙ c.loop-span-test.true in
     let next = c.next_state-state.ensures.next in
-    let later = run_skips a h c.args.span c.loop-span.state c.loop-span.at at c.loop-span.invariant c.in_ok-at.ensures in
+    let later = run_skips a h c.args.span c.loop-span.state c.loop-span.at at c.loop-span.invariant
+    c.in_ok-at.ensures in
     subst (λ s. IsRun a h c.args.span s (at + 1)) (sym next)
     (run_goes_on a h c.args.span c.loop-span.state at (get_or h at 0) later none (omega arith)
     c.requires.valid.in_haystack refl (subst (λ s. s < length a.rows) next c.next_state-state.ensures.is_state))

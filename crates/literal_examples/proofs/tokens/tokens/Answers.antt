@@ -1,11 +1,13 @@
 use Rattle.literal_base.specs.declared.search.Span.{Span}
-use Rattle.std.proofs.Common.{rules, refl, Some, ◌<◌, ◌≤◌, ◌≡◌, ◌++◌, ◌∷◌, [], false, length, List, sym, ap, subst, ◌∙◌, arith}
+use Rattle.std.proofs.Common.{rules, refl, Some, ◌<◌, ◌≤◌, ◌≡◌, ◌++◌, ◌∷◌, [], false, length, List, sym, ap, subst}
+use Rattle.std.proofs.Common.{◌∙◌, arith}
 use Rattle.literal_base.specs.Greedy.{IsGreedy}
 use Rattle.literal_base.specs.MatchValue.{MatchValue}
 use Rattle.literal_packed.proofs.lemmas.Callers.{greedy_from_run}
 use Rattle.literal_examples.specs.Tokens.{GapsAreWhole, Tiles, gap, match_of, matched}
 use Rattle.literal_examples.specs.declared.tokens.Token.{Token}
-use Rattle.literal_examples.proofs.lemmas.Tokens.{tiles_push, tiles_gap, matched-append, matched-gap, whole_gap, whole_push}
+use Rattle.literal_examples.proofs.lemmas.Tokens.{tiles_push, tiles_gap, matched-append, matched-gap, whole_gap}
+use Rattle.literal_examples.proofs.lemmas.Tokens.{whole_push}
 use Rattle.literal_examples.proofs.tokens.tokens.Goals as goal
 
 pub loop-found-preserved : goal.loop-found-preserved

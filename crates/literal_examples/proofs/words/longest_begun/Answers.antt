@@ -12,7 +12,8 @@ loop-rest-preserved c =
     let now = λ (p : Bor (List ℕ)). p.now in
     let text = c.loop-rest.rest.now in
     let none : begins_one (map now patterns) text ≡ false =
-    list_any_read (λ p. starts_with nat_eq p text) now patterns ∙ (sym c.begins_one.ensures ∙ c.if-not-begins_one.true) in
+    list_any_read (λ p. starts_with nat_eq p text) now patterns
+    ∙ (sym c.begins_one.ensures ∙ c.if-not-begins_one.true) in
     let not_empty : length text ≢ 0 = eqb-false (length text) 0 (sym c.loop-rest-test.ensures) in
     let some : 0 < length text = omega arith in
     sym (longest_of_rest (map now patterns) text some none) ∙ c.loop-rest.invariant
@@ -23,5 +24,6 @@ returns-else-not-begins_one c =
     let now = λ (p : Bor (List ℕ)). p.now in
     let text = c.loop-rest.rest.now in
     let begun : begins_one (map now patterns) text ≡ true =
-    list_any_read (λ p. starts_with nat_eq p text) now patterns ∙ (sym c.begins_one.ensures ∙ c.if-not-begins_one.false) in
+    list_any_read (λ p. starts_with nat_eq p text) now patterns
+    ∙ (sym c.begins_one.ensures ∙ c.if-not-begins_one.false) in
     sym (longest_is_whole (map now patterns) text begun) ∙ c.loop-rest.invariant

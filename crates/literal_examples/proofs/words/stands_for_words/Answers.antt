@@ -9,10 +9,9 @@ use Rattle.literal_examples.proofs.words.stands_for_words.Goals as goal
 pub loop-number-preserved : goal.loop-number-preserved
 loop-number-preserved c =
     let now = λ (text : Bor (List ℕ)). text.now in
-    below_more (StandsForWord c.args.automaton.now (map now c.args.patterns.now) (map now c.args.words.now))
-    c.loop-number.number c.loop-number.invariant
-    (subst (StandsForWord c.args.automaton.now (map now c.args.patterns.now) (map now c.args.words.now)) c.must-state.ensures
-    (c.in_ok-stands_for_word.ensures.0 c.if-not-branch.false))
+    let stands = StandsForWord c.args.automaton.now (map now c.args.patterns.now) (map now c.args.words.now) in
+    below_more stands c.loop-number.number c.loop-number.invariant
+    (subst stands c.must-state.ensures (c.in_ok-stands_for_word.ensures.0 c.if-not-branch.false))
 
 pub returns-clause-exact : goal.returns-clause-exact
 returns-clause-exact c =
@@ -21,12 +20,12 @@ returns-clause-exact c =
     let long = c.if-words-state_len.false ∙ c.state_len.ensures.len in
     let first = c.as_usize.result in
     let first_is = c.as_usize.ensures.value ∙ c.start_state-start.ensures.start in
-    let below : first < length words = omega (arith, c.as_usize.ensures.value, c.start_state-start.ensures.is_state, long) in
-    let a = c.if-not-is_empty.ensures in
-    let a2 = c.if-not-is_empty.false in (
+    let is_state = c.start_state-start.ensures.is_state in
+    let below : first < length words = omega (arith, c.as_usize.ensures.value, is_state, long) in
+    let empty = eqb-true _ 0 (sym c.if-not-is_empty.ensures) in (
       λ _. record {
         each = length-map words now ∙ long;
-        begins = word_read words first _ _ first_is below ∙ nil_from_length _ (eqb-true _ 0 (sym c.if-not-is_empty.ensures));
+        begins = word_read words first _ _ first_is below ∙ nil_from_length _ empty;
         stand = λ state is_state. c.loop-number.invariant state (omega (arith, c.loop-number-test.false, long));
       },
       λ _. refl,

@@ -10,7 +10,8 @@ pub index-requires : goal.index-requires
 index-requires c =
     let a = c.self.inside in
     let class = slice_index a.classes c.args.byte in
-    let is_class : class < alphabet_len_of a.classes = c.self.invariant.automaton.classes_fit c.args.byte (omega arith) in
+    let classes_fit = c.self.invariant.automaton.classes_fit in
+    let is_class : class < alphabet_len_of a.classes = classes_fit c.args.byte (omega arith) in
     let enough = c.self.invariant.stride2.enough in
     let place = place_is c.as_usize.result c.args.state a.stride2 class c.get-class.result c.as_usize.ensures.value
     c.get-class.ensures (omega arith) c.self.invariant.few (omega arith) in
@@ -23,7 +24,8 @@ returns-clause-next c =
     let a = c.self.inside in
     let items = a.transitions.items in
     let class = slice_index a.classes c.args.byte in
-    let is_class : class < alphabet_len_of a.classes = c.self.invariant.automaton.classes_fit c.args.byte (omega arith) in
+    let classes_fit = c.self.invariant.automaton.classes_fit in
+    let is_class : class < alphabet_len_of a.classes = classes_fit c.args.byte (omega arith) in
     let enough = c.self.invariant.stride2.enough in
     let place = place_is c.as_usize.result c.args.state a.stride2 class c.get-class.result c.as_usize.ensures.value
     c.get-class.ensures (omega arith) c.self.invariant.few (omega arith) in
