@@ -1,4 +1,5 @@
-use Rattle.std.proofs.Common.{◌≡◌, List, [], ◌∷◌, Option, Some, false, ap, subst, ◌∙◌}
+-- The patterns are those that were added.
+use Rattle.std.proofs.Common.{◌≡◌, [], ◌∷◌, Option, Some, false, ap, subst, ◌∙◌}
 use Rattle.std.specs.Option.{IfSome}
 use Rattle.literal_base.specs.declared.packed.MatchKind.TheVariants.{LeftmostFirst}
 use Rattle.literal_base.specs.declared.search.MatchKind.TheVariants.{Standard}
