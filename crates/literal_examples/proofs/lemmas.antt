@@ -1,1 +1,5 @@
+pub mod Dense
+pub mod Earliest
+pub mod Ends
 pub mod Tokens
+pub mod Words

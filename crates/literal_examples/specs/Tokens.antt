@@ -1,5 +1,6 @@
 -- A text that is cut into tokens.
-use Rattle.std.specs.Prelude.{◌≡◌, ℕ, ◌<◌, List, [], ◌∷◌, ◌++◌, Option, Some, None, nat_lt, if◌then◌else◌}
+use Rattle.std.specs.Prelude.{◌≡◌, ⊤, ℕ, ◌<◌, ◌⊎◌, List, [], ◌∷◌, ◌++◌, Option, Some, None, IsSome, nat_lt}
+use Rattle.std.specs.Prelude.{if◌then◌else◌}
 use Rattle.literal_base.specs.declared.search.Span.{Span}
 use Rattle.literal_base.specs.MatchValue.{MatchValue}
 use Rattle.literal_examples.specs.declared.tokens.Token.{Token}
@@ -20,5 +21,11 @@ matched [] = []
 matched (token ∷ more) = match_of token.span token.pattern ++ matched more
 
 -- what lies between two offsets, as a token if it is not empty
-abbrev pub between : ℕ → ℕ → List Token
-between from to = if nat_lt from to then record { span = record { start = from; end = to }; pattern = None } ∷ [] else []
+abbrev pub gap : ℕ → ℕ → List Token
+gap from to = if nat_lt from to then record { span = record { start = from; end = to }; pattern = None } ∷ [] else []
+
+-- what lies between two matches is one token at most: of two neighbouring tokens one is a match
+abbrev pub GapsAreWhole : List Token → Type 0
+GapsAreWhole [] = ⊤
+GapsAreWhole (token ∷ []) = ⊤
+GapsAreWhole (token ∷ (next ∷ more)) = (IsSome token.pattern ⊎ IsSome next.pattern) × GapsAreWhole (next ∷ more)

@@ -2,6 +2,8 @@
 //! the lemmas for callers alone.
 #![tactic(auto)]
 
+pub mod dense;
+pub mod earliest;
 pub mod frequencies;
 pub mod keywords;
 pub mod replace;
@@ -9,4 +11,7 @@ pub mod replace;
 mod shown;
 #[cfg(test)]
 mod tests;
+#[cfg(test)]
+mod tests_of_automata;
 pub mod tokens;
+pub mod words;

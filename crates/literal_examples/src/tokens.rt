@@ -1,7 +1,7 @@
 //! A text cut into matches and what lies between them.
 ghost use Rattle.std.specs.Prelude.{◌≡◌, ◌≤◌, ◌++◌, IfOk, OnOk, false, length};
 ghost use Rattle.literal_base.specs.Greedy.{IsGreedy};
-ghost use Rattle.literal_examples.specs.Tokens.{Tiles, between, matched};
+ghost use Rattle.literal_examples.specs.Tokens.{GapsAreWhole, Tiles, gap, matched};
 
 use literal_prefilters::packed::Searcher;
 use literal_prefilters::{PatternID, Span};
@@ -17,29 +17,31 @@ pub struct Token {
 }
 
 /// The tokens of a text: the matches from the left that do not overlap, and what lies between them,
-/// before them and behind them. No token is empty, and one after another they are the whole text.
+/// before them and behind them, each gap as one token. No token is empty, and one after another they
+/// are the whole text.
 pub fn tokens(alloc: Global, searcher: &Searcher, haystack: &[u8]) -> Result<Vec<Token>, AllocError>
     ensures tiles { IfOk result (λ all. Tiles 0 (length haystack.now) all.items) }
     ensures matched { IfOk result (λ all. IsGreedy searcher.now false haystack.now 0 (matched all.items)) }
+    ensures whole { IfOk result (λ all. GapsAreWhole all.items) }
 {
     let mut all = Vec::new(alloc);
     let mut at = 0;
     for found in searcher.find_iter(haystack) {
-        push_between(&mut all, at, found.start())?;
+        push_gap(&mut all, at, found.start())?;
         all.push(Token {
             span: found.span(),
             pattern: Some(found.pattern()),
         })?;
         at = found.end();
     }
-    push_between(&mut all, at, haystack.len())?;
+    push_gap(&mut all, at, haystack.len())?;
     Ok(all)
 }
 
 /// Adds what lies between two offsets, unless that is nothing.
-fn push_between(all: &mut Vec<Token>, start: usize, end: usize) -> Result<(), AllocError>
+fn push_gap(all: &mut Vec<Token>, start: usize, end: usize) -> Result<(), AllocError>
     requires { start ≤ end }
-    ensures { OnOk result (all.new.items ≡ all.old.items ++ between start end) }
+    ensures { OnOk result (all.new.items ≡ all.old.items ++ gap start end) }
 {
     if start < end {
         all.push(Token {

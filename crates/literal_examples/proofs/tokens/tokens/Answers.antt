@@ -1,11 +1,13 @@
 use Rattle.literal_base.specs.declared.search.Span.{Span}
-use Rattle.std.proofs.Common.{rules, refl, Some, ◌<◌, ◌≤◌, ◌≡◌, ◌++◌, ◌∷◌, [], false, length, List, sym, ap, subst, ◌∙◌, arith}
+use Rattle.std.proofs.Common.{rules, refl, Some, ◌<◌, ◌≤◌, ◌≡◌, ◌++◌, ◌∷◌, [], false, length, List, sym, ap, subst}
+use Rattle.std.proofs.Common.{◌∙◌, arith}
 use Rattle.literal_base.specs.Greedy.{IsGreedy}
 use Rattle.literal_base.specs.MatchValue.{MatchValue}
 use Rattle.literal_packed.proofs.lemmas.Callers.{greedy_from_run}
-use Rattle.literal_examples.specs.Tokens.{Tiles, between, match_of, matched}
+use Rattle.literal_examples.specs.Tokens.{GapsAreWhole, Tiles, gap, match_of, matched}
 use Rattle.literal_examples.specs.declared.tokens.Token.{Token}
-use Rattle.literal_examples.proofs.lemmas.Tokens.{tiles_push, tiles_between, matched-append, matched-between}
+use Rattle.literal_examples.proofs.lemmas.Tokens.{tiles_push, tiles_gap, matched-append, matched-gap, whole_gap}
+use Rattle.literal_examples.proofs.lemmas.Tokens.{whole_push}
 use Rattle.literal_examples.proofs.tokens.tokens.Goals as goal
 
 pub loop-found-preserved : goal.loop-found-preserved
@@ -19,13 +21,13 @@ loop-found-preserved c =
     let span_is = c.span.ensures.span in
     let token : Token = record { span = c.span.result; pattern = Some c.pattern.result } in
     let ordered : at ≤ c.start.result = omega (arith, finds.leftmost.occurs.after_start) in
-    let pushed = c.in_ok-push.ensures.items ∙ ap (λ ts. ts ++ token ∷ []) c.in_ok-push_between.ensures in
+    let pushed = c.in_ok-push.ensures.items ∙ ap (λ ts. ts ++ token ∷ []) c.in_ok-push_gap.ensures in
     let starts = ap (λ (s : Span). s.start) span_is in
     let ends = ap (λ (s : Span). s.end) span_is in
     let end_is : c.span.result.end ≡ c.end-at.result = omega (arith, c.end-at.ensures.end) in
     let some : c.start.result < c.span.result.end = omega (arith, finds.not_empty) in
-    let tiled = tiles_push 0 c.start.result (all ++ between at c.start.result) token
-    (tiles_between 0 at c.start.result all so_far.tiles ordered) (omega arith) some in
+    let tiled = tiles_push 0 c.start.result (all ++ gap at c.start.result) token
+    (tiles_gap 0 at c.start.result all so_far.tiles ordered) (omega arith) some in
     let is_found : match_of c.span.result (Some c.pattern.result) ≡ found ∷ [] =
     rw (c.pattern.ensures, span_is) refl in
     record {
@@ -34,22 +36,29 @@ loop-found-preserved c =
       at_is = search rules;
       within = omega (arith, ap (λ h. length h) so_far.haystack_is, finds.leftmost.whole, finds.leftmost.occurs.before_end);
       tiles = subst (λ (ts : List Token). Tiles 0 c.end-at.result ts) (sym pushed)
-          (subst (λ e. Tiles 0 e ((all ++ between at c.start.result) ++ token ∷ [])) end_is tiled);
-      matched_are = ap matched pushed ∙ (matched-append (all ++ between at c.start.result) (token ∷ [])
+          (subst (λ e. Tiles 0 e ((all ++ gap at c.start.result) ++ token ∷ [])) end_is tiled);
+      matched_are = ap matched pushed ∙ (matched-append (all ++ gap at c.start.result) (token ∷ [])
           ∙ (ap (λ ms. ms ++ (match_of c.span.result (Some c.pattern.result) ++ []))
-          (matched-between at c.start.result all ∙ so_far.matched_are)
+          (matched-gap at c.start.result all ∙ so_far.matched_are)
           ∙ ap (λ ms. c.loop-found.yielded ++ (ms ++ [])) is_found));
+      whole = λ next. subst (λ (ts : List Token). GapsAreWhole (ts ++ next ∷ [])) (sym pushed)
+          (whole_push (all ++ gap at c.start.result) token refl (whole_gap at c.start.result all so_far.whole) next);
     }
 
 pub returns-clause-tiles : goal.returns-clause-tiles
 returns-clause-tiles c =
-    subst (λ (ts : List Token). Tiles 0 (length c.args.haystack.now) ts) (sym c.in_ok-push_between-2.ensures)
-    (tiles_between 0 c.loop-found.at _ c.loop-found.all.items c.loop-found.invariant.tiles c.loop-found.invariant.within)
+    subst (λ (ts : List Token). Tiles 0 (length c.args.haystack.now) ts) (sym c.in_ok-push_gap-2.ensures)
+    (tiles_gap 0 c.loop-found.at _ c.loop-found.all.items c.loop-found.invariant.tiles c.loop-found.invariant.within)
 
 pub returns-clause-matched : goal.returns-clause-matched
 returns-clause-matched c =
-    let matched_are = ap matched c.in_ok-push_between-2.ensures
-    ∙ (matched-between c.loop-found.at _ c.loop-found.all.items ∙ c.loop-found.invariant.matched_are) in
+    let matched_are = ap matched c.in_ok-push_gap-2.ensures
+    ∙ (matched-gap c.loop-found.at _ c.loop-found.all.items ∙ c.loop-found.invariant.matched_are) in
     subst (λ (ms : List MatchValue). IsGreedy c.args.searcher.now false c.args.haystack.now 0 ms) (sym matched_are)
     (greedy_from_run c.args.searcher.now c.args.haystack.now _ _ _ _ (cc) c.loop-found.yielded_by
     c.in-None.ensures.steps)
+
+pub returns-clause-whole : goal.returns-clause-whole
+returns-clause-whole c =
+    subst GapsAreWhole (sym c.in_ok-push_gap-2.ensures)
+    (whole_gap c.loop-found.at _ c.loop-found.all.items c.loop-found.invariant.whole)

@@ -1,5 +1,6 @@
-use Rattle.std.proofs.Common.{◌≡◌, ◌≤◌, length}
-use Rattle.literal_examples.specs.Tokens.{Tiles, matched}
+use Rattle.std.proofs.Common.{◌≡◌, ◌≤◌, ◌∷◌, ◌++◌, [], length}
+use Rattle.literal_examples.specs.Tokens.{GapsAreWhole, Tiles, matched}
+use Rattle.literal_examples.specs.declared.tokens.Token.{Token}
 use Rattle.literal_examples.proofs.tokens.tokens.Given as goal
 
 abbrev pub invariant-loop-found : goal.invariant-loop-found
@@ -10,4 +11,5 @@ invariant-loop-found l = record {
   within : l.at ≤ length l.haystack;
   tiles : Tiles 0 l.at l.all.items;
   matched_are : matched l.all.items ≡ l.yielded;
+  whole : (next : Token) → GapsAreWhole (l.all.items ++ next ∷ []);
 }
