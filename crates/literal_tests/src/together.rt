@@ -1,12 +1,12 @@
 //! What all layers promise together, said by one function.
-ghost use Rattle.std.specs.Prelude.{◌≡◌, ◌≤◌, ◌+◌, ◌-◌, ◌*◌, ◌↔◌, ℕ, List, IfOk, IfSome, IsSome, false, map};
+ghost use Rattle.std.specs.Prelude.{◌≡◌, ◌≤◌, ◌+◌, ◌-◌, ◌*◌, ◌↔◌, ℕ, List, IfOk, IfSome, IsSome, false, is_some, map};
 ghost use Rattle.literal_base.specs.Greedy.{IsGreedy};
 ghost use Rattle.literal_base.specs.Leftmost.{IsLeftmost};
 ghost use Rattle.literal_base.specs.Occurs.{IsValidSpan};
 ghost use Rattle.literal_packed.specs.ConfigValue.{IsPatternLimit};
-ghost use Rattle.literal_prefilters.specs.Choice.{Serves};
+ghost use Rattle.literal_prefilters.specs.Choice.{Serves, pick};
 ghost use Rattle.literal_prefilters.specs.Sound.{Sound};
-ghost use Rattle.literal_tests.specs.Together.{IsIteration, IsSearchedFor, asked_query};
+ghost use Rattle.literal_tests.specs.Together.{IsIteration, IsSearchedFor, asked_builder, asked_query};
 
 use crate::uses::taken_in_turn;
 use crate::uses_of_prefilters::{confirm_covered, covered_by};
@@ -54,7 +54,7 @@ pub struct Confirmed {
 /// patterns, one to the limit, build a searcher, whose answer on every valid span is the leftmost whole
 /// occurrence under the tie rule; `find_iter` is the greedy list of these, hashing each haystack byte at
 /// most once; no built prefilter passes over an occurrence, and confirming by it finds the leftmost,
-/// scanning at most 255 bytes per span byte.
+/// scanning at most 255 bytes per span byte. A prefilter is built exactly where one suits the patterns.
 pub fn together(
     alloc: Global,
     asked: &Asked<'_>,
@@ -73,6 +73,7 @@ pub fn together(
         IsGreedy (asked_query asked.now) false haystack.now 0 searched.all.items)) }
     ensures iteration { IfOk result (λ both. IfSome both.0 (λ searched.
         IsIteration (asked_query asked.now) haystack.now searched.all.items)) }
+    ensures picked { IfOk result (λ both. is_some both.1 ≡ is_some (pick (asked_builder asked.now))) }
     ensures sound { IfOk result (λ both. IfSome both.1 (λ confirmed.
         Sound (asked_query asked.now) asked.now.ignore_case haystack.now span confirmed.candidate)) }
     ensures confirmed { IfOk result (λ both. IfSome both.1 (λ confirmed.
@@ -135,6 +136,7 @@ fn propose_and_confirm(
 ) -> Result<Option<Confirmed>, AllocError>
     requires serves { Serves asked.now.built_for asked.now.kind }
     requires valid { IsValidSpan haystack.now span }
+    ensures picked { IfOk result (λ confirmed. is_some confirmed ≡ is_some (pick (asked_builder asked.now))) }
     ensures sound { IfOk result (λ confirmed. IfSome confirmed (λ c.
         Sound (asked_query asked.now) asked.now.ignore_case haystack.now span c.candidate)) }
     ensures confirmed { IfOk result (λ confirmed. IfSome confirmed (λ c.
@@ -156,7 +158,7 @@ mod tests {
     use crate::asserted::{assert_holds, assert_same};
     use crate::made::place;
     use literal_prefilters::count::Tally;
-    use literal_prefilters::packed::MatchKind::LeftmostFirst;
+    use literal_prefilters::packed::MatchKind::{LeftmostFirst, LeftmostLongest};
     use literal_prefilters::{MatchKind, Span};
     use std::test::Fail;
 
@@ -174,6 +176,25 @@ mod tests {
             ignore_case: false,
             patterns: &WORDS,
         }
+    }
+
+    #[test]
+    fn confirms_in_either_case(rt: HostRuntime) -> Result<(), Fail> {
+        let asked = Asked {
+            kind: LeftmostLongest,
+            pattern_limit: 2,
+            built_for: MatchKind::LeftmostLongest,
+            ignore_case: true,
+            patterns: &[b"MAP", b"maple"],
+        };
+        let span = Span { start: 0, end: 51 };
+        let both = together(rt.alloc(), &asked, HAYSTACK, span, &mut Tally::new())?;
+        let searched = both.0.ok_or("there is no searcher")?;
+        assert_same(&rt, searched.found.map(place), Some((1, 13, 18)), "found");
+        let confirmed = both.1.ok_or("there is no prefilter")?;
+        let found = confirmed.found.map(place);
+        assert_same(&rt, found, Some((1, 13, 18)), "confirmed");
+        Ok(())
     }
 
     #[test]

@@ -1,17 +1,18 @@
 //! Callers of prefilters that rely on contracts alone.
-ghost use Rattle.std.specs.Prelude.{◌≡◌, ◌≤◌, ◌+◌, ◌-◌, ◌*◌, ℕ, Bool, MatchOption, IfOk, IfSome, map};
+ghost use Rattle.std.specs.Prelude.{◌≡◌, ◌≤◌, ◌+◌, ◌-◌, ◌*◌, ℕ, Bool, MatchOption, IfOk, IfSome, is_some, length, map};
 ghost use Rattle.literal_base.specs.declared.packed.MatchKind.{MatchKind};
 ghost use Rattle.literal_base.specs.Leftmost.{IsLeftmost};
 ghost use Rattle.literal_packed.specs.PatternsValue.{query_of};
-ghost use Rattle.literal_tests.specs.Covered.{IsCovered};
-ghost use Rattle.literal_base.specs.Occurs.{IsValidSpan, Occurs, NothingOccurs};
+ghost use Rattle.literal_tests.specs.Covered.{IsCovered, prefilter_builder_of};
+ghost use Rattle.literal_base.specs.Occurs.{IsValidSpan, NoneIsEmpty, Occurs, NothingOccurs};
 ghost use Rattle.literal_base.specs.Query.{Query};
 ghost use Rattle.literal_packed.specs.State.{kept_of};
-ghost use Rattle.literal_prefilters.specs.Choice.{Serves};
+ghost use Rattle.literal_prefilters.specs.Choice.{IsBuiltFor, Serves, pick};
 ghost use Rattle.literal_prefilters.specs.Sound.{Sound};
 
 use literal_prefilters::count::Tally;
 use literal_prefilters::laws::prefilters_reach_254_bytes;
+use literal_prefilters::packed::laws::lists_up_to_the_limit_build;
 use literal_prefilters::packed::pattern::Patterns;
 use literal_prefilters::packed::{self};
 use literal_prefilters::prefilter::{Builder, Candidate, Prefilter, PrefilterI, confirm};
@@ -55,8 +56,7 @@ pub fn candidate_of(
     }
 }
 
-/// Patterns in the order of a match kind, and a prefilter that covers them for it, if one does. `None`
-/// too where a pattern is empty, or there are too many.
+/// Patterns in the order of a match kind, and a prefilter that covers them for it, if one suits them.
 pub fn covered_patterns(
     alloc: Global,
     kind: packed::MatchKind,
@@ -74,7 +74,8 @@ pub fn covered_patterns(
     covered_by(alloc, kind, built_for, ignore_case, list)
 }
 
-/// The same by a prefilter that is built for this kind of match or for standard semantics.
+/// The same by a prefilter that is built for this kind of match or for standard semantics. `None` exactly
+/// where no prefilter suits the patterns.
 pub fn covered_by(
     alloc: Global,
     kind: packed::MatchKind,
@@ -83,27 +84,52 @@ pub fn covered_by(
     list: &[&[u8]],
 ) -> Result<Option<Covered>, AllocError>
     requires { Serves built_for kind }
-    ensures { IfOk result (λ made. IfSome made (λ covered.
+    ensures covered { IfOk result (λ made. IfSome made (λ covered.
         (query_of covered.patterns ≡ record { kind = kind; patterns = map (λ p. p.now) list.now })
         × IsCovered ignore_case covered.patterns covered.prefilter)) }
+    ensures picked { IfOk result (λ made. is_some made ≡ is_some
+        (pick (prefilter_builder_of built_for ignore_case (map (λ p. p.now) list.now)))) }
 {
-    let mut builder = Builder::new(alloc, built_for).ascii_case_insensitive(ignore_case);
-    let mut patterns = Patterns::new(alloc);
-    for bytes in list {
-        if bytes.is_empty() || patterns.len() >= PatternID::LIMIT {
-            return Ok(None);
-        }
-        patterns.add(bytes)?;
-        builder.add(bytes)?;
-    }
-    patterns.set_match_kind(kind)?;
-    let Some(prefilter) = builder.build()? else {
+    lists_up_to_the_limit_build();
+    let Some(prefilter) = prefilter_for(alloc, built_for, ignore_case, list)? else {
         return Ok(None);
     };
+    let mut patterns = patterns_of(alloc, list)?;
+    patterns.set_match_kind(kind)?;
     Ok(Some(Covered {
         patterns,
         prefilter,
     }))
+}
+
+fn prefilter_for(
+    alloc: Global,
+    built_for: literal_prefilters::MatchKind,
+    ignore_case: bool,
+    list: &[&[u8]],
+) -> Result<Option<Prefilter>, AllocError>
+    ensures picked { IfOk result (λ built. built
+        ≡ pick (prefilter_builder_of built_for ignore_case (map (λ p. p.now) list.now))) }
+    ensures covers { IfOk result (λ built. IfSome built
+        (IsBuiltFor (prefilter_builder_of built_for ignore_case (map (λ p. p.now) list.now)))) }
+{
+    let mut builder = Builder::new(alloc, built_for).ascii_case_insensitive(ignore_case);
+    for bytes in list {
+        builder.add(bytes)?;
+    }
+    builder.build()
+}
+
+fn patterns_of(alloc: Global, list: &[&[u8]]) -> Result<Patterns, AllocError>
+    requires few { length list.now ≤ PatternID.LIMIT }
+    requires not_empty { NoneIsEmpty (map (λ p. p.now) list.now) }
+    ensures { IfOk result (λ patterns. patterns.patterns ≡ map (λ p. p.now) list.now) }
+{
+    let mut patterns = Patterns::new(alloc);
+    for bytes in list {
+        patterns.add(bytes)?;
+    }
+    Ok(patterns)
 }
 
 /// Patterns, and a prefilter for them.

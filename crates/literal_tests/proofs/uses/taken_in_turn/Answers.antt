@@ -1,8 +1,6 @@
-use Rattle.std.proofs.Common.{◌≡◌, false, List, sym, subst, arith}
-use Rattle.literal_base.specs.Counts.{none_yet}
+use Rattle.std.proofs.Common.{false, List, sym, subst}
 use Rattle.literal_base.specs.MatchValue.{MatchValue}
 use Rattle.literal_base.specs.Greedy.{IsGreedy}
-use Rattle.literal_packed.specs.FindIterValue.{FindIterValue}
 use Rattle.literal_packed.proofs.lemmas.Callers.{greedy_from_run}
 use Rattle.literal_tests.specs.Together.{IsIteration}
 use Rattle.literal_tests.proofs.lemmas.Runs.{iteration_of_run}
