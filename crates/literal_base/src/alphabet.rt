@@ -14,10 +14,10 @@ use std::marker::Model;
 ///
 /// ```rust
 /// let mut set = ByteClassSet::empty();
-/// set.set_range(b'a', b'z');
+/// set.set_range(b'0', b'9');
 /// let classes = set.byte_classes();
 /// assert!(rt; classes.alphabet_len() == 3 && classes.stride2() == 2);
-/// assert!(rt; classes.get(b'A') == 0 && classes.get(b'm') == 1 && classes.get(b'~') == 2);
+/// assert!(rt; classes.get(b'/') == 0 && classes.get(b'4') == 1 && classes.get(b'x') == 2);
 /// ```
 #[derive(Clone, Copy, Debug)]
 pub struct ByteClasses {

@@ -173,7 +173,8 @@ impl Builder {
     }
 
     /// A searcher for the patterns, or `None` where there are none or the builder is inert. The
-    /// builder stays as it is.
+    /// builder stays as it is. Memory is asked for only where a searcher can be built; where it is refused
+    /// there is none.
     pub fn build(&self) -> Result<Option<Searcher>, AllocError>
         ensures ok { IfOk result (λ built. built ≡ searcher_of self.now) }
         ensures no_memory { IsOk result ⊎ IsBuildable self.now }
@@ -298,7 +299,8 @@ impl Builder {
         self.patterns.minimum_len()
     }
 
-    /// A copy: the same configuration and patterns, and inert where this builder is.
+    /// A copy: the same configuration and patterns, and inert where this builder is. Memory may be
+    /// refused; the builder stays as it is.
     pub fn try_clone(&self) -> Result<Builder, AllocError>
         ensures { IfOk result (λ copy. copy ≡ self.now) }
     {
@@ -363,6 +365,7 @@ impl Model for Searcher {
 impl Searcher {
     /// A searcher for the patterns that the iterator gives, with the usual configuration: what
     /// [`Builder::extend`] and [`Builder::build`] of a new builder make. The iterator has to end.
+    /// Memory is asked for only for a pattern that is kept, and where a searcher can be built.
     pub fn new<'a, I: IntoIterator<Item = &'a [u8]>>(
         alloc: Global,
         patterns: I,
@@ -503,7 +506,7 @@ impl Searcher {
         0
     }
 
-    /// A copy: the same patterns and match kind.
+    /// A copy: the same patterns and match kind. Memory may be refused; the searcher stays as it is.
     pub fn try_clone(&self) -> Result<Searcher, AllocError>
         ensures { IfOk result (λ copy. copy ≡ self.now) }
     {

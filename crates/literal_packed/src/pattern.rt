@@ -112,11 +112,7 @@ impl Patterns {
     pub fn reset(&mut self)
         ensures { self.new ≡ no_patterns }
     {
-        self.kind = MatchKind::default();
-        self.by_id.clear();
-        self.order.clear();
-        self.minimum_len = usize::MAX;
-        self.total_pattern_bytes = 0;
+        *self = Patterns::new(self.allocator());
     }
 
     /// The length of the shortest pattern in bytes, and `usize::MAX` where there is none.
@@ -197,7 +193,7 @@ impl Patterns {
         *self.by_id.allocator()
     }
 
-    /// A copy: the same patterns, order and kind.
+    /// A copy: the same patterns, order and kind. Memory may be refused; the patterns stay as they are.
     pub fn try_clone(&self) -> Result<Patterns, AllocError>
         ensures { IfOk result (λ copy. copy ≡ self.now) }
     {

@@ -159,7 +159,7 @@ pub fn confirming_searches_cover_their_patterns(search: &ConfirmingSearch)
 }
 
 /// For a leftmost kind of match, with case kept, there is a prefilter for each list of 1 to 128
-/// patterns, want of memory aside.
+/// non-empty patterns, want of memory aside.
 pub fn up_to_128_patterns_have_a_prefilter()
     ensures { (builder : PrefilterBuilderValue)
         → suits_packed builder ≡ true
@@ -169,11 +169,11 @@ pub fn up_to_128_patterns_have_a_prefilter()
 {}
 
 /// What confirming searches by tables count, worked by hand. By the first bytes of `foo` and `bar` the
-/// places of both first bytes are tried in `xxbafoo`, and five bytes scanned. By the byte `k` with the distance 7,
-/// which it has in `Sherlock` and `lockjaw`, three places are tried in `Shlockjaw`, each of which the same `k` proposes; up to
-/// its byte 8 nothing is found, after six. By the byte `p` with the distance 4 three places are tried up to `maple`, and
-/// nine in all until no word is left. By a byte with the distance 254 at the end of 255 bytes each place is tried, and each
-/// byte scanned once.
+/// places of both first bytes are tried in `xxbafoo`, and five bytes scanned. By the byte `k` with the
+/// distance 7, which it has in `Sherlock` and `lockjaw`, three places are tried in `Shlockjaw`, each of
+/// which the same `k` proposes; up to its byte 8 nothing is found, after six. By the byte `p` with the
+/// distance 4 three places are tried up to `maple`, and nine in all until no word is left. By a byte with
+/// the distance 254 at the end of 255 bytes each place is tried, and each byte scanned once.
 pub fn worked_counts()
     ensures start_table { let table : List (Option ℕ) = table_of (λ b. b == 0x66 || b == 0x62) (λ _. 0) in
         let answer : Option MatchValue = Some (record { pattern = 0; start = 4; end = 7 }) in
@@ -206,9 +206,9 @@ pub fn worked_counts()
         × (scanned_once table haystack (between 0 255) None ≡ 255) }
 {}
 
-/// Where a match begins at the place that its table proposes first, that place alone is tried, and the bytes up to the
-/// first of the table are scanned. So it is for a byte with each distance that a table may have, at the end of a pattern
-/// behind ten other bytes.
+/// Where a match begins at the place that its table proposes first, that place alone is tried, and the
+/// bytes up to the first of the table are scanned. So it is for a byte with each distance that a table may
+/// have, at the end of a pattern behind ten other bytes.
 pub fn one_try_where_a_match_is_proposed()
     ensures proposed { (table : List (Option ℕ)) (haystack : List ℕ) (span : Span) (place : ℕ) (found : MatchValue)
         → IsValidSpan haystack span
@@ -226,5 +226,6 @@ pub fn one_try_where_a_match_is_proposed()
 /// A search by a table in an empty span counts nothing.
 pub fn empty_spans_count_nothing()
     ensures { (table : List (Option ℕ)) (haystack : List ℕ) (at : ℕ)
-        → (tried_places table haystack (between at at) None ≡ 0) × (scanned_once table haystack (between at at) None ≡ 0) }
+        → (tried_places table haystack (between at at) None ≡ 0)
+        × (scanned_once table haystack (between at at) None ≡ 0) }
 {}

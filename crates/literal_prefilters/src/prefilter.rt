@@ -1,13 +1,15 @@
 //! Prefilters: they pass over parts of a haystack in which no pattern occurs, and propose places at
 //! which one may begin. All offsets are in bytes, from the beginning of the whole haystack.
 ghost use Rattle.std.specs.List.{All};
-ghost use Rattle.std.specs.Prelude.{◌≡◌, ◌==◌, ◌≤◌, ◌<◌, ◌∷◌, ℕ, List, [], length, Some, OnOk, OnErr, IfOk, IfSome, false};
+ghost use Rattle.std.specs.Prelude.{◌≡◌, ◌==◌, ◌≤◌, ◌<◌, ◌∷◌, ℕ, List, [], length, Some, false};
+ghost use Rattle.std.specs.Prelude.{OnOk, OnErr, IfOk, IfSome};
 ghost use Rattle.std.specs.Prelude.{IsSomeAnd, IsTrue, ◌||◌, if◌then◌else◌};
 ghost use Rattle.std.specs.Option.{option_copied};
 ghost use Rattle.literal_base.specs.Occurs.{IsValidSpan};
 ghost use Rattle.literal_prefilters.specs.Answers.{match_of, start_of};
 ghost use Rattle.literal_prefilters.specs.Choice.{IsBuiltFor, has_fewer_start_bytes, is_last_resort, is_one_pattern};
-ghost use Rattle.literal_prefilters.specs.Choice.{is_short_list, is_start_nearly_as_rare, packed_search, pick, suits_packed};
+ghost use Rattle.literal_prefilters.specs.Choice.{is_short_list, is_start_nearly_as_rare, packed_search};
+ghost use Rattle.literal_prefilters.specs.Choice.{pick, suits_packed};
 ghost use Rattle.literal_prefilters.specs.PrefilterValue.{CoveredBy, IsAnswer, IsCountedAnswer, TakesMemory};
 ghost use Rattle.literal_prefilters.specs.PrefilterValue.{by_table, prefilter_reach, prefilter_table};
 ghost use Rattle.literal_prefilters.specs.PrefilterBuilderValue.{PrefilterBuilderValue, pattern_limit, with_added};
@@ -307,8 +309,8 @@ impl Builder {
         }
     }
 
-    /// Sets whether an ASCII letter is the same as its other case. The builder may have no pattern
-    /// yet, and may not be disabled.
+    /// Sets whether an ASCII letter is the same as its other case. The builder must not have a
+    /// pattern yet, nor be disabled.
     pub fn ascii_case_insensitive(self, yes: bool) -> Builder
         requires { self.state ≡ Some [] }
         ensures { result ≡ record self { ignore_case = yes } }

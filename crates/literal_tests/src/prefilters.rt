@@ -9,8 +9,8 @@ use std::alloc::{AllocError, Global};
 use std::process::Abort;
 use std::test::Fail;
 
-/// What a case shows, the kind that is built, its patterns, whether case is ignored, a haystack, the start of a span that goes
-/// to the haystack's end, and the place that is proposed.
+/// What a case shows, the kind that is built, its patterns, whether case is ignored, a haystack, the start
+/// of a span that goes to the haystack's end, and the place that is proposed.
 type Row = (
     &'static str,
     &'static str,

@@ -1,11 +1,10 @@
 //! Callers that rely on contracts alone.
 ghost use Rattle.std.specs.Prelude.{◌≡◌, ◌∷◌, [], List, false, length, IfOk, OnOk, IsNone, map, string_bytes};
-ghost use Rattle.std.specs.Iterator.{IsFinite};
 ghost use Rattle.literal_base.specs.MatchValue.{MatchValue};
 ghost use Rattle.literal_base.specs.Greedy.{IsGreedy};
 ghost use Rattle.literal_packed.specs.BuilderValue.{BuilderValue, builder_of, searcher_of, with_added, BuildsItems};
 ghost use Rattle.literal_packed.specs.ConfigValue.{default_config};
-ghost use Rattle.literal_packed.specs.Lending.{HoldsAll};
+ghost use Rattle.literal_packed.specs.Lending.{CanBeTaken, HoldsAll};
 ghost use Rattle.literal_tests.specs.Together.{IsIteration};
 
 use literal_prefilters::packed::laws::next_is_bounded;
@@ -58,8 +57,7 @@ pub fn built_of_items<'a, I: IntoIterator<Item = &'a [u8]>>(
     alloc: Global,
     patterns: I,
 ) -> Result<Option<Searcher>, AllocError>
-    requires { (it : I.IntoIter) → I.into_iter_gives patterns it
-        → I.IntoIter.can_next it × IsFinite (I.IntoIter.remaining it) }
+    requires { CanBeTaken I.into_iter_gives I.IntoIter.can_next I.IntoIter.remaining patterns }
     ensures { IfOk result (BuildsItems I.into_iter_gives I.IntoIter.next_gives patterns) }
 {
     let mut builder = Builder::new(alloc);
@@ -73,8 +71,7 @@ pub fn extend_and_add<'a, I: IntoIterator<Item = &'a [u8]>>(
     patterns: I,
     last: &[u8],
 ) -> Result<(), AllocError>
-    requires { (it : I.IntoIter) → I.into_iter_gives patterns it
-        → I.IntoIter.can_next it × IsFinite (I.IntoIter.remaining it) }
+    requires { CanBeTaken I.into_iter_gives I.IntoIter.can_next I.IntoIter.remaining patterns }
     ensures { OnOk result ((mid : BuilderValue)
         × HoldsAll I.into_iter_gives I.IntoIter.next_gives patterns builder.old mid
         × (builder.new ≡ with_added mid (last.now ∷ []))) }

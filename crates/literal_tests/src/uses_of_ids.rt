@@ -1,5 +1,6 @@
 //! Callers of identifiers and conversions that rely on contracts alone.
-ghost use Rattle.std.specs.Prelude.{◌≡◌, ◌<◌, ◌≤◌, ◌/◌, ◌%◌, ◌^◌, ◌↔◌, [], length, slice_index, IsTrue, IfOk, IfSome, IsNone};
+ghost use Rattle.std.specs.Prelude.{◌≡◌, ◌<◌, ◌≤◌, ◌/◌, ◌%◌, ◌^◌, ◌↔◌, [], length, slice_index};
+ghost use Rattle.std.specs.Prelude.{IsTrue, IfOk, IfSome, IsNone};
 ghost use Rattle.std.specs.List.{enumerate_from, range_with_len};
 ghost use Rattle.literal_ids.specs.Identifier.{IsCheckedNumber};
 

@@ -1,6 +1,7 @@
 -- What is known of lists with a value for each byte, of marks, and of each byte that a `for` takes of a class.
 -- For callers: their proofs cite this file, and no other of this crate's proofs.
-use Rattle.std.proofs.Common.{◌≡◌, ◌==◌, ℕ, ◌<◌, true, List, ◌∷◌, ◌++◌, length, get_or, slice_index, sym, subst, ap, ◌∙◌, arith}
+use Rattle.std.proofs.Common.{◌≡◌, ◌==◌, ℕ, ◌<◌, true, List, ◌∷◌, ◌++◌, length, get_or, slice_index}
+use Rattle.std.proofs.Common.{sym, subst, ap, ◌∙◌, arith}
 use Rattle.std.proofs.lemmas.List.{length-append}
 use Rattle.std.proofs.lemmas.List.Elements.{filter_passes}
 use Rattle.std.proofs.Math.Seq.{get_or-append_seam}

@@ -92,7 +92,7 @@ impl PatternID {
         self.index.as_u32()
     }
 
-    /// The identifier as a `i32`.
+    /// The identifier as an `i32`.
     pub fn as_i32(&self) -> i32
         ensures value { result ≡ pos self.now }
         ensures limit { self.now < PatternID.LIMIT }

@@ -92,7 +92,7 @@ impl SmallIndex {
         self.value
     }
 
-    /// The index as a `i32`.
+    /// The index as an `i32`.
     pub fn as_i32(&self) -> i32
         ensures value { result ≡ pos self.now }
         ensures limit { self.now < SmallIndex.LIMIT }

@@ -5,13 +5,13 @@ use Rattle.std.proofs.Common.{Result, Ok, Err, IsOk, IfOk, OnErr, ltb, ◌⊎◌
 use Rattle.std.proofs.Common.{append_assoc, append-nil, arith}
 use Rattle.std.specs.Borrow.{Bor}
 use Rattle.std.proofs.lemmas.Bool.Decides.{nat_tests}
-use Rattle.std.proofs.lemmas.List.{length-append, map_push}
+use Rattle.std.proofs.lemmas.List.{length-append}
 use Rattle.std.proofs.lemmas.List.Folds.{list_all-append}
 use Rattle.literal_packed.specs.State.{may_keep, state_of, state_after}
 use Rattle.literal_base.specs.Query.{Query}
 use Rattle.literal_packed.specs.ConfigValue.{ConfigValue, default_config}
 use Rattle.literal_packed.specs.Lending.{HoldsAll, RefusedItems}
-use Rattle.literal_packed.specs.BuilderValue.{AddsAll, BuilderValue, BuildsItems, IsBuildable, builder_of}
+use Rattle.literal_packed.specs.BuilderValue.{BuilderValue, BuildsItems, IsBuildable, builder_of}
 use Rattle.literal_packed.specs.BuilderValue.{searcher_of, with_added}
 
 abbrev is_some : List ℕ → Bool

@@ -1,12 +1,14 @@
 //! The confirming search: a prefilter proposes places, and the patterns are compared there.
-ghost use Rattle.std.specs.Prelude.{◌≡◌, ◌+◌, ◌-◌, ◌*◌, ◌≤◌, length, take, IfOk, OnErr, IfSome, IsTrue, MatchOption, is_some, option_map, slice_index, Some};
+ghost use Rattle.std.specs.Prelude.{◌≡◌, ◌+◌, ◌-◌, ◌*◌, ◌≤◌, length, take, is_some, slice_index, Some};
+ghost use Rattle.std.specs.Prelude.{IfOk, OnErr, IfSome, IsTrue, MatchOption, option_map};
 ghost use Rattle.std.specs.List.{All};
 ghost use Rattle.literal_base.specs.Greedy.{IsGreedy};
 ghost use Rattle.literal_base.specs.Leftmost.{IsLeftmost};
 ghost use Rattle.literal_base.specs.Occurs.{IsValidSpan, NoneIsEmpty};
 ghost use Rattle.literal_packed.specs.Inside.Place.{IsBestAt, NoneStandsAt};
 ghost use Rattle.literal_packed.specs.PatternsValue.{IsInOrder, query_of};
-ghost use Rattle.literal_prefilters.specs.Confirming.{CountsConfirming, SpendsConfirming, answer_end, scanned_once, tried_places};
+ghost use Rattle.literal_prefilters.specs.Confirming.{CountsConfirming, SpendsConfirming, answer_end};
+ghost use Rattle.literal_prefilters.specs.Confirming.{scanned_once, tried_places};
 ghost use Rattle.literal_prefilters.specs.PrefilterValue.{CoveredBy};
 ghost use Rattle.literal_packed.specs.Lending.{CanBeTaken};
 ghost use Rattle.literal_prefilters.specs.Choice.{pick};
@@ -272,8 +274,9 @@ impl ConfirmingSearch {
     }
 
     /// Answers as [`ConfirmingSearch::find_in`], and adds the steps that it takes to a tally. By a table
-    /// of bytes each byte is scanned at most once, and none behind the match's end; at each place that is
-    /// tried each pattern is compared at most once. By an exact prefilter it is one search.
+    /// of bytes each byte is scanned at most once, and none behind the match's end; for each place that is
+    /// tried there are at most as many comparisons as there are patterns. By an exact prefilter it is one
+    /// search.
     pub fn find_in_counted(&self, haystack: &[u8], span: Span, tally: &mut Tally) -> Option<Match>
         requires { IsValidSpan haystack.now span }
         ensures leftmost { IsLeftmost self.now.query self.now.ignore_case haystack.now span result }

@@ -106,7 +106,8 @@ impl CountedSet {
 
     /// It has as many bytes as a table may have.
     pub(super) fn fits_a_table(&self) -> bool
-        ensures { result ≡ (nat_le 1 (size (of_set (contains self.now))) && nat_le (size (of_set (contains self.now))) 3) }
+        ensures { result ≡ (nat_le 1 (size (of_set (contains self.now)))
+            && nat_le (size (of_set (contains self.now))) 3) }
     {
         self.count >= 1 && self.count <= MOST_BYTES
     }

@@ -25,7 +25,8 @@ buildable : (b : BuilderValue) → is_some (searcher_of b) ≡ true → IsBuilda
 buildable b = from (nat_lt 0 (length (kept_of b.state))) refl
   where
     from : (may : Bool) → nat_lt 0 (length (kept_of b.state)) ≡ may
-        → is_some {T = Query} (cond may (Some (record { kind = b.config.kind; patterns = kept_of b.state })) None) ≡ true
+        → is_some {T = Query} (cond may (Some (record { kind = b.config.kind; patterns = kept_of b.state })) None)
+        ≡ true
         → 0 < length (kept_of b.state)
     from true is some = ltb-true 0 (length (kept_of b.state)) is
     from false is some = cc

@@ -25,7 +25,8 @@ run_hashes : IsBounded → (s : FindIterValue) (all : List MatchValue) (t u : Fi
     → Yields FindsNext s all t → FindsNext t None u → u.counts.hashed ≤ s.counts.hashed + (length s.haystack - s.at)
 run_hashes bounded s [] t u within stays nothing =
     subst (λ (f : FindIterValue). u.counts.hashed ≤ f.counts.hashed + (length f.haystack - f.at)) (sym stays)
-    (let step = (bounded t u None (subst (λ (f : FindIterValue). f.at ≤ length f.haystack) stays within) nothing).hashed in
+    (let inside = subst (λ (f : FindIterValue). f.at ≤ length f.haystack) stays within in
+    let step = (bounded t u None inside nothing).hashed in
     omega arith)
 run_hashes bounded s (found ∷ more) t u within run nothing =
     let next = run.0 in

@@ -15,7 +15,8 @@ zero_either false = refl
 hashed_none : (patterns : List (List ℕ)) (at : ℕ) → hashed_up_to patterns (between at at) None ≡ 0
 hashed_none patterns at =
     let none : at - at ≡ 0 = omega arith in
-    ap (λ k. if nat_lt k (minimum_len_of patterns) then 0 else k) none ∙ zero_either (nat_lt 0 (minimum_len_of patterns))
+    ap (λ k. if nat_lt k (minimum_len_of patterns) then 0 else k) none
+    ∙ zero_either (nat_lt 0 (minimum_len_of patterns))
 
 -- no window lies in it
 pairs_none : (test : ℕ → ℕ → Bool) (patterns : List (List ℕ)) (at : ℕ) → 1 ≤ minimum_len_of patterns

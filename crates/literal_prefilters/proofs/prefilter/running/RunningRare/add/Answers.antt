@@ -6,7 +6,9 @@ use Rattle.literal_prefilters.proofs.lemmas.Running.{fits, largest_offset-push, 
 use Rattle.literal_prefilters.proofs.lemmas.Running.{some_more}
 use Rattle.literal_prefilters.proofs.prefilter.running.RunningRare.add.Goals as goal
 use Rattle.literal_prefilters.proofs.prefilter.running.RunningRare.add.Goals.{}
-use Rattle.literal_prefilters.proofs.prefilter.running.RunningRare.add.Goals.{else-not-self-via-then-not-self+else-not-is_past_a_table}
+use Rattle.literal_prefilters.proofs.prefilter.running.RunningRare.add.Goals.{
+  else-not-self-via-then-not-self+else-not-is_past_a_table,
+}
 use Rattle.literal_prefilters.proofs.prefilter.running.RunningRare.add.Goals.{else-not-self-via-else-not-self}
 
 pub returns-then-not-is_past_a_table : goal.returns-then-not-is_past_a_table
