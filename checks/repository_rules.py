@@ -26,6 +26,10 @@ CITATIONS = re.compile(
     r"|\bthe" r" papers?\b"
 )
 
+# Folders that are not read, by their paths from the top: git's own, what is built, and what Python keeps of the checks.
+# Elsewhere a folder of such a name is one of proofs, of a function that is called so.
+NOT_READ = re.compile(r"\.git|(?:crates/\w+/)?out|checks/__pycache__")
+
 LONGEST_FILE = 800
 
 # Where an example on the page for callers, of code or of a proof, may stand.
@@ -49,7 +53,7 @@ def texts_of(root):
     """The texts of the files in a folder, by their paths from it, and the paths that are links."""
     texts, links = {}, []
     for folder, folders, names in os.walk(root):
-        folders[:] = [name for name in folders if name not in (".git", "out", "__pycache__")]
+        folders[:] = read_of(root, folder, folders)
         for name in sorted(folders + names):
             full = os.path.join(folder, name)
             path = os.path.relpath(full, root)
@@ -59,6 +63,11 @@ def texts_of(root):
                 with open(full, encoding="utf-8", newline="") as file:
                     texts[path] = file.read()
     return texts, links
+
+
+def read_of(root, folder, names):
+    """The names in a folder of what is read."""
+    return [name for name in names if not NOT_READ.fullmatch(os.path.relpath(os.path.join(folder, name), root))]
 
 
 def handles(repository):
