@@ -126,6 +126,9 @@ ONCE = [
         PREFILTER, "    finder: Finder,\n}", "    finder: Finder,\n    kept: Option<TableByte>,\n}")]),
     ("variant_that_keeps_a_byte", "structs", [replace(
         PREFILTER, "    PossibleStartOfMatch(usize),", "    PossibleStartOfMatch(usize),\n    Kept(TableByte),")]),
+    ("variant_that_keeps_a_list", "structs", [replace(
+        PREFILTER, "    Memmem(Memmem),", "    Memmem(Memmem, Vec<(usize, PatternID)>),")]),
+    ("struct_that_keeps_a_list", "structs", [append(CONFIRMING, "\nstruct Kept {\n    list: Vec<(usize, PatternID)>,\n}\n")]),
     ("struct_that_keeps_an_iteration", "structs", [append(
         CONFIRMING, "\nstruct Kept<'s, 'h> {\n    iteration: FindIter<'s, 'h>,\n}\n")]),
     ("byte_of_the_table_with_its_byte", "structs", [replace(

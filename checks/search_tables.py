@@ -235,8 +235,9 @@ STD_TYPES = (
 VALUE_TYPES = ("PatternID", "Match", "MatchKind", "Span", "ByteSet")
 PLAIN_TYPES = STD_TYPES + VALUE_TYPES
 
-# Of those that the crates declare, the ones that no struct holds: what was read of a haystack ends with the search.
-NOT_KEPT = ("TableByte", "FindIter")
+# Of these and those that the crates declare, the ones that no struct or enum holds whose words are not held: what was
+# read of a haystack ends with the search, and a list could be one of bucket entries, which is read uncounted.
+NOT_KEPT = ("TableByte", "FindIter", "Vec")
 
 # And the one that no function takes but laws: it goes on in a tally of its own.
 NOT_TAKEN = ("FindIter",)
