@@ -26,6 +26,7 @@ KEPT = "        Some(found) if rest.start <= found.place => kept,"
 CUT = "        let haystack = &haystack[..span.end];\n        self.rabin_karp"
 ALL_LINES = "    for found in searcher.find_iter(input) {"
 LEFTMOST_LINE = "    let Some(found) = search.find_in(input, span) else {"
+READ_BLOCK = "        match reader.read(&mut buffer) {"
 BY_MODE = "        match self {\n            Searching::All(searcher) => all_lines"
 
 
@@ -190,6 +191,8 @@ PROGRAM = [
     ("program_asks_in_a_closure", "bodies", [replace(
         ENGINE, RUN, "    let ask = || searcher.lines(alloc, input.as_slice());\n    let text = ask()?;")]),
     ("program_reads_by_itself", "bodies", [before(ENGINE, LEFTMOST_LINE, '    if input.starts_with(b"a") {}')]),
+    ("program_goes_over_its_input", "bodies", [before(
+        ENGINE, READ_BLOCK, "        for byte in input.iter() {\n            if *byte == 0 {\n                break;\n            }\n        }")]),
     ("program_keeps_a_search", "program", [append(
         ENGINE, "\nconst AGAIN: fn(&Searcher, &[u8]) -> Option<Match> = Searcher::find;\n")]),
     ("program_runs_twice", "program", [append(ENGINE, "\nfn again() {\n    run();\n    run();\n}\n")]),

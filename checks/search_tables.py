@@ -379,7 +379,7 @@ STRUCTS = {
 }
 
 # The bodies that read bytes of the haystack, read bucket entries, tick, or make a tally for a search, and
-# those by which the program makes its one search.
+# those by which the program reads its input and makes its one search.
 BODIES = {
     (API, "impl Searcher", "find"): "self.find_in(haystack, Span { start: 0, end: haystack.len(), },)",
     (API, "impl Searcher", "find_in"): "let mut tally = Tally::new(); self.find_in_counted(haystack, span, &mut tally)",
@@ -454,6 +454,16 @@ BODIES = {
         match self {
             Searching::All(searcher) => all_lines(alloc, searcher, input),
             Searching::Leftmost(search) => leftmost_line(alloc, search, input),
+        }""",
+    (ENGINE, "", "read_to_end"): """
+        let mut input = Vec::new(alloc);
+        let mut buffer = [0u8; BLOCK];
+        loop {
+            match reader.read(&mut buffer) {
+                Ok(0) => return Ok(input),
+                Ok(count) => input.extend_from_slice(&buffer[..count])?,
+                Err(Failed) => return Err(Fault::ReadFailed),
+            }
         }""",
     (ENGINE, "", "run"): """
         let searcher = searcher(alloc, words)?;
