@@ -105,6 +105,10 @@ REPOSITORY = [
     ("paper_cited", "citations", [append("README.md", "as the theorem " + "T" + "3 says\n")]),
     ("hole_left", "holes", [append("crates/literal_base/proofs/lemmas/Unique.antt", "\nopen_goal = ?\n")]),
     ("long_file", "lengths", [append(BASE_SEARCH, "\n" * 801)]),
+    ("wide_line", "widths", [append(BASE_SEARCH, "\n// " + "x" * 118 + "\n")]),
+    ("wide_line_of_a_proof", "widths", [append(
+        "crates/literal_base/proofs/lemmas/Unique.antt", "\n-- " + "λ" * 118 + "\n")]),
+    ("lines_that_just_fit", None, [append(BASE_SEARCH, "\n// " + "≡" * 117 + "\n")]),
     ("definition_unexplained", "definitions", [
         append("crates/literal_base/specs/Counts.antt", "\nabbrev pub another_word : Counts\nanother_word = none_yet\n")]),
     ("example_in_no_test", "examples", [replace("README.md", "let searcher = built", "let search = built")]),
@@ -307,9 +311,10 @@ SIGNATURES = [
 
 # Functions and types of the crates of values.
 VALUES = [
-    ("bytes_below", "values", [append(BASE_SEARCH, "\npub fn first_of(haystack: &[u8]) -> u8 {\n    haystack[0]\n}\n")]),
+    ("bytes_below", "values", [append(
+        BASE_SEARCH, "\npub fn first_of(haystack: &[u8]) -> u8 {\n    haystack[0]\n}\n")]),
     ("bytes_by_a_method_below", "values", [before(
-        BASE_SEARCH, EQ_RANGE, "    pub fn first_of(&self, bytes: &[u8]) -> u8 {\n        bytes[self.start]\n    }\n")]),
+        BASE_SEARCH, EQ_RANGE, "    pub fn first_of(&self, bytes: &[u8]) -> u8 {\n        bytes[0]\n    }\n")]),
     ("text_below", "values", [append(BASE_SEARCH, "\npub fn is_bare(text: &str) -> bool {\n    text.is_empty()\n}\n")]),
     ("array_below", "values", [append(BASE_SEARCH, "\npub fn first_of(bytes: &[u8; 4]) -> u8 {\n    bytes[0]\n}\n")]),
     ("input_below", "values", [append(

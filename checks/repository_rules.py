@@ -31,6 +31,7 @@ CITATIONS = re.compile(
 NOT_READ = re.compile(r"\.git|(?:crates/\w+/)?out|checks/__pycache__")
 
 LONGEST_FILE = 800
+WIDEST_LINE = 120
 
 # Where an example on the page for callers, of code or of a proof, may stand.
 EXAMPLES = {
@@ -143,6 +144,20 @@ def lengths(repository):
             yield f"{path} has {len(text.splitlines())} lines"
 
 
+def widths(repository):
+    """No line is wide."""
+    for path, text in repository.texts.items():
+        if path.endswith((".rt", ".antt")):
+            for number in wide_lines(text):
+                yield f"{path}:{number}: more than {WIDEST_LINE} columns"
+
+
+@functools.lru_cache(maxsize=None)
+def wide_lines(text):
+    """The numbers of the lines of a text that are wide."""
+    return [number for number, line in enumerate(text.splitlines(), 1) if len(line) > WIDEST_LINE]
+
+
 def strays(repository):
     """No file of another kind, no link, and no source outside of the folders of sources."""
     for path in repository.links:
@@ -223,7 +238,7 @@ def functions_of(text):
     return re.findall(r"\bfn \w.*?(?= fn \w|$)", words_of(text))
 
 
-RULES = [handles, crates, walks, citations, holes, lengths, strays, definitions, examples, quotes]
+RULES = [handles, crates, walks, citations, holes, lengths, widths, strays, definitions, examples, quotes]
 
 
 def broken_rules(repository):

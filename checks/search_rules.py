@@ -757,6 +757,6 @@ def stands_in(body, at, name, form):
 
 
 RULES = [
-    parsed, listed, attributes, imports, kinds, forms, constants, names, impls, structs, signatures, values, reads, laws,
-    tallies, ticks, program, entries, callers, bodies, statements,
+    parsed, listed, attributes, imports, kinds, forms, constants, names, impls, structs, signatures, values, reads,
+    laws, tallies, ticks, program, entries, callers, bodies, statements,
 ]

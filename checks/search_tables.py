@@ -398,7 +398,7 @@ STRUCTS = {
 # the program reads its input and makes its one search, and those of values that take bytes.
 BODIES = {
     (BASE_SEARCH, "impl<'h> Input<'h>", "new"): """
-        Input { haystack, bounds: Span { start: 0, end: haystack.len(), }, anchored: Anchored::No, earliest: false, }""",
+        Input { haystack, bounds: Span { start: 0, end: haystack.len() }, anchored: Anchored::No, earliest: false }""",
     (BASE_SEARCH, "impl Span", "of"): "&bytes[self.start..self.end]",
     (BASE_SEARCH, "impl Span", "of_mut"): "&mut bytes[self.start..self.end]",
     (BASE_SEARCH, "impl Span", "of_str"): "&text[self.start..self.end]",
