@@ -3,10 +3,11 @@
 A copy is its name, the rule that has to refuse it (None where none may), and edits: functions that
 change the texts of the repository, by their paths.
 """
-from search_tables import API, BYTE_TABLE, COUNT, ENGINE, PACKED_LAWS, PATTERN, PREFILTER, RABIN_KARP, TABLES
+from search_tables import (
+    API, BASE_SEARCH, BYTE_TABLE, COUNT, ENGINE, PACKED_LAWS, PATTERN, PREFILTER, RABIN_KARP, TABLES,
+)
 
 LIB = "crates/literal_packed/src/lib.rt"
-BASE_SEARCH = "crates/literal_base/src/search.rt"
 CALLING = "docs/CALLING.md"
 
 # Places in the sources, at which an edit puts code.
@@ -29,6 +30,7 @@ RUN = "    let text = searcher.lines(alloc, input.as_slice())?;"
 LINE = "        let line = Line(found);"
 CONFIG = "    /// The usual configuration.\n    pub fn config()"
 KINDS_OF_PREFILTER = "        match &self.finder {\n            Finder::Memmem(pre) => pre.find_in"
+EQ_RANGE = "    /// Whether the range has the same bounds."
 USE_TALLY = "use literal_base::count::Tally;"
 
 
@@ -103,6 +105,10 @@ REPOSITORY = [
     ("paper_cited", "citations", [append("README.md", "as the theorem " + "T" + "3 says\n")]),
     ("hole_left", "holes", [append("crates/literal_base/proofs/lemmas/Unique.antt", "\nopen_goal = ?\n")]),
     ("long_file", "lengths", [append(BASE_SEARCH, "\n" * 801)]),
+    ("wide_line", "widths", [append(BASE_SEARCH, "\n// " + "x" * 118 + "\n")]),
+    ("wide_line_of_a_proof", "widths", [append(
+        "crates/literal_base/proofs/lemmas/Unique.antt", "\n-- " + "λ" * 118 + "\n")]),
+    ("lines_that_just_fit", None, [append(BASE_SEARCH, "\n// " + "≡" * 117 + "\n")]),
     ("definition_unexplained", "definitions", [
         append("crates/literal_base/specs/Counts.antt", "\nabbrev pub another_word : Counts\nanother_word = none_yet\n")]),
     ("example_in_no_test", "examples", [replace("README.md", "let searcher = built", "let search = built")]),
@@ -303,6 +309,26 @@ SIGNATURES = [
     ("listed_with_another_name", "signatures", [replace(RABIN_KARP, "fn sum_of_first(bytes: &[u8], window", "fn sum_of_first(bytes: &[u8], text: &[u8], window")]),
 ]
 
+# Functions and types of the crates of values.
+VALUES = [
+    ("bytes_below", "values", [append(
+        BASE_SEARCH, "\npub fn first_of(haystack: &[u8]) -> u8 {\n    haystack[0]\n}\n")]),
+    ("bytes_by_a_method_below", "values", [before(
+        BASE_SEARCH, EQ_RANGE, "    pub fn first_of(&self, bytes: &[u8]) -> u8 {\n        bytes[0]\n    }\n")]),
+    ("text_below", "values", [append(BASE_SEARCH, "\npub fn is_bare(text: &str) -> bool {\n    text.is_empty()\n}\n")]),
+    ("array_below", "values", [append(BASE_SEARCH, "\npub fn first_of(bytes: &[u8; 4]) -> u8 {\n    bytes[0]\n}\n")]),
+    ("input_below", "values", [append(
+        BASE_SEARCH, "\npub fn first_of(input: &Input<'_>) -> u8 {\n    input.haystack[0]\n}\n")]),
+    ("bytes_of_a_parameter_below", "values", [append(
+        BASE_SEARCH, "\npub fn first_of<T: AsRef<[u8]>>(text: T) -> u8 {\n    text.as_ref()[0]\n}\n")]),
+    ("bytes_as_self_below", "values", [append(
+        BASE_SEARCH, "\nimpl Peek for &[u8] {\n    fn peek(self) -> u8 {\n        self[0]\n    }\n}\n")]),
+    ("bytes_kept_below", "values", [append(BASE_SEARCH, "\npub struct Text<'h> {\n    pub text: &'h [u8],\n}\n")]),
+    ("alias_of_bytes_below", "values", [append(BASE_SEARCH, "\npub type Text<'h> = &'h [u8];\n")]),
+    ("span_that_reads", "bodies", [before(
+        BASE_SEARCH, "        &bytes[self.start..self.end]", "        let _ = bytes[self.start];")]),
+]
+
 NAMES = [
     ("helper_named_find", "names", [append(TABLES, "\nfn find(text: &[u8]) -> bool {\n    text[0] == 1\n}\n")]),
     ("helper_named_matches_at", "names", [helper("fn matches_at(text: &[u8], at: usize) -> bool {\n    text[at] == 1\n}")]),
@@ -426,4 +452,4 @@ ENTRIES = [
         RABIN_KARP, "haystack[place + minimum_len], tally", "haystack[place + minimum_len - 1], tally")]),
 ]
 
-COPIES = REPOSITORY + TEXT + IMPORTS + FORMS + READS + SIGNATURES + NAMES + STRUCTS + TALLIES + ENTRIES
+COPIES = REPOSITORY + TEXT + IMPORTS + FORMS + READS + SIGNATURES + VALUES + NAMES + STRUCTS + TALLIES + ENTRIES

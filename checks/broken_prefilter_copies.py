@@ -1,8 +1,8 @@
 """Copies that each break a rule in the exact prefilters, the confirming search, or the program's search.
 Their form is that of broken_copies.py.
 """
-from broken_copies import BASE_SEARCH, RUN, append, before, replace
-from search_tables import BYTE_TABLE, CONFIRMING, ENGINE, EXACT, KINDS, PREFILTER
+from broken_copies import RUN, append, before, replace
+from search_tables import BASE_SEARCH, BYTE_TABLE, CONFIRMING, ENGINE, EXACT, KINDS, PREFILTER
 
 # Places at which an edit puts code: one in each function that takes a haystack.
 BODIES = {
@@ -26,6 +26,7 @@ KEPT = "        Some(found) if rest.start <= found.place => kept,"
 CUT = "        let haystack = &haystack[..span.end];\n        self.rabin_karp"
 ALL_LINES = "    for found in searcher.find_iter(input) {"
 LEFTMOST_LINE = "    let Some(found) = search.find_in(input, span) else {"
+READ_BLOCK = "        match reader.read(&mut buffer) {"
 BY_MODE = "        match self {\n            Searching::All(searcher) => all_lines"
 
 
@@ -126,6 +127,10 @@ ONCE = [
         PREFILTER, "    finder: Finder,\n}", "    finder: Finder,\n    kept: Option<TableByte>,\n}")]),
     ("variant_that_keeps_a_byte", "structs", [replace(
         PREFILTER, "    PossibleStartOfMatch(usize),", "    PossibleStartOfMatch(usize),\n    Kept(TableByte),")]),
+    ("variant_that_keeps_a_list", "structs", [replace(
+        PREFILTER, "    Memmem(Memmem),", "    Memmem(Memmem, Vec<(usize, PatternID)>),")]),
+    ("struct_that_keeps_a_list", "structs", [append(
+        CONFIRMING, "\nstruct Kept {\n    list: Vec<(usize, PatternID)>,\n}\n")]),
     ("struct_that_keeps_an_iteration", "structs", [append(
         CONFIRMING, "\nstruct Kept<'s, 'h> {\n    iteration: FindIter<'s, 'h>,\n}\n")]),
     ("byte_of_the_table_with_its_byte", "structs", [replace(
@@ -187,6 +192,8 @@ PROGRAM = [
     ("program_asks_in_a_closure", "bodies", [replace(
         ENGINE, RUN, "    let ask = || searcher.lines(alloc, input.as_slice());\n    let text = ask()?;")]),
     ("program_reads_by_itself", "bodies", [before(ENGINE, LEFTMOST_LINE, '    if input.starts_with(b"a") {}')]),
+    ("program_goes_over_its_input", "bodies", [before(
+        ENGINE, READ_BLOCK, "        for byte in input.iter() {\n            if *byte == 0 { break; }\n        }")]),
     ("program_keeps_a_search", "program", [append(
         ENGINE, "\nconst AGAIN: fn(&Searcher, &[u8]) -> Option<Match> = Searcher::find;\n")]),
     ("program_runs_twice", "program", [append(ENGINE, "\nfn again() {\n    run();\n    run();\n}\n")]),

@@ -26,7 +26,12 @@ CITATIONS = re.compile(
     r"|\bthe" r" papers?\b"
 )
 
+# Folders that are not read, by their paths from the top: git's own, what is built, and what Python keeps of the checks.
+# Elsewhere a folder of such a name is one of proofs, of a function that is called so.
+NOT_READ = re.compile(r"\.git|(?:crates/\w+/)?out|checks/__pycache__")
+
 LONGEST_FILE = 800
+WIDEST_LINE = 120
 
 # Where an example on the page for callers, of code or of a proof, may stand.
 EXAMPLES = {
@@ -49,7 +54,7 @@ def texts_of(root):
     """The texts of the files in a folder, by their paths from it, and the paths that are links."""
     texts, links = {}, []
     for folder, folders, names in os.walk(root):
-        folders[:] = [name for name in folders if name not in (".git", "out", "__pycache__")]
+        folders[:] = read_of(root, folder, folders)
         for name in sorted(folders + names):
             full = os.path.join(folder, name)
             path = os.path.relpath(full, root)
@@ -59,6 +64,11 @@ def texts_of(root):
                 with open(full, encoding="utf-8", newline="") as file:
                     texts[path] = file.read()
     return texts, links
+
+
+def read_of(root, folder, names):
+    """The names in a folder of what is read."""
+    return [name for name in names if not NOT_READ.fullmatch(os.path.relpath(os.path.join(folder, name), root))]
 
 
 def handles(repository):
@@ -132,6 +142,20 @@ def lengths(repository):
     for path, text in repository.texts.items():
         if path.endswith((".rt", ".antt")) and len(text.splitlines()) > LONGEST_FILE:
             yield f"{path} has {len(text.splitlines())} lines"
+
+
+def widths(repository):
+    """No line is wide."""
+    for path, text in repository.texts.items():
+        if path.endswith((".rt", ".antt")):
+            for number in wide_lines(text):
+                yield f"{path}:{number}: more than {WIDEST_LINE} columns"
+
+
+@functools.lru_cache(maxsize=None)
+def wide_lines(text):
+    """The numbers of the lines of a text that are wide."""
+    return [number for number, line in enumerate(text.splitlines(), 1) if len(line) > WIDEST_LINE]
 
 
 def strays(repository):
@@ -214,7 +238,7 @@ def functions_of(text):
     return re.findall(r"\bfn \w.*?(?= fn \w|$)", words_of(text))
 
 
-RULES = [handles, crates, walks, citations, holes, lengths, strays, definitions, examples, quotes]
+RULES = [handles, crates, walks, citations, holes, lengths, widths, strays, definitions, examples, quotes]
 
 
 def broken_rules(repository):

@@ -30,6 +30,7 @@ def places(table):
 
 
 COUNTED = places(tables.COUNTED)
+BYTE_TAKERS = places(tables.BYTE_TAKERS)
 UNCOUNTED = places(tables.UNCOUNTED)
 LAWS = places(tables.LAWS)
 FIELD_READERS = places(tables.FIELD_READERS)
@@ -48,6 +49,10 @@ GENERIC_PREFILTERS = places(tables.GENERIC_PREFILTERS)
 
 def is_of_searches(path):
     return path.split("/")[1] in tables.SEARCH_CRATES
+
+
+def is_of_values(path):
+    return path.split("/")[1] in tables.VALUE_CRATES
 
 
 def search_functions(sources):
@@ -96,12 +101,12 @@ def listed(sources):
     named = [place(*key) for where in tables.TICKS.values() for key in where]
     named += [place(*key) for table in (tables.MAKERS, tables.CALLERS) for where in table.values() for key in where]
     named += [place(*key) for key in tables.PROGRAM_SEARCH.values()]
-    for table in (COUNTED, UNCOUNTED, LAWS, FIELD_READERS, TALLY_MAKERS, TALLY_TAKERS, OTHER_SIGNATURES, CLOSURES,
-                  BUCKET_READERS, BODIES, STATEMENTS, named):
+    for table in (COUNTED, UNCOUNTED, LAWS, BYTE_TAKERS, FIELD_READERS, TALLY_MAKERS, TALLY_TAKERS, OTHER_SIGNATURES,
+                  CLOSURES, BUCKET_READERS, BODIES, STATEMENTS, named):
         for path, owner, name in table:
             if (path, owner, name) not in there:
                 yield f"{path}: there is no {' '.join(owner)} :: {name}"
-    for key in UNCOUNTED:
+    for key in list(UNCOUNTED) + list(BYTE_TAKERS):
         if key not in BODIES:
             yield f"{key[0]}: the words of {key[2]} are not held"
 
@@ -426,6 +431,33 @@ def odd_counts(function, haystacks, lent):
         yield f"{function} takes a tally"
 
 
+def values(sources):
+    """The crates of values take bytes one at a time, and keep no slice of them, but where that is listed."""
+    for function in sources.functions:
+        if is_of_values(function.path) and function.key not in BYTE_TAKERS:
+            types = [without_lifetimes(param)[2:] for param in function.item.params]
+            for type_of in types + [texts(function.item.generics)]:
+                if is_of_bytes(type_of):
+                    yield f"{function} takes {' '.join(type_of)}"
+            if {"[", "str", "String"} & set(function.owner):
+                yield f"{function} takes a slice or a text as itself"
+    for path, items in sources.items.items():
+        for item in items:
+            is_type = is_of_values(path) and item.kind in ("struct", "enum", "type")
+            if is_type and item.name not in tables.BYTE_KEEPERS and keeps_bytes(texts(item.tokens)):
+                yield f"{path}:{item.line}: {item.kind} {item.name} holds bytes"
+
+
+def is_of_bytes(type_of):
+    """Whether a type speaks of bytes, and is not one byte."""
+    return type_of != ("u8",) and bool({"u8", "str", "String", *tables.BYTE_KEEPERS} & set(type_of))
+
+
+def keeps_bytes(item):
+    """Whether the words of a type speak of a slice of bytes, a list, or a text."""
+    return bool(find_words(item, words("[u8]"))) or bool({"Vec", "str", "String", *tables.BYTE_KEEPERS} & set(item))
+
+
 # --- Haystacks --------------------------------------------------------------------------------------
 
 
@@ -725,6 +757,6 @@ def stands_in(body, at, name, form):
 
 
 RULES = [
-    parsed, listed, attributes, imports, kinds, forms, constants, names, impls, structs, signatures, reads, laws, tallies,
-    ticks, program, entries, callers, bodies, statements,
+    parsed, listed, attributes, imports, kinds, forms, constants, names, impls, structs, signatures, values, reads,
+    laws, tallies, ticks, program, entries, callers, bodies, statements,
 ]

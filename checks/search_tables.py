@@ -6,6 +6,7 @@ by token, without comments, clauses and ghost items.
 """
 
 COUNT = "crates/literal_base/src/count.rt"
+BASE_SEARCH = "crates/literal_base/src/search.rt"
 API = "crates/literal_packed/src/api.rt"
 PATTERN = "crates/literal_packed/src/pattern.rt"
 RABIN_KARP = "crates/literal_packed/src/rabinkarp.rt"
@@ -28,8 +29,11 @@ TEST_CRATES = ("literal_tests", "literal_examples", "refused_memory", "answers")
 # Crates whose code may have a haystack in hand.
 SEARCH_CRATES = ("literal_packed", "literal_prefilters")
 
-# The other crates: values that searches use, and the program.
-OTHER_CRATES = ("literal_ids", "literal_base", "litfind")
+# The crates of values that searches use.
+VALUE_CRATES = ("literal_ids", "literal_base")
+
+# The other crates: those of values, and the program.
+OTHER_CRATES = VALUE_CRATES + ("litfind",)
 
 # --- Haystacks -------------------------------------------------------------------------------------
 
@@ -85,6 +89,18 @@ LAWS = {
 
 # What no function that takes a haystack calls: a copy reads all bucket entries.
 NOT_IN_A_SEARCH = ("try_clone", "build", "builder")
+
+# The functions of the crates of values that take bytes, beside one at a time: in the words that are held below they
+# hand them on, or keep them, and read none.
+BYTE_TAKERS = {
+    (BASE_SEARCH, "impl<'h> Input<'h>", "new"): "keeps a haystack",
+    (BASE_SEARCH, "impl Span", "of"): "gives a part",
+    (BASE_SEARCH, "impl Span", "of_mut"): "gives a part",
+    (BASE_SEARCH, "impl Span", "of_str"): "gives a part",
+}
+
+# The type of these crates that keeps bytes in a slice.
+BYTE_KEEPERS = ("Input",)
 
 # A haystack in a field: the methods that may name `self.haystack` and `&mut self.tally`.
 FIELD_READERS = {
@@ -235,8 +251,9 @@ STD_TYPES = (
 VALUE_TYPES = ("PatternID", "Match", "MatchKind", "Span", "ByteSet")
 PLAIN_TYPES = STD_TYPES + VALUE_TYPES
 
-# Of those that the crates declare, the ones that no struct holds: what was read of a haystack ends with the search.
-NOT_KEPT = ("TableByte", "FindIter")
+# Of these and those that the crates declare, the ones that no struct or enum holds whose words are not held: what was
+# read of a haystack ends with the search, and a list could be one of bucket entries, which is read uncounted.
+NOT_KEPT = ("TableByte", "FindIter", "Vec")
 
 # And the one that no function takes but laws: it goes on in a tally of its own.
 NOT_TAKEN = ("FindIter",)
@@ -377,9 +394,14 @@ STRUCTS = {
     "TableByte": "#[derive(Clone, Copy, Drop)] pub(super) struct TableByte { pub(super) place: usize, pub(super) distance: u8, }",
 }
 
-# The bodies that read bytes of the haystack, read bucket entries, tick, or make a tally for a search, and
-# those by which the program makes its one search.
+# The bodies that read bytes of the haystack, read bucket entries, tick, or make a tally for a search, those by which
+# the program reads its input and makes its one search, and those of values that take bytes.
 BODIES = {
+    (BASE_SEARCH, "impl<'h> Input<'h>", "new"): """
+        Input { haystack, bounds: Span { start: 0, end: haystack.len() }, anchored: Anchored::No, earliest: false }""",
+    (BASE_SEARCH, "impl Span", "of"): "&bytes[self.start..self.end]",
+    (BASE_SEARCH, "impl Span", "of_mut"): "&mut bytes[self.start..self.end]",
+    (BASE_SEARCH, "impl Span", "of_str"): "&text[self.start..self.end]",
     (API, "impl Searcher", "find"): "self.find_in(haystack, Span { start: 0, end: haystack.len(), },)",
     (API, "impl Searcher", "find_in"): "let mut tally = Tally::new(); self.find_in_counted(haystack, span, &mut tally)",
     (API, "impl Searcher", "find_iter"): "FindIter { searcher: self, haystack, at: 0, tally: Tally::new(), }",
@@ -453,6 +475,16 @@ BODIES = {
         match self {
             Searching::All(searcher) => all_lines(alloc, searcher, input),
             Searching::Leftmost(search) => leftmost_line(alloc, search, input),
+        }""",
+    (ENGINE, "", "read_to_end"): """
+        let mut input = Vec::new(alloc);
+        let mut buffer = [0u8; BLOCK];
+        loop {
+            match reader.read(&mut buffer) {
+                Ok(0) => return Ok(input),
+                Ok(count) => input.extend_from_slice(&buffer[..count])?,
+                Err(Failed) => return Err(Fault::ReadFailed),
+            }
         }""",
     (ENGINE, "", "run"): """
         let searcher = searcher(alloc, words)?;
