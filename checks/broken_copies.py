@@ -111,6 +111,8 @@ REPOSITORY = [
     ("lines_that_just_fit", None, [append(BASE_SEARCH, "\n// " + "≡" * 117 + "\n")]),
     ("definition_unexplained", "definitions", [
         append("crates/literal_base/specs/Counts.antt", "\nabbrev pub another_word : Counts\nanother_word = none_yet\n")]),
+    ("definition_said_otherwise", "definitions", [
+        replace("crates/literal_base/specs/Occurs.antt", "-- no pattern is empty\n", "-- some pattern is not empty\n")]),
     ("example_in_no_test", "examples", [replace("README.md", "let searcher = built", "let search = built")]),
     ("example_in_a_comment", "examples", [append(API, "\n/// ```rust\n/// let peek = 0;\n/// ```\nfn peek() {}\n")]),
     ("example_changed_in_its_test", "examples", [replace("crates/literal_examples/src/tests.rt", "[1, 0, 2]", "[1, 0]")]),

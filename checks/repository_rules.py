@@ -168,14 +168,27 @@ def strays(repository):
             yield f"{path} is no file of this repository"
 
 
+def rows_of(text):
+    """What the rows of the tables of a document say, by each name that their first cell has in code."""
+    rows = {}
+    for line in re.findall(r"^\| (.*) \|$", text, re.M):
+        cells = line.split(" | ")
+        for code in re.findall(r"`([^`]*)`", cells[0]):
+            rows.setdefault(code.split()[0], []).append(cells[-1])
+    return rows
+
+
 def definitions(repository):
-    """Each definition that a contract may cite is said in plain words, by its name."""
-    explained = set(re.findall(r"\w+", " ".join(re.findall(r"`([^`]*)`", repository.texts["docs/DEFINITIONS.md"]))))
+    """Each definition that a contract may cite has a row in docs/DEFINITIONS.md, which says what its comment says."""
+    rows = rows_of(repository.texts["docs/DEFINITIONS.md"])
     for path, text in repository.texts.items():
         if re.match(r"crates/\w+/specs/.*\.antt$", path):
-            for name in re.findall(r"^ *(?:abbrev pub|unfoldable pub|pub record) (\w+)", text, re.M):
-                if name not in explained:
+            for comment, name in re.findall(r"((?:^ *-- .*\n)*)^ *(?:abbrev pub|unfoldable pub|pub (?:record|data)) ([^\s:(]+)", text, re.M):
+                said = " ".join(line.strip().removeprefix("-- ") for line in comment.splitlines())
+                if name not in rows:
                     yield f"{path}: {name} is not in docs/DEFINITIONS.md"
+                elif said not in rows[name]:
+                    yield f"{path}: docs/DEFINITIONS.md says otherwise of {name}"
 
 
 @functools.lru_cache(maxsize=None)

@@ -3,8 +3,8 @@ use Rattle.std.specs.Prelude.{ℕ, ◌<◌, ◌≤◌, false, List, [], ◌∷�
 use Rattle.literal_base.specs.MatchValue.{MatchValue}
 use Rattle.literal_base.specs.Occurs.{NothingOccurs, between, rest_from}
 
--- matches of a haystack, from a place on, that are non-empty, in order, and don't overlap;
--- no pattern occurs whole before the first, between two neighbours, or after the last
+-- matches of a haystack, from a place on, that are non-empty, in order, and don't overlap; no pattern occurs whole
+-- before the first, between two neighbours, or after the last
 abbrev pub LieApart : List (List ℕ) → List ℕ → ℕ → List MatchValue → Type 0
 LieApart patterns haystack at [] = NothingOccurs patterns false haystack (rest_from haystack at)
 LieApart patterns haystack at (found ∷ more) =

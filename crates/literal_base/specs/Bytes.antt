@@ -2,11 +2,11 @@
 use Rattle.std.specs.Prelude.{ℕ, ◌+◌, ◌-◌, ◌<◌, Bool, false, if◌then◌else◌, List, map, nat_lt, slice_index_or}
 use Rattle.std.specs.List.{All, range_with_len}
 
--- each number of the list is a byte
+-- each number of the list is below 256
 abbrev pub AreBytes : List ℕ → Type 0
 AreBytes bytes = All (λ b. b < 256) bytes
 
--- a list with a value for each byte, from byte 0 up
+-- a list with a value for each of the 256 bytes, from byte 0 up
 unfoldable pub by_byte : {X : Type 0} → (ℕ → X) → List X
 by_byte f = map f (range_with_len 0 256)
 

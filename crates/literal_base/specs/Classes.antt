@@ -32,7 +32,7 @@ class_of marked b = count_by (λ m. m) (take b marked)
 abbrev pub alphabet_len_of : List ℕ → ℕ
 alphabet_len_of classes = slice_index classes 255 + 1
 
--- k is the least number whose power of two has room for the classes
+-- k is the least number whose power of two is at least the length of the alphabet
 pub record IsStride2 (classes : List ℕ) (k : ℕ) : Type 0 where
   pub enough : alphabet_len_of classes ≤ 2 ^ k
   pub least : (j : ℕ) → alphabet_len_of classes ≤ 2 ^ j → k ≤ j
@@ -45,8 +45,8 @@ elements_of classes class = filter (λ b. slice_index classes b == class) all_by
 abbrev pub bytes_in : ℕ × ℕ → List ℕ
 bytes_in range = range_with_len range.0 (range.1 + 1 - range.0)
 
--- the maximal runs of the bytes of a list: none is empty, a byte lies between each and every later one,
--- and one after another they hold exactly the bytes of the list, in its order
+-- the maximal runs of the bytes of a list: none is empty, a byte lies between each and every later one, and one after
+-- another they hold exactly the bytes of the list, in its order
 pub record AreRuns (bytes : List ℕ) (runs : List (ℕ × ℕ)) : Type 0 where
   pub none_empty : All (λ run. run.0 ≤ run.1) runs
   pub apart : AllPairs (λ run later. run.1 + 1 < later.0) runs

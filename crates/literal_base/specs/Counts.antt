@@ -1,8 +1,9 @@
 -- How many steps of each kind a search has taken.
 use Rattle.std.specs.Prelude.{ℕ, ◌+◌}
 
--- bytes taken into a rolling sum, bucket entries read, patterns compared with the haystack,
--- bytes looked up in a byte table, and candidate places at which patterns were compared
+-- how many bytes went into a rolling sum (`hashed`), bucket entries were read (`entries`), patterns were compared with
+-- the haystack (`compared`), bytes were looked up in a byte table (`scanned`), and candidate places were tried
+-- (`tried`)
 pub record Counts : Type 0 where
   pub hashed : ℕ
   pub entries : ℕ

@@ -6,8 +6,7 @@ use Rattle.literal_base.specs.Occurs.{NothingOccurs, rest_from}
 use Rattle.literal_base.specs.Leftmost.{IsLeftmostMatch}
 
 -- the list from a place on: the leftmost match of the rest of the haystack, followed by the list from that match's end
--- on.
--- It is empty exactly if no pattern occurs in the rest
+-- on. It is empty exactly if no pattern occurs in the rest
 abbrev pub IsGreedy : Query → Bool → List ℕ → ℕ → List MatchValue → Type 0
 IsGreedy query ignore_case haystack at [] =
     NothingOccurs query.patterns ignore_case haystack (rest_from haystack at)

@@ -7,23 +7,23 @@ use Rattle.literal_base.specs.MatchValue.{MatchValue}
 use Rattle.literal_base.specs.Query.{Query}
 use Rattle.literal_base.specs.Occurs.{pattern_at, Occurs, NothingOccurs}
 
--- the tie rule: of two patterns that occur at one place, i is taken rather than j.
--- That is the one with the smaller number; with LeftmostLongest the longer one,
--- and of two equally long ones the one with the smaller number
+-- the tie rule: of two patterns that occur at one place, i is taken rather than j. With `LeftmostFirst` i is the
+-- smaller number; with `LeftmostLongest` i is longer, or equally long and the smaller number
 abbrev pub IsBetter : MatchKind → List (List ℕ) → ℕ → ℕ → Type 0
 IsBetter LeftmostFirst patterns i j = i < j
 IsBetter LeftmostLongest patterns i j =
     (length (pattern_at patterns j) < length (pattern_at patterns i))
     ⊎ ((length (pattern_at patterns i) ≡ length (pattern_at patterns j)) × (i < j))
 
--- the tie rule, as a test
+-- the tie rule as a test
 abbrev pub is_better : MatchKind → List (List ℕ) → ℕ → ℕ → Bool
 is_better LeftmostFirst patterns i j = nat_lt i j
 is_better LeftmostLongest patterns i j =
     nat_lt (length (pattern_at patterns j)) (length (pattern_at patterns i))
     || (length (pattern_at patterns i) == length (pattern_at patterns j) && nat_lt i j)
 
--- the match is an occurrence in the span, whole; no pattern occurs there before it, and no better one at its place
+-- the match is an occurrence, whole in the span; no pattern occurs in the span at an earlier place, and no better one
+-- at its place
 pub record IsLeftmostMatch (query : Query) (ignore_case : Bool) (haystack : List ℕ) (span : Span) (found : MatchValue)
     : Type 0 where
   pub occurs : Occurs query.patterns ignore_case haystack span found.pattern found.start
@@ -32,7 +32,7 @@ pub record IsLeftmostMatch (query : Query) (ignore_case : Bool) (haystack : List
   pub best : (i : ℕ) → IsBetter query.kind query.patterns i found.pattern
       → ¬ Occurs query.patterns ignore_case haystack span i found.start
 
--- the leftmost match in the span, and None exactly if no pattern occurs in it
+-- the answer is None exactly if nothing occurs in the span, and otherwise a leftmost match
 abbrev pub IsLeftmost : Query → Bool → List ℕ → Span → Option MatchValue → Type 0
 IsLeftmost query ignore_case haystack span answer =
     MatchOption answer (NothingOccurs query.patterns ignore_case haystack span)

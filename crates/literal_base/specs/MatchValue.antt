@@ -1,7 +1,7 @@
 -- A match, as contracts see it.
 use Rattle.std.specs.Prelude.{ℕ}
 
--- the identifier of a pattern, and the offsets in the whole haystack from which and up to which it stands
+-- a `Match` as contracts see it: the identifier of a pattern, the offset of its first byte, the offset after its last
 pub record MatchValue : Type 0 where
   pub pattern : ℕ
   pub start : ℕ

@@ -11,7 +11,7 @@ use Rattle.literal_base.specs.declared.search.Span.{Span}
 abbrev pub case_folded : Bool → List ℕ → List ℕ
 case_folded ignore_case bytes = if ignore_case then map to_ascii_lowercase bytes else bytes
 
--- a and b have one length and equal bytes, once each of A to Z is replaced where case is ignored
+-- a and b have one length and equal bytes, once each of A to Z is replaced by its small letter where case is ignored
 abbrev pub Same : Bool → List ℕ → List ℕ → Type 0
 Same ignore_case a b = case_folded ignore_case a ≡ case_folded ignore_case b
 
@@ -27,29 +27,29 @@ pattern_at patterns i = slice_index_or patterns i []
 abbrev pub NoneIsEmpty : List (List ℕ) → Type 0
 NoneIsEmpty patterns = All (λ (bytes : List ℕ). 0 < length bytes) patterns
 
--- the bytes stand whole in the haystack at a place
+-- the bytes lie whole in the haystack at a place, and the haystack's bytes there are the same
 pub record StandsAt (ignore_case : Bool) (bytes haystack : List ℕ) (at : ℕ) : Type 0 where
   pub fits : at + length bytes ≤ length haystack
   pub same : Same ignore_case (slice_range haystack at (at + length bytes)) bytes
 
--- the span is a part of the haystack
+-- the span's start is at most its end, and that at most the haystack's length
 pub record IsValidSpan (haystack : List ℕ) (span : Span) : Type 0 where
   pub ordered : span.start ≤ span.end
   pub in_haystack : span.end ≤ length haystack
 
--- the whole haystack
+-- the span of the whole haystack
 abbrev pub whole_of : List ℕ → Span
 whole_of haystack = record { start = 0; end = length haystack }
 
--- the part of a haystack from a place up to another
+-- the span from a place up to another
 abbrev pub between : ℕ → ℕ → Span
 between from to = record { start = from; end = to }
 
--- the part of the haystack from a place to its end
+-- the span from a place to the end of the haystack
 abbrev pub rest_from : List ℕ → ℕ → Span
 rest_from haystack at = record { start = at; end = length haystack }
 
--- pattern i occurs at a place of the span: it lies whole in the span, and the haystack's bytes there are the pattern's
+-- i is the number of a pattern, it lies whole in the span at the place, and the haystack's bytes there are the same
 pub record Occurs (patterns : List (List ℕ)) (ignore_case : Bool) (haystack : List ℕ) (span : Span)
     (i at : ℕ) : Type 0 where
   pub is_pattern : i < length patterns
@@ -57,6 +57,6 @@ pub record Occurs (patterns : List (List ℕ)) (ignore_case : Bool) (haystack : 
   pub before_end : at + length (pattern_at patterns i) ≤ span.end
   pub same : Same ignore_case (slice_range haystack at (at + length (pattern_at patterns i))) (pattern_at patterns i)
 
--- no pattern occurs in the span
+-- no pattern occurs at any place of the span
 abbrev pub NothingOccurs : List (List ℕ) → Bool → List ℕ → Span → Type 0
 NothingOccurs patterns ignore_case haystack span = (i at : ℕ) → ¬ Occurs patterns ignore_case haystack span i at

@@ -2,7 +2,7 @@
 use Rattle.std.specs.Prelude.{ℕ, List}
 use Rattle.literal_base.specs.declared.packed.MatchKind.{MatchKind}
 
--- which occurrence is the match, and the patterns, numbered from 0
+-- what is searched for: the match kind, and the patterns by their numbers. It is all that contracts see of a `Searcher`
 pub record Query : Type 0 where
   pub kind : MatchKind
   pub patterns : List (List ℕ)

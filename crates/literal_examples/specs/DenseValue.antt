@@ -4,8 +4,8 @@ use Rattle.std.specs.Borrow.{Bor}
 use Rattle.std.specs.List.{All}
 use Rattle.literal_base.specs.Classes.{alphabet_len_of}
 
--- the class of each byte, the state that reads no byte, and for each state, by its number, the next states by class
--- and whether it is a match
+-- a `Dense` as contracts see it: the class of each byte, the state in which it begins, for each state its row, the next
+-- states by class, and for each state whether it is a match
 pub record DenseValue : Type 0 where
   pub classes : List ℕ
   pub start : ℕ
@@ -38,7 +38,7 @@ next_of a state byte = slice_index (slice_index_or a.rows state []) (slice_index
 abbrev pub is_match_of : DenseValue → ℕ → Bool
 is_match_of a state = slice_index_or a.matches state false
 
--- the state behind a state and a text
+-- the state behind a state and all bytes of a text
 abbrev pub state_behind : DenseValue → ℕ → List ℕ → ℕ
 state_behind a state [] = state
 state_behind a state (byte ∷ more) = state_behind a (next_of a state byte) more

@@ -41,7 +41,7 @@ IsEarliestEnd patterns haystack span answer =
     (λ end. OccurrenceEnds patterns haystack span end
     × ((before : ℕ) → before < end → ¬ OccurrenceEnds patterns haystack span before))
 
--- behind a text of bytes the automaton is in a match exactly if an occurrence ends with the text
+-- behind a text of bytes the automaton is in a match exactly if an occurrence of a pattern ends with the text
 abbrev pub Recognises : DenseValue → List (List ℕ) → Type 0
 Recognises a patterns =
     (text : List ℕ) → AreBytes text

@@ -1,7 +1,7 @@
 -- The bits of a number with a sign.
 use Rattle.std.specs.Prelude.{ℕ, ℤ, pos, ◌^◌, ◌-◌, ◌+ℤ◌, ◌-ℤ◌, if◌then◌else◌, int_lt}
 
--- the k bits of a number n, read as a number without a sign: n where it is not negative, else n + 2^k
+-- the k bits of a number, read as a number without a sign: n where it is not negative, else n + 2^k
 abbrev pub bits_of : ℕ → ℤ → ℤ
 bits_of k n = if int_lt n (pos 0) then n +ℤ pos (2 ^ k) else n
 

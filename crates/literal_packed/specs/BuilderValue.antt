@@ -7,16 +7,16 @@ use Rattle.literal_base.specs.Query.{Query}
 use Rattle.literal_packed.specs.ConfigValue.{ConfigValue, default_config, max_pattern_limit}
 use Rattle.literal_packed.specs.State.{kept_of, state_of, state_after}
 
--- what it was made by, and its patterns, or None where it is inert
+-- a `Builder` as contracts see it: its configuration and its state
 pub record BuilderValue : Type 0 where
   pub config : ConfigValue
   pub state : Option (List (List ℕ))
 
--- the builder of a configuration to which these patterns were added
+-- the builder of a configuration to which these patterns were added, with the limit of the configuration
 abbrev pub builder_of : ConfigValue → List (List ℕ) → BuilderValue
 builder_of config added = record { config = config; state = state_of config.pattern_limit added }
 
--- a builder after more patterns were added
+-- the builder after more patterns were added
 abbrev pub with_added : BuilderValue → List (List ℕ) → BuilderValue
 with_added b more = record { config = b.config; state = state_after b.config.pattern_limit b.state more }
 

@@ -3,20 +3,20 @@ use Rattle.std.specs.Prelude.{ℕ, ◌≤◌}
 use Rattle.literal_base.specs.declared.packed.MatchKind.{MatchKind}
 use Rattle.literal_base.specs.declared.packed.MatchKind.TheVariants.{LeftmostFirst}
 
--- which occurrence is the match, and how many patterns a builder keeps at most
+-- a configuration: the match kind, and how many patterns a builder keeps at most, its limit
 pub record ConfigValue : Type 0 where
   pub kind : MatchKind
   pub pattern_limit : ℕ
 
--- the usual configuration
+-- the usual configuration: `LeftmostFirst`, and 128 patterns
 abbrev pub default_config : ConfigValue
 default_config = record { kind = LeftmostFirst; pattern_limit = 128 }
 
--- the largest limit of patterns
+-- 65535, the largest limit of patterns
 abbrev pub max_pattern_limit : ℕ
 max_pattern_limit = 65535
 
--- a limit of patterns that a configuration may have
+-- a configuration may have the limit n: at least 1, and at most the largest
 pub record IsPatternLimit (n : ℕ) : Type 0 where
   pub some : 1 ≤ n
   pub few : n ≤ max_pattern_limit

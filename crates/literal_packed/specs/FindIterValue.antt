@@ -8,7 +8,7 @@ use Rattle.literal_base.specs.Leftmost.{IsLeftmost}
 use Rattle.literal_base.specs.Query.{Query}
 use Rattle.literal_packed.specs.Pairs.{counts_after}
 
--- what is searched for, where, the place from which the search goes on, and the counts so far
+-- a `FindIter` as contracts see it: what is searched for, where, the place from which it goes on, and the counts so far
 pub record FindIterValue : Type 0 where
   pub query : Query
   pub haystack : List ℕ
@@ -27,7 +27,8 @@ after_answer f answer = record f {
   counts = counts_after f.counts f.query f.haystack (rest_from f.haystack f.at) answer;
 }
 
--- what `next` gives: the leftmost match of the rest, which is not empty, or None where nothing occurs in it
+-- what `next` gives: the leftmost match of the rest, which is not empty, or None where nothing occurs in the rest; and
+-- the search after it
 pub record FindsNext (old : FindIterValue) (answer : Option MatchValue) (new : FindIterValue) : Type 0 where
   pub leftmost : IsLeftmost old.query false old.haystack (rest_from old.haystack old.at) answer
   pub not_empty : IfSome answer (λ found. found.start < found.end)
@@ -37,6 +38,6 @@ pub record FindsNext (old : FindIterValue) (answer : Option MatchValue) (new : F
 abbrev pub StandsAtEnd : FindIterValue → Type 0
 StandsAtEnd f = f.at ≡ length f.haystack
 
--- each match takes a byte or more of the rest
+-- at most how many matches are to come: each takes a byte or more of the rest
 abbrev pub bytes_left : FindIterValue → Count
 bytes_left f = at_most (length f.haystack - f.at)

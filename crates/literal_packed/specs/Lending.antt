@@ -14,7 +14,7 @@ abbrev pub CanBeTaken : {U T : Type 0} → (U → T → Type 0) → (T → Type 
 CanBeTaken {U} {T} becomes can_next remaining patterns =
     (it : T) → becomes patterns it → can_next it × IsFinite (remaining it)
 
--- where the answer has no builder, P holds of the builder that was passed
+-- where the call that was lent the builder b has no builder in its answer, P holds of the builder
 abbrev pub RestsAtErr : {E : Type 0} → (BuilderValue → Type 0) → MutBor BuilderValue → Result (MutBor BuilderValue) E
     → Fml
 RestsAtErr P b r = RestsIfErr the_row b (λ (x : MutBor BuilderValue). x.ghost_name) r P
@@ -29,7 +29,8 @@ module _ {U T : Type 0} (becomes : U → T → Type 0) (steps : T → Option (Bo
   abbrev pub HoldsAll : Type 0
   HoldsAll = (it : T) × (xs : List (Bor (List ℕ))) × becomes patterns it × AddsAll old xs new × Drains steps it xs
 
-  -- the items that the iterator gave before the refused one were added, in their order, and the builder would keep that one
+  -- the items that the iterator gave before the refused one were added, in their order, and the builder would keep that
+  -- one
   pub record HoldsTaken : Type 0 where
     pub iterator : T
     pub items : List (Bor (List ℕ))

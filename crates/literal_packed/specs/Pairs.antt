@@ -28,7 +28,7 @@ has_equal_sum patterns haystack at i = key_of patterns i == window_sum patterns 
 abbrev pub has_equal_bucket : List (List ℕ) → List ℕ → ℕ → ℕ → Bool
 has_equal_bucket patterns haystack at i = key_of patterns i % 64 == window_sum patterns haystack at % 64
 
--- how many of n patterns pass a test at a place
+-- how many of the patterns pass a test at a place
 abbrev pub pairs_at : (ℕ → ℕ → Bool) → ℕ → ℕ → ℕ
 pairs_at test n at = count_by (test at) (range_with_len 0 n)
 
@@ -52,31 +52,32 @@ abbrev pub pairs_in : (ℕ → ℕ → Bool) → List (List ℕ) → Span → �
 pairs_in test patterns span =
     pairs_between test (length patterns) span.start (span.end + 1 - minimum_len_of patterns)
 
--- EqualPairs: those with equal sums
+-- EqualPairs: how many pairs of a place, whose window lies in the span, and a pattern have equal sums
 abbrev pub equal_pairs : List (List ℕ) → List ℕ → Span → ℕ
 equal_pairs patterns haystack span = pairs_in (has_equal_sum patterns haystack) patterns span
 
--- BucketPairs: those with sums that are equal modulo 64
+-- BucketPairs: how many pairs of a place, whose window lies in the span, and a pattern have sums that are equal modulo
+-- 64
 abbrev pub bucket_pairs : List (List ℕ) → List ℕ → Span → ℕ
 bucket_pairs patterns haystack span = pairs_in (has_equal_bucket patterns haystack) patterns span
 
--- the pairs up to an answer: all where there is none. With a match (j, t, e) those of a place before t, and those of t
--- with j or a better pattern
+-- the pairs up to an answer: all where there is none; with a match those of an earlier place, and at its place those of
+-- its pattern and of better ones
 abbrev pub pairs_up_to : (ℕ → ℕ → Bool) → Query → Span → Option MatchValue → ℕ
 pairs_up_to test query span None = pairs_in test query.patterns span
 pairs_up_to test query span (Some found) =
     pairs_between test (length query.patterns) span.start found.start + pairs_at_up_to test query found.start
     found.pattern
 
--- how many bytes of the span go into the sums, up to an answer: each up to the end of the last window.
--- With no answer that is each byte, and none where the span is shorter than the window
+-- how many bytes of the span go into the sums, up to an answer: each up to the end of the last window. With no answer
+-- each byte, and none where the span is shorter than the window
 abbrev pub hashed_up_to : List (List ℕ) → Span → Option MatchValue → ℕ
 hashed_up_to patterns span None =
     if nat_lt (span.end - span.start) (minimum_len_of patterns) then 0 else span.end - span.start
 hashed_up_to patterns span (Some found) = found.start + minimum_len_of patterns - span.start
 
--- the counts after a search in a span that gives an answer: the bytes hashed, the pairs whose entries were read, and
--- those that were compared
+-- the counts after a search in a span that gives an answer: `hashed` by `hashed_up_to`, `entries` by the pairs of
+-- BucketPairs up to the answer, `compared` by those of EqualPairs; the others stay
 abbrev pub counts_after : Counts → Query → List ℕ → Span → Option MatchValue → Counts
 counts_after old query haystack span answer = record old {
   hashed = old.hashed + hashed_up_to query.patterns span answer;

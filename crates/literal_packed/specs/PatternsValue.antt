@@ -8,14 +8,14 @@ use Rattle.literal_base.specs.Occurs.{NoneIsEmpty, pattern_at}
 use Rattle.literal_base.specs.Leftmost.{IsBetter}
 use Rattle.literal_base.specs.Query.{Query}
 
--- which occurrence is the match, the patterns by their identifiers, and the identifiers in the order in which the
--- patterns are tried
+-- a `Patterns` as contracts see it: the match kind, the patterns by their identifiers, and the identifiers in the order
+-- in which the patterns are tried
 pub record PatternsValue : Type 0 where
   pub kind : MatchKind
   pub patterns : List (List ℕ)
   pub order : List ℕ
 
--- what is searched for by a search for them
+-- what a search for them searches for: their match kind and the patterns
 abbrev pub query_of : PatternsValue → Query
 query_of c = record { kind = c.kind; patterns = c.patterns }
 
@@ -50,7 +50,7 @@ pub record IsWellFormed (c : PatternsValue) : Type 0 where
 abbrev pub IsInOrder : PatternsValue → Type 0
 IsInOrder c = AllPairs (IsBetter c.kind c.patterns) c.order
 
--- patterns that a search may use
+-- patterns that a search may use: well formed, and in order
 pub record IsSearchable (c : PatternsValue) : Type 0 where
   pub well_formed : IsWellFormed c
   pub in_order : IsInOrder c

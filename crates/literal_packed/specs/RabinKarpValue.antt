@@ -3,8 +3,8 @@ use Rattle.std.specs.Prelude.{◌≡◌, ℕ, ◌<◌, ◌%◌, ◌==◌, List, 
 use Rattle.literal_packed.specs.PatternsValue.{PatternsValue, IsSearchable, minimum_len_of}
 use Rattle.literal_packed.specs.Pairs.{key_of}
 
--- how many bytes of each pattern are summed, and the entries of each bucket: pairs of a sum and the identifier of a
--- pattern
+-- a `RabinKarp` as contracts see it: how many bytes of each pattern are summed, and the entries (sum, identifier) of
+-- each bucket
 pub record RabinKarpValue : Type 0 where
   pub minimum_len : ℕ
   pub buckets : List (List (ℕ × ℕ))
@@ -17,11 +17,12 @@ bucket_at b k = slice_index_or b.buckets k []
 abbrev pub entries_of : PatternsValue → List (ℕ × ℕ)
 entries_of c = map (λ i. (key_of c.patterns i, i)) c.order
 
--- those whose sum is k modulo 64
+-- the entries whose key is k modulo 64
 abbrev pub bucket_of : PatternsValue → ℕ → List (ℕ × ℕ)
 bucket_of c k = filter (λ e. e.0 % 64 == k) (entries_of c)
 
--- the buckets are those of these patterns, which are one or more and in order
+-- a `RabinKarp` is made for these patterns: they are one or more and in order, and bucket k has, in match order, those
+-- whose key is k modulo 64
 pub record IsMadeFor (c : PatternsValue) (b : RabinKarpValue) : Type 0 where
   pub searchable : IsSearchable c
   pub some : 0 < length c.patterns

@@ -7,7 +7,8 @@ use Rattle.literal_base.specs.Query.{Query}
 use Rattle.literal_packed.specs.Pairs.{counts_after, equal_pairs, bucket_pairs}
 
 -- the counts of searches one after another: each of the rest from where the one before goes on, with these matches as
--- their answers, and None at last
+-- their answers, and None at last. An iteration counts so up to its first None
+-- (`literal_packed::laws::iterations_count_as_lists`)
 abbrev pub counts_after_all : Counts → Query → List ℕ → ℕ → List MatchValue → Counts
 counts_after_all old query haystack at [] =
     counts_after old query haystack (rest_from haystack at) None
@@ -22,8 +23,8 @@ pub record CountsOn (old new : Counts) : Type 0 where
   pub compared : old.compared ≤ new.compared
   pub others : new ≡ record old { hashed = new.hashed; entries = new.entries; compared = new.compared }
 
--- going on from one place to a later one counts no more than there is between the two:
--- at most the bytes, the BucketPairs and the EqualPairs of the rest from the one less those of the rest from the other
+-- going on from one place to a later one counts at most the bytes, the BucketPairs and the EqualPairs of the rest from
+-- the one less those of the rest from the other. Each call of `next` does (`literal_packed::laws::next_is_bounded`)
 pub record SpendsAtMost (query : Query) (haystack : List ℕ) (from to : ℕ) (old new : Counts) : Type 0 where
   pub hashed : new.hashed + (length haystack - to) ≤ old.hashed + (length haystack - from)
   pub entries : new.entries + bucket_pairs query.patterns haystack (rest_from haystack to)

@@ -17,7 +17,8 @@ state_of limit added = if may_keep limit added then Some added else None
 abbrev pub kept_of : Option (List (List ℕ)) → List (List ℕ)
 kept_of state = unwrap_or state []
 
--- the state after more patterns were added: it stays where there are none, and where no pattern is kept any more
+-- the state after more patterns were added: it stays where there are none, and where no pattern is kept any more;
+-- otherwise it is that of the patterns kept so far followed by these
 abbrev pub state_after : ℕ → Option (List (List ℕ)) → List (List ℕ) → Option (List (List ℕ))
 state_after limit state [] = state
 state_after limit None (first ∷ more) = None
@@ -27,6 +28,7 @@ state_after limit (Some kept) (first ∷ more) = state_of limit (kept ++ first �
 abbrev pub IsState : ℕ → Option (List (List ℕ)) → Type 0
 IsState limit state = IfSome state (λ kept. IsTrue (may_keep limit kept))
 
--- in this state a pattern would be kept, and only then its addition takes memory
+-- in this state a pattern would be kept, and only then its addition takes memory: patterns are kept, the pattern is not
+-- empty, and there is room
 abbrev pub WouldKeep : ℕ → Option (List (List ℕ)) → List ℕ → Type 0
 WouldKeep limit state bytes = IsSomeAnd state (λ kept. (0 < length bytes) × (length kept < limit))

@@ -7,6 +7,6 @@ abbrev pub weighted : List ℕ → ℕ
 weighted [] = 0
 weighted (b ∷ w) = b * 2 ^ length w + weighted w
 
--- Sum: the same modulo 2 ^ 64
+-- the sum of a window: its bytes, so weighted, modulo 2^64
 abbrev pub sum_of : List ℕ → ℕ
 sum_of w = weighted w % 2 ^ 64

@@ -227,7 +227,8 @@ impl RabinKarp {
         })
     }
 
-    /// A copy, made for the same patterns.
+    /// A copy, made for the same patterns. It takes memory for the entries; where that is refused there is no
+    /// copy, and this stays as it is.
     pub fn try_clone(&self) -> Result<RabinKarp, AllocError>
         ensures { IfOk result (λ copy. copy ≡ self.now) }
     {

@@ -15,7 +15,7 @@ abbrev pub candidate_of : Option ℕ → Candidate
 candidate_of None = candidate.None
 candidate_of (Some start) = candidate.PossibleStartOfMatch start
 
--- the match, if the answer is one
+-- the match that an answer is, if it is one
 abbrev pub match_of : Candidate → Option MatchValue
 match_of candidate.None = None
 match_of (candidate.Match found) = Some found

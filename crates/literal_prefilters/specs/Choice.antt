@@ -23,7 +23,7 @@ is_one_pattern b = not b.ignore_case && length (kept_of b.state) == 1
 abbrev pub suits_packed : PrefilterBuilderValue → Bool
 suits_packed b = not b.ignore_case && is_some (packed_kind_of b.kind)
 
--- the packed search for the patterns
+-- the packed search for the builder's kind and patterns
 abbrev pub packed_search : PrefilterBuilderValue → Option PrefilterValue
 packed_search b =
     option_map (λ kind. by_search (record { kind = kind; patterns = kept_of b.state })) (packed_kind_of b.kind)
@@ -35,7 +35,7 @@ are_full (Some start) None = size start == 3
 are_full None (Some rare) = size rare == 3
 are_full (Some start) (Some rare) = size start == 3 && size rare == 3
 
--- at most 16 patterns, none shorter than two bytes, with a packed search that suits, and full tables
+-- a packed search suits, there are at most 16 patterns, none shorter than two bytes, and full tables
 abbrev pub is_short_list : PrefilterBuilderValue → Option (List (Option ℕ)) → Option (List (Option ℕ)) → Bool
 is_short_list b start rare =
     suits_packed b
@@ -56,7 +56,10 @@ is_start_nearly_as_rare _ _ = false
 abbrev pub is_last_resort : PrefilterBuilderValue → Bool
 is_last_resort b = suits_packed b && nat_le (length (kept_of b.state)) 128
 
--- the prefilter that is built for the patterns of a builder, if one is: the first line that applies decides
+-- the prefilter that is built, if one is. The first line that applies decides: no pattern (the builder is empty or
+-- disabled): none. One pattern: that one. A short list: the packed search. Fewer start bytes: the start table. Start
+-- nearly as rare: the start table. Both tables: the rare one. One table: that one. A packed search as the last resort:
+-- the packed search. Otherwise none
 abbrev pub pick : PrefilterBuilderValue → Option PrefilterValue
 pick b =
     let patterns = kept_of b.state in
@@ -72,7 +75,8 @@ pick b =
     else if is_last_resort b then packed_search b
     else None
 
--- a prefilter built for the one kind of match serves a search for the other: for standard semantics it serves both
+-- a prefilter built for one kind of match serves a search for another: the same, and both leftmost kinds where it was
+-- built for standard semantics
 abbrev pub Serves : root.MatchKind → MatchKind → Type 0
 Serves root_kind.Standard kind = ⊤
 Serves root_kind.LeftmostFirst kind = kind ≡ LeftmostFirst

@@ -11,7 +11,8 @@ use Rattle.literal_prefilters.specs.Choice.{pick}
 use Rattle.literal_prefilters.specs.PrefilterBuilderValue.{PrefilterBuilderValue, pattern_limit}
 use Rattle.literal_prefilters.specs.PrefilterValue.{PrefilterValue}
 
--- what is searched for, whether ASCII case is ignored, and the prefilter
+-- a `ConfirmingSearch` as contracts see it: the kind and the patterns, whether case is ignored, and what the prefilter
+-- goes by
 pub record ConfirmingValue : Type 0 where
   pub query : Query
   pub ignore_case : Bool

@@ -24,7 +24,7 @@ pub record CoversQuery (searched query : Query) (ignore_case : Bool) : Type 0 wh
   pub same : query ≡ searched
   pub case_kept : ignore_case ≡ false
 
--- the leftmost match as such, or none, and never a mere place
+-- the answer is the leftmost match as such, or None where nothing occurs, and never a mere place
 abbrev pub IsExact : Query → List ℕ → Span → Candidate → Type 0
 IsExact query haystack span candidate.None = IsLeftmost query false haystack span None
 IsExact query haystack span (candidate.Match found) = IsLeftmost query false haystack span (Some found)

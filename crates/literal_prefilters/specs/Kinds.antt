@@ -12,7 +12,7 @@ use Rattle.literal_prefilters.specs.Table.{size, reach_of, first, step, bytes_sc
 abbrev pub CoversAll : List (Option ℕ) → Coverage
 CoversAll table query ignore_case = All (Covers table ignore_case) query.patterns
 
--- the answer is the step of the table, and the bytes up to the first of the table are scanned and nothing else is
+-- the answer proposes the step of the table, and the bytes up to the table's first were scanned and nothing else was
 -- counted
 pub record IsStep (table : List (Option ℕ)) (haystack : List ℕ) (span : Span) (answer : Candidate)
     (old new : Counts) : Type 0 where
@@ -23,6 +23,6 @@ pub record IsStep (table : List (Option ℕ)) (haystack : List ℕ) (span : Span
 abbrev pub HasBytes : ℕ → List (Option ℕ) → Type 0
 HasBytes count table = size table ≡ count
 
--- each distance is 0
+-- a table whose distances are all 0
 abbrev pub ReachesNowhere : List (Option ℕ) → Type 0
 ReachesNowhere table = reach_of table ≡ 0

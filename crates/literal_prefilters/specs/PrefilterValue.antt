@@ -10,25 +10,26 @@ use Rattle.literal_prefilters.specs.Kinds.{CoversAll, IsStep}
 use Rattle.literal_prefilters.specs.Sound.{Coverage}
 use Rattle.literal_prefilters.specs.Table.{reach_of, step}
 
--- which of three it is, and what it looks for: the bytes of a table, one pattern, or some patterns by a packed search
+-- a `Prefilter` as contracts see it: which of three it is, with its table, its one pattern, or its kind of match and
+-- patterns
 pub data PrefilterValue : Type 0 where
   by_table : List (Option ℕ) → PrefilterValue
   by_pattern : List ℕ → PrefilterValue
   by_search : Query → PrefilterValue
 
--- what it covers
+-- what a prefilter covers
 abbrev pub CoveredBy : PrefilterValue → Coverage
 CoveredBy (by_table table) = CoversAll table
 CoveredBy (by_pattern pattern) = CoversPattern pattern
 CoveredBy (by_search query) = CoversQuery query
 
--- how many bytes past a place that it proposes it may read
+-- how many bytes past a place that it proposes it may read, 0 where it is exact
 abbrev pub prefilter_reach : PrefilterValue → ℕ
 prefilter_reach (by_table table) = reach_of table
 prefilter_reach (by_pattern pattern) = 0
 prefilter_reach (by_search query) = 0
 
--- what it answers: the step of its table as a possible start, or the leftmost match as such
+-- Answer: the step of its table as a possible start, or the leftmost match as such
 abbrev pub IsAnswer : PrefilterValue → List ℕ → Span → Candidate → Type 0
 IsAnswer (by_table table) haystack span answer = answer ≡ candidate_of (step table haystack span)
 IsAnswer (by_pattern pattern) haystack span answer = IsExact (query_of_one pattern) haystack span answer
@@ -41,7 +42,7 @@ IsCountedAnswer (by_pattern pattern) haystack span answer old new =
     IsExactStep (query_of_one pattern) haystack span answer old new
 IsCountedAnswer (by_search query) haystack span answer old new = IsExactStep query haystack span answer old new
 
--- the table, if it goes by one
+-- its table, if it goes by one
 abbrev pub prefilter_table : PrefilterValue → Option (List (Option ℕ))
 prefilter_table (by_table table) = Some table
 prefilter_table (by_pattern pattern) = None

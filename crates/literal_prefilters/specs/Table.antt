@@ -13,11 +13,11 @@ use Rattle.literal_base.specs.Bytes.{AreBytes}
 abbrev pub distance_of : List (Option ℕ) → ℕ → Option ℕ
 distance_of table byte = slice_index_or table byte None
 
--- the byte is in the table
+-- whether a byte is in the table
 abbrev pub is_in : List (Option ℕ) → ℕ → Bool
 is_in table byte = is_some (distance_of table byte)
 
--- the number of its bytes
+-- the number of the table's bytes
 abbrev pub size : List (Option ℕ) → ℕ
 size table = count_by is_some table
 
@@ -49,20 +49,21 @@ pub record IsFirst (table : List (Option ℕ)) (haystack : List ℕ) (span : Spa
   pub here : is_in table (slice_index haystack place) ≡ true
   pub none_before : (k : ℕ) → span.start ≤ k → k < place → is_in table (slice_index haystack k) ≡ false
 
--- the greater of the start and the place less its byte's distance
+-- a place less its byte's distance, and at least the span's start
 abbrev pub step_back : List (Option ℕ) → List ℕ → ℕ → ℕ → ℕ
 step_back table haystack start place = max start (place - unwrap_or (distance_of table (slice_index haystack place)) 0)
 
--- the place that a prefilter by this table answers
+-- the place that a prefilter by this table answers: the first place of the table in the span, stepped back, and None
+-- where there is none
 abbrev pub step : List (Option ℕ) → List ℕ → Span → Option ℕ
 step table haystack span = option_map (step_back table haystack span.start) (first table haystack span)
 
--- the bytes that a scan of the span reads, where it found what it answers
+-- the bytes from the span's start up to and including a place, or those of the whole span
 abbrev pub bytes_scanned : Span → Option ℕ → ℕ
 bytes_scanned span None = span.end - span.start
 bytes_scanned span (Some place) = place + 1 - span.start
 
--- in each case variant of the pattern some byte is in the table, and the distance of the earliest one is at least its
+-- in every case variant of the pattern some byte is in the table, and the distance of the earliest one is at least its
 -- offset
 abbrev pub Covers : List (Option ℕ) → Bool → List ℕ → Type 0
 Covers table ignore_case pattern =

@@ -11,7 +11,7 @@ use Rattle.literal_prefilters.specs.Table.{size}
 abbrev pub table_of : (ℕ → Bool) → (ℕ → ℕ) → List (Option ℕ)
 table_of in_set distance = by_byte (λ b. if in_set b then Some (distance b) else None)
 
--- a table of one to three bytes
+-- the table, if it has one to three bytes
 abbrev pub if_small : List (Option ℕ) → Option (List (Option ℕ))
 if_small table = if nat_le 1 (size table) && nat_le (size table) 3 then Some table else None
 
@@ -19,11 +19,11 @@ if_small table = if nat_le 1 (size table) && nat_le (size table) 3 then Some tab
 abbrev pub of_set : (ℕ → Bool) → List (Option ℕ)
 of_set in_set = table_of in_set (λ _. 0)
 
--- a table of one to three bytes, all at most 0x7F
+-- the table, if it has one to three bytes, all at most 0x7F
 abbrev pub if_low : List (Option ℕ) → Option (List (Option ℕ))
 if_low table = if size (drop 128 table) == 0 then if_small table else None
 
--- some pattern, in some case, begins with the byte
+-- some pattern begins with the byte, in some case
 abbrev pub is_start_byte : Bool → List (List ℕ) → ℕ → Bool
 is_start_byte ignore_case patterns byte = list_any (λ p. same_byte ignore_case byte (slice_index p 0)) patterns
 
@@ -31,7 +31,7 @@ is_start_byte ignore_case patterns byte = list_any (λ p. same_byte ignore_case 
 abbrev pub start_bytes : Bool → List (List ℕ) → List (Option ℕ)
 start_bytes ignore_case patterns = of_set (is_start_byte ignore_case patterns)
 
--- the start table, if its bytes are one to three, all at most 0x7F
+-- the start table: the table of the start bytes, if these are one to three and all at most 0x7F
 abbrev pub start_table : Bool → List (List ℕ) → Option (List (Option ℕ))
 start_table ignore_case patterns = if_low (start_bytes ignore_case patterns)
 
@@ -39,12 +39,12 @@ start_table ignore_case patterns = if_low (start_bytes ignore_case patterns)
 abbrev pub rarer : ℕ → ℕ → ℕ
 rarer a b = if nat_lt (rank_of b) (rank_of a) then b else a
 
--- the earliest byte of least rank
+-- the earliest byte of least rank of a pattern
 abbrev pub rarest : List ℕ → ℕ
 rarest pattern = fold rarer (slice_index pattern 0) pattern
 
--- the set after one more pattern: one that holds a byte of the set adds nothing, and another its rarest byte, in both
--- cases where case is ignored
+-- the set after one more pattern: one that holds a byte of the set adds nothing, another its rarest byte, in both cases
+-- where case is ignored
 abbrev pub with_rarest : Bool → (ℕ → Bool) → List ℕ → ℕ → Bool
 with_rarest ignore_case in_set pattern byte =
     in_set byte || (not (list_any in_set pattern) && same_byte ignore_case byte (rarest pattern))
@@ -53,7 +53,7 @@ with_rarest ignore_case in_set pattern byte =
 abbrev pub is_rare_byte : Bool → List (List ℕ) → ℕ → Bool
 is_rare_byte ignore_case patterns = fold (with_rarest ignore_case) (λ _. false) patterns
 
--- the largest offset below n at which the byte stands in the pattern, in some case
+-- the largest offset below a number at which a byte stands in a pattern, in some case
 abbrev pub offset_below : Bool → ℕ → List ℕ → ℕ → ℕ
 offset_below ignore_case byte pattern zero = 0
 offset_below ignore_case byte pattern (suc n) =
@@ -68,7 +68,8 @@ largest_offset ignore_case patterns byte =
 abbrev pub rare_bytes : Bool → List (List ℕ) → List (Option ℕ)
 rare_bytes ignore_case patterns = table_of (is_rare_byte ignore_case patterns) (largest_offset ignore_case patterns)
 
--- the rare table, if there is a pattern, each has at most 255 bytes and the set at most three
+-- the rare table: that of the rare bytes, if there is a pattern, each has at most 255 bytes and the set has at most
+-- three
 abbrev pub rare_table : Bool → List (List ℕ) → Option (List (Option ℕ))
 rare_table ignore_case patterns =
     let table = rare_bytes ignore_case patterns in

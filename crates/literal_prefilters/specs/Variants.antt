@@ -11,7 +11,7 @@ pub record StandsIn (ignore_case : Bool) (patterns : List (List ℕ)) (byte offs
   pub same : Same ignore_case variant (pattern_at patterns pattern)
   pub here : slice_get variant offset ≡ Some byte
 
--- the start bytes are the first bytes of the case variants
+-- the start bytes are those at offset 0 of case variants
 abbrev pub StartsVariants : Bool → List (List ℕ) → Type 0
 StartsVariants ignore_case patterns =
     (byte : ℕ) → (is_start_byte ignore_case patterns byte ≡ true) ↔ StandsIn ignore_case patterns byte 0

@@ -6,7 +6,7 @@ use Rattle.literal_base.specs.Query.{Query}
 use Rattle.literal_base.specs.Leftmost.{IsBetter}
 
 module _ (query : Query) (ignore_case : Bool) (haystack : List ℕ) (span : Span) (at n : ℕ) where
-  -- none of the first n patterns occurs at the place
+  -- none of the first n patterns occurs at a place
   abbrev pub NoneOccursOf : Type 0
   NoneOccursOf = (i : ℕ) → i < n → ¬ Occurs query.patterns ignore_case haystack span i at
 

@@ -30,7 +30,8 @@ pub record IsSearchedFor (limit : ℕ) (patterns : List (List ℕ)) : Type 0 whe
   pub few : length patterns ≤ limit
   pub not_empty : NoneIsEmpty patterns
 
--- an iteration over the matches in a haystack gives these up to its first None, and hashes each byte at most once
+-- an iteration over the matches in a haystack gives these up to its first None, and by then it has hashed each byte at
+-- most once
 pub record IsIteration (query : Query) (haystack : List ℕ) (all : List MatchValue) : Type 0 where
   pub last : FindIterValue
   pub ended : FindIterValue

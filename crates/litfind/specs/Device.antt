@@ -1,8 +1,8 @@
 -- What bytes are read from or written to, as contracts see it.
 use Rattle.std.specs.Prelude.{ℕ, Bool, false, List, length, nat_lt, nat_eq, ◌&&◌, Result, Ok, Err}
 
--- a reader or a writer, whether a call of it has failed, whether a read of it has found its end,
--- and whether the last call that writes or flushes was a flush that succeeded
+-- a reader or a writer, whether a call of it has failed, whether a read of it has found its end, and whether the last
+-- call that writes or flushes was a flush that succeeded
 pub record Device (T : Type 0) : Type 0 where
   pub inner : T
   pub has_failed : Bool

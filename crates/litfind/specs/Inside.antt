@@ -6,7 +6,7 @@ use Rattle.litfind.specs.declared.engine.Mode.TheVariants as mode
 use Rattle.litfind.specs.declared.engine.Searching.{Searching}
 use Rattle.litfind.specs.declared.engine.Searching.TheVariants as searching
 
--- what a mode with these patterns asks for
+-- what a mode with some patterns asks for
 abbrev pub asked_of : List (List ℕ) → Mode → Asked
 asked_of patterns (mode.All kind) = all_matches (record { kind = kind; patterns = patterns })
 asked_of patterns (mode.Leftmost kind ignore_case) =

@@ -17,13 +17,13 @@ pub record IsLeftmostList (query : Query) (ignore_case : Bool) (input : List ℕ
     pub leftmost : IsLeftmost query ignore_case input (whole_of input) found
     pub is_list : matches ≡ option_to_list found
 
--- the matches that are printed: those of the whole input that do not overlap, from the left, or the leftmost one
+-- the matches that are printed: the greedy list of the whole input, or its leftmost match
 abbrev pub AreMatches : Asked → List ℕ → List MatchValue → Type 0
 AreMatches (all_matches query) input matches = IsGreedy query false input 0 matches
 AreMatches (leftmost_match query ignore_case) input matches = IsLeftmostList query ignore_case input matches
 
--- the line of a match: the identifier of its pattern, and the offsets from which and up to which it
--- stands, in decimal with one space between, and a line feed
+-- the line of a match: the identifier of its pattern, and the offsets from which and up to which it stands, in decimal
+-- with one space between, and a line feed
 abbrev pub line_of : MatchValue → List ℕ
 line_of found = decimal found.pattern ++ codes " " ++ decimal found.start ++ codes " " ++ decimal found.end ++ codes
     "\n"
@@ -34,7 +34,7 @@ pub record AreLinesOf (asked : Asked) (input text : List ℕ) : Type 0 where
   pub found : AreMatches asked input matches
   pub lines : text ≡ flat_map line_of matches
 
--- the same for what the words ask for
+-- Lines: the text is a line for each match of the input that the words ask for
 pub record AreLines (words : List (List ℕ)) (input text : List ℕ) : Type 0 where
   pub asked : Asked
   pub ask : words_ask words ≡ Some asked

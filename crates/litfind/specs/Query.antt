@@ -7,7 +7,7 @@ use Rattle.literal_packed.specs.BuilderValue.{BuilderValue, builder_of, searcher
 use Rattle.literal_packed.specs.ConfigValue.{default_config}
 use Rattle.literal_prefilters.specs.ConfirmingValue.{confirming_of, prefilter_builder}
 
--- what is asked for: all matches of some patterns, or the leftmost one with ASCII case ignored or not
+-- what is asked for: all matches of some patterns, or the leftmost one, with ASCII case ignored or not
 pub data Asked : Type 0 where
   all_matches : Query → Asked
   leftmost_match : Query → Bool → Asked

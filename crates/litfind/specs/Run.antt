@@ -4,7 +4,7 @@ use Rattle.std.specs.Prelude.{◌≡◌, ◌≢◌, ℕ, ◌↔◌, List, [], �
 use Rattle.std.specs.Io.KnownBytes.{Appends, Consumes, IsAtEnd}
 use Rattle.litfind.specs.Lines.{AreLines}
 
--- these bytes are what was read, up to the end
+-- of a reader and a writer that tell their bytes: these bytes were read, up to the end
 pub record IsWhole (had has : Option (List ℕ)) (input : List ℕ) : Type 0 where
   pub bytes : Consumes had has input
   pub end : IsAtEnd has
@@ -21,7 +21,7 @@ pub record ReadSome (had has : Option (List ℕ)) : Type 0 where
   pub input : List ℕ
   pub bytes : Consumes had has input
 
--- the input was read to its end, all its lines were written, and the answer tells whether there is a line
+-- the input was read to its end and all its lines were written, and the answer tells whether there is a line
 pub record WroteLines (words : List (List ℕ)) (had has held holds : Option (List ℕ)) (printed : Bool) : Type 0 where
   pub input : List ℕ
   pub text : List ℕ

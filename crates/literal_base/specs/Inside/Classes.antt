@@ -8,7 +8,7 @@ use Rattle.literal_base.specs.Classes.{alphabet_len_of}
 abbrev pub classes_from : List ℕ → ℕ → List ℕ
 classes_from classes class = range_with_len class (alphabet_len_of classes - class)
 
--- the bytes of a class, from a byte up
+-- the bytes of a class from a byte up
 abbrev pub bytes_from : List ℕ → ℕ → ℕ → List ℕ
 bytes_from classes class byte =
     filter (λ b. slice_index classes b == class) (range_with_len byte (length classes - byte))

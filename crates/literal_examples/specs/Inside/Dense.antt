@@ -5,7 +5,7 @@ use Rattle.literal_base.specs.Classes.{IsStride2, alphabet_len_of}
 use Rattle.literal_examples.specs.DenseValue.{DenseValue, IsAutomaton}
 use Rattle.literal_examples.specs.declared.dense.Dense.TheInside.{Inside}
 
--- the row of a state in a table in which each row has so many places, of which it uses the first few
+-- the row of a state in a table of rows with so many places each, of which the first few are used
 abbrev pub row_at : List ℕ → ℕ → ℕ → ℕ → List ℕ
 row_at table stride used state = slice_range table (state * stride) (state * stride + used)
 
@@ -13,7 +13,7 @@ row_at table stride used state = slice_range table (state * stride) (state * str
 abbrev pub rows_of : List ℕ → ℕ → ℕ → ℕ → List (List ℕ)
 rows_of table stride used states = map (row_at table stride used) (range_with_len 0 states)
 
--- what a caller sees
+-- what a caller sees of a `Dense`
 abbrev pub dense_value : Inside → DenseValue
 dense_value a = record {
   classes = a.classes;
@@ -22,8 +22,7 @@ dense_value a = record {
   matches = a.matches.items;
 }
 
--- what the fields keep: the rows are those of an automaton, each with 2^stride2 places, as few as have room for the
--- classes
+-- what the fields of a `Dense` keep: the rows of an automaton, each with 2^`stride2` places
 pub record IsSound (a : Inside) : Type 0 where
   pub automaton : IsAutomaton (dense_value a)
   pub stride2 : IsStride2 a.classes a.stride2

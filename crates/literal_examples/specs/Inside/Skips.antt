@@ -4,7 +4,8 @@ use Rattle.literal_base.specs.declared.search.Span.{Span}
 use Rattle.literal_examples.specs.DenseValue.{DenseValue}
 use Rattle.literal_examples.specs.Earliest.{matches_at}
 
--- before the offset the automaton is in no match, and from there on where it would be if it had read all of the rest
+-- before an offset of the rest an automaton in a state is in no match, and from there on it is in one where it would be
+-- if it had read all of the rest
 pub record GoesOn (a : DenseValue) (state : ℕ) (haystack : List ℕ) (rest : Span) (at : ℕ) : Type 0 where
   pub after_start : rest.start ≤ at
   pub before_end : at ≤ rest.end

@@ -15,7 +15,6 @@ use Rattle.literal_packed.specs.BuilderValue.{BuilderValue, builder_of, with_add
 use Rattle.literal_packed.specs.ConfigValue.{ConfigValue}
 use Rattle.literal_packed.specs.FindIterValue.{FindIterValue, FindsNext}
 use Rattle.literal_packed.specs.PatternsValue.{PatternsValue, IsWellFormed, in_order}
-
 -- one addition after another is one of both: of a builder, and of the state of any builder with a limit
 pub use Rattle.literal_packed.proofs.lemmas.Additions.{added_more, state_after-state_of}
 

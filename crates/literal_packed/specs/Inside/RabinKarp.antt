@@ -13,7 +13,7 @@ bucket_number e = e.0 % 64
 abbrev pub start_at : List ℕ → ℕ → ℕ
 start_at starts k = slice_index_or starts k 0
 
--- the part of the list that is bucket k
+-- the part of the list of entries that is bucket k
 abbrev pub part_at : List ℕ → List (ℕ × ℕ) → ℕ → List (ℕ × ℕ)
 part_at starts entries k = slice_range entries (start_at starts k) (start_at starts (k + 1))
 

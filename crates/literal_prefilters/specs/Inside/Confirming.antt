@@ -8,8 +8,8 @@ abbrev pub read_to : ℕ → Option TableByte → ℕ
 read_to start None = start
 read_to start (Some found) = found.place + 1
 
--- the byte that is kept is the first of the table from a place on, unless it stands before that place, and then all
--- up to the place was read
+-- the byte that is kept is the first of the table from a place on, unless it stands before that place, and then all up
+-- to the place was read
 pub record IsKept (table : List (Option ℕ)) (haystack : List ℕ) (start at end : ℕ) (kept : Option TableByte) : Type 0
   where
     pub after_start : start ≤ at

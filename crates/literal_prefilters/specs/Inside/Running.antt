@@ -32,7 +32,7 @@ pub record IsUpTo (set wanted : ℕ → Bool) : Type 0 where
   pub exact : size (of_set set) ≤ 3 → (b : ℕ) → set b ≡ wanted b
   pub past : 3 < size (of_set set) → 3 < size (of_set wanted)
 
--- the start bytes of the patterns, as far as they are kept up
+-- the start bytes of the patterns that a builder of prefilters keeps beside them, as far as they are kept up
 pub record IsRunningStart (ignore_case : Bool) (patterns : List (List ℕ)) (start : RunningStart) : Type 0 where
   pub set : IsUpTo (contains start.set) (is_start_byte ignore_case patterns)
 

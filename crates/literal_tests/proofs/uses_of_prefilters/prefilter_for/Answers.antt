@@ -1,4 +1,5 @@
-use Rattle.std.proofs.Common.{◌≡◌, ◌+◌, ◌∷◌, [], Bor, List, ℕ, IfOk, Option, get_or, length, map, take, sym, ap, subst, ◌∙◌, arith}
+use Rattle.std.proofs.Common.{◌≡◌, ◌+◌, ◌∷◌, [], Bor, List, ℕ, IfOk, Option, get_or, length, map, take, sym, ap, subst}
+use Rattle.std.proofs.Common.{◌∙◌, arith}
 use Rattle.std.proofs.Math.Seq.{take-length}
 use Rattle.std.proofs.lemmas.List.{map_more}
 use Rattle.literal_packed.proofs.lemmas.Callers.{state_after-state_of}

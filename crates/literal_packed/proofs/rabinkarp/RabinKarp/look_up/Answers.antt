@@ -7,7 +7,9 @@ use Rattle.literal_packed.proofs.lemmas.LookUp.{IsRead, look_up_in, entry_of_pat
 use Rattle.literal_packed.proofs.lemmas.LookUp.{counts_other, counts_vain, counts_found, best_found, none_found}
 use Rattle.literal_packed.proofs.lemmas.LookUp.{counts_none}
 use Rattle.literal_packed.proofs.rabinkarp.RabinKarp.look_up.Goals as goal
-use Rattle.literal_packed.proofs.rabinkarp.RabinKarp.look_up.Goals.{else-entry_sum-sum-via-then-entry_sum-sum+else-stands_at}
+use Rattle.literal_packed.proofs.rabinkarp.RabinKarp.look_up.Goals.{
+  else-entry_sum-sum-via-then-entry_sum-sum+else-stands_at,
+}
 use Rattle.literal_packed.proofs.rabinkarp.RabinKarp.look_up.Goals.{else-entry_sum-sum-via-else-entry_sum-sum}
 
 pub returns-then-is_vacant-clause-best : goal.returns-then-is_vacant-clause-best

@@ -5,7 +5,6 @@ use Rattle.literal_prefilters.proofs.lemmas.Offsets.{offset_below-lt}
 use Rattle.literal_prefilters.proofs.lemmas.Running.{fits, largest_offset-push, rare_left, rare_more, short_more}
 use Rattle.literal_prefilters.proofs.lemmas.Running.{some_more}
 use Rattle.literal_prefilters.proofs.prefilter.running.RunningRare.add.Goals as goal
-use Rattle.literal_prefilters.proofs.prefilter.running.RunningRare.add.Goals.{}
 use Rattle.literal_prefilters.proofs.prefilter.running.RunningRare.add.Goals.{
   else-not-self-via-then-not-self+else-not-is_past_a_table,
 }
