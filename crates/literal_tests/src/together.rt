@@ -168,7 +168,11 @@ mod tests {
 
     const SPAN: Span = Span { start: 14, end: 51 };
 
-    fn words(pattern_limit: usize) -> Asked<'static> {
+    fn words(pattern_limit: usize) -> Asked<'static>
+        requires { IsPatternLimit pattern_limit }
+        ensures limit { IsPatternLimit result.pattern_limit }
+        ensures serves { Serves result.built_for result.kind }
+    {
         Asked {
             kind: LeftmostFirst,
             pattern_limit,
