@@ -19,6 +19,8 @@ ROLLING = "        let mut rolling = Rolling::new(minimum_len);"
 STEP_BACK = "                let start = found.place"
 TRY_CLONE = "    /// A copy, made for the same patterns."
 READ = "        self.entries[self.starts[bucket] + k]"
+TICK = "        tally.tick_entries();\n"
+PASSED = "        let bucket = sum % BUCKETS;\n        if self.longer"
 LEN = "        self.starts[bucket + 1] - self.starts[bucket]"
 COPIED = "            entries: Vec::from_slice("
 STARTS = "    let mut starts = [0; BUCKETS + 1];"
@@ -113,6 +115,8 @@ REPOSITORY = [
         append("crates/literal_base/specs/Counts.antt", "\nabbrev pub another_word : Counts\nanother_word = none_yet\n")]),
     ("definition_said_otherwise", "definitions", [
         replace("crates/literal_base/specs/Occurs.antt", "-- no pattern is empty\n", "-- some pattern is not empty\n")]),
+    ("definition_said_of_its_namesake", "definitions", [
+        replace("docs/DEFINITIONS.md", "| `IsSound` (`Builder.antt`) |", "| `IsSound` (`Dense.antt`) |")]),
     ("example_in_no_test", "examples", [replace("README.md", "let searcher = built", "let search = built")]),
     ("example_in_a_comment", "examples", [append(API, "\n/// ```rust\n/// let peek = 0;\n/// ```\nfn peek() {}\n")]),
     ("example_changed_in_its_test", "examples", [replace("crates/literal_examples/src/tests.rt", "[1, 0, 2]", "[1, 0]")]),
@@ -402,7 +406,8 @@ TALLIES = [
     ("ticks_twice", "ticks", [before(BYTE_TABLE, SCANNED, SCANNED)]),
     ("ticks_in_the_program", "ticks", [before(ENGINE, RUN, "    tally.tick_hashed();")]),
     ("scans_uncounted", "ticks", [replace(BYTE_TABLE, SCANNED, "")]),
-    ("entry_without_a_tick", "ticks", [replace(RABIN_KARP, "        tally.tick_entries();", "")]),
+    ("entry_without_a_tick", "ticks", [replace(RABIN_KARP, TICK + READ, READ)]),
+    ("passed_without_a_tick", "ticks", [replace(RABIN_KARP, "            tally.tick_entries();\n        }\n        true", "        }\n        true")]),
     ("program_searches_uncounted", "program", [before(ENGINE, RUN, "    let _ = searcher.find(input.as_slice());")]),
     ("program_lists_all", "program", [before(ENGINE, RUN, "    let _ = searcher.find_all(input.as_slice(), other)?;")]),
     ("program_searches_twice", "program", [before(ENGINE, RUN, RUN)]),
@@ -431,7 +436,17 @@ ENTRIES = [
     ("entry_reads_two", "bodies", [before(RABIN_KARP, READ, "        let _ = self.entries[0];")]),
     ("entry_counts_the_list", "bodies", [before(RABIN_KARP, READ, "        let _ = self.entries.iter().count();")]),
     ("length_by_counting", "entries", [before(RABIN_KARP, LEN, "        let _ = self.entries.iter().count();")]),
-    ("copy_that_reads", "bodies", [before(RABIN_KARP, COPIED, "            occupied: self.entries[0].0 as u64,")]),
+    ("copy_that_reads", "bodies", [before(RABIN_KARP, COPIED, "            longer: self.entries[0].0 as u64,")]),
+    ("first_sums_elsewhere", "entries", [in_look_up("if self.first_sums[bucket] == sum { return None; }")]),
+    ("second_sums_by_a_method", "entries", [method("    fn heads(&self) -> &[usize] {\n        &self.second_sums\n    }\n")]),
+    ("sums_of_a_list_that_was_made", "entries", [in_look_up("let sums = heads_of(&self.starts, self.entries.as_slice(), 2);")]),
+    ("passed_of_another_sum", "statements", [in_look_up("if self.is_passed(sum + 1, tally) { return None; }")]),
+    ("passed_in_vain", "statements", [replace(
+        RABIN_KARP, "        if self.is_passed(sum, tally) {\n            return None;", "        if self.is_passed(sum, tally) {\n            continue;")]),
+    ("passed_elsewhere", "callers", [in_find_at("        let _ = self.is_passed(0, tally);")]),
+    ("passed_reads_the_list", "bodies", [before(RABIN_KARP, PASSED, "        let _ = self.entries[0];")]),
+    ("passed_reads_another_bucket", "bodies", [before(RABIN_KARP, PASSED, "        let _ = self.first_sums[0] == sum;")]),
+    ("heads_that_count", "bodies", [replace(RABIN_KARP, "        heads[bucket] = if i < ", "        heads[bucket] = if 0 < ")]),
     ("starts_are_walked", "bodies", [before(RABIN_KARP, STARTS, "    for entry in entries {}")]),
     ("reserved_twice", "bodies", [before(RABIN_KARP, SORT, "        entries.reserve(1)?;")]),
     ("nothing_reserved", "bodies", [replace(

@@ -169,12 +169,16 @@ def strays(repository):
 
 
 def rows_of(text):
-    """What the rows of the tables of a document say, by each name that their first cell has in code."""
-    rows = {}
-    for line in re.findall(r"^\| (.*) \|$", text, re.M):
-        cells = line.split(" | ")
-        for code in re.findall(r"`([^`]*)`", cells[0]):
-            rows.setdefault(code.split()[0], []).append(cells[-1])
+    """What the rows of the tables of a document say, by each name that their first cell has in code, and the files of
+    specs that it is said of: those that the cell names or else a row before it, or the heading of the table."""
+    rows, files = {}, set()
+    for line in re.findall(r"^(?:## .*|\| .* \|)$", text, re.M):
+        cells = line.removeprefix("| ").removesuffix(" |").split(" | ")
+        codes = re.findall(r"`([^`]*)`", cells[0])
+        files = {code.split("/")[-1] for code in codes if code.endswith(".antt")} or files
+        for code in codes:
+            for file in files if line.startswith("|") else ():
+                rows.setdefault((file, code.split()[0]), []).append(cells[-1])
     return rows
 
 
@@ -185,9 +189,10 @@ def definitions(repository):
         if re.match(r"crates/\w+/specs/.*\.antt$", path):
             for comment, name in re.findall(r"((?:^ *-- .*\n)*)^ *(?:abbrev pub|unfoldable pub|pub (?:record|data)) ([^\s:(]+)", text, re.M):
                 said = " ".join(line.strip().removeprefix("-- ") for line in comment.splitlines())
-                if name not in rows:
+                rows_here = rows.get((path.split("/")[-1], name))
+                if not rows_here:
                     yield f"{path}: {name} is not in docs/DEFINITIONS.md"
-                elif said not in rows[name]:
+                elif said not in rows_here:
                     yield f"{path}: docs/DEFINITIONS.md says otherwise of {name}"
 
 

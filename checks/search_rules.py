@@ -704,7 +704,7 @@ def entries(sources):
     """Bucket entries are named in the listed functions alone, and no guarded struct is taken apart."""
     for function in sources.functions:
         body = texts(function.item.body or ())
-        if is_of_searches(function.path) and "entries" in body and function.key not in BUCKET_READERS:
+        if is_of_searches(function.path) and set(tables.BUCKET_FIELDS) & set(body) and function.key not in BUCKET_READERS:
             yield f"{function} names bucket entries"
         for name, where in tables.MAKERS.items():
             made = len([at for at in range(len(body) - 1) if body[at] == name and body[at + 1] == "{"])

@@ -125,6 +125,7 @@ TALLY_TAKERS = {
     (RABIN_KARP, "impl Rolling", "roll"): "hashes a byte",
     (RABIN_KARP, "", "sum_of_first"): "hashes the beginning of a pattern",
     (RABIN_KARP, "impl RabinKarp", "new"): "hashes the patterns",
+    (RABIN_KARP, "impl RabinKarp", "is_passed"): "counts the entries of a bucket that is passed over",
     (RABIN_KARP, "impl RabinKarp", "entry"): "reads a bucket entry",
     (EXACT, "impl Memmem", "new"): "hashes the pattern",
 }
@@ -132,7 +133,7 @@ TALLY_TAKERS = {
 # Where each tick stands, once in each function.
 TICKS = {
     "tick_hashed": [(RABIN_KARP, "impl Rolling", "push"), (RABIN_KARP, "impl Rolling", "roll")],
-    "tick_entries": [(RABIN_KARP, "impl RabinKarp", "entry")],
+    "tick_entries": [(RABIN_KARP, "impl RabinKarp", "is_passed"), (RABIN_KARP, "impl RabinKarp", "entry")],
     "tick_compared": [(PATTERN, "impl Patterns", "matches_at")],
     "tick_scanned": [(BYTE_TABLE, "impl ByteTable", "find")],
     "tick_tried": [(CONFIRMING, "", "confirm"), (CONFIRMING, "", "confirm_by_table")],
@@ -153,6 +154,7 @@ PROGRAM_SEARCH = {
 CALLERS = {
     "find_at": [(API, "impl Searcher", "find_in_counted"), (EXACT, "impl Memmem", "find")],
     "look_up": [(RABIN_KARP, "impl RabinKarp", "find_at")],
+    "is_passed": [(RABIN_KARP, "impl RabinKarp", "look_up")],
     "stands_at": [(RABIN_KARP, "impl RabinKarp", "look_up")],
     "matches_at": [(RABIN_KARP, "", "stands_at"), (CONFIRMING, "", "best_at")],
     "best_at": [(CONFIRMING, "", "confirm"), (CONFIRMING, "", "confirm_by_table")],
@@ -346,11 +348,15 @@ MAKERS = {
     "TableByte": [(BYTE_TABLE, "impl ByteTable", "find")],
 }
 
-# Where the list of bucket entries is named, the field or a variable that becomes it. Their words are held below.
+# The list of bucket entries, the field or a variable that becomes it, and the fields of the sums of the first two of
+# each bucket: where one of them is named. Their words are held below.
+BUCKET_FIELDS = ("entries", "first_sums", "second_sums")
 BUCKET_READERS = {
-    (RABIN_KARP, "impl RabinKarp", "new"): "makes the list",
+    (RABIN_KARP, "impl RabinKarp", "new"): "makes them",
     (RABIN_KARP, "", "starts_of"): "says where the buckets begin in a list that is made",
+    (RABIN_KARP, "", "heads_of"): "takes the sums from a list that is made",
     (RABIN_KARP, "impl RabinKarp", "try_clone"): "copies them",
+    (RABIN_KARP, "impl RabinKarp", "is_passed"): "compares two sums, and counts where both are passed over",
     (RABIN_KARP, "impl RabinKarp", "entry"): "reads one, and ticks",
 }
 
@@ -379,7 +385,8 @@ STRUCTS = {
         pub struct FindIter<'s, 'h> { searcher: &'s Searcher, haystack: &'h [u8], at: usize, tally: Tally, }""",
     "Searcher": "#[derive(Drop)] pub struct Searcher { patterns: Patterns, rabin_karp: RabinKarp, }",
     "RabinKarp": """#[derive(Drop)] pub struct RabinKarp {
-        minimum_len: usize, occupied: u64, starts: [usize; BUCKETS + 1], entries: Vec<(usize, PatternID)>, }""",
+        first_sums: [usize; BUCKETS], second_sums: [usize; BUCKETS], minimum_len: usize, longer: u64,
+        starts: [usize; BUCKETS + 1], entries: Vec<(usize, PatternID)>, }""",
     "Rolling": "#[derive(Drop)] pub struct Rolling { window: usize, before: usize, change: usize, power: usize, }",
     "Patterns": """#[derive(Drop)] pub struct Patterns { kind: MatchKind, by_id: Vec<Vec<u8>>, order: Vec<PatternID>,
         minimum_len: usize, total_pattern_bytes: u128, }""",
@@ -430,18 +437,41 @@ BODIES = {
         }
         entries.sort_by_key(|entry| entry.0 % BUCKETS)?;
         let starts = starts_of(entries.as_slice());
-        Ok(RabinKarp { minimum_len, occupied: occupied_of(&starts), starts, entries, })""",
+        Ok(RabinKarp {
+            first_sums: heads_of(&starts, entries.as_slice(), 0),
+            second_sums: heads_of(&starts, entries.as_slice(), 1),
+            minimum_len,
+            longer: longer_of(&starts),
+            starts,
+            entries,
+        })""",
     (RABIN_KARP, "", "starts_of"): """
         let mut starts = [0; BUCKETS + 1];
         for bucket in 0..BUCKETS + 1 {
             starts[bucket] = entries.partition_point(|entry| entry.0 % BUCKETS < bucket);
         }
         starts""",
+    (RABIN_KARP, "", "heads_of"): """
+        let mut heads = [0; BUCKETS];
+        for bucket in 0..BUCKETS {
+            let start = starts[bucket];
+            heads[bucket] = if i < starts[bucket + 1] - start { entries[start + i].0 } else { bucket + 1 };
+        }
+        heads""",
+    (RABIN_KARP, "impl RabinKarp", "is_passed"): """
+        let bucket = sum % BUCKETS;
+        if self.longer >> bucket & 1 == 1 || self.first_sums[bucket] == sum || self.second_sums[bucket] == sum {
+            return false;
+        }
+        for _ in 0..self.bucket_len(bucket) { tally.tick_entries(); }
+        true""",
     (RABIN_KARP, "impl RabinKarp", "entry"): "tally.tick_entries(); self.entries[self.starts[bucket] + k]",
     (RABIN_KARP, "impl RabinKarp", "try_clone"): """
         Ok(RabinKarp {
+            first_sums: self.first_sums,
+            second_sums: self.second_sums,
             minimum_len: self.minimum_len,
-            occupied: self.occupied,
+            longer: self.longer,
             starts: self.starts,
             entries: Vec::from_slice(*self.entries.allocator(), self.entries.as_slice())?,
         })""",
@@ -501,10 +531,14 @@ BODIES = {
 TRY = "tally.tick_tried(); if let Some(id) = best_at(patterns, ignore_case, haystack, span, start, tally)"
 
 # Statements that stand once in a body, and hold all that the body has of the names beside them: the two
-# reads of the hash, and the place that is tried. Elsewhere in the body a name may stand in the listed forms alone.
+# reads of the hash, the bucket that is passed over, and the place that is tried. Elsewhere in the body a name may stand in the listed forms alone.
 STATEMENTS = {
     (CONFIRMING, "", "confirm"): ([TRY], {"tick_tried": [], "best_at": []}),
     (CONFIRMING, "", "confirm_by_table"): ([TRY], {"tick_tried": [], "best_at": []}),
+    (RABIN_KARP, "impl RabinKarp", "look_up"): (
+        ["if self.is_passed(sum, tally) { return None; }"],
+        {"is_passed": []},
+    ),
     (RABIN_KARP, "impl RabinKarp", "find_at"): (
         [
             "let mut rolling = Rolling::new(minimum_len);",

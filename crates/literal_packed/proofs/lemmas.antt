@@ -11,12 +11,12 @@ pub mod LaidOut
 pub mod Lending
 pub mod Limits
 pub mod Lists
+pub mod Longer
 pub mod LongestOrder
 pub mod LookUp
 pub mod MinimumLen
 pub mod MostPatterns
 pub mod OneValue
-pub mod Occupied
 pub mod Order
 pub mod Parts
 pub mod PlaceCounts

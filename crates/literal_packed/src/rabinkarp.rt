@@ -1,7 +1,7 @@
 //! Rabin and Karp's search: a sum over a window of the haystack, which moves on byte by byte, tells
 //! which patterns can stand at a place.
-ghost use Rattle.std.specs.Prelude.{◌≡◌, ◌↔◌, ℕ, ◌≤◌, ◌<◌, ◌+◌, ◌*◌, ◌^◌, List, [], ◌∷◌, ◌++◌, false, length, take};
-ghost use Rattle.std.specs.Prelude.{IfOk, IsTrue, OnOk, MatchOption, Some, slice_get};
+ghost use Rattle.std.specs.Prelude.{◌≡◌, ◌↔◌, ℕ, ◌≤◌, ◌<◌, ◌+◌, ◌*◌, ◌%◌, ◌^◌, List, [], ◌∷◌, ◌++◌, false, length};
+ghost use Rattle.std.specs.Prelude.{take, IfOk, IsTrue, OnOk, MatchOption, Some, slice_get, if◌then◌else◌};
 ghost use Rattle.std.specs.List.Sorted.{IsNonDecreasingBy};
 ghost use Rattle.literal_base.specs.Occurs.{StandsAt, pattern_at, rest_from};
 ghost use Rattle.literal_base.specs.Leftmost.{IsLeftmost};
@@ -9,7 +9,7 @@ ghost use Rattle.literal_packed.specs.PatternsValue.{query_of, IsInOrder, minimu
 ghost use Rattle.literal_packed.specs.Inside.Place.{IsBestAt, NoneStandsAt};
 ghost use Rattle.literal_packed.specs.Sum.{sum_of};
 ghost use Rattle.literal_packed.specs.Pairs.{has_equal_sum, has_equal_bucket, window_sum, pairs_answered, counts_after};
-ghost use Rattle.literal_packed.specs.Inside.RabinKarp.{bucket_number, AreStarts, AreOccupied};
+ghost use Rattle.literal_packed.specs.Inside.RabinKarp.{bucket_number, AreStarts, AreHeads, AreLonger, ArePassed};
 ghost use Rattle.literal_packed.specs.RabinKarpValue.{IsMadeFor, bucket_at};
 
 use crate::pattern::Patterns;
@@ -128,17 +128,39 @@ fn starts_of(entries: &[(usize, PatternID)]) -> [usize; BUCKETS + 1]
     starts
 }
 
-/// The buckets that have an entry, as bits.
-fn occupied_of(starts: &[usize; BUCKETS + 1]) -> u64
-    ensures { AreOccupied starts.now result }
+/// The sum of the entry `i` of each bucket. Where a bucket has no such entry stands the next bucket's
+/// number, which is the sum of no window whose bucket it is.
+fn heads_of(
+    starts: &[usize; BUCKETS + 1],
+    entries: &[(usize, PatternID)],
+    i: usize,
+) -> [usize; BUCKETS]
+    requires { AreStarts starts.now entries.now }
+    ensures { AreHeads i starts.now entries.now result }
 {
-    let mut occupied = 0;
+    let mut heads = [0; BUCKETS];
     for bucket in 0..BUCKETS {
-        if starts[bucket] < starts[bucket + 1] {
-            occupied |= 1 << bucket;
+        let start = starts[bucket];
+        heads[bucket] = if i < starts[bucket + 1] - start {
+            entries[start + i].0
+        } else {
+            bucket + 1
+        };
+    }
+    heads
+}
+
+/// The buckets that have more than two entries, as bits.
+fn longer_of(starts: &[usize; BUCKETS + 1]) -> u64
+    ensures { AreLonger starts.now result }
+{
+    let mut longer = 0;
+    for bucket in 0..BUCKETS {
+        if starts[bucket + 1].saturating_sub(starts[bucket]) > 2 {
+            longer |= 1 << bucket;
         }
     }
-    occupied
+    longer
 }
 
 /// Whether a pattern stands at a place. It stays out of line: it is seldom called, and the loop over
@@ -176,12 +198,15 @@ fn found_at(patterns: &Patterns, id: PatternID, at: usize) -> Match
 /// entries of each bucket.
 ///
 /// All entries stand in one list, bucket after bucket: those of bucket `k` from `starts[k]` up to
-/// `starts[k + 1]`. Bit `k` of `occupied` says whether there are any, so that most places of a
-/// haystack are passed over without a read from memory.
+/// `starts[k + 1]`. The sums of the first two of each bucket stand in `first_sums` and `second_sums` too, and bit
+/// `k` of `longer` says whether it has more. So most places of a haystack are passed over by three
+/// comparisons, the same ones whatever the number of entries: a processor guesses them right.
 #[derive(Drop)]
 pub struct RabinKarp {
+    first_sums: [usize; BUCKETS],
+    second_sums: [usize; BUCKETS],
     minimum_len: usize,
-    occupied: u64,
+    longer: u64,
     starts: [usize; BUCKETS + 1],
     entries: Vec<(usize, PatternID)>,
 }
@@ -194,7 +219,7 @@ impl Model for RabinKarp {
 
     ghost view = { λ r. record { minimum_len = r.minimum_len; buckets = buckets_of r.starts r.entries.items } };
 
-    ghost invariant = { λ r. IsLaidOut r.starts r.occupied r.entries.items };
+    ghost invariant = { λ r. IsLaidOut r.first_sums r.second_sums r.starts r.longer r.entries.items };
 }
 
 impl RabinKarp {
@@ -220,8 +245,10 @@ impl RabinKarp {
         entries.sort_by_key(|entry| entry.0 % BUCKETS)?;
         let starts = starts_of(entries.as_slice());
         Ok(RabinKarp {
+            first_sums: heads_of(&starts, entries.as_slice(), 0),
+            second_sums: heads_of(&starts, entries.as_slice(), 1),
             minimum_len,
-            occupied: occupied_of(&starts),
+            longer: longer_of(&starts),
             starts,
             entries,
         })
@@ -233,19 +260,13 @@ impl RabinKarp {
         ensures { IfOk result (λ copy. copy ≡ self.now) }
     {
         Ok(RabinKarp {
+            first_sums: self.first_sums,
+            second_sums: self.second_sums,
             minimum_len: self.minimum_len,
-            occupied: self.occupied,
+            longer: self.longer,
             starts: self.starts,
             entries: Vec::from_slice(*self.entries.allocator(), self.entries.as_slice())?,
         })
-    }
-
-    /// Whether a bucket has no entry.
-    fn is_vacant(&self, bucket: usize) -> bool
-        requires { bucket < 64 }
-        ensures { IsTrue result ↔ (bucket_at self.now bucket ≡ []) }
-    {
-        self.occupied >> bucket & 1 == 0
     }
 
     /// How many entries a bucket has.
@@ -265,6 +286,28 @@ impl RabinKarp {
     {
         tally.tick_entries();
         self.entries[self.starts[bucket] + k]
+    }
+
+    /// Whether the bucket of a sum has no more than two entries, and neither has that sum. Then they count
+    /// as read. Else nothing counts: the look-up goes on and reads each entry up to its answer, of which
+    /// no head behind the first with the sum was looked at here.
+    fn is_passed(&self, sum: usize, tally: &mut Tally) -> bool
+        ensures passed { IsTrue result ↔ ArePassed (bucket_at self.now (sum % 64)) sum }
+        ensures counted { tally.new ≡ (if result then
+            record tally.old { entries = tally.old.entries + length (bucket_at self.now (sum % 64)) }
+            else tally.old) }
+    {
+        let bucket = sum % BUCKETS;
+        if self.longer >> bucket & 1 == 1
+            || self.first_sums[bucket] == sum
+            || self.second_sums[bucket] == sum
+        {
+            return false;
+        }
+        for _ in 0..self.bucket_len(bucket) {
+            tally.tick_entries();
+        }
+        true
     }
 
     /// The first in match order of the patterns that stand at a place, whose window has the sum. It
@@ -292,10 +335,10 @@ impl RabinKarp {
         } }
     {
         let sum = rolling.value();
-        let bucket = sum % BUCKETS;
-        if self.is_vacant(bucket) {
+        if self.is_passed(sum, tally) {
             return None;
         }
+        let bucket = sum % BUCKETS;
         for k in 0..self.bucket_len(bucket) {
             let (entry_sum, id) = self.entry(bucket, k, tally);
             if entry_sum == sum && stands_at(patterns, id, haystack, at, tally) {
@@ -355,8 +398,9 @@ mod tests {
         patterns.add(b"ab")?;
         patterns.add(b"ba")?;
         patterns.add(b"ab")?;
+        patterns.add(b"ab")?;
         let made = RabinKarp::new(&patterns, &mut Tally::new())?;
-        let rows = [(292, 0), (292, 2), (293, 1)];
+        let rows = [(292, 0), (292, 2), (292, 3), (293, 1)];
         assert_eq!(rt; made.entries.len(), rows.len());
         for k in 0..rows.len() {
             let (sum, id) = made.entries.as_slice().get(k).ok_or("an entry is missing")?;
@@ -365,12 +409,21 @@ mod tests {
         for bucket in 0..BUCKETS + 1 {
             let start = match bucket {
                 0..=36 => 0,
-                37 => 2,
-                _ => 3,
+                37 => 3,
+                _ => 4,
             };
             assert_eq!(rt; made.starts[bucket], start, "bucket {bucket}");
         }
-        assert_eq!(rt; made.occupied, 1 << 36 | 1 << 37);
+        for bucket in 0..BUCKETS {
+            let (first, second) = match bucket {
+                36 => (292, 292),
+                37 => (293, 38),
+                _ => (bucket + 1, bucket + 1),
+            };
+            assert_eq!(rt; made.first_sums[bucket], first, "bucket {bucket}");
+            assert_eq!(rt; made.second_sums[bucket], second, "bucket {bucket}");
+        }
+        assert_eq!(rt; made.longer, 1 << 36);
         Ok(())
     }
 }

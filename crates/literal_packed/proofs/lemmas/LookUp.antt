@@ -1,6 +1,6 @@
 -- The steps of a look-up.
 -- For `RabinKarp::look_up`.
-use Rattle.std.proofs.Common.{refl, ◌≡◌, ℕ, ◌+◌, ◌%◌, ◌<◌, ◌≤◌, Bool, true, false, eqb, List, Some, length, take}
+use Rattle.std.proofs.Common.{refl, ◌≡◌, ◌≢◌, ℕ, ◌+◌, ◌%◌, ◌<◌, ◌≤◌, Bool, true, false, eqb, List, Some, length, take}
 use Rattle.std.proofs.Common.{get_or, slice_get, sym, ap, subst, ◌∙◌, arith}
 use Rattle.std.specs.List.{All, count_by}
 use Rattle.std.proofs.lemmas.Bool.{eq-eqb, ne_eqb}
@@ -17,6 +17,7 @@ use Rattle.literal_packed.specs.Pairs.{window_sum, has_equal_sum, has_equal_buck
 use Rattle.literal_packed.specs.RabinKarpValue.{RabinKarpValue, IsMadeFor, bucket_at, bucket_of}
 use Rattle.literal_packed.proofs.lemmas.Buckets.{IsEntry, bucket_entries, other_sum, none_stands, best_stands}
 use Rattle.literal_packed.proofs.lemmas.Buckets.{entries_none, compared_none, entries_some, compared_some}
+use Rattle.literal_packed.proofs.lemmas.Lists.{count_by-none}
 use Rattle.literal_packed.proofs.lemmas.PlaceCounts.{with_three, same_three}
 
 -- the counts after an entry was read, after a pattern was compared, and after m entries and n comparisons
@@ -151,6 +152,30 @@ module _ {c : PatternsValue} {haystack : List ℕ} {at sum : ℕ} {entries : Lis
       ∙ entries_none c here.searchable.well_formed here.searchable.in_order haystack at sum here.sum_is))
       (ap (λ n. old.compared + n) (ap (count_by has_sum) (all_done k ended)
       ∙ compared_none c here.searchable.well_formed here.searchable.in_order haystack at sum here.sum_is))
+
+  -- where no entry has the sum, none stands there, and all count as read
+  others_of_bucket : All (λ e. e.0 ≢ sum) entries → All (λ e. e.0 ≢ sum) bucket
+  others_of_bucket = subst (All (λ e. e.0 ≢ sum)) here.is
+
+  pub none_passed : All (λ e. e.0 ≢ sum) entries → NoneStandsAt c.patterns false haystack at
+  none_passed others =
+      let well_formed = here.searchable.well_formed in
+      let in_order = here.searchable.in_order in
+      none_stands c well_formed in_order haystack at sum here.sum_is (λ i d within.
+      other_sum c well_formed in_order haystack at sum here.sum_is (get_or bucket i d)
+      (bucket_entries c well_formed (sum % 64) i d within) (others_of_bucket others i d within))
+
+  pub counts_passed : (old now : Counts) → All (λ e. e.0 ≢ sum) entries
+      → now ≡ record old { entries = old.entries + length entries }
+      → now ≡ counted old (pairs_at (has_equal_bucket c.patterns haystack) (length c.patterns) at)
+      (pairs_at (has_equal_sum c.patterns haystack) (length c.patterns) at)
+  counts_passed old now others was =
+      let all = length entries in
+      let none : count_by has_sum (done all) ≡ 0 =
+      ap (count_by has_sum) (all_done all (omega arith))
+      ∙ count_by-none has_sum bucket (λ i d within. ne_eqb _ _ (others_of_bucket others i d within)) in
+      counts_none all old now (omega arith) (omega arith)
+      (was ∙ same_three old _ _ _ _ _ _ refl refl (omega (arith, none)))
 
 -- the look-up in a list of its own for each bucket
 pub look_up_in : (c : PatternsValue) (b : RabinKarpValue) (haystack : List ℕ) (at sum : ℕ) → IsMadeFor c b

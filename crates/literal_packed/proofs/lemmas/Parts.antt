@@ -44,10 +44,10 @@ part_filter p xs from to ordered inside before here behind =
     ∙ (filter-append p part back
     ∙ (ap (λ ys. ys ++ filter p back) whole_part ∙ (ap (λ ys. part ++ ys) no_back ∙ append-nil part)))))))
 
--- one start more
-pub starts_more : (P : ℕ → ℕ → Type 0) (starts : List ℕ) (b at : ℕ) → b < length starts
+-- one number more of an array
+pub set_more : (P : ℕ → ℕ → Type 0) (starts : List ℕ) (b at : ℕ) → b < length starts
     → ((k : ℕ) → k < b → P k (start_at starts k)) → P b at → (k : ℕ) → k < b + 1 → P k (start_at (set starts b at) k)
-starts_more P starts b at inside so_far here k within =
+set_more P starts b at inside so_far here k within =
     elim (cases_eq k b) [
       | inl same ↦ subst (λ i. P i (start_at (set starts b at) i)) (sym same)
           (subst (P b) (sym (get_or-set_same starts b at 0 inside)) here)

@@ -1,8 +1,8 @@
 -- The fields of `RabinKarp`: the entries of all buckets in one list, bucket after bucket.
-use Rattle.std.specs.Prelude.{◌≡◌, ℕ, ◌+◌, ◌%◌, ◌≤◌, ◌<◌, nat_lt, if◌then◌else◌, List, length, map, slice_range}
-use Rattle.std.specs.Prelude.{slice_index_or}
+use Rattle.std.specs.Prelude.{◌≡◌, ◌≢◌, ℕ, ◌+◌, ◌-◌, ◌%◌, ◌≤◌, ◌<◌, nat_lt, if◌then◌else◌, List, length, map}
+use Rattle.std.specs.Prelude.{slice_range, slice_index_or}
 use Rattle.std.specs.Int.{bit_at}
-use Rattle.std.specs.List.{range_with_len}
+use Rattle.std.specs.List.{All, range_with_len}
 use Rattle.std.specs.List.Sorted.{IsPartitionPoint}
 
 -- the number of the bucket in which an entry stands
@@ -30,12 +30,32 @@ pub record IsStart (entries : List (ℕ × ℕ)) (k at : ℕ) : Type 0 where
 abbrev pub AreStarts : List ℕ → List (ℕ × ℕ) → Type 0
 AreStarts starts entries = (k : ℕ) → k < 65 → IsStart entries k (start_at starts k)
 
--- bit k is set exactly if bucket k has an entry
-abbrev pub AreOccupied : List ℕ → ℕ → Type 0
-AreOccupied starts occupied =
-    (k : ℕ) → k < 64 → bit_at occupied k ≡ (if nat_lt (start_at starts k) (start_at starts (k + 1)) then 1 else 0)
+-- how many entries bucket k has
+abbrev pub len_at : List ℕ → ℕ → ℕ
+len_at starts k = start_at starts (k + 1) - start_at starts k
 
--- the starts and the bits are those of the list. Abstract: as facts about all buckets they would stand in the way of
--- each proof in which a `RabinKarp` is opened or dropped
-unfoldable pub IsLaidOut : List ℕ → ℕ → List (ℕ × ℕ) → Type 0
-IsLaidOut starts occupied entries = AreStarts starts entries × AreOccupied starts occupied
+-- the sum of entry i of bucket k. Where the bucket has no such entry, the next number: no sum of the bucket is that
+abbrev pub head_at : ℕ → List ℕ → List (ℕ × ℕ) → ℕ → ℕ
+head_at i starts entries k =
+    if nat_lt i (len_at starts k) then (slice_index_or entries (start_at starts k + i) (0, 0)).0 else k + 1
+
+-- the sum of entry i of each bucket
+abbrev pub AreHeads : ℕ → List ℕ → List (ℕ × ℕ) → List ℕ → Type 0
+AreHeads i starts entries heads =
+    (k : ℕ) → k < 64 → slice_index_or heads k 0 ≡ head_at i starts entries k
+
+-- bit k is set exactly if bucket k has more than two entries
+abbrev pub AreLonger : List ℕ → ℕ → Type 0
+AreLonger starts longer = (k : ℕ) → k < 64 → bit_at longer k ≡ (if nat_lt 2 (len_at starts k) then 1 else 0)
+
+-- the starts, the first and the second sums and the bits are those of the list. Abstract: as facts about all buckets
+-- they would stand in the way of each proof in which a `RabinKarp` is opened or dropped
+unfoldable pub IsLaidOut : List ℕ → List ℕ → List ℕ → ℕ → List (ℕ × ℕ) → Type 0
+IsLaidOut first second starts longer entries =
+    AreStarts starts entries × AreHeads 0 starts entries first × AreHeads 1 starts entries second
+    × AreLonger starts longer
+
+-- a bucket has two entries at most, and none of them has the sum
+pub record ArePassed (bucket : List (ℕ × ℕ)) (sum : ℕ) : Type 0 where
+  pub few : length bucket ≤ 2
+  pub others : All (λ e. e.0 ≢ sum) bucket

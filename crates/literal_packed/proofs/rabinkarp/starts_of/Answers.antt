@@ -3,7 +3,7 @@ use Rattle.std.proofs.lemmas.Fn.{always_returns_same}
 use Rattle.std.proofs.lemmas.List.{length-set}
 use Rattle.std.proofs.lemmas.List.Sorted.{IsPartitionedBy-ltb}
 use Rattle.literal_packed.specs.Inside.RabinKarp.{IsStart, bucket_number}
-use Rattle.literal_packed.proofs.lemmas.Parts.{is_start, starts_more}
+use Rattle.literal_packed.proofs.lemmas.Parts.{is_start, set_more}
 use Rattle.literal_packed.proofs.rabinkarp.starts_of.Goals as goal
 
 pub loop-bucket-init : goal.loop-bucket-init
@@ -20,7 +20,7 @@ loop-bucket-preserved c =
     in
     record {
       len = length-set c.loop-bucket.starts bucket at ∙ long;
-      are = starts_more (IsStart entries) c.loop-bucket.starts bucket at (omega arith) c.loop-bucket.invariant.are
+      are = set_more (IsStart entries) c.loop-bucket.starts bucket at (omega arith) c.loop-bucket.invariant.are
           (is_start entries bucket at c.partition_point.ensures.bound point);
     }
 

@@ -9,7 +9,7 @@ use Rattle.literal_base.specs.Counts.{Counts}
 use Rattle.literal_packed.specs.Sum.{sum_of}
 use Rattle.literal_packed.specs.Pairs.{key_of}
 use Rattle.literal_packed.specs.PatternsValue.{minimum_len_of}
-use Rattle.literal_packed.specs.Inside.RabinKarp.{bucket_number, AreStarts}
+use Rattle.literal_packed.specs.Inside.RabinKarp.{bucket_number, AreStarts, AreHeads}
 use Rattle.literal_base.specs.Occurs.{pattern_at}
 use Rattle.literal_packed.proofs.lemmas.Given.{head_below, split_next, split_more}
 use Rattle.literal_packed.proofs.lemmas.MinimumLen.{minimum_len_of_some, minimum_len_of-le}
@@ -75,7 +75,15 @@ pub invariant_of-result : goal.invariant_of-result
 invariant_of-result c =
     let are : AreStarts c.starts_of-starts.result c.sort_by_key.new.self.items =
     subst (AreStarts c.starts_of-starts.result) c.as_slice.ensures.value c.starts_of-starts.ensures in
-    laid_out _ _ _ are c.occupied_of.ensures
+    let starts = c.starts_of-starts.result in
+    laid_out (record {
+      starts_are = are;
+      first_are = subst (λ (es : List (ℕ × ℕ)). AreHeads 0 starts es c.heads_of.result) c.as_slice-2.ensures.value
+          c.heads_of.ensures;
+      second_are = subst (λ (es : List (ℕ × ℕ)). AreHeads 1 starts es c.heads_of-2.result) c.as_slice-3.ensures.value
+          c.heads_of-2.ensures;
+      longer_are = c.longer_of.ensures;
+    })
 
 pub returns-clause-made : goal.returns-clause-made
 returns-clause-made c =

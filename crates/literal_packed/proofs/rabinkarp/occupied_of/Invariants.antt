@@ -1,5 +1,0 @@
-use Rattle.literal_packed.proofs.lemmas.Occupied.{AreBitsBefore}
-use Rattle.literal_packed.proofs.rabinkarp.occupied_of.Given as goal
-
-abbrev pub invariant-loop-bucket : goal.invariant-loop-bucket
-invariant-loop-bucket l = AreBitsBefore l.starts l.bucket l.occupied
