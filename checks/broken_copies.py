@@ -19,7 +19,6 @@ ROLLING = "        let mut rolling = Rolling::new(minimum_len);"
 STEP_BACK = "                let start = found.place"
 TRY_CLONE = "    /// A copy, made for the same patterns."
 READ = "        self.entries[self.starts[bucket] + k]"
-TICK = "        tally.tick_entries();\n"
 PASSED = "        let bucket = sum % BUCKETS;\n        if self.longer"
 LEN = "        self.starts[bucket + 1] - self.starts[bucket]"
 COPIED = "            entries: Vec::from_slice("
@@ -406,8 +405,7 @@ TALLIES = [
     ("ticks_twice", "ticks", [before(BYTE_TABLE, SCANNED, SCANNED)]),
     ("ticks_in_the_program", "ticks", [before(ENGINE, RUN, "    tally.tick_hashed();")]),
     ("scans_uncounted", "ticks", [replace(BYTE_TABLE, SCANNED, "")]),
-    ("entry_without_a_tick", "ticks", [replace(RABIN_KARP, TICK + READ, READ)]),
-    ("passed_without_a_tick", "ticks", [replace(RABIN_KARP, "            tally.tick_entries();\n        }\n        true", "        }\n        true")]),
+    ("entry_without_a_tick", "ticks", [replace(RABIN_KARP, "        tally.tick_entries();", "")]),
     ("program_searches_uncounted", "program", [before(ENGINE, RUN, "    let _ = searcher.find(input.as_slice());")]),
     ("program_lists_all", "program", [before(ENGINE, RUN, "    let _ = searcher.find_all(input.as_slice(), other)?;")]),
     ("program_searches_twice", "program", [before(ENGINE, RUN, RUN)]),
@@ -440,10 +438,18 @@ ENTRIES = [
     ("first_sums_elsewhere", "entries", [in_look_up("if self.first_sums[bucket] == sum { return None; }")]),
     ("second_sums_by_a_method", "entries", [method("    fn heads(&self) -> &[usize] {\n        &self.second_sums\n    }\n")]),
     ("sums_of_a_list_that_was_made", "entries", [in_look_up("let sums = heads_of(&self.starts, self.entries.as_slice(), 2);")]),
-    ("passed_of_another_sum", "statements", [in_look_up("if self.is_passed(sum + 1, tally) { return None; }")]),
+    ("passed_of_another_sum", "statements", [in_look_up("if self.is_passed(sum + 1) { return None; }")]),
     ("passed_in_vain", "statements", [replace(
-        RABIN_KARP, "        if self.is_passed(sum, tally) {\n            return None;", "        if self.is_passed(sum, tally) {\n            continue;")]),
-    ("passed_elsewhere", "callers", [in_find_at("        let _ = self.is_passed(0, tally);")]),
+        RABIN_KARP, "            self.read_all(bucket, tally);\n            return None;", "            self.read_all(bucket, tally);")]),
+    ("passed_unread", "statements", [replace(RABIN_KARP, "            self.read_all(bucket, tally);\n", "")]),
+    ("passed_and_ticked", "ticks", [replace(
+        RABIN_KARP, "            self.read_all(bucket, tally);\n", "            self.read_all(bucket, tally);\n            tally.tick_entries();\n")]),
+    ("all_read_elsewhere", "callers", [in_find_at("        self.read_all(0, tally);")]),
+    ("entry_read_elsewhere", "callers", [in_find_at("        let _ = self.entry(0, 0, tally);")]),
+    ("entry_read_again", "statements", [in_look_up("let (other, _) = self.entry(bucket, k, tally);")]),
+    ("all_read_that_leaves_some_out", "bodies", [replace(
+        RABIN_KARP, "            self.entry(bucket, k, tally);\n", "            if k > 0 {\n                self.entry(bucket, k, tally);\n            }\n")]),
+    ("passed_elsewhere", "callers", [in_find_at("        let _ = self.is_passed(0);")]),
     ("passed_reads_the_list", "bodies", [before(RABIN_KARP, PASSED, "        let _ = self.entries[0];")]),
     ("passed_reads_another_bucket", "bodies", [before(RABIN_KARP, PASSED, "        let _ = self.first_sums[0] == sum;")]),
     ("heads_that_count", "bodies", [replace(RABIN_KARP, "        heads[bucket] = if i < ", "        heads[bucket] = if 0 < ")]),

@@ -1,7 +1,7 @@
 //! Rabin and Karp's search: a sum over a window of the haystack, which moves on byte by byte, tells
 //! which patterns can stand at a place.
 ghost use Rattle.std.specs.Prelude.{◌≡◌, ◌↔◌, ℕ, ◌≤◌, ◌<◌, ◌+◌, ◌*◌, ◌%◌, ◌^◌, List, [], ◌∷◌, ◌++◌, false, length};
-ghost use Rattle.std.specs.Prelude.{take, IfOk, IsTrue, OnOk, MatchOption, Some, slice_get, if◌then◌else◌};
+ghost use Rattle.std.specs.Prelude.{take, IfOk, IsTrue, OnOk, MatchOption, Some, slice_get};
 ghost use Rattle.std.specs.List.Sorted.{IsNonDecreasingBy};
 ghost use Rattle.literal_base.specs.Occurs.{StandsAt, pattern_at, rest_from};
 ghost use Rattle.literal_base.specs.Leftmost.{IsLeftmost};
@@ -288,14 +288,9 @@ impl RabinKarp {
         self.entries[self.starts[bucket] + k]
     }
 
-    /// Whether the bucket of a sum has no more than two entries, and neither has that sum. Then they count
-    /// as read. Else nothing counts: the look-up goes on and reads each entry up to its answer, of which
-    /// no head behind the first with the sum was looked at here.
-    fn is_passed(&self, sum: usize, tally: &mut Tally) -> bool
-        ensures passed { IsTrue result ↔ ArePassed (bucket_at self.now (sum % 64)) sum }
-        ensures counted { tally.new ≡ (if result then
-            record tally.old { entries = tally.old.entries + length (bucket_at self.now (sum % 64)) }
-            else tally.old) }
+    /// Whether it shows at once that no entry of a sum's bucket has that sum: it has two at most.
+    fn is_passed(&self, sum: usize) -> bool
+        ensures { IsTrue result ↔ ArePassed (bucket_at self.now (sum % 64)) sum }
     {
         let bucket = sum % BUCKETS;
         if self.longer >> bucket & 1 == 1
@@ -304,10 +299,19 @@ impl RabinKarp {
         {
             return false;
         }
-        for _ in 0..self.bucket_len(bucket) {
-            tally.tick_entries();
-        }
         true
+    }
+
+    /// Reads all entries of a bucket, none of which is the answer, so that they count. What is read is
+    /// not used: the built program has nothing of it.
+    fn read_all(&self, bucket: usize, tally: &mut Tally)
+        requires { bucket < 64 }
+        ensures { tally.new
+            ≡ record tally.old { entries = tally.old.entries + length (bucket_at self.now bucket) } }
+    {
+        for k in 0..self.bucket_len(bucket) {
+            self.entry(bucket, k, tally);
+        }
     }
 
     /// The first in match order of the patterns that stand at a place, whose window has the sum. It
@@ -335,10 +339,11 @@ impl RabinKarp {
         } }
     {
         let sum = rolling.value();
-        if self.is_passed(sum, tally) {
+        let bucket = sum % BUCKETS;
+        if self.is_passed(sum) {
+            self.read_all(bucket, tally);
             return None;
         }
-        let bucket = sum % BUCKETS;
         for k in 0..self.bucket_len(bucket) {
             let (entry_sum, id) = self.entry(bucket, k, tally);
             if entry_sum == sum && stands_at(patterns, id, haystack, at, tally) {

@@ -23,7 +23,7 @@ pub laid_out : {first second starts : List ℕ} {longer : ℕ} {entries : List (
 unfolding IsLaidOut
 laid_out are = (are.starts_are, are.first_are, are.second_are, are.longer_are)
 
-pub opened : (first second starts : List ℕ) (longer : ℕ) (entries : List (ℕ × ℕ))
+opened : (first second starts : List ℕ) (longer : ℕ) (entries : List (ℕ × ℕ))
     → IsLaidOut first second starts longer entries → AreLaidOut first second starts longer entries
 unfolding IsLaidOut
 opened first second starts longer entries laid = record {
