@@ -403,9 +403,8 @@ mod tests {
         patterns.add(b"ab")?;
         patterns.add(b"ba")?;
         patterns.add(b"ab")?;
-        patterns.add(b"ab")?;
         let made = RabinKarp::new(&patterns, &mut Tally::new())?;
-        let rows = [(292, 0), (292, 2), (292, 3), (293, 1)];
+        let rows = [(292, 0), (292, 2), (293, 1)];
         assert_eq!(rt; made.entries.len(), rows.len());
         for k in 0..rows.len() {
             let (sum, id) = made.entries.as_slice().get(k).ok_or("an entry is missing")?;
@@ -414,15 +413,29 @@ mod tests {
         for bucket in 0..BUCKETS + 1 {
             let start = match bucket {
                 0..=36 => 0,
-                37 => 3,
-                _ => 4,
+                37 => 2,
+                _ => 3,
             };
             assert_eq!(rt; made.starts[bucket], start, "bucket {bucket}");
         }
+        Ok(())
+    }
+
+    #[test]
+    fn sets_two_sums_of_each_bucket_apart(rt: HostRuntime) -> Result<(), Fail> {
+        let mut patterns = Patterns::new(rt.alloc());
+        patterns.add(b"ab")?;
+        patterns.add(b"ba")?;
+        patterns.add(b"ab")?;
+        patterns.add(b"ab")?;
+        patterns.add(b"cb")?;
+        patterns.add(b"cb")?;
+        let made = RabinKarp::new(&patterns, &mut Tally::new())?;
         for bucket in 0..BUCKETS {
             let (first, second) = match bucket {
                 36 => (292, 292),
                 37 => (293, 38),
+                40 => (296, 296),
                 _ => (bucket + 1, bucket + 1),
             };
             assert_eq!(rt; made.first_sums[bucket], first, "bucket {bucket}");
