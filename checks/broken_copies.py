@@ -438,17 +438,20 @@ ENTRIES = [
     ("first_sums_elsewhere", "entries", [in_look_up("if self.first_sums[bucket] == sum { return None; }")]),
     ("second_sums_by_a_method", "entries", [method("    fn heads(&self) -> &[usize] {\n        &self.second_sums\n    }\n")]),
     ("sums_of_a_list_that_was_made", "entries", [in_look_up("let sums = heads_of(&self.starts, self.entries.as_slice(), 2);")]),
-    ("passed_of_another_sum", "statements", [in_look_up("if self.is_passed(sum + 1) { return None; }")]),
-    ("passed_in_vain", "statements", [replace(
+    ("passed_of_another_sum", "bodies", [in_look_up("if self.is_passed(sum + 1) { return None; }")]),
+    ("passed_in_vain", "bodies", [replace(
         RABIN_KARP, "            self.read_all(bucket, tally);\n            return None;", "            self.read_all(bucket, tally);")]),
-    ("passed_unread", "statements", [replace(RABIN_KARP, "            self.read_all(bucket, tally);\n", "")]),
+    ("passed_unread", "bodies", [replace(RABIN_KARP, "            self.read_all(bucket, tally);\n", "")]),
     ("passed_and_ticked", "ticks", [replace(
         RABIN_KARP, "            self.read_all(bucket, tally);\n", "            self.read_all(bucket, tally);\n            tally.tick_entries();\n")]),
     ("all_read_elsewhere", "callers", [in_find_at("        self.read_all(0, tally);")]),
     ("entry_read_elsewhere", "callers", [in_find_at("        let _ = self.entry(0, 0, tally);")]),
-    ("entry_read_again", "statements", [in_look_up("let (other, _) = self.entry(bucket, k, tally);")]),
+    ("entry_read_again", "bodies", [in_look_up("let (other, _) = self.entry(bucket, k, tally);")]),
     ("all_read_that_leaves_some_out", "bodies", [replace(
         RABIN_KARP, "            self.entry(bucket, k, tally);\n", "            if k > 0 {\n                self.entry(bucket, k, tally);\n            }\n")]),
+    ("passed_again_and_again", "bodies", [replace(RABIN_KARP, "        if self.is_passed(sum) {", "        while self.is_passed(sum) {")]),
+    ("sum_of_a_pattern_by_hand", "bodies", [in_look_up("let _ = patterns.get(id).bytes()[0] as usize == sum;")]),
+    ("sum_of_a_pattern_by_hand_at_a_place", "bodies", [in_find_at("        let _ = patterns.get(PatternID::ZERO).bytes();")]),
     ("passed_elsewhere", "callers", [in_find_at("        let _ = self.is_passed(0);")]),
     ("passed_reads_the_list", "bodies", [before(RABIN_KARP, PASSED, "        let _ = self.entries[0];")]),
     ("passed_reads_another_bucket", "bodies", [before(RABIN_KARP, PASSED, "        let _ = self.first_sums[0] == sum;")]),

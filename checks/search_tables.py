@@ -530,21 +530,46 @@ BODIES = {
         }""",
 }
 
+# Bodies that stand word for word too, and that the other rules read all the same: those of the search by buckets, by
+# which a sum could be compared with those of a bucket once more, or with one that is made of a pattern's bytes.
+SEARCHES = {
+    (RABIN_KARP, "impl RabinKarp", "look_up"): """
+        let sum = rolling.value();
+        let bucket = sum % BUCKETS;
+        if self.is_passed(sum) {
+            self.read_all(bucket, tally);
+            return None;
+        }
+        for k in 0..self.bucket_len(bucket) {
+            let (entry_sum, id) = self.entry(bucket, k, tally);
+            if entry_sum == sum && stands_at(patterns, id, haystack, at, tally) { return Some(id); }
+        }
+        None""",
+    (RABIN_KARP, "impl RabinKarp", "find_at"): """
+        let end = haystack.len();
+        let minimum_len = self.minimum_len;
+        if minimum_len > end - at { return None; }
+        let mut rolling = Rolling::new(minimum_len);
+        for k in at..at + minimum_len { rolling.push(haystack[k], tally); }
+        let last = end - minimum_len;
+        for place in at..last {
+            if let Some(id) = self.look_up(&rolling, patterns, haystack, place, tally) {
+                return Some(found_at(patterns, id, place));
+            }
+            rolling.roll(haystack[place], haystack[place + minimum_len], tally);
+        }
+        let id = self.look_up(&rolling, patterns, haystack, last, tally)?;
+        Some(found_at(patterns, id, last))""",
+}
+
 # A place that is tried is counted, and the patterns are compared there.
 TRY = "tally.tick_tried(); if let Some(id) = best_at(patterns, ignore_case, haystack, span, start, tally)"
 
 # Statements that stand once in a body, and hold all that the body has of the names beside them: the two
-# reads of the hash, the reads of bucket entries, and the place that is tried. Elsewhere in the body a name may stand in the listed forms alone.
+# reads of the hash, and the place that is tried. Elsewhere in the body a name may stand in the listed forms alone.
 STATEMENTS = {
     (CONFIRMING, "", "confirm"): ([TRY], {"tick_tried": [], "best_at": []}),
     (CONFIRMING, "", "confirm_by_table"): ([TRY], {"tick_tried": [], "best_at": []}),
-    (RABIN_KARP, "impl RabinKarp", "look_up"): (
-        [
-            "if self.is_passed(sum) { self.read_all(bucket, tally); return None; }",
-            "let (entry_sum, id) = self.entry(bucket, k, tally);",
-        ],
-        {"is_passed": [], "read_all": [], "entry": []},
-    ),
     (RABIN_KARP, "impl RabinKarp", "find_at"): (
         [
             "let mut rolling = Rolling::new(minimum_len);",
