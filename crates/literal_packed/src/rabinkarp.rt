@@ -128,8 +128,8 @@ fn starts_of(entries: &[(usize, PatternID)]) -> [usize; BUCKETS + 1]
     starts
 }
 
-/// The sum of the entry `i` of each bucket. Where a bucket has no such entry stands the next bucket's
-/// number, which is the sum of no window whose bucket it is.
+/// The sum of the entry `i` of each bucket. Where bucket `k` has no such entry stands `k + 1`, which is no sum
+/// of that bucket.
 fn heads_of(
     starts: &[usize; BUCKETS + 1],
     entries: &[(usize, PatternID)],
@@ -200,7 +200,7 @@ fn found_at(patterns: &Patterns, id: PatternID, at: usize) -> Match
 /// All entries stand in one list, bucket after bucket: those of bucket `k` from `starts[k]` up to
 /// `starts[k + 1]`. The sums of the first two of each bucket stand in `first_sums` and `second_sums` too, and bit
 /// `k` of `longer` says whether it has more. So most places of a haystack are passed over by three
-/// comparisons, the same ones whatever the number of entries: a processor guesses them right.
+/// comparisons, the same ones whether the bucket has no entry, one or two.
 #[derive(Drop)]
 pub struct RabinKarp {
     first_sums: [usize; BUCKETS],
