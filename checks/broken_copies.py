@@ -109,6 +109,8 @@ REPOSITORY = [
     ("wide_line", "widths", [append(BASE_SEARCH, "\n// " + "x" * 118 + "\n")]),
     ("wide_line_of_a_proof", "widths", [append(
         "crates/literal_base/proofs/lemmas/Unique.antt", "\n-- " + "λ" * 118 + "\n")]),
+    ("wide_line_of_a_document", "widths", [append(CALLING, "\n" + "x" * 121 + "\n")]),
+    ("wide_row_of_a_document", None, [append(CALLING, "\n| " + "x" * 121 + " |\n")]),
     ("lines_that_just_fit", None, [append(BASE_SEARCH, "\n// " + "≡" * 117 + "\n")]),
     ("definition_unexplained", "definitions", [
         append("crates/literal_base/specs/Counts.antt", "\nabbrev pub another_word : Counts\nanother_word = none_yet\n")]),
