@@ -19,7 +19,6 @@ ROLLING = "        let mut rolling = Rolling::new(minimum_len);"
 STEP_BACK = "                let start = found.place"
 TRY_CLONE = "    /// A copy, made for the same patterns."
 READ = "        self.entries[self.starts[bucket] + k]"
-TICK = "        tally.tick_entries();\n"
 PASSED = "        let bucket = sum % BUCKETS;\n        if self.longer"
 LEN = "        self.starts[bucket + 1] - self.starts[bucket]"
 COPIED = "            entries: Vec::from_slice("
@@ -120,6 +119,8 @@ REPOSITORY = [
     ("wide_line", "widths", [append(BASE_SEARCH, "\n// " + "x" * 118 + "\n")]),
     ("wide_line_of_a_proof", "widths", [append(
         "crates/literal_base/proofs/lemmas/Unique.antt", "\n-- " + "λ" * 118 + "\n")]),
+    ("wide_line_of_a_document", "widths", [append(CALLING, "\n" + "x" * 121 + "\n")]),
+    ("wide_row_of_a_document", None, [append(CALLING, "\n| " + "x" * 121 + " |\n")]),
     ("lines_that_just_fit", None, [append(BASE_SEARCH, "\n// " + "≡" * 117 + "\n")]),
     ("definition_unexplained", "definitions", [
         append("crates/literal_base/specs/Counts.antt", "\nabbrev pub another_word : Counts\nanother_word = none_yet\n")]),
@@ -449,8 +450,7 @@ TALLIES = [
     ("ticks_twice", "ticks", [before(BYTE_TABLE, SCANNED, SCANNED)]),
     ("ticks_in_the_program", "ticks", [before(ENGINE, RUN, "    tally.tick_hashed();")]),
     ("scans_uncounted", "ticks", [replace(BYTE_TABLE, SCANNED, "")]),
-    ("entry_without_a_tick", "ticks", [replace(RABIN_KARP, TICK + READ, READ)]),
-    ("passed_without_a_tick", "ticks", [replace(RABIN_KARP, "            tally.tick_entries();\n        }\n        true", "        }\n        true")]),
+    ("entry_without_a_tick", "ticks", [replace(RABIN_KARP, "        tally.tick_entries();", "")]),
     ("program_searches_uncounted", "program", [before(ENGINE, RUN, "    let _ = searcher.find(input.as_slice());")]),
     ("program_lists_all", "program", [before(ENGINE, RUN, "    let _ = searcher.find_all(input.as_slice(), other)?;")]),
     ("program_searches_twice", "program", [before(ENGINE, RUN, RUN)]),
@@ -483,10 +483,21 @@ ENTRIES = [
     ("first_sums_elsewhere", "entries", [in_look_up("if self.first_sums[bucket] == sum { return None; }")]),
     ("second_sums_by_a_method", "entries", [method("    fn heads(&self) -> &[usize] {\n        &self.second_sums\n    }\n")]),
     ("sums_of_a_list_that_was_made", "entries", [in_look_up("let sums = heads_of(&self.starts, self.entries.as_slice(), 2);")]),
-    ("passed_of_another_sum", "statements", [in_look_up("if self.is_passed(sum + 1, tally) { return None; }")]),
-    ("passed_in_vain", "statements", [replace(
-        RABIN_KARP, "        if self.is_passed(sum, tally) {\n            return None;", "        if self.is_passed(sum, tally) {\n            continue;")]),
-    ("passed_elsewhere", "callers", [in_find_at("        let _ = self.is_passed(0, tally);")]),
+    ("passed_of_another_sum", "bodies", [in_look_up("if self.is_passed(sum + 1) { return None; }")]),
+    ("passed_in_vain", "bodies", [replace(
+        RABIN_KARP, "            self.read_all(bucket, tally);\n            return None;", "            self.read_all(bucket, tally);")]),
+    ("passed_unread", "bodies", [replace(RABIN_KARP, "            self.read_all(bucket, tally);\n", "")]),
+    ("passed_and_ticked", "ticks", [replace(
+        RABIN_KARP, "            self.read_all(bucket, tally);\n", "            self.read_all(bucket, tally);\n            tally.tick_entries();\n")]),
+    ("all_read_elsewhere", "callers", [in_find_at("        self.read_all(0, tally);")]),
+    ("entry_read_elsewhere", "callers", [in_find_at("        let _ = self.entry(0, 0, tally);")]),
+    ("entry_read_again", "bodies", [in_look_up("let (other, _) = self.entry(bucket, k, tally);")]),
+    ("all_read_that_leaves_some_out", "bodies", [replace(
+        RABIN_KARP, "            self.entry(bucket, k, tally);\n", "            if k > 0 {\n                self.entry(bucket, k, tally);\n            }\n")]),
+    ("passed_again_and_again", "bodies", [replace(RABIN_KARP, "        if self.is_passed(sum) {", "        while self.is_passed(sum) {")]),
+    ("sum_of_a_pattern_by_hand", "bodies", [in_look_up("let _ = patterns.get(id).bytes()[0] as usize == sum;")]),
+    ("sum_of_a_pattern_by_hand_at_a_place", "bodies", [in_find_at("        let _ = patterns.get(PatternID::ZERO).bytes();")]),
+    ("passed_elsewhere", "callers", [in_find_at("        let _ = self.is_passed(0);")]),
     ("passed_reads_the_list", "bodies", [before(RABIN_KARP, PASSED, "        let _ = self.entries[0];")]),
     ("passed_reads_another_bucket", "bodies", [before(RABIN_KARP, PASSED, "        let _ = self.first_sums[0] == sum;")]),
     ("heads_that_count", "bodies", [replace(RABIN_KARP, "        heads[bucket] = if i < ", "        heads[bucket] = if 0 < ")]),

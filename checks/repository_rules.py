@@ -146,17 +146,18 @@ def lengths(repository):
 
 
 def widths(repository):
-    """No line is wide."""
+    """No line is wide but headings and rows of tables in documents."""
     for path, text in repository.texts.items():
-        if path.endswith((".rt", ".antt")):
-            for number in wide_lines(text):
-                yield f"{path}:{number}: more than {WIDEST_LINE} columns"
+        if path.endswith((".rt", ".antt", ".md")):
+            for number, line in wide_lines(text):
+                if not (path.endswith(".md") and line.startswith(("|", "#"))):
+                    yield f"{path}:{number}: more than {WIDEST_LINE} columns"
 
 
 @functools.lru_cache(maxsize=None)
 def wide_lines(text):
-    """The numbers of the lines of a text that are wide."""
-    return [number for number, line in enumerate(text.splitlines(), 1) if len(line) > WIDEST_LINE]
+    """The lines of a text that are wide, with their numbers."""
+    return [(number, line) for number, line in enumerate(text.splitlines(), 1) if len(line) > WIDEST_LINE]
 
 
 def strays(repository):

@@ -40,6 +40,7 @@ OTHER_SIGNATURES = places(tables.OTHER_SIGNATURES)
 CLOSURES = places(tables.CLOSURES)
 BUCKET_READERS = places(tables.BUCKET_READERS)
 BODIES = places(tables.BODIES)
+SEARCHES = places(tables.SEARCHES)
 STATEMENTS = places(tables.STATEMENTS)
 ITEM_CONSTANTS = places(tables.ITEM_CONSTANTS)
 TAKERS = {name for _, _, name in list(COUNTED) + list(UNCOUNTED)}
@@ -102,7 +103,7 @@ def listed(sources):
     named += [place(*key) for table in (tables.MAKERS, tables.CALLERS) for where in table.values() for key in where]
     named += [place(*key) for key in tables.PROGRAM_SEARCH.values()]
     for table in (COUNTED, UNCOUNTED, LAWS, BYTE_TAKERS, FIELD_READERS, TALLY_MAKERS, TALLY_TAKERS, OTHER_SIGNATURES,
-                  CLOSURES, BUCKET_READERS, BODIES, STATEMENTS, named):
+                  CLOSURES, BUCKET_READERS, BODIES, SEARCHES, STATEMENTS, named):
         for path, owner, name in table:
             if (path, owner, name) not in there:
                 yield f"{path}: there is no {' '.join(owner)} :: {name}"
@@ -733,7 +734,7 @@ def callers(sources):
 def bodies(sources):
     """The held bodies stand word for word."""
     there = {function.key: function for function in sources.functions}
-    for key, held in BODIES.items():
+    for key, held in [*BODIES.items(), *SEARCHES.items()]:
         if key in there and normal(texts(there[key].item.body or ())) != normal(words(held)):
             yield f"{there[key]} differs from the words that are held"
 

@@ -125,7 +125,7 @@ TALLY_TAKERS = {
     (RABIN_KARP, "impl Rolling", "roll"): "hashes a byte",
     (RABIN_KARP, "", "sum_of_first"): "hashes the beginning of a pattern",
     (RABIN_KARP, "impl RabinKarp", "new"): "hashes the patterns",
-    (RABIN_KARP, "impl RabinKarp", "is_passed"): "counts the entries of a bucket that is passed over",
+    (RABIN_KARP, "impl RabinKarp", "read_all"): "reads the entries of a bucket",
     (RABIN_KARP, "impl RabinKarp", "entry"): "reads a bucket entry",
     (EXACT, "impl Memmem", "new"): "hashes the pattern",
 }
@@ -133,7 +133,7 @@ TALLY_TAKERS = {
 # Where each tick stands, once in each function.
 TICKS = {
     "tick_hashed": [(RABIN_KARP, "impl Rolling", "push"), (RABIN_KARP, "impl Rolling", "roll")],
-    "tick_entries": [(RABIN_KARP, "impl RabinKarp", "is_passed"), (RABIN_KARP, "impl RabinKarp", "entry")],
+    "tick_entries": [(RABIN_KARP, "impl RabinKarp", "entry")],
     "tick_compared": [(PATTERN, "impl Patterns", "matches_at")],
     "tick_scanned": [(BYTE_TABLE, "impl ByteTable", "find")],
     "tick_tried": [(CONFIRMING, "", "confirm"), (CONFIRMING, "", "confirm_by_table")],
@@ -155,6 +155,8 @@ CALLERS = {
     "find_at": [(API, "impl Searcher", "find_in_counted"), (EXACT, "impl Memmem", "find")],
     "look_up": [(RABIN_KARP, "impl RabinKarp", "find_at")],
     "is_passed": [(RABIN_KARP, "impl RabinKarp", "look_up")],
+    "read_all": [(RABIN_KARP, "impl RabinKarp", "look_up")],
+    ".entry": [(RABIN_KARP, "impl RabinKarp", "look_up"), (RABIN_KARP, "impl RabinKarp", "read_all")],
     "stands_at": [(RABIN_KARP, "impl RabinKarp", "look_up")],
     "matches_at": [(RABIN_KARP, "", "stands_at"), (CONFIRMING, "", "best_at")],
     "best_at": [(CONFIRMING, "", "confirm"), (CONFIRMING, "", "confirm_by_table")],
@@ -357,7 +359,7 @@ BUCKET_READERS = {
     (RABIN_KARP, "", "starts_of"): "says where the buckets begin in a list that is made",
     (RABIN_KARP, "", "heads_of"): "takes the sums from a list that is made",
     (RABIN_KARP, "impl RabinKarp", "try_clone"): "copies them",
-    (RABIN_KARP, "impl RabinKarp", "is_passed"): "compares two sums, and counts where both are passed over",
+    (RABIN_KARP, "impl RabinKarp", "is_passed"): "compares the two sums of a bucket, whose entries are read then",
     (RABIN_KARP, "impl RabinKarp", "entry"): "reads one, and ticks",
 }
 
@@ -464,8 +466,9 @@ BODIES = {
         if self.longer >> bucket & 1 == 1 || self.first_sums[bucket] == sum || self.second_sums[bucket] == sum {
             return false;
         }
-        for _ in 0..self.bucket_len(bucket) { tally.tick_entries(); }
         true""",
+    (RABIN_KARP, "impl RabinKarp", "read_all"): """
+        for k in 0..self.bucket_len(bucket) { self.entry(bucket, k, tally); }""",
     (RABIN_KARP, "impl RabinKarp", "entry"): "tally.tick_entries(); self.entries[self.starts[bucket] + k]",
     (RABIN_KARP, "impl RabinKarp", "try_clone"): """
         Ok(RabinKarp {
@@ -528,18 +531,46 @@ BODIES = {
         }""",
 }
 
+# Bodies that stand word for word too, and that the other rules read all the same: those of the search by buckets, by
+# which a sum could be compared with those of a bucket once more, or with one that is made of a pattern's bytes.
+SEARCHES = {
+    (RABIN_KARP, "impl RabinKarp", "look_up"): """
+        let sum = rolling.value();
+        let bucket = sum % BUCKETS;
+        if self.is_passed(sum) {
+            self.read_all(bucket, tally);
+            return None;
+        }
+        for k in 0..self.bucket_len(bucket) {
+            let (entry_sum, id) = self.entry(bucket, k, tally);
+            if entry_sum == sum && stands_at(patterns, id, haystack, at, tally) { return Some(id); }
+        }
+        None""",
+    (RABIN_KARP, "impl RabinKarp", "find_at"): """
+        let end = haystack.len();
+        let minimum_len = self.minimum_len;
+        if minimum_len > end - at { return None; }
+        let mut rolling = Rolling::new(minimum_len);
+        for k in at..at + minimum_len { rolling.push(haystack[k], tally); }
+        let last = end - minimum_len;
+        for place in at..last {
+            if let Some(id) = self.look_up(&rolling, patterns, haystack, place, tally) {
+                return Some(found_at(patterns, id, place));
+            }
+            rolling.roll(haystack[place], haystack[place + minimum_len], tally);
+        }
+        let id = self.look_up(&rolling, patterns, haystack, last, tally)?;
+        Some(found_at(patterns, id, last))""",
+}
+
 # A place that is tried is counted, and the patterns are compared there.
 TRY = "tally.tick_tried(); if let Some(id) = best_at(patterns, ignore_case, haystack, span, start, tally)"
 
 # Statements that stand once in a body, and hold all that the body has of the names beside them: the two
-# reads of the hash, the bucket that is passed over, and the place that is tried. Elsewhere in the body a name may stand in the listed forms alone.
+# reads of the hash, and the place that is tried. Elsewhere in the body a name may stand in the listed forms alone.
 STATEMENTS = {
     (CONFIRMING, "", "confirm"): ([TRY], {"tick_tried": [], "best_at": []}),
     (CONFIRMING, "", "confirm_by_table"): ([TRY], {"tick_tried": [], "best_at": []}),
-    (RABIN_KARP, "impl RabinKarp", "look_up"): (
-        ["if self.is_passed(sum, tally) { return None; }"],
-        {"is_passed": []},
-    ),
     (RABIN_KARP, "impl RabinKarp", "find_at"): (
         [
             "let mut rolling = Rolling::new(minimum_len);",

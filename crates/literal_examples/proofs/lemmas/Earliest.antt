@@ -1,13 +1,13 @@
 -- An automaton that reads on in a span.
 -- For `find_earliest` and `find_earliest_by`.
-use Rattle.std.proofs.Common.{◌≡◌, ℕ, ◌+◌, ◌-◌, ◌<◌, ◌≤◌, true, false, List, ◌∷◌, suc, length, get_or, take, drop}
-use Rattle.std.proofs.Common.{refl, inl, inr, sym, ap, subst, ◌∙◌, arith, IsTrue}
-use Rattle.std.proofs.lemmas.Bool.{both_ways, cases_eq, cases_lt}
+use Rattle.std.proofs.Common.{◌≡◌, ℕ, ◌+◌, ◌-◌, ◌<◌, ◌≤◌, false, List, ◌∷◌, suc, length, get_or, take, drop}
+use Rattle.std.proofs.Common.{inl, inr, sym, ap, subst, ◌∙◌, arith}
+use Rattle.std.proofs.lemmas.Bool.{cases_eq, cases_lt}
 use Rattle.std.proofs.lemmas.List.{drop_more}
 use Rattle.std.specs.List.{slice_range}
 use Rattle.literal_base.specs.declared.search.Span.{Span}
 use Rattle.literal_examples.specs.DenseValue.{DenseValue, is_match_of, next_of, state_behind}
-use Rattle.literal_examples.specs.Earliest.{IsFirstMatch, matches_at}
+use Rattle.literal_examples.specs.Earliest.{matches_at}
 use Rattle.literal_examples.specs.Inside.Skips.{GoesOn}
 
 -- at an offset of the span the automaton is in no earlier match, and in a state from which it is in a match wherever it
@@ -34,36 +34,6 @@ module _ (a : DenseValue) (haystack : List ℕ) (span : Span) where
   matches_here state at =
       let none : at - at ≡ 0 = omega arith in
       ap (λ n. is_match_of a (state_behind a state (take n (drop at haystack)))) none
-
-  pub run_begins : span.start ≤ span.end → a.start < length a.rows → IsRun a haystack span a.start span.start
-  run_begins ordered is_state = record {
-    after_start = omega arith;
-    before_end = ordered;
-    is_state = is_state;
-    behind = λ end after before. absurd (omega arith);
-    ahead = λ end after before. refl;
-  }
-
-  pub run_found : (state at : ℕ) → IsRun a haystack span state at → is_match_of a state ≡ true
-      → IsFirstMatch a haystack span at
-  run_found state at run found = record {
-    after_start = run.after_start;
-    before_end = run.before_end;
-    matches = sym (run.ahead at (omega arith) run.before_end) ∙ (matches_here state at ∙ found);
-    first = λ before after early. both_ways _ (run.behind before after early);
-  }
-
-  -- no match up to the end of the span
-  abbrev pub NoMatch : Type 0
-  NoMatch = (at : ℕ) → span.start ≤ at → at ≤ span.end → ¬ IsTrue (matches_at a a.start haystack span.start at)
-
-  pub run_ends : (state at : ℕ) → IsRun a haystack span state at → is_match_of a state ≡ false → span.end ≤ at → NoMatch
-  run_ends state at run none ended end after before =
-      elim (cases_eq end at) [
-        | inl is ↦ both_ways _ (subst (λ e. matches_at a a.start haystack span.start e ≡ false) (sym is)
-            (sym (run.ahead at (omega arith) run.before_end) ∙ (matches_here state at ∙ none)))
-        | inr isnt ↦ both_ways _ (run.behind end after (omega arith))
-      ]
 
   pub run_goes_on : (state at byte : ℕ) → IsRun a haystack span state at → is_match_of a state ≡ false → at < span.end
       → span.end ≤ length haystack → byte ≡ get_or haystack at 0 → next_of a state byte < length a.rows
@@ -100,11 +70,3 @@ module _ (a : DenseValue) (haystack : List ℕ) (span : Span) where
     ahead = λ end after before.
         on.same end after before ∙ run.ahead end (omega (arith, on.after_start)) before;
   }
-
-  pub run_stops : (state at : ℕ) → IsRun a haystack span state at
-      → ((end : ℕ) → at ≤ end → end ≤ span.end → matches_at a state haystack at end ≡ false) → NoMatch
-  run_stops state at run none end after before =
-      elim (cases_lt end at) [
-        | inl early ↦ both_ways _ (run.behind end after early)
-        | inr late ↦ both_ways _ (sym (run.ahead end late before) ∙ none end late before)
-      ]

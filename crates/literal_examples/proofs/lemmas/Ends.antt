@@ -1,8 +1,8 @@
 -- Occurrences that end in a part of a haystack, and an automaton that recognises them.
 -- For `skip`, `earliest_is_an_end` and `stands_for_words`.
-use Rattle.std.proofs.Common.{◌≡◌, ℕ, ◌+◌, ◌-◌, ◌<◌, ◌≤◌, Bool, true, false, List, length, get_or, take, drop}
+use Rattle.std.proofs.Common.{◌≡◌, ℕ, ◌+◌, ◌-◌, ◌<◌, ◌≤◌, Bool, true, false, List, length, take, drop}
 use Rattle.std.proofs.Common.{Option, Some, None, inl, inr, refl, sym, ap, subst, ◌∙◌, arith}
-use Rattle.std.proofs.lemmas.List.{drop-drop, drop-take, get_or-drop, get_or-take, get_or_default, length-drop}
+use Rattle.std.proofs.lemmas.List.{drop-drop, drop-take, get_or-drop, get_or-take, length-drop}
 use Rattle.std.proofs.lemmas.List.{length-take-le, take-take}
 use Rattle.std.proofs.lemmas.Bool.{cases_lt, false_from_ne_true, false≢true}
 use Rattle.std.specs.List.{slice_range}
@@ -108,10 +108,6 @@ module _ (a : DenseValue) (patterns : List (List ℕ)) (recognises : Recognises 
   match_of_end span o after =
       (recognises (slice_range haystack from end) (bytes_of_part haystack from end fits bytes)).1
       (end_in_part patterns haystack from end end span o after fits)
-
-pub are_bytes : (bytes : List ℕ) → ((k : ℕ) → get_or bytes k 0 < 256) → AreBytes bytes
-are_bytes bytes each k d below =
-    let P : ℕ → Type 0 = λ b. b < 256 in subst P (get_or_default bytes k 0 d below) (each k)
 
 -- two tests that pass together are one
 pub same_test : (x y : Bool) → (x ≡ true → y ≡ true) → (y ≡ true → x ≡ true) → x ≡ y

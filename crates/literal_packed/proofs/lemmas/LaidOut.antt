@@ -1,15 +1,15 @@
 -- What the fields of a `RabinKarp` say of its buckets.
 -- For the functions that make one or read from it.
 use Rattle.std.proofs.Common.{◌≡◌, ◌≢◌, ℕ, ◌+◌, ◌-◌, ◌/◌, ◌%◌, ◌^◌, ◌<◌, ◌≤◌, inl, inr, bit_and, ltb, cond}
-use Rattle.std.proofs.Common.{List, [], length, drop, get_or, sym, ap, subst, ◌∙◌, arith}
+use Rattle.std.proofs.Common.{List, [], length, get_or, sym, ap, subst, ◌∙◌, arith}
 use Rattle.std.proofs.lemmas.Bool.{cases_lt, lt-ltb, le-ltb}
-use Rattle.std.proofs.lemmas.List.{length-take-le, length-drop, get_or-take, get_or-drop, get_or_default}
+use Rattle.std.proofs.lemmas.List.{get_or_default}
 use Rattle.std.proofs.lemmas.List.FromFn.{length-map-range_with_len, get_or-map-range_with_len}
 use Rattle.std.proofs.lemmas.Nat.Bits.{shr_and_one}
 use Rattle.literal_packed.specs.RabinKarpValue.{RabinKarpValue}
-use Rattle.literal_packed.specs.Inside.RabinKarp.{AreStarts, AreHeads, AreLonger, ArePassed, IsLaidOut}
+use Rattle.literal_packed.specs.Inside.RabinKarp.{AreStarts, AreHeads, AreLonger, ArePassed, IsHead, IsLaidOut}
 use Rattle.literal_packed.specs.Inside.RabinKarp.{start_at, len_at, part_at, buckets_of}
-use Rattle.literal_packed.proofs.lemmas.Parts.{starts_ordered}
+use Rattle.literal_packed.proofs.lemmas.Parts.{starts_ordered, part_len, part_entry}
 
 -- what the fields say, each by itself
 pub record AreLaidOut (first second starts : List ℕ) (longer : ℕ) (entries : List (ℕ × ℕ)) : Type 0 where
@@ -23,7 +23,7 @@ pub laid_out : {first second starts : List ℕ} {longer : ℕ} {entries : List (
 unfolding IsLaidOut
 laid_out are = (are.starts_are, are.first_are, are.second_are, are.longer_are)
 
-pub opened : (first second starts : List ℕ) (longer : ℕ) (entries : List (ℕ × ℕ))
+opened : (first second starts : List ℕ) (longer : ℕ) (entries : List (ℕ × ℕ))
     → IsLaidOut first second starts longer entries → AreLaidOut first second starts longer entries
 unfolding IsLaidOut
 opened first second starts longer entries laid = record {
@@ -72,13 +72,8 @@ module _ {first second starts : List ℕ} {longer : ℕ} {entries : List (ℕ ×
   bucket_is : get_or buckets k [] ≡ part_at starts entries k
   bucket_is = ap (λ bs. get_or bs k []) is.seen ∙ buckets_at starts entries k below
 
-  pub len_is : start (k + 1) - start k ≡ length (get_or buckets k [])
-  len_is =
-      let ordered = ordered_at in
-      let inside = (are.starts_are (k + 1) (omega arith)).within in
-      sym (ap length bucket_is
-      ∙ length-take-le (start (k + 1) - start k) (drop (start k) entries)
-      (omega (arith, length-drop (start k) entries)))
+  pub len_is : start (k + 1) - start k ≡ length bucket
+  len_is = part_len starts entries are.starts_are k below ∙ ap length (sym bucket_is)
 
   pub entry_inside : (i : ℕ) → i < length (get_or buckets k []) → start k + i < length entries
   entry_inside i within =
@@ -86,12 +81,10 @@ module _ {first second starts : List ℕ} {longer : ℕ} {entries : List (ℕ ×
       let inside = (are.starts_are (k + 1) (omega arith)).within in
       omega (arith, len_is)
 
-  pub entry_at : (i : ℕ) (d : ℕ × ℕ) → i < length (get_or buckets k [])
-      → get_or (get_or buckets k []) i d ≡ get_or entries (start k + i) d
+  pub entry_at : (i : ℕ) (d : ℕ × ℕ) → i < length bucket → get_or bucket i d ≡ get_or entries (start k + i) d
   entry_at i d within =
       ap (λ xs. get_or xs i d) bucket_is
-      ∙ (get_or-take (start (k + 1) - start k) (drop (start k) entries) i d (omega (arith, len_is))
-      ∙ get_or-drop (start k) entries i d)
+      ∙ part_entry starts entries are.starts_are k below i d (subst (λ xs. i < length xs) bucket_is within)
 
   -- the bit of a bucket
   bit_is : bit_and (longer / 2 ^ k) 1 ≡ cond (ltb 2 (len_at starts k)) 1 0
@@ -115,32 +108,21 @@ module _ {first second starts : List ℕ} {longer : ℕ} {entries : List (ℕ ×
             absurd (omega arith)
       ]
 
-  -- a head is the sum of its entry, and where there is none it is no sum of the bucket
+  head_is : (i : ℕ) (heads : List ℕ) → AreHeads i starts entries heads → IsHead i k bucket (get_or heads k 0)
+  head_is i heads heads_are = subst (λ xs. IsHead i k xs (get_or heads k 0)) (sym bucket_is) (heads_are k below)
+
   head_of : (i : ℕ) (heads : List ℕ) → AreHeads i starts entries heads → i < length bucket → (d : ℕ × ℕ)
       → get_or heads k 0 ≡ (get_or bucket i d).0
   head_of i heads heads_are within d =
-      let inside : i < len_at starts k = omega (arith, len_is) in
-      let place : start k + i < length entries = entry_inside i within in
       let sum : ℕ × ℕ → ℕ = λ e. e.0 in
-      heads_are k below
-      ∙ (ap (λ t. cond t (get_or entries (start k + i) (0, 0)).0 (k + 1)) (lt-ltb _ _ inside)
-      ∙ ap sum (get_or_default entries (start k + i) (0, 0) d place ∙ sym (entry_at i d within)))
-
-  no_head : (i : ℕ) (heads : List ℕ) → AreHeads i starts entries heads → length bucket ≤ i
-      → get_or heads k 0 ≡ k + 1
-  no_head i heads heads_are past =
-      let outside : len_at starts k ≤ i = omega (arith, len_is) in
-      heads_are k below
-      ∙ ap (λ t. cond t (get_or entries (start k + i) (0, 0)).0 (k + 1)) (le-ltb _ _ outside)
+      (head_is i heads heads_are).of_entry within ∙ ap sum (get_or_default bucket i (0, 0) d within)
 
   not_with_head : (i : ℕ) (heads : List ℕ) (sum : ℕ) → AreHeads i starts entries heads → sum % 64 ≡ k
       → get_or heads k 0 ≡ sum → ¬ ArePassed bucket sum
   not_with_head i heads sum heads_are is_bucket equal passed =
       elim (cases_lt i (length bucket)) [
         | inl within ↦ passed.others i (0, 0) within (sym (head_of i heads heads_are within (0, 0)) ∙ equal)
-        | inr past ↦
-            let next = no_head i heads heads_are past in
-            absurd (omega arith)
+        | inr past ↦ (head_is i heads heads_are).of_none past (ap (λ n. n % 64) equal ∙ is_bucket)
       ]
 
   pub not_with_first : (sum : ℕ) → sum % 64 ≡ k → get_or first k 0 ≡ sum → ¬ ArePassed bucket sum

@@ -126,3 +126,16 @@ module _ (starts : List ℕ) (entries : List (ℕ × ℕ)) (are : AreStarts star
       let early = up_to_end i d high in
       eq-eqb _ _ (omega arith))
       (λ i d low high. let late = behind_it i d low high in ne_eqb _ _ (λ is. omega arith))
+
+  pub part_len : start (k + 1) - start k ≡ length (part_at starts entries k)
+  part_len =
+      let ordered = starts_ordered in
+      let within = inside in
+      sym (length-take-le (start (k + 1) - start k) (drop (start k) entries)
+      (omega (arith, length-drop (start k) entries)))
+
+  pub part_entry : (i : ℕ) (d : ℕ × ℕ) → i < length (part_at starts entries k)
+      → get_or (part_at starts entries k) i d ≡ get_or entries (start k + i) d
+  part_entry i d here =
+      get_or-take (start (k + 1) - start k) (drop (start k) entries) i d (omega (arith, part_len))
+      ∙ get_or-drop (start k) entries i d

@@ -34,15 +34,15 @@ AreStarts starts entries = (k : ℕ) → k < 65 → IsStart entries k (start_at 
 abbrev pub len_at : List ℕ → ℕ → ℕ
 len_at starts k = start_at starts (k + 1) - start_at starts k
 
--- the sum of entry i of bucket k. Where the bucket has no such entry, the next number: no sum of the bucket is that
-abbrev pub head_at : ℕ → List ℕ → List (ℕ × ℕ) → ℕ → ℕ
-head_at i starts entries k =
-    if nat_lt i (len_at starts k) then (slice_index_or entries (start_at starts k + i) (0, 0)).0 else k + 1
+-- the sum of entry i of bucket k or, where the bucket has no such entry, a number that is no sum of its bucket
+pub record IsHead (i k : ℕ) (bucket : List (ℕ × ℕ)) (head : ℕ) : Type 0 where
+  pub of_entry : i < length bucket → head ≡ (slice_index_or bucket i (0, 0)).0
+  pub of_none : length bucket ≤ i → head % 64 ≢ k
 
--- the sum of entry i of each bucket
+-- the sum of entry i of each bucket, or such a number
 abbrev pub AreHeads : ℕ → List ℕ → List (ℕ × ℕ) → List ℕ → Type 0
 AreHeads i starts entries heads =
-    (k : ℕ) → k < 64 → slice_index_or heads k 0 ≡ head_at i starts entries k
+    (k : ℕ) → k < 64 → IsHead i k (part_at starts entries k) (slice_index_or heads k 0)
 
 -- bit k is set exactly if bucket k has more than two entries
 abbrev pub AreLonger : List ℕ → ℕ → Type 0

@@ -3,7 +3,8 @@ use Rattle.std.proofs.lemmas.Bool.{eqb-true}
 use Rattle.std.specs.Prelude.{Option}
 use Rattle.literal_prefilters.specs.Answers.{start_of}
 use Rattle.literal_examples.specs.Inside.Skips.{Skips}
-use Rattle.literal_examples.proofs.lemmas.Ends.{are_bytes, skips_to}
+use Rattle.literal_prefilters.proofs.lemmas.Callers.{are_bytes}
+use Rattle.literal_examples.proofs.lemmas.Ends.{skips_to}
 use Rattle.literal_examples.proofs.earliest.skip.Goals as goal
 
 pub returns-then-eq : goal.returns-then-eq

@@ -9,8 +9,8 @@ use Rattle.literal_packed.proofs.rabinkarp.RabinKarp.is_passed.Goals.{
   then-self-bucket-eq1-via-else-self-bucket-eq1+else-self-bucket+then-self-bucket-2,
 }
 
-pub returns-then-self-bucket-eq1-clause-passed : goal.returns-then-self-bucket-eq1-clause-passed
-returns-then-self-bucket-eq1-clause-passed c =
+pub returns-then-self-bucket-eq1 : goal.returns-then-self-bucket-eq1
+returns-then-self-bucket-eq1 c =
     let is = kept c.self.invariant c.self.view_is in
     let sum = c.args.sum in
     let bucket = sum % 64 in
@@ -26,8 +26,8 @@ returns-then-self-bucket-eq1-clause-passed c =
       ]),
     )
 
-pub returns-clause-passed : goal.returns-clause-passed
-returns-clause-passed c =
+pub returns : goal.returns
+returns c =
     let is = kept c.self.invariant c.self.view_is in
     let sum = c.args.sum in
     let below : sum % 64 < 64 = mod_below sum 64 (omega arith) in (

@@ -1,12 +1,10 @@
-use Rattle.std.proofs.Common.{ℕ, ◌+◌, ◌%◌, ◌∙◌, length, refl, ap, arith}
+use Rattle.std.proofs.Common.{◌%◌, ◌∙◌, refl, arith}
 use Rattle.std.proofs.lemmas.Bool.{false≢true}
 use Rattle.std.proofs.lemmas.Grind.{common_steps}
-use Rattle.literal_base.specs.Counts.{Counts}
 use Rattle.literal_packed.specs.RabinKarpValue.{bucket_at}
 use Rattle.literal_packed.proofs.lemmas.LookUp.{IsRead, look_up_in, entry_of_pattern, none_more, not_of_sum}
 use Rattle.literal_packed.proofs.lemmas.LookUp.{counts_other, counts_vain, counts_found, best_found, none_found}
 use Rattle.literal_packed.proofs.lemmas.LookUp.{counts_none, none_passed, counts_passed}
-use Rattle.literal_packed.proofs.lemmas.PlaceCounts.{same_three}
 use Rattle.literal_packed.proofs.rabinkarp.RabinKarp.look_up.Goals as goal
 use Rattle.literal_packed.proofs.rabinkarp.RabinKarp.look_up.Goals.{
   else-entry_sum-sum-via-then-entry_sum-sum+else-stands_at,
@@ -17,21 +15,14 @@ pub returns-then-is_passed-clause-best : goal.returns-then-is_passed-clause-best
 returns-then-is_passed-clause-best c =
     let here = look_up_in c.args.patterns.now c.args.self.now c.args.haystack.now c.args.at c.value-sum.result
     c.requires.made (c.value-sum.ensures ∙ c.requires.sum) in
-    none_passed here (c.if-is_passed.ensures.passed.0 refl).others
+    none_passed here (c.if-is_passed.ensures.0 refl).others
 
 pub returns-then-is_passed-clause-counted : goal.returns-then-is_passed-clause-counted
 returns-then-is_passed-clause-counted c =
     let here = look_up_in c.args.patterns.now c.args.self.now c.args.haystack.now c.args.at c.value-sum.result
     c.requires.made (c.value-sum.ensures ∙ c.requires.sum) in
-    counts_passed here c.args.tally.now c.is_passed.new.tally (c.if-is_passed.ensures.passed.0 refl).others
-    c.if-is_passed.ensures.counted
-
-pub loop-k-init : goal.loop-k-init
-loop-k-init c = record {
-  none = λ i d within. absurd (omega arith);
-  counted = c.if-is_passed.ensures.counted
-      ∙ same_three c.args.tally.now _ _ _ _ _ _ refl (omega arith) (omega arith);
-}
+    counts_passed here c.args.tally.now c.read_all.new.tally (c.if-is_passed.ensures.0 refl).others
+    c.read_all.ensures
 
 pub stands_at-requires-clause-is_pattern : goal.stands_at-requires-clause-is_pattern
 stands_at-requires-clause-is_pattern c =

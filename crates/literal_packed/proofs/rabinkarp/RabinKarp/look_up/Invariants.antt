@@ -10,8 +10,8 @@ invariant-loop-k l =
     let done = take l.k (bucket_of l.patterns l.bucket) in
     record {
       none : All (λ e. ¬ StandsAt false (pattern_at l.patterns.patterns e.1) l.haystack l.at) done;
-      counted : l.tally ≡ record l.fn.tally {
-        entries = l.fn.tally.entries + l.k;
-        compared = l.fn.tally.compared + count_by (λ e. eqb e.0 l.sum) done;
+      counted : l.tally ≡ record l.initial.tally {
+        entries = l.initial.tally.entries + l.k;
+        compared = l.initial.tally.compared + count_by (λ e. eqb e.0 l.sum) done;
       };
     }
