@@ -33,6 +33,16 @@ CONFIG = "    /// The usual configuration.\n    pub fn config()"
 KINDS_OF_PREFILTER = "        match &self.finder {\n            Finder::Memmem(pre) => pre.find_in"
 EQ_RANGE = "    /// Whether the range has the same bounds."
 USE_TALLY = "use literal_base::count::Tally;"
+SPAN_OF = """
+impl Span {
+    pub fn of<'a>(&self, bytes: &'a [u8]) -> &'a [u8]
+        requires { IsValidSpan bytes.now self.now }
+        ensures { result.now ≡ slice_range bytes.now self.now.start self.now.end }
+    {
+        &bytes[self.start..self.end]
+    }
+}
+"""
 
 
 def write(path, text):
@@ -130,6 +140,27 @@ REPOSITORY = [
     ("quoted_clause_is_weaker", "quotes", [replace(CALLING, "value < PatternID.LIMIT", "value ≤ PatternID.LIMIT")]),
     ("quoted_clause_of_another", "quotes", [replace(CALLING, "fn match_kind(&self) -> &MatchKind", "fn minimum_len(&self) -> usize")]),
     ("quoted_function_is_none", "quotes", [replace(CALLING, "fn match_kind(&self)", "fn kind_of_match(&self)")]),
+    ("quoted_signature_is_cut_short", "quotes", [replace(CALLING, "fn match_kind(&self) -> &MatchKind", "fn match_kind(&self)")]),
+    ("quote_of_another_type", "quotes", [replace(CALLING, "```text\nSpan\n", "```text\nInput\n")]),
+    ("quote_of_another_type_here", "quotes", [
+        replace(BASE_SEARCH, "    pub fn of<'a>(&self,", "    pub fn off<'a>(&self,"),
+        append(PREFILTER, SPAN_OF.replace("impl Span", "impl Candidate"))]),
+    ("quote_of_a_trait", "quotes", [replace(CALLING, "\nPrefilter\n  fn find_in", "\nPrefilterI\n  fn find_in")]),
+    ("quote_of_another_crate", "quotes", [replace(CALLING, "\n## `literal_packed`\n", "\n## `literal_prefilters`\n")]),
+    ("quote_below_no_crate", "quotes", [replace(CALLING, "\n## `literal_base`\n", "\n## Values\n")]),
+    ("quote_below_no_type", "quotes", [replace(CALLING, "\nInput\n  fn set_start", "\n  fn set_start")]),
+    ("quote_below_some_words", "quotes", [replace(CALLING, "\nInput\n  fn set_start", "\nInput, say\n  fn set_start")]),
+    ("quote_that_is_not_indented", "quotes", [replace(CALLING, "  fn match_kind(&self)", "fn match_kind(&self)")]),
+    ("quote_of_a_method_as_alone", "quotes", [replace(
+        CALLING, "\nConfirmingSearch\n  fn find_in", "\na function of its own\n  fn find_in")]),
+    ("quote_of_what_stands_alone_as_a_method", "quotes", [replace(
+        CALLING, "a function of its own, for any PrefilterI", "ConfirmingSearch")]),
+    ("quote_of_two_functions", "quotes", [append(BASE_SEARCH, SPAN_OF)]),
+    ("quote_that_holds_for_one_type", "quotes", [replace(
+        "crates/literal_ids/src/primitives/state_id.rt", "IsOk result ↔ (value < StateID.LIMIT)", "IsOk result ↔ ⊤")]),
+    ("quote_of_one_type_alone", None, [replace(CALLING, "PatternID, and StateID likewise", "PatternID")]),
+    ("quote_of_a_type_that_is_not_alike", "quotes", [replace(CALLING, "PatternID, and StateID likewise", "PatternID, and SmallIndex likewise")]),
+    ("quote_with_a_clause_less", None, [replace(CALLING, "    ensures ordered { self.now.start ≤ self.now.end }\n", "")]),
     ("stray_build_file", "strays", [write("BUILD.bazel", "")]),
     ("code_in_another_file", "strays", [write("crates/literal_packed/src/peek.inc", "")]),
     ("source_elsewhere", "strays", [write("crates/literal_packed/proofs/peek.rt", "")]),
@@ -367,6 +398,18 @@ STRUCTS = [
     ("iterator_with_another_field", "structs", [replace(API, "    at: usize,\n    tally: Tally,", "    at: usize,\n    other: Tally,\n    tally: Tally,")]),
     ("iterator_with_debug", "structs", [replace(API, "#[derive(Drop)]\npub struct FindIter", "#[derive(Debug, Drop)]\npub struct FindIter")]),
     ("searcher_with_an_index", "structs", [replace(API, "    rabin_karp: RabinKarp,\n}", "    rabin_karp: RabinKarp,\n    index: Vec<(usize, PatternID)>,\n}")]),
+    ("struct_with_an_array_of_entries", "structs", [helper("struct Kept {\n    list: [(usize, PatternID); 4],\n}")]),
+    ("struct_with_an_array_of_sums", "structs", [helper("struct Kept {\n    sums: [usize; BUCKETS],\n}")]),
+    ("struct_with_a_slice_of_sums", "structs", [helper("struct Kept<'b> {\n    sums: &'b [usize],\n}")]),
+    ("struct_with_an_array_in_an_option", "structs", [helper("struct Kept {\n    sums: Option<[u64; 1]>,\n}")]),
+    ("struct_with_an_array_in_a_box", "structs", [helper("struct Kept {\n    list: Box<[(usize, PatternID); 4]>,\n}")]),
+    ("struct_with_entries_in_a_box", "structs", [helper("struct Kept {\n    list: Box<(usize, PatternID)>,\n}")]),
+    ("tuple_with_an_array", "structs", [helper("struct Kept([usize; 4]);")]),
+    ("enum_with_an_array", "structs", [helper("enum Kept {\n    No,\n    Sums([usize; 4]),\n}")]),
+    ("enum_with_a_field_of_an_array", "structs", [helper("enum Kept {\n    No,\n    Sums { sums: [usize; 4] },\n}")]),
+    ("configuration_with_sums", "structs", [replace(API, "    pattern_limit: usize,\n}", "    pattern_limit: usize,\n    sums: [usize; 64],\n}")]),
+    ("span_with_sums", "structs", [replace(BASE_SEARCH, "pub struct Span {", "pub struct Span {\n    sums: [usize; 64],")]),
+    ("struct_with_a_set_of_bytes", None, [helper("struct Kept {\n    set: ByteSet,\n    count: usize,\n}")]),
     ("buckets_that_print", "structs", [replace(RABIN_KARP, "#[derive(Drop)]\npub struct RabinKarp", "#[derive(Debug, Drop)]\npub struct RabinKarp")]),
     ("buckets_of_another_name", "structs", [replace(
         RABIN_KARP, "BUCKETS + 1],\n    entries: Vec", "BUCKETS + 1],\n    list: Vec")]),

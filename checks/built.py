@@ -1,14 +1,16 @@
 """What `rt ci`, `rt run` and `rt test` built of the crates."""
 import os
 
+from kept import built_in
+
 TOP = os.path.dirname(os.path.dirname(os.path.abspath(__file__)))
 
 
-def newest_source():
+def newest_source(top=TOP):
     """When a source of any crate was changed last."""
-    times = [0]
-    for folder, folders, names in os.walk(os.path.join(TOP, "crates")):
-        folders[:] = [name for name in folders if name != "out"]
+    times, crates = [0], os.path.join(top, "crates")
+    for folder, folders, names in os.walk(crates):
+        folders[:] = [name for name in folders if name not in built_in(crates)(folder, folders)]
         times += [os.path.getmtime(os.path.join(folder, name)) for name in names if name.endswith(".rt")]
     return max(times)
 

@@ -14,6 +14,12 @@ PROGRAM = "## A program in a repository of its own"
 # The commands, the files by their paths, and the runs, each a command with what it prints.
 Page = namedtuple("Page", "commands files runs")
 
+# A quote: the crate that it is of, its type ('' for a function of its own; None where none is named), and its words.
+Quote = namedtuple("Quote", "crate owner signature clauses")
+
+# The line that says whose functions stand below it.
+OWNER = re.compile(r"(?P<type>[A-Z]\w*)(?:, and (?P<other>[A-Z]\w*) likewise)?|a function of its own(?:, .*)?")
+
 BLOCK = re.compile(r"(?:^`(?P<path>[^`\n]+)`\n\n)?^```(?P<kind>\w*)\n(?P<text>.*?)^```$", re.M | re.S)
 
 
@@ -48,10 +54,35 @@ def words_of(code):
     return re.sub(r",? ?([)\]>])", r"\1", re.sub(r"([(\[<]) ", r"\1", re.sub(r"\s+", " ", code))).strip()
 
 
+def contract_of(code):
+    """The signature of a function, and its clauses, of the text that stands before its body."""
+    signature, *clauses = re.split(r"^(?= *(?:requires|ensures)\b)", code, flags=re.M)
+    return words_of(signature), [words_of(clause) for clause in clauses]
+
+
 def quotes_of(text):
-    """The functions that the blocks `text` of a page quote, each indented below its type: signature and clauses."""
-    for kind, block, _ in blocks_of(text):
-        functions = re.sub(r"^\S.*\n", "", block, flags=re.M) if kind == "text" else ""
-        for function in re.split(r"^(?= *fn )", functions, flags=re.M)[1:]:
-            signature, *clauses = re.split(r"^(?= *(?:requires|ensures)\b)", function, flags=re.M)
-            yield words_of(signature), [words_of(clause) for clause in clauses]
+    """The functions that the blocks `text` of a page quote, each indented below the line of its type, in the section
+    whose heading is its crate. What is written as a function and stands so in no way is one of no type."""
+    for part in re.split(r"^(?=## )", text, flags=re.M):
+        crate = re.match(r"## `(\w+)`\n|", part)[1]
+        for block in (block for kind, block, _ in blocks_of(part) if kind == "text"):
+            for owner, function in functions_below(block):
+                yield from (Quote(crate, *one) for one in quotes_below(owner, function))
+
+
+def functions_below(block):
+    """The functions of a block, each with the line that it is indented below."""
+    for below in re.split(r"^(?=\S)", block, flags=re.M):
+        owner, _, functions = ("\n" + below if re.match(r"\s|(?:pub )?fn ", below) else below).partition("\n")
+        for function in re.split(r"^(?= *(?:pub )?fn )", functions, flags=re.M)[1:]:
+            yield owner, function
+
+
+def quotes_below(owner, function):
+    """What a function is quoted as below a line: its type, its signature and its clauses, for each type of the line."""
+    found = OWNER.fullmatch(owner)
+    signature, clauses = contract_of(function)
+    yield found and (found["type"] or ""), signature, clauses
+    if found and found["other"]:
+        signature, clauses = contract_of(function.replace(found["type"], found["other"]))
+        yield found["other"], signature, clauses

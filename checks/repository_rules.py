@@ -6,8 +6,9 @@ import re
 import calling_page
 import search_rules
 import search_tables
-from calling_page import blocks_of, page_of, quotes_of, words_of
+from calling_page import blocks_of, contract_of, page_of, quotes_of
 from rattle_items import Sources
+from rattle_source import functions_in
 
 # The only proofs that are walked by hand: a walk elsewhere could forge a count of steps.
 WALKS = {
@@ -242,19 +243,36 @@ def tests_of(text):
 
 
 def quotes(repository):
-    """Each contract that a document quotes is that of a function: its signature, and some of its clauses."""
-    sources = [text for path, text in repository.texts.items() if path.endswith(".rt")]
-    functions = [function for text in sources for function in functions_of(text)]
+    """Each contract that a document quotes is that of the one function of its type and crate that has its name: the
+    signature, and some of the clauses."""
     for path, text in repository.texts.items():
-        for signature, clauses in quotes_of(text) if path.endswith(".md") else ():
-            if not any(it.startswith(signature) and all(clause in it for clause in clauses) for it in functions):
-                yield f"{path}: no function has this contract: {signature}"
+        for quote in quotes_of(text) if path.endswith(".md") else ():
+            name = re.match(r"fn (\w+)", quote.signature)
+            found = contracts_of(repository, quote.crate, quote.owner, name and name[1])
+            if len(found) != 1:
+                yield f"{path}: {len(found)} functions are {quote.crate} :: {quote.owner} :: {quote.signature}"
+            elif found[0][0] != quote.signature or not set(quote.clauses) <= set(found[0][1]):
+                yield f"{path}: {quote.owner} has no function with this contract: {quote.signature}"
+
+
+def contracts_of(repository, crate, owner, name):
+    """The signature and the clauses of each function of a crate that has this type and this name."""
+    sources = [it for it in repository.texts.items() if it[0].startswith(f"crates/{crate}/src/") and it[0].endswith(".rt")]
+    return [contract for path, text in sources for contract in functions_of(text, path).get((owner, name), ())]
 
 
 @functools.lru_cache(maxsize=None)
-def functions_of(text):
-    """The functions of a source, in single spaces."""
-    return re.findall(r"\bfn \w.*?(?= fn \w|$)", words_of(text))
+def functions_of(text, path):
+    """The contracts of the functions of a source that have a body, by the type, '' where it is of none, and the name."""
+    found = {}
+    for function in functions_in(text, path.split("/", 2)[2]):
+        *above, name = function.name.split("::")
+        owner = above[-1] if above and above[-1][0].isupper() else ""
+        head = [it.start() for it in re.finditer(rf"\bfn {name}\b", text[: function.start])][-1]
+        if "tests" not in above:
+            uncommented = re.sub(r"^ *//.*\n", "", text[head : function.start], flags=re.M)
+            found.setdefault((owner, name), []).append(contract_of(uncommented))
+    return found
 
 
 RULES = [handles, crates, walks, citations, holes, lengths, widths, strays, definitions, examples, quotes]

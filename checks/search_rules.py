@@ -309,7 +309,7 @@ def odd_impl(path, item, own):
 
 
 def structs(sources):
-    """Guarded structs stand word for word; the others hold no bytes, and have no type parameter."""
+    """Guarded structs stand word for word; the others hold no bytes and no array, and have no type parameter."""
     known = (set(tables.PLAIN_TYPES) | declared_types(sources)) - set(tables.NOT_KEPT)
     for path, item in search_items(sources):
         held = tables.STRUCTS.get(item.name)
@@ -319,6 +319,8 @@ def structs(sources):
         elif item.kind in ("struct", "enum"):
             if has_type_parameter(item.generics):
                 yield f"{path}:{item.line}: {item.name} has a type parameter"
+            if set(arrays_in(item)):
+                yield f"{path}:{item.line}: {item.name} holds an array"
             for word in odd_fields(item, known):
                 yield f"{path}:{item.line}: {item.name} holds {word}"
     there = {item.name for _, item in search_items(sources) if item.kind == "struct"}
@@ -329,12 +331,19 @@ def structs(sources):
 
 
 def odd_values(sources):
-    """Values of the layers below that searches may hold, with a reference or a parameter."""
+    """Values of the layers below that searches may hold, with a reference, a parameter, or an array of numbers."""
     for path, items in sources.items.items():
         for item in items:
             if not is_of_searches(path) and item.kind in ("struct", "enum") and item.name in tables.VALUE_TYPES:
-                if item.generics or {"&", "*", "Vec", "Box", "u8"} & set(texts(item.body)):
+                held = {"&", "*", "Vec", "Box", "u8"} & set(texts(item.body))
+                if item.generics or held or set(arrays_in(item)) - {"bool"}:
                     yield f"{path}:{item.line}: {item.name} holds more than numbers"
+
+
+def arrays_in(item):
+    """The words with which the arrays and slices begin in the fields of a struct, or the variants of an enum."""
+    body = texts(item.body)
+    return [body[at + 1] for at in range(len(body) - 1) if body[at] == "[" and body[max(0, at - 1)] != "#"]
 
 
 def odd_fields(item, known):

@@ -256,7 +256,8 @@ VALUE_TYPES = ("PatternID", "Match", "MatchKind", "Span", "ByteSet")
 PLAIN_TYPES = STD_TYPES + VALUE_TYPES
 
 # Of these and those that the crates declare, the ones that no struct or enum holds whose words are not held: what was
-# read of a haystack ends with the search, and a list could be one of bucket entries, which is read uncounted.
+# read of a haystack ends with the search, and a list could be one of bucket entries, which is read uncounted. So could
+# an array, which such a type does not hold either.
 NOT_KEPT = ("TableByte", "FindIter", "Vec")
 
 # And the one that no function takes but laws: it goes on in a tally of its own.
