@@ -1,7 +1,6 @@
 //! A deterministic automaton over bytes, with a table of what state follows which.
 ghost use Rattle.std.specs.Prelude.{◌≡◌, ◌+◌, ◌*◌, ◌^◌, ◌<◌, ◌≤◌, ◌↔◌, ℕ, [], IfOk, IsTrue, OnErr, length, map};
-ghost use Rattle.std.specs.Prelude.{slice_index};
-ghost use Rattle.std.specs.Prelude.{slice_index_or};
+ghost use Rattle.std.specs.Prelude.{slice_index, slice_index_or};
 ghost use Rattle.std.specs.List.{All};
 ghost use Rattle.std.specs.Option.{SomeIff};
 ghost use Rattle.literal_base.specs.Classes.{IsStride2, alphabet_len_of};

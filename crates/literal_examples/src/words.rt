@@ -1,5 +1,5 @@
 //! Whether an automaton recognises patterns, shown by a word for each state.
-ghost use Rattle.std.specs.Prelude.{◌≡◌, ◌<◌, ◌↔◌, ◌++◌, ◌∷◌, [], IfOk, IsTrue, OnOk, length, map, nat_eq};
+ghost use Rattle.std.specs.Prelude.{◌≡◌, ◌<◌, ◌↔◌, ◌++◌, ◌∷◌, [], IfOk, IsTrue, OnErr, OnOk, length, map, nat_eq};
 ghost use Rattle.std.specs.List.{ends_with, list_any, starts_with};
 ghost use Rattle.std.specs.Bool.{OnTrue};
 ghost use Rattle.literal_examples.specs.Earliest.{Recognises};
@@ -11,7 +11,8 @@ use literal_prefilters::StateID;
 use std::alloc::{AllocError, Global};
 
 /// Whether each state of the automaton stands for its word, by the state's number: the longest end of
-/// what was read with which a pattern begins. If so, the automaton recognises the patterns.
+/// what was read with which a pattern begins. If so, the automaton recognises the patterns. Memory is
+/// asked for only where each state has a word, and the automaton begins in one of the empty word.
 pub fn stands_for_words(
     alloc: Global,
     automaton: &Dense,
@@ -21,6 +22,8 @@ pub fn stands_for_words(
     ensures exact { IfOk result (λ yes. IsTrue yes ↔ StandsForWords automaton.now (map (λ p. p.now) patterns.now)
         (map (λ w. w.now) words.now)) }
     ensures recognises { IfOk result (λ yes. OnTrue yes (Recognises automaton.now (map (λ p. p.now) patterns.now))) }
+    ensures no_memory { OnErr result ((length words.now ≡ length automaton.now.rows)
+        × (word_of (map (λ w. w.now) words.now) automaton.now.start ≡ [])) }
 {
     let start = automaton.start_state();
     if words.len() != automaton.state_len() || !words[start.as_usize()].is_empty() {
