@@ -38,17 +38,18 @@ pub fn search_from<P: PrefilterI>(
 }
 
 /// What the prefilter of a builder says of a span: it passes over no occurrence of the builder's
-/// patterns, for each kind of match that it serves.
+/// patterns, for each kind of match that it serves. `None` exactly where no prefilter suits them.
 pub fn candidate_of(
     builder: &Builder,
     haystack: &[u8],
     span: Span,
 ) -> Result<Option<Candidate>, AllocError>
     requires { IsValidSpan haystack.now span }
-    ensures { IfOk result (λ answer. IfSome answer (λ candidate. (kind : MatchKind)
+    ensures sound { IfOk result (λ answer. IfSome answer (λ candidate. (kind : MatchKind)
         → Serves builder.now.kind kind
         → Sound (record { kind = kind; patterns = kept_of builder.now.state }) builder.now.ignore_case haystack.now span
         candidate)) }
+    ensures picked { IfOk result (λ answer. is_some answer ≡ is_some (pick builder.now)) }
 {
     match builder.build()? {
         Some(pre) => Ok(Some(pre.find_in(haystack, span))),
