@@ -8,6 +8,7 @@ ghost use Rattle.literal_base.specs.Occurs.{IsValidSpan, NoneIsEmpty, Occurs, No
 ghost use Rattle.literal_base.specs.Query.{Query};
 ghost use Rattle.literal_packed.specs.State.{kept_of};
 ghost use Rattle.literal_prefilters.specs.Choice.{IsBuiltFor, Serves, pick};
+ghost use Rattle.literal_prefilters.specs.ConfirmingValue.{prefilter_builder};
 ghost use Rattle.literal_prefilters.specs.Sound.{Sound};
 
 use literal_prefilters::count::Tally;
@@ -57,16 +58,19 @@ pub fn candidate_of(
     }
 }
 
-/// Patterns in the order of a match kind, and a prefilter that covers them for it, if one suits them.
+/// Patterns in the order of a match kind, and a prefilter that covers them for it. `None` exactly where no
+/// prefilter suits them.
 pub fn covered_patterns(
     alloc: Global,
     kind: packed::MatchKind,
     ignore_case: bool,
     list: &[&[u8]],
 ) -> Result<Option<Covered>, AllocError>
-    ensures { IfOk result (λ made. IfSome made (λ covered.
+    ensures covered { IfOk result (λ made. IfSome made (λ covered.
         (query_of covered.patterns ≡ record { kind = kind; patterns = map (λ p. p.now) list.now })
         × IsCovered ignore_case covered.patterns covered.prefilter)) }
+    ensures picked { IfOk result (λ made. is_some made
+        ≡ is_some (pick (prefilter_builder kind ignore_case (map (λ p. p.now) list.now)))) }
 {
     let built_for = match kind {
         packed::MatchKind::LeftmostFirst => literal_prefilters::MatchKind::LeftmostFirst,
