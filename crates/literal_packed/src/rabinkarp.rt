@@ -9,18 +9,17 @@ ghost use Rattle.literal_packed.specs.PatternsValue.{query_of, IsInOrder, minimu
 ghost use Rattle.literal_packed.specs.Inside.Place.{IsBestAt, NoneStandsAt};
 ghost use Rattle.literal_packed.specs.Sum.{sum_of};
 ghost use Rattle.literal_packed.specs.Pairs.{has_equal_sum, has_equal_bucket, window_sum, pairs_answered, counts_after};
-ghost use Rattle.literal_packed.specs.Inside.RabinKarp.{bucket_number, AreStarts, AreHeads, AreLonger, ArePassed};
 ghost use Rattle.literal_packed.specs.RabinKarpValue.{IsMadeFor, bucket_at};
 
+mod entries;
+
 use crate::pattern::Patterns;
+use entries::{BUCKETS, BucketEntries};
 use literal_base::count::Tally;
 use literal_base::{Match, Span};
 use literal_ids::PatternID;
 use std::alloc::{AllocError, Global};
 use std::marker::Model;
-
-/// How many buckets there are: a power of two, so that a sum's bucket is its last bits.
-const BUCKETS: usize = 64;
 
 /// The sum of a window of bytes, modulo 2 to the power of 64: each byte counts for itself times 2 to
 /// the power of how many bytes of the window follow it. The window is filled by
@@ -116,53 +115,6 @@ fn sum_of_first(bytes: &[u8], window: usize, tally: &mut Tally) -> usize
     rolling.value()
 }
 
-/// Where each bucket begins in a list that is sorted by bucket and, last, where the list ends.
-fn starts_of(entries: &[(usize, PatternID)]) -> [usize; BUCKETS + 1]
-    requires { IsNonDecreasingBy bucket_number entries.now }
-    ensures { AreStarts result entries.now }
-{
-    let mut starts = [0; BUCKETS + 1];
-    for bucket in 0..BUCKETS + 1 {
-        starts[bucket] = entries.partition_point(|entry| entry.0 % BUCKETS < bucket);
-    }
-    starts
-}
-
-/// The sum of the entry `i` of each bucket. Where bucket `k` has no such entry stands `k + 1`, which is no sum
-/// of that bucket.
-fn heads_of(
-    starts: &[usize; BUCKETS + 1],
-    entries: &[(usize, PatternID)],
-    i: usize,
-) -> [usize; BUCKETS]
-    requires { AreStarts starts.now entries.now }
-    ensures { AreHeads i starts.now entries.now result }
-{
-    let mut heads = [0; BUCKETS];
-    for bucket in 0..BUCKETS {
-        let start = starts[bucket];
-        heads[bucket] = if i < starts[bucket + 1] - start {
-            entries[start + i].0
-        } else {
-            bucket + 1
-        };
-    }
-    heads
-}
-
-/// The buckets that have more than two entries, as bits.
-fn longer_of(starts: &[usize; BUCKETS + 1]) -> u64
-    ensures { AreLonger starts.now result }
-{
-    let mut longer = 0;
-    for bucket in 0..BUCKETS {
-        if starts[bucket + 1].saturating_sub(starts[bucket]) > 2 {
-            longer |= 1 << bucket;
-        }
-    }
-    longer
-}
-
 /// Whether a pattern stands at a place. It stays out of line: it is seldom called, and the loop over
 /// the places has all registers to itself.
 #[cold]
@@ -196,30 +148,18 @@ fn found_at(patterns: &Patterns, id: PatternID, at: usize) -> Match
 /// in one of 64 buckets, the one of its sum modulo 64, in match order. It holds no pattern itself: each
 /// search is given the patterns that it was made for. Contracts see the length of the window and the
 /// entries of each bucket.
-///
-/// All entries stand in one list, bucket after bucket: those of bucket `k` from `starts[k]` up to
-/// `starts[k + 1]`. The sums of the first two of each bucket stand in `first_sums` and `second_sums` too, and bit
-/// `k` of `longer` says whether it has more. So most places of a haystack are passed over by three
-/// comparisons, the same ones whether the bucket has no entry, one or two.
 #[derive(Drop)]
 pub struct RabinKarp {
-    first_sums: [usize; BUCKETS],
-    second_sums: [usize; BUCKETS],
+    entries: BucketEntries,
     minimum_len: usize,
-    longer: u64,
-    starts: [usize; BUCKETS + 1],
-    entries: Vec<(usize, PatternID)>,
 }
 
 impl Model for RabinKarp {
-    ghost use Rattle.literal_packed.specs.Inside.RabinKarp.{buckets_of, IsLaidOut};
     ghost use Rattle.literal_packed.specs.RabinKarpValue.{RabinKarpValue};
 
     ghost Value = { RabinKarpValue };
 
-    ghost view = { λ r. record { minimum_len = r.minimum_len; buckets = buckets_of r.starts r.entries.items } };
-
-    ghost invariant = { λ r. IsLaidOut r.first_sums r.second_sums r.starts r.longer r.entries.items };
+    ghost view = { λ r. record { minimum_len = r.minimum_len; buckets = r.entries } };
 }
 
 impl RabinKarp {
@@ -237,20 +177,13 @@ impl RabinKarp {
         ensures grows { tally.old.hashed ≤ tally.new.hashed }
     {
         let minimum_len = patterns.minimum_len();
-        let mut entries = Vec::with_capacity(patterns.allocator(), patterns.len())?;
+        let mut list = Vec::with_capacity(patterns.allocator(), patterns.len())?;
         for (id, pattern) in patterns.iter() {
-            entries.push((sum_of_first(pattern.bytes(), minimum_len, tally), id))?;
+            list.push((sum_of_first(pattern.bytes(), minimum_len, tally), id))?;
         }
-        // (A stable sort: the entries of a bucket stay in match order.)
-        entries.sort_by_key(|entry| entry.0 % BUCKETS)?;
-        let starts = starts_of(entries.as_slice());
         Ok(RabinKarp {
-            first_sums: heads_of(&starts, entries.as_slice(), 0),
-            second_sums: heads_of(&starts, entries.as_slice(), 1),
+            entries: BucketEntries::new(list)?,
             minimum_len,
-            longer: longer_of(&starts),
-            starts,
-            entries,
         })
     }
 
@@ -260,57 +193,33 @@ impl RabinKarp {
         ensures { IfOk result (λ copy. copy ≡ self.now) }
     {
         Ok(RabinKarp {
-            first_sums: self.first_sums,
-            second_sums: self.second_sums,
+            entries: self.entries.try_clone()?,
             minimum_len: self.minimum_len,
-            longer: self.longer,
-            starts: self.starts,
-            entries: Vec::from_slice(*self.entries.allocator(), self.entries.as_slice())?,
         })
     }
 
-    /// How many entries a bucket has.
-    fn bucket_len(&self, bucket: usize) -> usize
-        requires { bucket < 64 }
-        ensures { result ≡ length (bucket_at self.now bucket) }
+    /// Reads one entry of the bucket of a sum, if it has one more, and compares its pattern with the place where the
+    /// sums are equal: the pattern, if it stands there.
+    #[inline(always)]
+    fn try_entry(
+        &self,
+        k: usize,
+        sum: usize,
+        patterns: &Patterns,
+        haystack: &[u8],
+        at: usize,
+        tally: &mut Tally,
+    ) -> Option<PatternID>
+        requires made { IsMadeFor patterns.now self.now }
+        requires sum { sum ≡ window_sum patterns.now.patterns haystack.now at }
+        requires in_haystack { at ≤ length haystack.now }
+        requires within { 2 ≤ k → k < length (bucket_at self.now (sum % 64)) }
     {
-        self.starts[bucket + 1] - self.starts[bucket]
-    }
-
-    /// Reads one entry of a bucket.
-    fn entry(&self, bucket: usize, k: usize, tally: &mut Tally) -> (usize, PatternID)
-        requires is_bucket { bucket < 64 }
-        requires within { k < length (bucket_at self.now bucket) }
-        ensures entry { slice_get (bucket_at self.now bucket) k ≡ Some result }
-        ensures counted { tally.new ≡ record tally.old { entries = tally.old.entries + 1 } }
-    {
-        tally.tick_entries();
-        self.entries[self.starts[bucket] + k]
-    }
-
-    /// Whether it shows at once that no entry of a sum's bucket has that sum: it has two at most.
-    fn is_passed(&self, sum: usize) -> bool
-        ensures { IsTrue result ↔ ArePassed (bucket_at self.now (sum % 64)) sum }
-    {
-        let bucket = sum % BUCKETS;
-        if self.longer >> bucket & 1 == 1
-            || self.first_sums[bucket] == sum
-            || self.second_sums[bucket] == sum
-        {
-            return false;
-        }
-        true
-    }
-
-    /// Reads all entries of a bucket, none of which is the answer, so that they count. What is read is
-    /// not used: the built program has nothing of it.
-    fn read_all(&self, bucket: usize, tally: &mut Tally)
-        requires { bucket < 64 }
-        ensures { tally.new
-            ≡ record tally.old { entries = tally.old.entries + length (bucket_at self.now bucket) } }
-    {
-        for k in 0..self.bucket_len(bucket) {
-            self.entry(bucket, k, tally);
+        let (entry_sum, id) = self.entries.entry(sum % BUCKETS, k, tally);
+        if entry_sum == sum && stands_at(patterns, id, haystack, at, tally) {
+            Some(id)
+        } else {
+            None
         }
     }
 
@@ -339,14 +248,17 @@ impl RabinKarp {
         } }
     {
         let sum = rolling.value();
-        let bucket = sum % BUCKETS;
-        if self.is_passed(sum) {
-            self.read_all(bucket, tally);
+        if let Some(id) = self.try_entry(0, sum, patterns, haystack, at, tally) {
+            return Some(id);
+        }
+        if let Some(id) = self.try_entry(1, sum, patterns, haystack, at, tally) {
+            return Some(id);
+        }
+        if !self.entries.is_longer(sum % BUCKETS) {
             return None;
         }
-        for k in 0..self.bucket_len(bucket) {
-            let (entry_sum, id) = self.entry(bucket, k, tally);
-            if entry_sum == sum && stands_at(patterns, id, haystack, at, tally) {
+        for k in 2..self.entries.len(sum % BUCKETS) {
+            if let Some(id) = self.try_entry(k, sum, patterns, haystack, at, tally) {
                 return Some(id);
             }
         }
@@ -389,59 +301,5 @@ impl RabinKarp {
         }
         let id = self.look_up(&rolling, patterns, haystack, last, tally)?;
         Some(found_at(patterns, id, last))
-    }
-}
-
-#[cfg(test)]
-mod tests {
-    use super::*;
-    use std::test::Fail;
-
-    #[test]
-    fn lays_out_the_buckets(rt: HostRuntime) -> Result<(), Fail> {
-        let mut patterns = Patterns::new(rt.alloc());
-        patterns.add(b"ab")?;
-        patterns.add(b"ba")?;
-        patterns.add(b"ab")?;
-        let made = RabinKarp::new(&patterns, &mut Tally::new())?;
-        let rows = [(292, 0), (292, 2), (293, 1)];
-        assert_eq!(rt; made.entries.len(), rows.len());
-        for k in 0..rows.len() {
-            let (sum, id) = made.entries.as_slice().get(k).ok_or("an entry is missing")?;
-            assert_eq!(rt; (*sum, id.as_usize()), rows[k], "entry {k}");
-        }
-        for bucket in 0..BUCKETS + 1 {
-            let start = match bucket {
-                0..=36 => 0,
-                37 => 2,
-                _ => 3,
-            };
-            assert_eq!(rt; made.starts[bucket], start, "bucket {bucket}");
-        }
-        Ok(())
-    }
-
-    #[test]
-    fn sets_two_sums_of_each_bucket_apart(rt: HostRuntime) -> Result<(), Fail> {
-        let mut patterns = Patterns::new(rt.alloc());
-        patterns.add(b"ab")?;
-        patterns.add(b"ba")?;
-        patterns.add(b"ab")?;
-        patterns.add(b"ab")?;
-        patterns.add(b"cb")?;
-        patterns.add(b"cb")?;
-        let made = RabinKarp::new(&patterns, &mut Tally::new())?;
-        for bucket in 0..BUCKETS {
-            let (first, second) = match bucket {
-                36 => (292, 292),
-                37 => (293, 38),
-                40 => (296, 296),
-                _ => (bucket + 1, bucket + 1),
-            };
-            assert_eq!(rt; made.first_sums[bucket], first, "bucket {bucket}");
-            assert_eq!(rt; made.second_sums[bucket], second, "bucket {bucket}");
-        }
-        assert_eq!(rt; made.longer, 1 << 36);
-        Ok(())
     }
 }

@@ -5,7 +5,7 @@ use Rattle.std.proofs.Common.{ap, subst, ◌∙◌, arith}
 use Rattle.std.specs.Int.{bit_at}
 use Rattle.std.proofs.lemmas.Bool.{cases_eq, lt-ltb, le-ltb}
 use Rattle.std.proofs.lemmas.Nat.Bits.{bit_at_set_same, bit_at_set_other}
-use Rattle.literal_packed.specs.Inside.RabinKarp.{len_at}
+use Rattle.literal_packed.specs.Inside.Entries.{len_at}
 
 -- the bit of bucket k
 abbrev pub bit_of : List ℕ → ℕ → ℕ

@@ -10,7 +10,7 @@ use Rattle.std.proofs.lemmas.Bool.Decides.{nat_tests}
 use Rattle.std.proofs.lemmas.List.{length-take-le, length-drop, get_or-take, get_or-drop, get_or-set_same}
 use Rattle.std.proofs.lemmas.List.{get_or-set_other, take-append-drop}
 use Rattle.std.proofs.lemmas.List.Elements.{filter-append, filter_agree}
-use Rattle.literal_packed.specs.Inside.RabinKarp.{AreStarts, IsStart, start_at, part_at, bucket_number}
+use Rattle.literal_packed.specs.Inside.Entries.{AreStarts, IsStart, start_at, part_at, bucket_number}
 use Rattle.literal_packed.proofs.lemmas.Lists.{filter-none, filter-all}
 
 -- the part of a list between two places is what passes a test that fails before it and behind it

@@ -9,7 +9,7 @@ use Rattle.literal_base.specs.Counts.{Counts}
 use Rattle.literal_packed.specs.Sum.{sum_of}
 use Rattle.literal_packed.specs.Pairs.{key_of}
 use Rattle.literal_packed.specs.PatternsValue.{minimum_len_of}
-use Rattle.literal_packed.specs.Inside.RabinKarp.{bucket_number, AreStarts, AreHeads}
+use Rattle.literal_packed.specs.Inside.Entries.{bucket_number, AreStarts, AreHeads}
 use Rattle.literal_base.specs.Occurs.{pattern_at}
 use Rattle.literal_packed.proofs.lemmas.Given.{head_below, split_next, split_more}
 use Rattle.literal_packed.proofs.lemmas.MinimumLen.{minimum_len_of_some, minimum_len_of-le}

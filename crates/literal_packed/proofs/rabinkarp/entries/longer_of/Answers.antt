@@ -1,8 +1,8 @@
 use Rattle.std.proofs.Common.{arith}
 use Rattle.std.proofs.lemmas.Nat.Bits.{bit_at-zero}
 use Rattle.literal_packed.proofs.lemmas.Longer.{bits_set, bits_kept}
-use Rattle.literal_packed.proofs.rabinkarp.longer_of.Goals as goal
-use Rattle.literal_packed.proofs.rabinkarp.longer_of.Goals.{then-saturating_sub-gt2, else-saturating_sub-gt2}
+use Rattle.literal_packed.proofs.rabinkarp.entries.longer_of.Goals as goal
+use Rattle.literal_packed.proofs.rabinkarp.entries.longer_of.Goals.{then-saturating_sub-gt2, else-saturating_sub-gt2}
 
 pub loop-bucket-init : goal.loop-bucket-init
 loop-bucket-init c = record { before = λ k within. absurd (omega arith); later = λ k high. bit_at-zero k }

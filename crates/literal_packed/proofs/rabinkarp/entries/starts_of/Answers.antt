@@ -2,16 +2,16 @@ use Rattle.std.proofs.Common.{refl, ltb, rules, ◌∙◌, arith}
 use Rattle.std.proofs.lemmas.Fn.{always_returns_same}
 use Rattle.std.proofs.lemmas.List.{length-set}
 use Rattle.std.proofs.lemmas.List.Sorted.{IsPartitionedBy-ltb}
-use Rattle.literal_packed.specs.Inside.RabinKarp.{IsStart, bucket_number}
+use Rattle.literal_packed.specs.Inside.Entries.{IsStart, bucket_number}
 use Rattle.literal_packed.proofs.lemmas.Parts.{is_start, set_more}
-use Rattle.literal_packed.proofs.rabinkarp.starts_of.Goals as goal
+use Rattle.literal_packed.proofs.rabinkarp.entries.starts_of.Goals as goal
 
 pub loop-bucket-init : goal.loop-bucket-init
 loop-bucket-init c = record { len = refl; are = λ k within. absurd (omega arith) }
 
 pub loop-bucket-preserved : goal.loop-bucket-preserved
 loop-bucket-preserved c =
-    let entries = c.args.entries.now in
+    let entries = c.args.list.now in
     let bucket = c.loop-bucket.bucket-counter in
     let at = c.partition_point.result in
     let long = c.loop-bucket.invariant.len in

@@ -1,0 +1,213 @@
+//! The entries of all buckets. What holds them is private here, so that nobody reads one but by `entry`, which
+//! counts it.
+ghost use Rattle.std.specs.Prelude.{◌≡◌, ◌≢◌, ◌↔◌, ◌≤◌, ◌<◌, ◌+◌, ◌%◌, List, [], length, nat_lt, if◌then◌else◌};
+ghost use Rattle.std.specs.Prelude.{IfOk, IsTrue, Some, slice_get, slice_index_or};
+ghost use Rattle.std.specs.List.Sorted.{IsNonDecreasingBy};
+ghost use Rattle.literal_packed.specs.Inside.Entries.{bucket_number, AreBucketsOf, AreStarts, AreHeads, AreLonger};
+
+use literal_base::count::Tally;
+use literal_ids::PatternID;
+use std::alloc::AllocError;
+use std::marker::Model;
+
+/// How many buckets there are: a power of two, so that a sum's bucket is its last bits.
+pub const BUCKETS: usize = 64;
+
+/// The entries of all buckets, a sum and an identifier each. Contracts see the list of the entries of each bucket.
+///
+/// All stand in one list, bucket after bucket: those of bucket `k` from `starts[k]` up to `starts[k + 1]`. The first
+/// two of each bucket stand in `firsts` and `seconds` too, so that a look-up may ask for them without asking whether
+/// they are there: where bucket `k` has no such entry stands one with the sum `k + 1`, which is no sum of that
+/// bucket. Bit `k` of `longer` says whether it has more.
+#[derive(Drop)]
+pub struct BucketEntries {
+    firsts: [(usize, PatternID); BUCKETS],
+    seconds: [(usize, PatternID); BUCKETS],
+    longer: u64,
+    starts: [usize; BUCKETS + 1],
+    list: Vec<(usize, PatternID)>,
+}
+
+impl Model for BucketEntries {
+    ghost use Rattle.std.specs.Prelude.{ℕ, List};
+    ghost use Rattle.literal_packed.specs.Inside.Entries.{buckets_of, IsLaidOut};
+
+    ghost Value = { List (List (ℕ × ℕ)) };
+
+    ghost view = { λ b. buckets_of b.starts b.list.items };
+
+    ghost invariant = { λ b. IsLaidOut b.firsts b.seconds b.starts b.longer b.list.items };
+}
+
+impl BucketEntries {
+    /// The entries of a list by their buckets, in its order. It takes memory for the sort.
+    pub fn new(mut list: Vec<(usize, PatternID)>) -> Result<BucketEntries, AllocError>
+        ensures { IfOk result (AreBucketsOf list.items) }
+    {
+        // (A stable sort: the entries of a bucket keep their order.)
+        list.sort_by_key(|entry| entry.0 % BUCKETS)?;
+        let starts = starts_of(list.as_slice());
+        Ok(BucketEntries {
+            firsts: heads_of(&starts, list.as_slice(), 0),
+            seconds: heads_of(&starts, list.as_slice(), 1),
+            longer: longer_of(&starts),
+            starts,
+            list,
+        })
+    }
+
+    /// A copy. It takes memory for the list; where that is refused there is no copy, and this stays as it is.
+    pub fn try_clone(&self) -> Result<BucketEntries, AllocError>
+        ensures { IfOk result (λ copy. copy ≡ self.now) }
+    {
+        let list = Vec::from_slice(*self.list.allocator(), self.list.as_slice())?;
+        Ok(BucketEntries {
+            firsts: heads_of(&self.starts, list.as_slice(), 0),
+            seconds: heads_of(&self.starts, list.as_slice(), 1),
+            longer: self.longer,
+            starts: self.starts,
+            list,
+        })
+    }
+
+    /// How many entries a bucket has.
+    pub fn len(&self, bucket: usize) -> usize
+        requires { bucket < 64 }
+        ensures { result ≡ length (slice_index_or self.now bucket []) }
+    {
+        self.starts[bucket + 1] - self.starts[bucket]
+    }
+
+    /// Whether a bucket has more than two entries.
+    pub fn is_longer(&self, bucket: usize) -> bool
+        requires { bucket < 64 }
+        ensures { IsTrue result ↔ (2 < length (slice_index_or self.now bucket [])) }
+    {
+        self.longer >> bucket & 1 == 1
+    }
+
+    /// Reads one entry of a bucket, and counts it. The first two of a bucket may be asked for where it has none: then
+    /// nothing counts, and the sum that is answered is no sum of the bucket.
+    pub fn entry(&self, bucket: usize, k: usize, tally: &mut Tally) -> (usize, PatternID)
+        requires is_bucket { bucket < 64 }
+        requires within { 2 ≤ k → k < length (slice_index_or self.now bucket []) }
+        ensures entry { k < length (slice_index_or self.now bucket [])
+            → slice_get (slice_index_or self.now bucket []) k ≡ Some result }
+        ensures none { length (slice_index_or self.now bucket []) ≤ k → result.0 % 64 ≢ bucket }
+        ensures counted { tally.new ≡ record tally.old {
+          entries = tally.old.entries + (if nat_lt k (length (slice_index_or self.now bucket [])) then 1 else 0);
+        } }
+    {
+        if k < self.len(bucket) {
+            tally.tick_entries();
+        }
+        match k {
+            0 => self.firsts[bucket],
+            1 => self.seconds[bucket],
+            _ => self.list[self.starts[bucket] + k],
+        }
+    }
+}
+
+/// Where each bucket begins in a list that is sorted by bucket and, last, where the list ends.
+fn starts_of(list: &[(usize, PatternID)]) -> [usize; BUCKETS + 1]
+    requires { IsNonDecreasingBy bucket_number list.now }
+    ensures { AreStarts result list.now }
+{
+    let mut starts = [0; BUCKETS + 1];
+    for bucket in 0..BUCKETS + 1 {
+        starts[bucket] = list.partition_point(|entry| entry.0 % BUCKETS < bucket);
+    }
+    starts
+}
+
+/// Entry `i` of each bucket. Where bucket `k` has no such entry stands one with the sum `k + 1`, which is no sum of that
+/// bucket.
+fn heads_of(
+    starts: &[usize; BUCKETS + 1],
+    list: &[(usize, PatternID)],
+    i: usize,
+) -> [(usize, PatternID); BUCKETS]
+    requires { AreStarts starts.now list.now }
+    ensures { AreHeads i starts.now list.now result }
+{
+    let mut heads = [(0, PatternID::ZERO); BUCKETS];
+    for bucket in 0..BUCKETS {
+        let start = starts[bucket];
+        heads[bucket] = if i < starts[bucket + 1] - start {
+            list[start + i]
+        } else {
+            (bucket + 1, PatternID::ZERO)
+        };
+    }
+    heads
+}
+
+/// The buckets that have more than two entries, as bits.
+fn longer_of(starts: &[usize; BUCKETS + 1]) -> u64
+    ensures { AreLonger starts.now result }
+{
+    let mut longer = 0;
+    for bucket in 0..BUCKETS {
+        if starts[bucket + 1].saturating_sub(starts[bucket]) > 2 {
+            longer |= 1 << bucket;
+        }
+    }
+    longer
+}
+
+#[cfg(test)]
+mod tests {
+    use super::*;
+    use crate::pattern::Patterns;
+    use crate::rabinkarp::RabinKarp;
+    use std::test::Fail;
+
+    #[test]
+    fn lays_out_the_buckets(rt: HostRuntime) -> Result<(), Fail> {
+        let mut patterns = Patterns::new(rt.alloc());
+        patterns.add(b"ab")?;
+        patterns.add(b"ba")?;
+        patterns.add(b"ab")?;
+        let made = RabinKarp::new(&patterns, &mut Tally::new())?.entries;
+        let rows = [(292, 0), (292, 2), (293, 1)];
+        assert_eq!(rt; made.list.len(), rows.len());
+        for k in 0..rows.len() {
+            let (sum, id) = made.list.as_slice().get(k).ok_or("an entry is missing")?;
+            assert_eq!(rt; (*sum, id.as_usize()), rows[k], "entry {k}");
+        }
+        for bucket in 0..BUCKETS + 1 {
+            let start = match bucket {
+                0..=36 => 0,
+                37 => 2,
+                _ => 3,
+            };
+            assert_eq!(rt; made.starts[bucket], start, "bucket {bucket}");
+        }
+        Ok(())
+    }
+
+    #[test]
+    fn sets_two_sums_of_each_bucket_apart(rt: HostRuntime) -> Result<(), Fail> {
+        let mut patterns = Patterns::new(rt.alloc());
+        patterns.add(b"ab")?;
+        patterns.add(b"ba")?;
+        patterns.add(b"ab")?;
+        patterns.add(b"ab")?;
+        patterns.add(b"cb")?;
+        patterns.add(b"cb")?;
+        let made = RabinKarp::new(&patterns, &mut Tally::new())?.entries;
+        for bucket in 0..BUCKETS {
+            let (first, second) = match bucket {
+                36 => (292, 292),
+                37 => (293, 38),
+                40 => (296, 296),
+                _ => (bucket + 1, bucket + 1),
+            };
+            assert_eq!(rt; made.firsts[bucket].0, first, "bucket {bucket}");
+            assert_eq!(rt; made.seconds[bucket].0, second, "bucket {bucket}");
+        }
+        assert_eq!(rt; made.longer, 1 << 36);
+        Ok(())
+    }
+}
