@@ -1,12 +1,12 @@
 //! Rabin and Karp's search: a sum over a window of the haystack, which moves on byte by byte, tells
 //! which patterns can stand at a place.
 ghost use Rattle.std.specs.Prelude.{◌≡◌, ◌↔◌, ℕ, ◌≤◌, ◌<◌, ◌+◌, ◌*◌, ◌%◌, ◌^◌, List, [], ◌∷◌, ◌++◌, false, length};
-ghost use Rattle.std.specs.Prelude.{take, IfOk, IsTrue, OnOk, MatchOption, Some, slice_get};
-ghost use Rattle.std.specs.List.Sorted.{IsNonDecreasingBy};
+ghost use Rattle.std.specs.Prelude.{take, All, count_by, ◌==◌, IfOk, IsTrue, OnOk, MatchOption, Some, slice_get};
 ghost use Rattle.literal_base.specs.Occurs.{StandsAt, pattern_at, rest_from};
 ghost use Rattle.literal_base.specs.Leftmost.{IsLeftmost};
 ghost use Rattle.literal_packed.specs.PatternsValue.{query_of, IsInOrder, minimum_len_of};
 ghost use Rattle.literal_packed.specs.Inside.Place.{IsBestAt, NoneStandsAt};
+ghost use Rattle.literal_packed.specs.Inside.Entries.{entry_at};
 ghost use Rattle.literal_packed.specs.Sum.{sum_of};
 ghost use Rattle.literal_packed.specs.Pairs.{has_equal_sum, has_equal_bucket, window_sum, pairs_answered, counts_after};
 ghost use Rattle.literal_packed.specs.RabinKarpValue.{IsMadeFor, bucket_at};
@@ -214,6 +214,15 @@ impl RabinKarp {
         requires sum { sum ≡ window_sum patterns.now.patterns haystack.now at }
         requires in_haystack { at ≤ length haystack.now }
         requires within { 2 ≤ k → k < length (bucket_at self.now (sum % 64)) }
+        ensures found { MatchOption result
+            (All (λ e. ¬ StandsAt false (pattern_at patterns.now.patterns e.1) haystack.now at)
+                (entry_at (bucket_at self.now (sum % 64)) k))
+            (λ id. (slice_get (bucket_at self.now (sum % 64)) k ≡ Some (sum, id))
+                × StandsAt false (pattern_at patterns.now.patterns id) haystack.now at) }
+        ensures counted { tally.new ≡ record tally.old {
+          entries = tally.old.entries + length (entry_at (bucket_at self.now (sum % 64)) k);
+          compared = tally.old.compared + count_by (λ e. e.0 == sum) (entry_at (bucket_at self.now (sum % 64)) k);
+        } }
     {
         let (entry_sum, id) = self.entries.entry(sum % BUCKETS, k, tally);
         if entry_sum == sum && stands_at(patterns, id, haystack, at, tally) {
