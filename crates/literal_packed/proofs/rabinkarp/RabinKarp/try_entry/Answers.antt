@@ -29,10 +29,9 @@ returns-then-stands_at-clause-found c =
       entry = c.entry-entry_sum.ensures.entry;
       none = c.entry-entry_sum.ensures.none;
       counted = c.entry-entry_sum.ensures.counted;
-    }) in
-    (
+    }) in (
       read_equal here c.args.k x _ _ asked c.if-entry_sum-sum.true
-      ∙ ap (λ n. Some (n, x.1)) c.if-entry_sum-sum.true,
+          ∙ ap (λ n. Some (n, x.1)) c.if-entry_sum-sum.true,
       c.stands_at.ensures.stands.0 c.if-stands_at.true,
     )
 
