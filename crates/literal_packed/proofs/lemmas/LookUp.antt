@@ -1,7 +1,8 @@
 -- The steps of a look-up, entry by entry.
 -- For `RabinKarp::try_entry` and `RabinKarp::look_up`.
 use Rattle.std.proofs.Common.{refl, ◌≡◌, ◌≢◌, ℕ, ◌+◌, ◌%◌, ◌<◌, ◌≤◌, Bool, true, false, eqb, inl, inr, cond, ltb}
-use Rattle.std.proofs.Common.{List, [], ◌∷◌, ◌++◌, Some, length, take, drop, get_or, slice_get, sym, ap, subst, ◌∙◌, arith, add-zero}
+use Rattle.std.proofs.Common.{List, [], ◌∷◌, ◌++◌, Some, length, take, drop, get_or, slice_get, sym, ap, subst, ◌∙◌}
+use Rattle.std.proofs.Common.{arith, add-zero}
 use Rattle.std.specs.List.{All, count_by}
 use Rattle.std.proofs.Math.Seq.{take-add}
 use Rattle.std.proofs.lemmas.Bool.{eq-eqb, ne_eqb, cases_lt, lt-ltb, le-ltb}
@@ -196,7 +197,8 @@ module _ {c : PatternsValue} {haystack : List ℕ} {at sum : ℕ} {entries : Lis
       let one = one_entry entries k (sum, id) is in
       let yes : count_by has_sum ((sum, id) ∷ []) ≡ 1 = ap (λ t. 0 + cond t 1 0) (eq-eqb sum sum refl) in
       let front : take k (bucket_of c (sum % 64)) ≡ take k entries = ap (take k) (sym here.is) in
-      let long : length (take k entries) ≡ k = length-take-le k entries (omega (arith, slice_get_within entries k _ is)) in
+      let long : length (take k entries) ≡ k =
+      length-take-le k entries (omega (arith, slice_get_within entries k _ is)) in
       let read = entries_some c here.searchable.well_formed here.searchable.in_order haystack at sum here.sum_is k
       (sum, id) within in_place in
       let compared = compared_some c here.searchable.well_formed here.searchable.in_order haystack at sum here.sum_is k

@@ -42,27 +42,29 @@ pub returns-in-Some-try_entry-clause-best : goal.returns-in-Some-try_entry-claus
 returns-in-Some-try_entry-clause-best c =
     let here = look_up_in c.args.patterns.now c.args.self.now c.args.haystack.now c.args.at c.value-sum.result
     c.requires.made (c.value-sum.ensures ∙ c.requires.sum) in
-    best_found here 1 c.in-Some-try_entry.id c.in_default.ensures.found c.in-Some-try_entry.ensures.found.0 c.in-Some-try_entry.ensures.found.1
+    best_found here 1 c.in-Some-try_entry.id c.in_default.ensures.found
+    c.in-Some-try_entry.ensures.found.0 c.in-Some-try_entry.ensures.found.1
 
 pub returns-in-Some-try_entry-clause-counted : goal.returns-in-Some-try_entry-clause-counted
 returns-in-Some-try_entry-clause-counted c =
     let here = look_up_in c.args.patterns.now c.args.self.now c.args.haystack.now c.args.at c.value-sum.result
     c.requires.made (c.value-sum.ensures ∙ c.requires.sum) in
-    counts_found here 1 c.in-Some-try_entry.id c.args.tally.now _ c.try_entry-2.new.tally c.in-Some-try_entry.ensures.found.0
-    c.try_entry.ensures.counted c.try_entry-2.ensures.counted
+    counts_found here 1 c.in-Some-try_entry.id c.args.tally.now _ c.try_entry-2.new.tally
+    c.in-Some-try_entry.ensures.found.0 c.try_entry.ensures.counted c.try_entry-2.ensures.counted
 
 pub returns-in-Some-try_entry-2-clause-best : goal.returns-in-Some-try_entry-2-clause-best
 returns-in-Some-try_entry-2-clause-best c =
     let here = look_up_in c.args.patterns.now c.args.self.now c.args.haystack.now c.args.at c.value-sum.result
     c.requires.made (c.value-sum.ensures ∙ c.requires.sum) in
-    best_found here c.loop-k.k c.in-Some-try_entry-2.id c.loop-k.invariant.none c.in-Some-try_entry-2.ensures.found.0 c.in-Some-try_entry-2.ensures.found.1
+    best_found here c.loop-k.k c.in-Some-try_entry-2.id c.loop-k.invariant.none
+    c.in-Some-try_entry-2.ensures.found.0 c.in-Some-try_entry-2.ensures.found.1
 
 pub returns-in-Some-try_entry-2-clause-counted : goal.returns-in-Some-try_entry-2-clause-counted
 returns-in-Some-try_entry-2-clause-counted c =
     let here = look_up_in c.args.patterns.now c.args.self.now c.args.haystack.now c.args.at c.value-sum.result
     c.requires.made (c.value-sum.ensures ∙ c.requires.sum) in
-    counts_found here c.loop-k.k c.in-Some-try_entry-2.id c.args.tally.now _ c.try_entry-in-loop-k.new.tally c.in-Some-try_entry-2.ensures.found.0
-    c.loop-k.invariant.counted c.try_entry-in-loop-k.ensures.counted
+    counts_found here c.loop-k.k c.in-Some-try_entry-2.id c.args.tally.now _ c.try_entry-in-loop-k.new.tally
+    c.in-Some-try_entry-2.ensures.found.0 c.loop-k.invariant.counted c.try_entry-in-loop-k.ensures.counted
 
 pub returns-then-not-is_longer-clause-best : goal.returns-then-not-is_longer-clause-best
 returns-then-not-is_longer-clause-best c =
@@ -86,12 +88,13 @@ pub returns-clause-best : goal.returns-clause-best
 returns-clause-best c =
     let here = look_up_in c.args.patterns.now c.args.self.now c.args.haystack.now c.args.at c.value-sum.result
     c.requires.made (c.value-sum.ensures ∙ c.requires.sum) in
-    none_found here c.loop-k.k (ended_with (c.value-sum.result % 64) c.self.inside.entries c.args.self.now c.self.view_is (omega (arith, c.len-k-end.ensures)))
-    c.loop-k.invariant.none
+    none_found here c.loop-k.k (ended_with (c.value-sum.result % 64) c.self.inside.entries c.args.self.now c.self.view_is
+    (omega (arith, c.len-k-end.ensures))) c.loop-k.invariant.none
 
 pub returns-clause-counted : goal.returns-clause-counted
 returns-clause-counted c =
     let here = look_up_in c.args.patterns.now c.args.self.now c.args.haystack.now c.args.at c.value-sum.result
     c.requires.made (c.value-sum.ensures ∙ c.requires.sum) in
     counts_none here c.loop-k.k c.args.tally.now c.loop-k.tally
-    (ended_with (c.value-sum.result % 64) c.self.inside.entries c.args.self.now c.self.view_is (omega (arith, c.len-k-end.ensures))) c.loop-k.invariant.counted
+    (ended_with (c.value-sum.result % 64) c.self.inside.entries c.args.self.now c.self.view_is
+    (omega (arith, c.len-k-end.ensures))) c.loop-k.invariant.counted
