@@ -1,12 +1,12 @@
 //! Rabin and Karp's search: a sum over a window of the haystack, which moves on byte by byte, tells
 //! which patterns can stand at a place.
-ghost use Rattle.std.specs.Prelude.{◌≡◌, ◌↔◌, ℕ, ◌≤◌, ◌<◌, ◌+◌, ◌*◌, ◌%◌, ◌^◌, List, [], ◌∷◌, ◌++◌, false, length};
-ghost use Rattle.std.specs.Prelude.{take, IfOk, IsTrue, OnOk, MatchOption, Some, slice_get};
-ghost use Rattle.std.specs.List.Sorted.{IsNonDecreasingBy};
+ghost use Rattle.std.specs.Prelude.{◌≡◌, ◌↔◌, ℕ, ◌≤◌, ◌<◌, ◌+◌, ◌-◌, ◌*◌, ◌%◌, ◌^◌, List, [], ◌∷◌, ◌++◌, false, length};
+ghost use Rattle.std.specs.Prelude.{take, All, count_by, ◌==◌, IfOk, IsTrue, OnOk, MatchOption, Some, slice_get};
 ghost use Rattle.literal_base.specs.Occurs.{StandsAt, pattern_at, rest_from};
 ghost use Rattle.literal_base.specs.Leftmost.{IsLeftmost};
 ghost use Rattle.literal_packed.specs.PatternsValue.{query_of, IsInOrder, minimum_len_of};
 ghost use Rattle.literal_packed.specs.Inside.Place.{IsBestAt, NoneStandsAt};
+ghost use Rattle.literal_packed.specs.Inside.Entries.{entry_at};
 ghost use Rattle.literal_packed.specs.Sum.{sum_of};
 ghost use Rattle.literal_packed.specs.Pairs.{has_equal_sum, has_equal_bucket, window_sum, pairs_answered, counts_after};
 ghost use Rattle.literal_packed.specs.RabinKarpValue.{IsMadeFor, bucket_at};
@@ -71,6 +71,7 @@ impl Rolling {
 
     /// Takes one byte more into the sum, behind the others. It counts as one byte hashed.
     pub fn push(&mut self, byte: u8, tally: &mut Tally)
+        ensures value { self.new.sum ≡ (2 * self.old.sum + byte) % 2 ^ 64 }
         ensures sum { (w : List ℕ) → self.old.sum ≡ sum_of w → self.new.sum ≡ sum_of (w ++ byte ∷ []) }
         ensures window { self.new.window ≡ self.old.window }
         ensures counted { tally.new ≡ record tally.old { hashed = tally.old.hashed + 1 } }
@@ -81,8 +82,12 @@ impl Rolling {
     }
 
     /// Moves a full window on by one byte: `old`, the first byte in it, goes, and `new` comes in
-    /// behind the others. It counts as one byte hashed.
+    /// behind the others. It counts as one byte hashed. Of a window that is not full, or does not begin
+    /// with `old`, the sum moves on by the same equation.
     pub fn roll(&mut self, old: u8, new: u8, tally: &mut Tally)
+        // Modulo 2 ^ 64 that is 2 * (sum - old * 2 ^ (window - 1)) + new.
+        ensures value { self.new.sum
+            ≡ (2 * self.old.sum + new + (2 ^ 64 - old * 2 ^ self.old.window % 2 ^ 64)) % 2 ^ 64 }
         ensures sum { (w : List ℕ) → length (old ∷ w) ≡ self.old.window → self.old.sum ≡ sum_of (old ∷ w)
             → self.new.sum ≡ sum_of (w ++ new ∷ []) }
         ensures window { self.new.window ≡ self.old.window }
@@ -214,6 +219,15 @@ impl RabinKarp {
         requires sum { sum ≡ window_sum patterns.now.patterns haystack.now at }
         requires in_haystack { at ≤ length haystack.now }
         requires within { 2 ≤ k → k < length (bucket_at self.now (sum % 64)) }
+        ensures found { MatchOption result
+            (All (λ e. ¬ StandsAt false (pattern_at patterns.now.patterns e.1) haystack.now at)
+            (entry_at (bucket_at self.now (sum % 64)) k))
+            (λ id. (slice_get (bucket_at self.now (sum % 64)) k ≡ Some (sum, id))
+            × StandsAt false (pattern_at patterns.now.patterns id) haystack.now at) }
+        ensures counted { tally.new ≡ record tally.old {
+          entries = tally.old.entries + length (entry_at (bucket_at self.now (sum % 64)) k);
+          compared = tally.old.compared + count_by (λ e. e.0 == sum) (entry_at (bucket_at self.now (sum % 64)) k);
+        } }
     {
         let (entry_sum, id) = self.entries.entry(sum % BUCKETS, k, tally);
         if entry_sum == sum && stands_at(patterns, id, haystack, at, tally) {

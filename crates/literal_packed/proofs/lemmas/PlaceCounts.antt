@@ -39,7 +39,7 @@ same_three old h e c h' e' c' p q r =
     ap (λ n. with_three old n e c) p ∙ (ap (λ n. with_three old h' n c) q ∙ ap (λ n. with_three old h' e' n) r)
 
 -- the counts after a look-up
-abbrev with_looked : Counts → ℕ → ℕ → Counts
+abbrev pub with_looked : Counts → ℕ → ℕ → Counts
 with_looked t e c = record t { entries = t.entries + e; compared = t.compared + c }
 
 -- the counts after some more of the three kinds

@@ -36,6 +36,15 @@ sum_of-roll a w b v p m long power is =
     let whole = weighted-push w b in
     omega arith
 
+-- whatever the sum was
+pub roll_of : (a b v p m : ℕ) → p ≡ power_of m
+    → ((v * 2) % 2 ^ 64 + (b + (2 ^ 64 - a * p % 2 ^ 64)) % 2 ^ 64) % 2 ^ 64
+    ≡ (2 * v + b + (2 ^ 64 - a * 2 ^ m % 2 ^ 64)) % 2 ^ 64
+roll_of a b v p m power =
+    let gone : a * p % 2 ^ 64 ≡ a * 2 ^ m % 2 ^ 64 =
+    ap (λ q. a * q % 2 ^ 64) power ∙ mul-mod_second a (2 ^ m) (2 ^ 64) in
+    omega (arith, gone)
+
 -- from 64 bytes on a byte that has left counts for nothing
 pub power_past : (m : ℕ) → 64 ≤ m → 0 ≡ power_of m
 power_past m far =

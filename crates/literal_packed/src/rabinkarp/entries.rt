@@ -121,8 +121,8 @@ fn starts_of(list: &[(usize, PatternID)]) -> [usize; BUCKETS + 1]
     starts
 }
 
-/// Entry `i` of each bucket. Where bucket `k` has no such entry stands one with the sum `k + 1`, which is no sum of that
-/// bucket.
+/// Entry `i` of each bucket. Where bucket `k` has no such entry stands one with the sum `k + 1`, which is no sum of
+/// that bucket.
 fn heads_of(
     starts: &[usize; BUCKETS + 1],
     list: &[(usize, PatternID)],

@@ -15,14 +15,13 @@ use Rattle.literal_packed.proofs.lemmas.Given.{head_below, split_next, split_mor
 use Rattle.literal_packed.proofs.lemmas.MinimumLen.{minimum_len_of_some, minimum_len_of-le}
 use Rattle.literal_packed.proofs.lemmas.Entries.{pattern_of_head, entries_all, hashed_more, hashed_of, length_all}
 use Rattle.literal_packed.proofs.lemmas.Entries.{entry_of}
-use Rattle.literal_packed.proofs.lemmas.LaidOut.{laid_out, buckets_len, buckets_at}
-use Rattle.literal_packed.proofs.lemmas.Parts.{part_is, filter_stable, in_bucket}
+use Rattle.literal_packed.proofs.lemmas.Parts.{in_bucket}
 use Rattle.literal_packed.proofs.rabinkarp.RabinKarp.new.Goals as goal
 
 pub loop-id-init : goal.loop-id-init
 loop-id-init c = record {
   split = c.into_iter-id-iterator.ensures.into_iter_gives ∙ c.iter-id-items.ensures.items;
-  filled = c.in_ok-entries.ensures.items;
+  filled = c.in_ok-list.ensures.items;
   counted =
       let f : ℕ → Counts = λ k. record c.args.tally.now { hashed = k } in
       ap f (omega arith);
@@ -66,45 +65,18 @@ loop-id-preserved c =
           c.sum_of_first.ensures.counted;
     }
 
-pub starts_of-starts-requires : goal.starts_of-starts-requires
-starts_of-starts-requires c =
-    subst (IsNonDecreasingBy bucket_number) (sym c.as_slice.ensures.value)
-    (IsNonDecreasingBy-from_sort_by_key bucket_number _ c.in_ok-sort_by_key.ensures.sorted (λ a r q k. search rules))
-
-pub invariant_of-result : goal.invariant_of-result
-invariant_of-result c =
-    let are : AreStarts c.starts_of-starts.result c.sort_by_key.new.self.items =
-    subst (AreStarts c.starts_of-starts.result) c.as_slice.ensures.value c.starts_of-starts.ensures in
-    let starts = c.starts_of-starts.result in
-    laid_out (record {
-      starts_are = are;
-      first_are = subst (λ (es : List (ℕ × ℕ)). AreHeads 0 starts es c.heads_of.result) c.as_slice-2.ensures.value
-          c.heads_of.ensures;
-      second_are = subst (λ (es : List (ℕ × ℕ)). AreHeads 1 starts es c.heads_of-2.result) c.as_slice-3.ensures.value
-          c.heads_of-2.ensures;
-      longer_are = c.longer_of.ensures;
-    })
-
 pub returns-clause-made : goal.returns-clause-made
 returns-clause-made c =
     let patterns = c.args.patterns.now in
-    let starts = c.starts_of-starts.result in
-    let entries = c.sort_by_key.new.self.items in
-    let are : AreStarts starts entries = subst (AreStarts starts) c.as_slice.ensures.value c.starts_of-starts.ensures in
-    let all = entries_all patterns c.loop-id.yielded c.loop-id.entries.items
+    let all = entries_all patterns c.loop-id.yielded c.loop-id.list.items
     (ap (λ ps. c.loop-id.yielded ++ ps) (sym c.in-None.ensures.steps.0) ∙ c.loop-id.invariant.split)
     c.loop-id.invariant.filled in
-    let stable = c.sort_by_key.ensures.stable bucket_number
-    (always_returns_same _ _ _ (λ a r g k. search rules)) in
     record {
       searchable = record { well_formed = c.iter-id-items.ensures.well_formed; in_order = c.requires.in_order };
       some = c.requires.some;
       minimum_len = c.minimum_len-minimum_len.ensures;
-      each = buckets_len starts entries;
-      buckets = λ k below.
-          buckets_at starts entries k below
-          ∙ (part_is starts entries are k below
-          ∙ (filter_stable k c.loop-id.entries.items entries below stable ∙ ap (filter (in_bucket k)) all));
+      each = c.in_ok-new.ensures.each;
+      buckets = λ k below. c.in_ok-new.ensures.has k below ∙ ap (filter (in_bucket k)) all;
     }
 
 pub returns-clause-counted : goal.returns-clause-counted

@@ -7,6 +7,6 @@ use Rattle.literal_packed.proofs.rabinkarp.RabinKarp.new.Given as goal
 abbrev pub invariant-loop-id : goal.invariant-loop-id
 invariant-loop-id l = record {
   split : l.yielded ++ l.id-iterator ≡ in_order l.patterns;
-  filled : l.entries.items ≡ map (entry_of l.patterns) l.yielded;
+  filled : l.list.items ≡ map (entry_of l.patterns) l.yielded;
   counted : l.tally ≡ record l.initial.tally { hashed = l.initial.tally.hashed + length l.yielded * l.minimum_len };
 }

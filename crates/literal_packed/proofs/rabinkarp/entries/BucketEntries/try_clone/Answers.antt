@@ -5,12 +5,14 @@ use Rattle.literal_packed.proofs.rabinkarp.entries.BucketEntries.try_clone.Goals
 
 pub heads_of-requires : goal.heads_of-requires
 heads_of-requires c =
-    subst (AreStarts c.self.inside.starts) (sym (c.as_slice-2.ensures.value ∙ c.in_ok-list.ensures.items ∙ c.as_slice.ensures.value))
+    subst (AreStarts c.self.inside.starts)
+    (sym (c.as_slice-2.ensures.value ∙ c.in_ok-list.ensures.items ∙ c.as_slice.ensures.value))
     (opened _ _ _ _ _ c.self.invariant).starts_are
 
 pub heads_of-requires-2 : goal.heads_of-requires-2
 heads_of-requires-2 c =
-    subst (AreStarts c.self.inside.starts) (sym (c.as_slice-3.ensures.value ∙ c.in_ok-list.ensures.items ∙ c.as_slice.ensures.value))
+    subst (AreStarts c.self.inside.starts)
+    (sym (c.as_slice-3.ensures.value ∙ c.in_ok-list.ensures.items ∙ c.as_slice.ensures.value))
     (opened _ _ _ _ _ c.self.invariant).starts_are
 
 pub invariant_of-result : goal.invariant_of-result
