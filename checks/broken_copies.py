@@ -325,6 +325,10 @@ FREE = [
                "        let span = Span { start: 0, end: haystack.len() };\n"
                "        let haystack = &haystack[..span.end];\n"
                "        self.find_in_counted(haystack, span, tally).is_some()\n    }\n")]),
+    ("search_of_what_is_left", None, [
+        helper("fn last(search: &RabinKarp, patterns: &Patterns, haystack: &[u8], tally: &mut Tally) {\n"
+               "    let mut haystack = haystack;\n    while !haystack.is_empty() {\n"
+               "        search.find_at(patterns, haystack, 0, tally);\n        haystack = &haystack[1..];\n    }\n}")]),
     ("cut_of_a_field", None, [before(
         IN_NEXT, "        let haystack = self.haystack;\n        let haystack = &haystack[self.at..];\n"
         "        let _ = self.searcher.find_in_counted(haystack, rest, &mut self.tally);")]),

@@ -137,7 +137,7 @@ def parts_of(code):
 
 
 def parameters(code, function):
-    """Returns what a function takes: the name and the type of each of its parameters, both empty for a self."""
+    """Returns what a function takes: the name and the type of each of its parameters, both empty for `self`."""
     at = re.compile(r"fn\s+\w+\s*").match(code, function.head).end()
     if code[at] == "<":
         depth = 0
@@ -147,8 +147,8 @@ def parameters(code, function):
                 at = sign.end()
                 break
     at = code.index("(", at)
-    parts = parts_of(code[at + 1 : closing(code, at) - 1])
-    return [tuple(it.strip() for it in part.partition(":")[::2]) if ":" in part else ("", "") for part in parts]
+    parts = [part.partition(":") for part in parts_of(code[at + 1 : closing(code, at) - 1])]
+    return [(name.strip().removeprefix("mut "), kind.strip()) if kind else ("", "") for name, _, kind in parts]
 
 
 def name_of_impl(head):

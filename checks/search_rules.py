@@ -129,6 +129,7 @@ class Source:
         self.path, self.text, self.code = path, without_tests(text), plain_code(text)
         self.functions = functions_in(self.text, path.split("/", 2)[2])
         self.is_of_searches = path.split("/")[1] in SEARCH_CRATES
+        self.named = functools.lru_cache(maxsize=None)(self.places_of)
 
     def at(self, place, why):
         """A message on a place of the file."""
@@ -144,7 +145,7 @@ class Source:
             self.path == path and f"::{function.name}".endswith(f"::{name}") for path, name in listed
         )
 
-    def named(self, word):
+    def places_of(self, word):
         """The places in the code of a word, as a pattern, each with the function that it lies in."""
         return [(found.start(), self.function_at(found.start())) for found in re.finditer(word, self.code)]
 
@@ -209,7 +210,6 @@ def haystacks(sources):
                 f"bytes of a haystack are called `haystack`, and those of patterns {', '.join(PATTERN_NAMES)}: call "
                 f"the parameter `{name}` so, or add what it holds to PATTERN_NAMES"))
     takers = {it.name.split("::")[-1] for _, it, name in taken if name == "haystack"}
-    takers -= {it.name.split("::")[-1] for _, it, name in taken if name != "haystack"}
     for source in of_searches:
         for place, function in source.named(r"\b(?:self\s*\.\s*)?haystack\b"):
             if function and not source.is_one_of(function, READERS):
@@ -222,11 +222,11 @@ def haystacks(sources):
 def odd_use(code, place, takers, may_hash):
     """What is wrong with the use of a haystack at a place, or nothing."""
     end = re.compile(r"(?:self\s*\.\s*)?haystack").match(code, place).end()
-    before, after, cut = code[:place].rstrip(), code[end:].lstrip(), ""
-    if re.match(r"\.\s*len\(\)", after) and not before.endswith("."):
+    before, after, cut = code[:place].rstrip()[-80:], code[end:].lstrip(), ""
+    if re.match(r"\.\s*(?:len|is_empty)\(\)", after) and not before.endswith("."):
         return ""
-    if before.endswith("let") and re.match(r"=\s*&?\s*(?:self\s*\.\s*)?haystack\b", after):
-        return ""
+    if re.search(r"(?:\blet|\bmut|[;{}])$", before) and re.match(r"=[^=]", after):
+        return ""  # (what is bound by this name)
     if after.startswith("["):
         cut = code[end : closing(code, code.index("[", end))]
         before, after = before.removesuffix("&").rstrip(), code[end + len(cut) :].lstrip()
@@ -236,8 +236,8 @@ def odd_use(code, place, takers, may_hash):
         return "" if is_hashed else (
             "a byte of a haystack is read in `matches_at`, in the scan of `ByteTable`, and in `find_at` as an argument "
             "of `push` or `roll` alone: call one of these, with the tally")
-    is_named = re.search(r"\blet\s+haystack\s*=$", before) and after.startswith(";")
-    if is_named or owner.lstrip(".") in takers or owner == "FindIter {":
+    is_bound = re.search(r"\bhaystack\s*=$", before) and after.startswith(";")
+    if is_bound or owner.lstrip(".") in takers or owner == "FindIter {":
         return ""
     return (
         "a haystack is asked for its `len()`, cut by a range into another `haystack`, or handed whole to a function "
@@ -249,10 +249,10 @@ def handed_to(code, place, before, after):
     opening = enclosing(code, place)
     if opening < 0 or not before.endswith((",", code[opening])) or after[:1] not in (",", BRACKETS[code[opening]]):
         return "", []
-    owner = re.search(r"(\.?)(\w+)$", code[:opening].rstrip()[-60:])
+    owner = re.search(r"(\.?\w+)(?:::<[^<>]*>)?$", code[:opening].rstrip()[-60:])
     sign = {"(": "", "{": " {"}.get(code[opening], " [")
     arguments = parts_of(code[opening + 1 : closing(code, opening) - 1])
-    return (owner[0] + sign if owner else ""), arguments
+    return (owner[1] + sign if owner else ""), arguments
 
 
 def entries(sources):
@@ -264,7 +264,7 @@ def entries(sources):
                 yield source.at(place, (
                     f"entries of buckets are named in {', '.join(ENTRY_READERS)} alone: read one by `entry`"))
         for place, function in source.named(r"\.entry\(") if source.is_of_searches else ():
-            if source.path != RABIN_KARP:
+            if source.path not in (RABIN_KARP, ENTRIES):
                 yield source.at(place, "entries of buckets are read in rabinkarp.rt alone: search by `find_at`")
     yield from lacking(sources, readers)
 
@@ -277,17 +277,18 @@ def ticks(sources):
             names = " and ".join(name for _, name in where)
             for number, (place, function) in enumerate(places):
                 if not source.is_one_of(function, where) or function in [it for _, it in places[:number]]:
-                    yield source.at(place, f"`{tick}` stands once in {names}, and nowhere else: call what ticks")
+                    yield source.at(place, (
+                        f"`{tick}` stands once in {names}, and nowhere else: call what ticks, or say so in TICKS"))
             for function in source.functions:
                 if source.is_one_of(function, where) and function not in [it for _, it in places]:
                     yield source.at(function.start, f"`{tick}` stands once in {names}: tick before the step is taken")
     yield from lacking(sources, [place for where in TICKS.values() for place in where])
     for source in sources:
         if source.path == CONFIRMING:
-            yield from untold_tries(source)
+            yield from odd_tries(source)
 
 
-def untold_tries(source):
+def odd_tries(source):
     """Messages where a confirming search compares patterns otherwise than right behind the tick of a place."""
     tried = [range(found.start(), found.end()) for found in TRY.finditer(source.code)]
     for place, function in source.named(r"\bbest_at\(|\btick_tried\b"):
