@@ -20,6 +20,17 @@ fn rolls(rt: HostRuntime) {
 }
 
 #[test]
+fn rolls_on_by_its_equation(rt: HostRuntime) {
+    let mut tally = Tally::new();
+    let mut rolling = Rolling::new(1);
+    rolling.push(10, &mut tally);
+    rolling.push(5, &mut tally);
+    assert_same(&rt, rolling.value(), 25, "of more bytes than the window is to have");
+    rolling.roll(5, 7, &mut tally);
+    assert_same(&rt, rolling.value(), 47, "of a window that is none");
+}
+
+#[test]
 fn finds_at(rt: HostRuntime) -> Result<(), Fail> {
     let mut tally = Tally::new();
     let mut patterns = Patterns::new(rt.alloc());

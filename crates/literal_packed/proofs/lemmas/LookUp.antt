@@ -1,7 +1,7 @@
 -- The steps of a look-up, entry by entry.
 -- For `RabinKarp::try_entry` and `RabinKarp::look_up`.
-use Rattle.std.proofs.Common.{refl, ◌≡◌, ◌≢◌, ℕ, ◌+◌, ◌%◌, ◌<◌, ◌≤◌, Bool, true, false, eqb, inl, inr, cond, ltb}
-use Rattle.std.proofs.Common.{List, [], ◌∷◌, ◌++◌, Some, length, take, drop, get_or, slice_get, sym, ap, subst, ◌∙◌}
+use Rattle.std.proofs.Common.{refl, ◌≡◌, ◌≢◌, ℕ, ◌+◌, ◌%◌, ◌<◌, ◌≤◌, Bool, false, eqb, inl, inr, cond, ltb}
+use Rattle.std.proofs.Common.{List, [], ◌∷◌, Some, length, take, drop, get_or, slice_get, sym, ap, subst, ◌∙◌}
 use Rattle.std.proofs.Common.{arith, add-zero}
 use Rattle.std.specs.List.{All, count_by}
 use Rattle.std.proofs.Math.Seq.{take-add}
@@ -20,7 +20,7 @@ use Rattle.literal_packed.specs.RabinKarpValue.{RabinKarpValue, IsMadeFor, bucke
 use Rattle.literal_packed.proofs.lemmas.Buckets.{IsEntry, bucket_entries, other_sum, none_stands, best_stands}
 use Rattle.literal_packed.proofs.lemmas.Buckets.{entries_none, compared_none, entries_some, compared_some}
 use Rattle.literal_packed.proofs.lemmas.Lists.{count_by-append}
-use Rattle.literal_packed.proofs.lemmas.PlaceCounts.{with_three, same_three, with_looked}
+use Rattle.literal_packed.proofs.lemmas.PlaceCounts.{same_three, with_looked}
 
 -- a look-up of the sum of the window at a place: it reads the entries of the bucket of that sum
 pub record IsLookUp (c : PatternsValue) (haystack : List ℕ) (at sum : ℕ) (entries : List (ℕ × ℕ)) : Type 0 where

@@ -169,7 +169,8 @@ mod tests {
         patterns.add(b"ab")?;
         patterns.add(b"ba")?;
         patterns.add(b"ab")?;
-        let made = RabinKarp::new(&patterns, &mut Tally::new())?.entries;
+        let searched = RabinKarp::new(&patterns, &mut Tally::new())?;
+        let made = &searched.entries;
         let rows = [(292, 0), (292, 2), (293, 1)];
         assert_eq!(rt; made.list.len(), rows.len());
         for k in 0..rows.len() {
@@ -184,30 +185,6 @@ mod tests {
             };
             assert_eq!(rt; made.starts[bucket], start, "bucket {bucket}");
         }
-        Ok(())
-    }
-
-    #[test]
-    fn sets_two_sums_of_each_bucket_apart(rt: HostRuntime) -> Result<(), Fail> {
-        let mut patterns = Patterns::new(rt.alloc());
-        patterns.add(b"ab")?;
-        patterns.add(b"ba")?;
-        patterns.add(b"ab")?;
-        patterns.add(b"ab")?;
-        patterns.add(b"cb")?;
-        patterns.add(b"cb")?;
-        let made = RabinKarp::new(&patterns, &mut Tally::new())?.entries;
-        for bucket in 0..BUCKETS {
-            let (first, second) = match bucket {
-                36 => (292, 292),
-                37 => (293, 38),
-                40 => (296, 296),
-                _ => (bucket + 1, bucket + 1),
-            };
-            assert_eq!(rt; made.firsts[bucket].0, first, "bucket {bucket}");
-            assert_eq!(rt; made.seconds[bucket].0, second, "bucket {bucket}");
-        }
-        assert_eq!(rt; made.longer, 1 << 36);
         Ok(())
     }
 }

@@ -1,4 +1,4 @@
-use Rattle.std.proofs.Common.{◌≤◌, ℕ, List, [], ◌%◌, get_or, length, ap, sym, subst, ◌∙◌, arith}
+use Rattle.std.proofs.Common.{◌%◌, sym, ◌∙◌, arith}
 use Rattle.std.proofs.lemmas.Bool.{false≢true}
 use Rattle.literal_packed.proofs.lemmas.LookUp.{look_up_in, none_first, counts_first, none_more, counts_more}
 use Rattle.literal_packed.proofs.lemmas.LookUp.{best_found, counts_found, none_found, counts_none, ended_with}

@@ -1,4 +1,4 @@
-use Rattle.std.proofs.Common.{◌≡◌, ◌+◌, ◌%◌, ℕ, false, eqb, take, length}
+use Rattle.std.proofs.Common.{◌≡◌, ◌+◌, ◌%◌, false, eqb, take, length}
 use Rattle.std.specs.List.{All, count_by}
 use Rattle.literal_base.specs.Occurs.{StandsAt, pattern_at}
 use Rattle.literal_packed.specs.RabinKarpValue.{bucket_at}

@@ -1,15 +1,11 @@
-use Rattle.std.proofs.Common.{◌≡◌, ◌++◌, append-nil, ◌∷◌, [], length, map, sym, ap, subst, ◌∙◌, arith, rules, ℕ, List}
+use Rattle.std.proofs.Common.{◌≡◌, ◌++◌, append-nil, ◌∷◌, [], length, map, sym, ap, ◌∙◌, arith, ℕ, List}
 use Rattle.std.proofs.Common.{take}
 use Rattle.std.specs.List.{filter}
-use Rattle.std.specs.List.Sorted.{IsNonDecreasingBy}
-use Rattle.std.proofs.lemmas.Fn.{always_returns_same}
 use Rattle.std.proofs.lemmas.List.{map_push}
-use Rattle.std.proofs.lemmas.List.Sorted.{IsNonDecreasingBy-from_sort_by_key}
 use Rattle.literal_base.specs.Counts.{Counts}
 use Rattle.literal_packed.specs.Sum.{sum_of}
 use Rattle.literal_packed.specs.Pairs.{key_of}
 use Rattle.literal_packed.specs.PatternsValue.{minimum_len_of}
-use Rattle.literal_packed.specs.Inside.Entries.{bucket_number, AreStarts, AreHeads}
 use Rattle.literal_base.specs.Occurs.{pattern_at}
 use Rattle.literal_packed.proofs.lemmas.Given.{head_below, split_next, split_more}
 use Rattle.literal_packed.proofs.lemmas.MinimumLen.{minimum_len_of_some, minimum_len_of-le}

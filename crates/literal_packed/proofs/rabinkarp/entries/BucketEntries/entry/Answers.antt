@@ -1,5 +1,4 @@
-use Rattle.std.proofs.Common.{◌≡◌, ◌≤◌, ℕ, ◌%◌, length, get_or, [], ap, sym, subst, ◌∙◌, arith, Some}
-use Rattle.std.proofs.lemmas.List.{get_or_default}
+use Rattle.std.proofs.Common.{get_or, [], ap, sym, ◌∙◌, arith, Some}
 use Rattle.std.proofs.lemmas.Option.{slice_get-get_or}
 use Rattle.literal_packed.proofs.lemmas.LaidOut.{IsKept, entry_inside, entry_of_list, first_is, second_is}
 use Rattle.literal_packed.proofs.lemmas.LaidOut.{head_within}
