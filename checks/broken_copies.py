@@ -158,6 +158,8 @@ REPOSITORY = [
     ("stray_build_file", "strays", [write("BUILD.bazel", "")]),
     ("code_in_another_file", "strays", [write("crates/literal_packed/src/peek.inc", "")]),
     ("source_elsewhere", "strays", [write("crates/literal_packed/proofs/peek.rt", "")]),
+    ("source_that_no_module_names", "strays", [write("crates/literal_packed/src/peek.rt", "fn one() {}\n")]),
+    ("unsafe_code", "unsafe", [append(BASE_SEARCH, "\nfn one() {\n    unsafe { two() }\n}\n")]),
 ]
 
 TALLIES = [
@@ -256,6 +258,11 @@ ENTRY = [
         ENTRIES)]),
     ("entries_by_a_function", "entries", [
         helper("fn second(made: &BucketEntries) -> usize {\n    made.seconds[0].0\n}", ENTRIES)]),
+    ("sums_of_entries_apart", "entries", [
+        replace(ENTRIES, "    longer: u64,\n", "    longer: u64,\n    sums: [usize; BUCKETS],\n"),
+        before(IN_LONGER, "        let _ = self.sums[bucket];")]),
+    ("sums_of_entries_beside", "entries", [
+        replace(RABIN_KARP, "    entries: BucketEntries,\n", "    entries: BucketEntries,\n    sums: [usize; 64],\n")]),
     ("entry_read_by_the_searcher", "entries", [before(IN_FIND_IN, "        let _ = self.entries.entry(0, 0, tally);")]),
     ("entry_reads_two", "held", [before(IN_ENTRY, "        let _ = self.list[0];")]),
     ("entry_under_another_name", "held", [replace(ENTRIES, "pub fn entry(", "pub fn read(")]),
@@ -341,6 +348,8 @@ FREE = [
                 "            place += 1;")]),
     ("entry_asked_by_a_helper", None, [
         helper("fn sum_at(made: &RabinKarp, tally: &mut Tally) -> usize {\n    made.entries.entry(0, 0, tally).0\n}")]),
+    ("another_maker_of_entries", None, [
+        helper("fn count_of(list: &[(usize, PatternID)]) -> usize {\n    list.len()\n}", ENTRIES)]),
     ("more_of_a_bucket", None, [
         helper("impl BucketEntries {\n    pub fn is_empty(&self, bucket: usize) -> bool {\n"
                "        self.len(bucket) == 0\n    }\n}", ENTRIES)]),
@@ -350,7 +359,8 @@ FREE = [
                "    (searcher.find(haystack), searcher.find_iter(haystack).next())\n}", PACKED_LAWS)]),
     ("plain_struct", None, [
         helper("#[derive(Clone, Debug, Drop)]\nstruct Kept {\n    sums: [usize; 4],\n    bytes: Vec<u8>,\n}\n"
-               "impl Default for Kept {\n    fn default() -> Kept {\n        Kept::of(|k: usize| k + 1)\n    }\n}")]),
+               "impl Default for Kept {\n    fn default() -> Kept {\n        Kept::of(|k: usize| k + 1)\n    }\n}",
+               EXACT)]),
     ("another_module", None, [
         write("crates/literal_packed/src/more.rt",
               "use literal_base::count::Tally as Steps;\n\n"

@@ -6,7 +6,7 @@ import re
 import calling_page
 import search_rules
 from calling_page import blocks_of, contract_of, page_of, quotes_of
-from rattle_source import functions_in
+from rattle_source import code_of, functions_in
 
 # The only proofs that are walked by hand: a walk elsewhere could forge a count of steps.
 WALKS = {
@@ -158,8 +158,26 @@ def wide_lines(text):
     return [(number, line) for number, line in enumerate(text.splitlines(), 1) if len(line) > WIDEST_LINE]
 
 
+def unsafe(repository):
+    """No code is unsafe."""
+    for path, text in repository.texts.items():
+        if path.endswith(".rt") and "unsafe" in text and re.search(r"\bunsafe\b", code_of(text)):
+            yield f"{path}: unsafe code"
+
+
+@functools.lru_cache(maxsize=None)
+def modules_in(text):
+    """The modules of their own files that a source names."""
+    return re.findall(r"\bmod\s+(\w+)\s*;", code_of(text))
+
+
 def strays(repository):
-    """No file of another kind, no link, and no source outside of the folders of sources."""
+    """No file of another kind, no link, no source outside of the folders of sources, and none that no module names."""
+    modules = {f"{re.sub('(/lib|/main)?[.]rt$', '', path)}/{name}.rt" for path, text in repository.texts.items()
+               if path.endswith(".rt") for name in modules_in(text)}
+    for path in repository.texts:
+        if path.endswith(".rt") and not re.search(r"/src/(?:lib|main)\.rt$", path) and path not in modules:
+            yield f"{path} is named by no module"
     for path in repository.links:
         yield f"{path} is a link"
     for path in repository.texts:
@@ -274,7 +292,7 @@ def functions_of(text, path):
     return found
 
 
-RULES = [handles, crates, walks, citations, holes, lengths, widths, strays, definitions, examples, quotes]
+RULES = [handles, crates, walks, citations, holes, lengths, widths, unsafe, strays, definitions, examples, quotes]
 
 
 def broken_rules(repository):

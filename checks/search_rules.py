@@ -61,10 +61,10 @@ BYTES = re.compile(r"\[u8\]|\bVec<u8>|\bstr\b")
 # The types that may keep a slice of bytes: two a haystack, and one a pattern.
 KEEPERS = ("FindIter", "Input", "Pattern")
 
-# The fields of `BucketEntries` that hold entries, and the functions that may name them: those that make and copy it,
-# and the one that reads an entry.
-ENTRY_FIELDS = re.compile(r"\b(?:firsts|seconds|list)\b")
-ENTRY_READERS = ("BucketEntries::new", "starts_of", "heads_of", "BucketEntries::try_clone", "BucketEntries::entry")
+# The fields of `BucketEntries` that tell nothing of an entry, and the functions that may name the others: the one that
+# reads an entry, and those that make and copy it.
+PLAIN_FIELDS = ("starts", "longer")
+ENTRY_READERS = ("BucketEntries::entry", "BucketEntries::new", "BucketEntries::try_clone")
 
 # The code of the counts, whole.
 TALLY_CODE = """
@@ -144,6 +144,12 @@ class Source:
         return function is not None and any(
             self.path == path and f"::{function.name}".endswith(f"::{name}") for path, name in listed
         )
+
+    def types(self):
+        """The structs and enums: the name, the place, and the fields or variants of each."""
+        for found in re.finditer(r"\b(?:struct|enum)\s+(\w+)[^{(;]*", self.code):
+            end = closing(self.code, found.end()) if self.code[found.end()] in BRACKETS else found.end()
+            yield found[1], found.start(), self.code[found.end() : end]
 
     def places_of(self, word):
         """The places in the code of a word, as a pattern, each with the function that it lies in."""
@@ -258,14 +264,19 @@ def handed_to(code, place, before, after):
 def entries(sources):
     """An entry of a bucket is read where that is counted."""
     readers = [(ENTRIES, name) for name in ENTRY_READERS]
+    fields = rf"(?<!\.)\.\s*(?!(?:{'|'.join(PLAIN_FIELDS)})\b)[a-z]\w*\b(?!\s*(?:::<.*>)?\()"
     for source in sources:
-        for place, function in source.named(ENTRY_FIELDS) if source.path == ENTRIES else ():
+        for place, function in source.named(fields) if source.path == ENTRIES else ():
             if function and not source.is_one_of(function, readers):
                 yield source.at(place, (
-                    f"entries of buckets are named in {', '.join(ENTRY_READERS)} alone: read one by `entry`"))
+                    f"fields that hold entries or sums are named in {', '.join(ENTRY_READERS)} alone: read an entry by "
+                    "`entry`, or add a field that holds neither to PLAIN_FIELDS"))
         for place, function in source.named(r"\.entry\(") if source.is_of_searches else ():
             if source.path not in (RABIN_KARP, ENTRIES):
                 yield source.at(place, "entries of buckets are read in rabinkarp.rt alone: search by `find_at`")
+        for name, place, kept in source.types() if source.path == RABIN_KARP else ():
+            if re.search(r"\[|\bVec\b", kept):
+                yield source.at(place, f"`{name}` keeps a list: keep what holds sums of patterns in `BucketEntries`")
     yield from lacking(sources, readers)
 
 
@@ -303,12 +314,10 @@ def odd_tries(source):
 def keepers(sources):
     """What is kept of a haystack is kept by an iteration or an input."""
     for source in sources:
-        for found in re.finditer(r"\b(?:struct|enum)\s+(\w+)[^{(;]*", source.code):
-            end = closing(source.code, found.end()) if source.code[found.end()] in BRACKETS else found.end()
-            kept = re.search(r"\[u8\]|\bhaystack\b", source.code[found.end() : end])
-            if kept and found[1] not in KEEPERS:
-                yield source.at(found.end() + kept.start(), (
-                    f"a slice of bytes is kept by {', '.join(KEEPERS)} alone: hand the haystack on as an argument"))
+        for name, place, fields in source.types():
+            if re.search(r"\[u8\]|\bhaystack\b", fields) and name not in KEEPERS:
+                yield source.at(place, (
+                    f"`{name}` keeps a slice of bytes, as {', '.join(KEEPERS)} alone do: hand it on as an argument"))
 
 
 def held(sources):
