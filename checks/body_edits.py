@@ -34,9 +34,10 @@ class Crate:
         self.functions = {path: functions_in(text, path) for path, text in self.texts.items()}
 
     def take_names(self, names):
-        """Takes the names that a check reports: it has an impl's methods below the module of the type, wherever the impl stands."""
+        """Takes the names that a check reports: it has the methods of an impl below the module of the type, wherever
+        the impl stands."""
         for functions in self.functions.values():
-            for name, _, _ in functions:
+            for name in (it.name for it in functions):
                 same = [it for it in names if it.split("::")[-2:] == name.split("::")[-2:]]
                 self.reported[name] = same[0] if name not in names and len(same) == 1 else name
 

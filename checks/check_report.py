@@ -6,7 +6,7 @@ from collections import namedtuple
 # `open`: the search ended without a proof. `unfit`: only the answer that is written was tried, and does not fit.
 GOALS = ("false", "open", "unfit")
 
-# A refusal's kind is one of GOALS, `shape` where a proof only names what is gone or was walked by hand for another body,
+# A refusal's kind is one of GOALS, `shape` where a proof only names what is gone or was walked for another body,
 # or `unclear`.
 Refusal = namedtuple("Refusal", "kind text")
 
@@ -29,7 +29,8 @@ class Report:
     def __init__(self, said, crate):
         # (`only=0` is what a first look says, which proves nothing)
         self.is_judged = re.search(r"^(logic=|only=[1-9])", said, re.M) is not None
-        self.fault = next((line for line in said.split("\n") if re.search(r"error[:\[]", line)), said[-200:].strip())[:200]
+        errors = [line for line in said.split("\n") if re.search(r"error[:\[]", line)]
+        self.fault = (errors or [said[-200:].strip()])[0][:200]
         self.lines = dict(re.findall(rf"^(?:fn|impl) {crate.name}::(\S+): (.*)", said, re.M))
         self.refusals = {}
         at_values = functions_with_a_false_goal(said, crate)

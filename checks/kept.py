@@ -5,8 +5,8 @@ from pathlib import Path
 
 
 def built_in(crates):
-    """What `shutil.copytree` is to leave out of a folder of crates: the folder out/ of each, and none of this name below,
-    which is one of sources or proofs."""
+    """What `shutil.copytree` is to leave out of a folder of crates: the folder out/ of each, and none of this name
+    below, which is one of sources or proofs."""
     return lambda folder, _: ["out"] if Path(folder).parent == Path(crates) else []
 
 

@@ -1,24 +1,74 @@
-"""Finds the functions of a Rattle source: their names, as a check reports them, and where their bodies stand."""
+"""Reads Rattle sources: which of a text is code, and its functions: their names, as a check reports them, what they
+take, and where their bodies stand."""
+import functools
 import re
 from collections import namedtuple
 
-# A function: its body, with both braces, is text[start:end].
-Function = namedtuple("Function", "name start end")
+# A function: its word `fn` stands at text[head], and its body, with both braces, is text[start:end].
+Function = namedtuple("Function", "name head start end")
 
 COMMENT_OR_LITERAL = re.compile(
-    r"//[^\n]*|/\*.*?\*/" r'|"(?:\\.|[^"\\])*"' r"|'(?:\\[^\n]{1,8}?|[^\\'\n])'", re.S
+    r'//[^\n]*|/\*.*?\*/|\bb?r(#*)".*?"\1|"(?:\\.|[^"\\])*"' r"|'(?:\\[^\n]{1,8}?|[^\\'\n])'", re.S
 )
 LENGTH_OF_AN_ARRAY = re.compile(r";(?=[^][{};]*\])")
 ITEM = re.compile(r"\b(?:(?:mod|trait)\s+(?P<module>\w+)|fn\s+(?P<function>\w+)|impl\b)")
 CLAUSE = re.compile(r"\b(?:requires|ensures|ghost)\b")
 BODY_OR_END = re.compile(r"[{;]")
-BRACE = re.compile(r"[{}]")
+BRACKETS = {"(": ")", "[": "]", "{": "}"}
+BRACKET = re.compile(r"[][(){}]")
+
+# What contracts and proofs alone see, up to its terms in braces, and what stands before a further term.
+FOR_CONTRACTS = re.compile(
+    r"\b(?:(?P<whole>ghost\s+use\b[^;]*)|(?P<ghost>ghost\s+\w+)|(?:requires|ensures)\b\*?\s*\w*)"
+)
+TERM = re.compile(r"\s*(?P<sign>[:=]?)\s*(?=\{)")
+SEPARATOR = re.compile(r"\s*[;,]?")
+TESTS = re.compile(r"#\[cfg\(test\)\]\s*mod\s+\w+\s*(?=\{)")
 
 
+def blanked(text, start, end):
+    """The text with blanks in place of a part, line for line."""
+    return text[:start] + re.sub(r"[^\n]", " ", text[start:end]) + text[end:]
+
+
+@functools.lru_cache(maxsize=None)
+def code_of(text):
+    """The text with blanks in place of comments, strings and characters."""
+    return COMMENT_OR_LITERAL.sub(lambda found: re.sub(r"[^\n]", " ", found[0]), text)
+
+
+def without_tests(text):
+    """The text with blanks in place of its inner modules of tests."""
+    for found in TESTS.finditer(code_of(text)):
+        text = blanked(text, found.start(), closing(code_of(text), found.end()))
+    return text
+
+
+@functools.lru_cache(maxsize=None)
+def plain_code(text):
+    """The code alone: no comment, no text, no clause or ghost item, no module of tests."""
+    code, at = code_of(without_tests(text)), 0
+    while found := FOR_CONTRACTS.search(code, at):
+        at = found.end()
+        while not found["whole"] and (term := TERM.match(code, at)):
+            at = closing(code, term.end())
+            if not found["ghost"]:
+                break
+        if found["whole"] or found["ghost"]:
+            at = SEPARATOR.match(code, at).end()
+        code = blanked(code, found.start(), at)
+    return code
+
+
+def words_of(code):
+    """The words and signs of code, without commas before closing brackets, so that its layout tells nothing."""
+    return re.findall(r"\w+|[^\w\s]", re.sub(r",(?=\s*[)\]}])", "", code))
+
+
+@functools.lru_cache(maxsize=None)
 def functions_in(text, path):
     """Returns the functions of the file at this path of a crate that have a body, in their order."""
-    code = COMMENT_OR_LITERAL.sub(lambda found: re.sub(r"[^\n]", " ", found[0]), text)
-    code = LENGTH_OF_AN_ARRAY.sub(" ", code)
+    code = LENGTH_OF_AN_ARRAY.sub(" ", code_of(text))
     return list(functions_below(code, 0, len(code), modules_of(path)))
 
 
@@ -35,7 +85,7 @@ def functions_below(code, at, end, modules):
         if start == end or code[start] == ";":
             continue
         if item["function"]:
-            yield Function("::".join([*modules, item["function"]]), start, at)
+            yield Function("::".join([*modules, item["function"]]), item.start(), start, at)
         else:
             module = item["module"] or name_of_impl(code[item.end() : start])
             yield from functions_below(code, start + 1, at - 1, [*modules, module])
@@ -52,20 +102,60 @@ def body_or_end(code, item, end):
 
 
 def closing(code, at):
-    """Returns the place after the brace that closes the one at a place."""
-    depth = 0
-    for brace in BRACE.finditer(code, at):
-        depth += 1 if brace[0] == "{" else -1
+    """Returns the place after the bracket that closes the one at a place."""
+    opening, depth = code[at], 0
+    for bracket in BRACKET.finditer(code, at):
+        depth += (bracket[0] == opening) - (bracket[0] == BRACKETS[opening])
         if not depth:
-            return brace.end()
+            return bracket.end()
     return len(code)
+
+
+def enclosing(code, at):
+    """Returns where the innermost bracket opens that a place lies in, or -1."""
+    depth = 0
+    for back in range(at - 1, -1, -1):
+        if code[back] in BRACKETS:
+            depth -= 1
+        elif code[back] in BRACKETS.values():
+            depth += 1
+        if depth < 0:
+            return back
+    return -1
+
+
+def parts_of(code):
+    """Returns what commas part in a list, outside of all brackets, those of types too."""
+    parts, depth = [""], 0
+    for sign in re.findall(r"->|=>|.", code, re.S):
+        depth += (sign in "([{<") - (sign in ")]}>")
+        if sign == "," and depth == 0:
+            parts.append("")
+        else:
+            parts[-1] += sign
+    return [part.strip() for part in parts if part.strip()]
+
+
+def parameters(code, function):
+    """Returns what a function takes: the name and the type of each of its parameters, both empty for `self`."""
+    at = re.compile(r"fn\s+\w+\s*").match(code, function.head).end()
+    if code[at] == "<":
+        depth = 0
+        for sign in re.compile(r"->|[<>]").finditer(code, at):
+            depth += {"<": 1, ">": -1}.get(sign[0], 0)
+            if not depth:
+                at = sign.end()
+                break
+    at = code.index("(", at)
+    parts = [part.partition(":") for part in parts_of(code[at + 1 : closing(code, at) - 1])]
+    return [(name.strip().removeprefix("mut "), kind.strip()) if kind else ("", "") for name, _, kind in parts]
 
 
 def name_of_impl(head):
     """Returns what a check calls an impl, as SpanFromRangeUsize for `From<ops::Range<usize>> for Span`."""
-    parameters = re.match(r"\s*<((?:[^<>]|<[^<>]*>)*)>", head)
-    unnamed = re.findall(r"(?:^|,)\s*(?:const\s+)?(\w+)", parameters[1]) if parameters else []
-    head = head[parameters.end() :] if parameters else head
+    parameters_of = re.match(r"\s*<((?:[^<>]|<[^<>]*>)*)>", head)
+    unnamed = re.findall(r"(?:^|,)\s*(?:const\s+)?(\w+)", parameters_of[1]) if parameters_of else []
+    head = head[parameters_of.end() :] if parameters_of else head
     trait, _, type_name = head.partition(" where ")[0].rpartition(" for ")
     words = re.findall(r"\w+", re.sub(r"'\w+|\w+\s*::", "", f"{type_name} {trait}"))
     return "".join(word[0].upper() + word[1:] for word in words if word not in unnamed)

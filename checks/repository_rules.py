@@ -5,10 +5,8 @@ import re
 
 import calling_page
 import search_rules
-import search_tables
 from calling_page import blocks_of, contract_of, page_of, quotes_of
-from rattle_items import Sources
-from rattle_source import functions_in
+from rattle_source import code_of, functions_in
 
 # The only proofs that are walked by hand: a walk elsewhere could forge a count of steps.
 WALKS = {
@@ -31,6 +29,10 @@ CITATIONS = re.compile(
 # Elsewhere a folder of such a name is one of proofs, of a function that is called so.
 NOT_READ = re.compile(r"\.git|(?:crates/\w+/)?out|checks/__pycache__")
 
+# A definition in a file of specs: the comment above it, and its name.
+DEFINITION = re.compile(
+    r"((?:^ *-- .*\n)*)^ *(?:abbrev pub|unfoldable pub|pub (?:record|data)) ([^\s:(]+)", re.M)
+
 LONGEST_FILE = 800
 WIDEST_LINE = 120
 
@@ -47,8 +49,7 @@ class Repository:
     def __init__(self, texts, links=()):
         self.texts = texts
         self.links = links
-        sources = {path: text for path, text in texts.items() if re.match(r"crates/\w+/src/.*\.rt$", path)}
-        self.sources = Sources(sources, search_tables.TEST_CRATES)
+        self.sources = search_rules.sources_of(texts)
 
 
 def texts_of(root):
@@ -86,16 +87,13 @@ def crates(repository):
         if line:
             name, _, below = line.partition(":")
             listed[name.strip()] = listed.get(name.strip(), []) + below.split()
-    known = search_tables.SEARCH_CRATES + search_tables.OTHER_CRATES + search_tables.TEST_CRATES
     for name, below in listed.items():
-        if name not in known:
-            yield f"{name} is of no kind that search_tables.py knows"
         if not any(path.startswith(f"crates/{name}/src/") for path in repository.texts):
             yield f"crates.txt lists {name}, which is no crate here"
         for other in below:
             if other not in listed:
                 yield f"{name} stands on {other}, which crates.txt does not list"
-            if other in search_tables.TEST_CRATES:
+            if other in search_rules.TEST_CRATES:
                 yield f"{name} stands on {other}, a crate of tests"
     for name in {path.split("/")[1] for path in repository.texts if path.startswith("crates/")}:
         if name not in listed:
@@ -148,7 +146,7 @@ def lengths(repository):
 def widths(repository):
     """No line is wide but headings and rows of tables in documents."""
     for path, text in repository.texts.items():
-        if path.endswith((".rt", ".antt", ".md")):
+        if path.endswith((".rt", ".antt", ".md")) or path.startswith("checks/") or path == "test":
             for number, line in wide_lines(text):
                 if not (path.endswith(".md") and line.startswith(("|", "#"))):
                     yield f"{path}:{number}: more than {WIDEST_LINE} columns"
@@ -160,8 +158,26 @@ def wide_lines(text):
     return [(number, line) for number, line in enumerate(text.splitlines(), 1) if len(line) > WIDEST_LINE]
 
 
+def unsafe(repository):
+    """No code is unsafe."""
+    for path, text in repository.texts.items():
+        if path.endswith(".rt") and "unsafe" in text and re.search(r"\bunsafe\b", code_of(text)):
+            yield f"{path}: unsafe code"
+
+
+@functools.lru_cache(maxsize=None)
+def modules_in(text):
+    """The modules of their own files that a source names."""
+    return re.findall(r"\bmod\s+(\w+)\s*;", code_of(text))
+
+
 def strays(repository):
-    """No file of another kind, no link, and no source outside of the folders of sources."""
+    """No file of another kind, no link, no source outside of the folders of sources, and none that no module names."""
+    modules = {f"{re.sub('(/lib|/main)?[.]rt$', '', path)}/{name}.rt" for path, text in repository.texts.items()
+               if path.endswith(".rt") for name in modules_in(text)}
+    for path in repository.texts:
+        if path.endswith(".rt") and not re.search(r"/src/(?:lib|main)\.rt$", path) and path not in modules:
+            yield f"{path} is named by no module"
     for path in repository.links:
         yield f"{path} is a link"
     for path in repository.texts:
@@ -189,7 +205,7 @@ def definitions(repository):
     rows = rows_of(repository.texts["docs/DEFINITIONS.md"])
     for path, text in repository.texts.items():
         if re.match(r"crates/\w+/specs/.*\.antt$", path):
-            for comment, name in re.findall(r"((?:^ *-- .*\n)*)^ *(?:abbrev pub|unfoldable pub|pub (?:record|data)) ([^\s:(]+)", text, re.M):
+            for comment, name in DEFINITION.findall(text):
                 said = " ".join(line.strip().removeprefix("-- ") for line in comment.splitlines())
                 rows_here = rows.get((path.split("/")[-1], name))
                 if not rows_here:
@@ -220,12 +236,13 @@ def comments_of(text):
 
 
 def examples(repository):
-    """Each example in a document or a comment of documentation stands, line for line, in a function that is a test. On the
-    page for callers it may stand in a function that shows how the crates are called, and each of a proof stands in a
-    proof file. The files of the program that `checks/used` proves stand nowhere else."""
+    """Each example in a document or a comment of documentation stands, line for line, in a function that is a test. On
+    the page for callers it may stand in a function that shows how the crates are called, and each of a proof stands in
+    a proof file. The files of the program that `checks/used` proves stand nowhere else."""
     held = {kind: [plain_lines(text) for path, text in repository.texts.items() if place.fullmatch(path)]
             for kind, place in EXAMPLES.items()}
-    tests = [plain_lines(test) for path, text in repository.texts.items() if path.endswith(".rt") for test in tests_of(text)]
+    sources = [text for path, text in repository.texts.items() if path.endswith(".rt")]
+    tests = [plain_lines(test) for text in sources for test in tests_of(text)]
     for path, text in documents(repository):
         is_page = path == calling_page.PATH
         proved = page_of(text).files.values() if is_page else ()
@@ -257,25 +274,25 @@ def quotes(repository):
 
 def contracts_of(repository, crate, owner, name):
     """The signature and the clauses of each function of a crate that has this type and this name."""
-    sources = [it for it in repository.texts.items() if it[0].startswith(f"crates/{crate}/src/") and it[0].endswith(".rt")]
-    return [contract for path, text in sources for contract in functions_of(text, path).get((owner, name), ())]
+    paths = [path for path in repository.texts if path.startswith(f"crates/{crate}/src/") and path.endswith(".rt")]
+    found = [functions_of(repository.texts[path], path).get((owner, name), ()) for path in paths]
+    return [contract for contracts in found for contract in contracts]
 
 
 @functools.lru_cache(maxsize=None)
 def functions_of(text, path):
-    """The contracts of the functions of a source that have a body, by the type, '' where it is of none, and the name."""
+    """The contracts of the functions of a source that have a body, by the type (or '') and the name."""
     found = {}
     for function in functions_in(text, path.split("/", 2)[2]):
         *above, name = function.name.split("::")
         owner = above[-1] if above and above[-1][0].isupper() else ""
-        head = [it.start() for it in re.finditer(rf"\bfn {name}\b", text[: function.start])][-1]
         if "tests" not in above:
-            uncommented = re.sub(r"^ *//.*\n", "", text[head : function.start], flags=re.M)
+            uncommented = re.sub(r"^ *//.*\n", "", text[function.head : function.start], flags=re.M)
             found.setdefault((owner, name), []).append(contract_of(uncommented))
     return found
 
 
-RULES = [handles, crates, walks, citations, holes, lengths, widths, strays, definitions, examples, quotes]
+RULES = [handles, crates, walks, citations, holes, lengths, widths, unsafe, strays, definitions, examples, quotes]
 
 
 def broken_rules(repository):

@@ -104,14 +104,14 @@ fn shows_prefilters(rt: HostRuntime) -> Result<(), Fail> {
 
 #[test]
 fn shows_tables(rt: HostRuntime) -> Result<(), Fail> {
-    let alloc = rt.alloc();
+    let (alloc, tally) = (rt.alloc(), &mut Tally::new());
     let mut patterns = Patterns::new(alloc);
     patterns.add(b"Sherlock")?;
     patterns.add(b"lockjaw")?;
     let table = ByteTable::rare(&patterns, false).ok_or("no table for these patterns")?;
     assert!(rt; table.count() == 1 && table.distance(b'k') == Some(7));
     let span = Span { start: 0, end: 12 };
-    let place = table.scan(b"I am lockjaw", span, &mut Tally::new());
+    let place = table.scan(b"I am lockjaw", span, tally);
     assert!(rt; place == Some(8));
     Ok(())
 }
@@ -129,14 +129,14 @@ fn shows_confirming_searches(rt: HostRuntime) -> Result<(), Fail> {
 
 #[test]
 fn shows_confirming(rt: HostRuntime) -> Result<(), Fail> {
-    let alloc = rt.alloc();
+    let (alloc, tally) = (rt.alloc(), &mut Tally::new());
     let mut builder = prefilter::Builder::new(alloc, MatchKind::LeftmostFirst);
     builder.add(b"lockjaw")?;
     let pre = builder.build()?.ok_or("no prefilter for these patterns")?;
     let mut patterns = Patterns::new(alloc);
     patterns.add(b"lockjaw")?;
     let (haystack, span) = (b"I am lockjaw", Span { start: 0, end: 12 });
-    let found = confirm(&pre, &patterns, false, haystack, span, &mut Tally::new());
+    let found = confirm(&pre, &patterns, false, haystack, span, tally);
     assert!(rt; found.map(|it| it.range()) == Some(5..12));
     Ok(())
 }

@@ -31,7 +31,7 @@ pub(super) const MOST_BYTES: usize = 3;
 /// let table = ByteTable::rare(&patterns, false).ok_or("no table for these patterns")?;
 /// assert!(rt; table.count() == 1 && table.distance(b'k') == Some(7));
 /// let span = Span { start: 0, end: 12 };
-/// let place = table.scan(b"I am lockjaw", span, &mut Tally::new());
+/// let place = table.scan(b"I am lockjaw", span, tally);
 /// assert!(rt; place == Some(8));
 /// ```
 #[derive(Drop)]

@@ -73,7 +73,7 @@ fn best_at(
 /// let mut patterns = Patterns::new(alloc);
 /// patterns.add(b"lockjaw")?;
 /// let (haystack, span) = (b"I am lockjaw", Span { start: 0, end: 12 });
-/// let found = confirm(&pre, &patterns, false, haystack, span, &mut Tally::new());
+/// let found = confirm(&pre, &patterns, false, haystack, span, tally);
 /// assert!(rt; found.map(|it| it.range()) == Some(5..12));
 /// ```
 pub fn confirm<P: PrefilterI>(
