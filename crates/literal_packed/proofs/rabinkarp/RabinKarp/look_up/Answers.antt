@@ -88,7 +88,8 @@ pub returns-clause-best : goal.returns-clause-best
 returns-clause-best c =
     let here = look_up_in c.args.patterns.now c.args.self.now c.args.haystack.now c.args.at c.value-sum.result
     c.requires.made (c.value-sum.ensures ∙ c.requires.sum) in
-    none_found here c.loop-k.k (ended_with (c.value-sum.result % 64) c.self.inside.entries c.args.self.now c.self.view_is
+    none_found here c.loop-k.k
+    (ended_with (c.value-sum.result % 64) c.self.inside.entries c.args.self.now c.self.view_is
     (omega (arith, c.len-k-end.ensures))) c.loop-k.invariant.none
 
 pub returns-clause-counted : goal.returns-clause-counted
