@@ -550,6 +550,15 @@ impl<'s, 'h> Model for FindIter<'s, 'h> {
     ghost invariant = { λ a. a.at ≤ length a.haystack.now };
 }
 
+impl<'s, 'h> FindIter<'s, 'h> {
+    /// The tally that the iteration has counted its searches in.
+    pub fn into_tally(self) -> Tally
+        ensures { result ≡ self.entry.counts }
+    {
+        self.tally
+    }
+}
+
 impl<'s, 'h> Iterator for FindIter<'s, 'h> {
     type Item = Match;
 

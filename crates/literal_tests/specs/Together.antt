@@ -1,8 +1,8 @@
 -- What is asked for and answered where all that the layers promise is said at once.
-use Rattle.std.specs.Prelude.{ℕ, ◌≤◌, List, length, None, map}
+use Rattle.std.specs.Prelude.{◌≡◌, ℕ, ◌≤◌, List, length, None, map}
 use Rattle.std.specs.Borrow.{Bor}
 use Rattle.std.specs.Iterator.{Yields}
-use Rattle.literal_base.specs.Counts.{none_yet}
+use Rattle.literal_base.specs.Counts.{Counts, none_yet}
 use Rattle.literal_base.specs.MatchValue.{MatchValue}
 use Rattle.literal_base.specs.Occurs.{NoneIsEmpty}
 use Rattle.literal_base.specs.Query.{Query}
@@ -30,11 +30,12 @@ pub record IsSearchedFor (limit : ℕ) (patterns : List (List ℕ)) : Type 0 whe
   pub few : length patterns ≤ limit
   pub not_empty : NoneIsEmpty patterns
 
--- an iteration over the matches in a haystack gives these up to its first None, and by then it has hashed each byte at
--- most once
-pub record IsIteration (query : Query) (haystack : List ℕ) (all : List MatchValue) : Type 0 where
+-- an iteration over the matches in a haystack gives these up to its first None; by then it has counted this, and hashed
+-- no more bytes than the haystack has
+pub record IsIteration (query : Query) (haystack : List ℕ) (all : List MatchValue) (counts : Counts) : Type 0 where
   pub last : FindIterValue
   pub ended : FindIterValue
   pub given : Yields FindsNext (record { query = query; haystack = haystack; at = 0; counts = none_yet }) all last
   pub none_left : FindsNext last None ended
-  pub hashed : ended.counts.hashed ≤ length haystack
+  pub counted : ended.counts ≡ counts
+  pub hashed : counts.hashed ≤ length haystack

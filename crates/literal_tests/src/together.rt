@@ -39,6 +39,8 @@ pub struct Searched {
     pub found: Option<Match>,
     /// By [`Searcher::find_iter`], up to its first `None`.
     pub all: Vec<Match>,
+    /// What that iteration counted.
+    pub counted: Tally,
 }
 
 /// What a prefilter proposes, and what confirming by it finds.
@@ -72,7 +74,7 @@ pub fn together(
     ensures greedy { IfOk result (λ both. IfSome both.0 (λ searched.
         IsGreedy (asked_query asked.now) false haystack.now 0 searched.all.items)) }
     ensures iteration { IfOk result (λ both. IfSome both.0 (λ searched.
-        IsIteration (asked_query asked.now) haystack.now searched.all.items)) }
+        IsIteration (asked_query asked.now) haystack.now searched.all.items searched.counted)) }
     ensures picked { IfOk result (λ both. is_some both.1 ≡ is_some (pick (asked_builder asked.now))) }
     ensures sound { IfOk result (λ both. IfSome both.1 (λ confirmed.
         Sound (asked_query asked.now) asked.now.ignore_case haystack.now span confirmed.candidate)) }
@@ -100,14 +102,18 @@ fn search(
     ensures greedy { IfOk result (λ searched. IfSome searched (λ s.
         IsGreedy (asked_query asked.now) false haystack.now 0 s.all.items)) }
     ensures iteration { IfOk result (λ searched. IfSome searched (λ s.
-        IsIteration (asked_query asked.now) haystack.now s.all.items)) }
+        IsIteration (asked_query asked.now) haystack.now s.all.items s.counted)) }
 {
     let Some(searcher) = build(alloc, asked)? else {
         return Ok(None);
     };
     let found = searcher.find_in(haystack, span);
-    let all = taken_in_turn(alloc, &searcher, haystack)?;
-    Ok(Some(Searched { found, all }))
+    let (all, counted) = taken_in_turn(alloc, &searcher, haystack)?;
+    Ok(Some(Searched {
+        found,
+        all,
+        counted,
+    }))
 }
 
 fn build(alloc: Global, asked: &Asked<'_>) -> Result<Option<Searcher>, AllocError>
@@ -204,7 +210,7 @@ mod tests {
     #[test]
     fn searches_and_confirms(rt: HostRuntime) -> Result<(), Fail> {
         let both = together(rt.alloc(), &words(3), HAYSTACK, SPAN, &mut Tally::new())?;
-        let Searched { found, all } = both.0.ok_or("there is no searcher")?;
+        let Searched { found, all, .. } = both.0.ok_or("there is no searcher")?;
         assert_same(&rt, found.map(place), Some((0, 28, 33)), "found");
         assert_same(&rt, all.len(), 3, "all");
         let confirmed = both.1.ok_or("there is no prefilter")?;

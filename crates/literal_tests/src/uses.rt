@@ -7,6 +7,7 @@ ghost use Rattle.literal_packed.specs.ConfigValue.{default_config};
 ghost use Rattle.literal_packed.specs.Lending.{CanBeTaken, HoldsAll};
 ghost use Rattle.literal_tests.specs.Together.{IsIteration};
 
+use literal_prefilters::count::Tally;
 use literal_prefilters::packed::laws::next_is_bounded;
 use literal_prefilters::packed::pattern::{Pattern, PatternIter, Patterns};
 use literal_prefilters::packed::{Builder, Config, MatchKind, Searcher};
@@ -108,21 +109,22 @@ pub fn next_at_end<'p>(items: &mut PatternIter<'p>) -> Option<(PatternID, Patter
     items.next()
 }
 
-/// The matches that a `for` over an iteration takes.
+/// The matches that an iteration gives, and what it counted.
 pub fn taken_in_turn(
     alloc: Global,
     searcher: &Searcher,
     haystack: &[u8],
-) -> Result<Vec<Match>, AllocError>
-    ensures greedy { IfOk result (λ all. IsGreedy searcher.now false haystack.now 0 all.items) }
-    ensures iteration { IfOk result (λ all. IsIteration searcher.now haystack.now all.items) }
+) -> Result<(Vec<Match>, Tally), AllocError>
+    ensures greedy { IfOk result (λ taken. IsGreedy searcher.now false haystack.now 0 taken.0.items) }
+    ensures iteration { IfOk result (λ taken. IsIteration searcher.now haystack.now taken.0.items taken.1) }
 {
     next_is_bounded();
     let mut all = Vec::new(alloc);
-    for found in searcher.find_iter(haystack) {
+    let mut matches = searcher.find_iter(haystack);
+    while let Some(found) = matches.next() {
         all.push(found)?;
     }
-    Ok(all)
+    Ok((all, matches.into_tally()))
 }
 
 /// The matches that an iteration collects.
@@ -227,7 +229,7 @@ mod tests {
 
     #[test]
     fn takes_matches(rt: HostRuntime) -> Result<(), Fail> {
-        let taken = taken_in_turn(rt.alloc(), &of_two(rt.alloc())?, b"abababa")?;
+        let (taken, _) = taken_in_turn(rt.alloc(), &of_two(rt.alloc())?, b"abababa")?;
         let taken = places(rt.alloc(), &taken)?;
         assert_same(&rt, taken.as_slice(), WANTED.as_slice(), "taken");
         Ok(())

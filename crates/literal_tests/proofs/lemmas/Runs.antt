@@ -2,7 +2,7 @@
 -- For `taken_in_turn`.
 use Rattle.std.proofs.Common.{◌≡◌, ℕ, ◌+◌, ◌-◌, ◌≤◌, List, [], ◌∷◌, length, Option, None, Some, sym, ap, subst, arith}
 use Rattle.std.specs.Iterator.{Yields}
-use Rattle.literal_base.specs.Counts.{none_yet}
+use Rattle.literal_base.specs.Counts.{Counts, none_yet}
 use Rattle.literal_base.specs.MatchValue.{MatchValue}
 use Rattle.literal_base.specs.Query.{Query}
 use Rattle.literal_packed.specs.FindIterValue.{FindIterValue, FindsNext}
@@ -40,12 +40,19 @@ run_hashes bounded s (found ∷ more) t u within run nothing =
     omega arith
 
 pub iteration_of_run : (query : Query) (haystack : List ℕ) (s : FindIterValue) (all : List MatchValue)
-    (t u : FindIterValue) → IsBounded
+    (t u : FindIterValue) (counts : Counts) → IsBounded → counts ≡ u.counts
     → s ≡ record { query = query; haystack = haystack; at = 0; counts = none_yet }
-    → Yields FindsNext s all t → FindsNext t None u → IsIteration query haystack all
-iteration_of_run query haystack s all t u bounded start run nothing =
+    → Yields FindsNext s all t → FindsNext t None u → IsIteration query haystack all counts
+iteration_of_run query haystack s all t u counts bounded is start run nothing =
     let first : FindIterValue = record { query = query; haystack = haystack; at = 0; counts = none_yet } in
     let given : Yields FindsNext first all t = subst (λ (f : FindIterValue). Yields FindsNext f all t) start run in
     let hashed : u.counts.hashed ≤ length haystack =
     omega (arith, run_hashes bounded first all t u (omega arith) given nothing) in
-    record { last = t; ended = u; given = given; none_left = nothing; hashed = hashed }
+    record {
+      last = t;
+      ended = u;
+      given = given;
+      none_left = nothing;
+      counted = sym is;
+      hashed = subst (λ (n : Counts). n.hashed ≤ length haystack) (sym is) hashed;
+    }

@@ -12,13 +12,13 @@ returns-clause-greedy c =
     let haystack = c.args.haystack.now in
     subst (λ (items : List MatchValue). IsGreedy query false haystack 0 items)
     (sym c.loop-found.invariant)
-    (greedy_from_run query haystack _ _ _ _ (cc) c.loop-found.yielded_by c.in-None.ensures.steps)
+    (greedy_from_run query haystack _ _ _ _ (cc) c.loop-found.yielded_by c.in_default.ensures.steps)
 
 pub returns-clause-iteration : goal.returns-clause-iteration
 returns-clause-iteration c =
     let query = c.args.searcher.now in
     let haystack = c.args.haystack.now in
-    subst (λ (items : List MatchValue). IsIteration query haystack items)
+    subst (λ (items : List MatchValue). IsIteration query haystack items c.into_tally.result)
     (sym c.loop-found.invariant)
-    (iteration_of_run query haystack _ _ _ _ c.next_is_bounded.ensures (cc) c.loop-found.yielded_by
-    c.in-None.ensures.steps)
+    (iteration_of_run query haystack _ _ _ _ _ c.next_is_bounded.ensures c.into_tally.ensures (cc)
+    c.loop-found.yielded_by c.in_default.ensures.steps)
