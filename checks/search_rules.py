@@ -150,7 +150,8 @@ class Source:
     def types(self):
         """The structs and enums: the name, the place, and the fields or variants of each."""
         for found in re.finditer(r"\b(?:struct|enum)\s+(\w+)[^{(;]*", self.code):
-            end = closing(self.code, found.end()) if self.code[found.end()] in BRACKETS else found.end()
+            has_fields = self.code[found.end() :][:1] in BRACKETS
+            end = closing(self.code, found.end()) if has_fields else found.end()
             yield found[1], found.start(), self.code[found.end() : end]
 
     def places_of(self, word):
