@@ -6,8 +6,8 @@ from collections import namedtuple
 # `open`: the search ended without a proof. `unfit`: only the answer that is written was tried, and does not fit.
 GOALS = ("false", "open", "unfit")
 
-# A refusal's kind is one of GOALS, `shape` where a proof only names what is gone or was walked for another body,
-# or `unclear`.
+# A refusal's kind is one of GOALS, `shape` where a proof only names what is gone or was walked by hand for another
+# body, or `unclear`.
 Refusal = namedtuple("Refusal", "kind text")
 
 CLOSURE = re.compile(r"(^|::)fn::(.*?)::[^:+]*(\+Fn.*)?$")

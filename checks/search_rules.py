@@ -20,6 +20,8 @@ TEST_CRATES = ("literal_tests", "literal_examples", "refused_memory", "answers")
 # Crates whose code may have a haystack in hand.
 SEARCH_CRATES = ("literal_packed", "literal_prefilters")
 
+HERE = " (checks/search_rules.py)"
+
 COUNT = "crates/literal_base/src/count.rt"
 API = "crates/literal_packed/src/api.rt"
 PATTERN = "crates/literal_packed/src/pattern.rt"
@@ -148,7 +150,8 @@ class Source:
     def types(self):
         """The structs and enums: the name, the place, and the fields or variants of each."""
         for found in re.finditer(r"\b(?:struct|enum)\s+(\w+)[^{(;]*", self.code):
-            end = closing(self.code, found.end()) if self.code[found.end()] in BRACKETS else found.end()
+            has_fields = self.code[found.end() :][:1] in BRACKETS
+            end = closing(self.code, found.end()) if has_fields else found.end()
             yield found[1], found.start(), self.code[found.end() : end]
 
     def places_of(self, word):
@@ -176,7 +179,7 @@ def lacking(sources, listed):
     for path, name in listed:
         there = [it for source in sources for it in source.functions if source.is_one_of(it, [(path, name)])]
         if len(there) != 1:
-            yield f"{path}:1: there are {len(there)} functions `{name}`: name it in search_rules.py as it stands now"
+            yield f"{path}:1: there are {len(there)} functions `{name}`: name it as it stands now{HERE}"
 
 
 def tallies(sources):
@@ -187,8 +190,8 @@ def tallies(sources):
             function = source.function_at(found.start())
             if function in made or not source.is_one_of(function, makers):
                 yield source.at(found.start(), (
-                    "`Tally::new(` stands once in each function of TALLY_MAKERS and nowhere else, nor in a comment: "
-                    "take a `tally: &mut Tally`, and count in that"))
+                    f"`Tally::new(` stands once in each function of TALLY_MAKERS{HERE}, and nowhere else, nor in a "
+                    "comment: take a `tally: &mut Tally`, and count in that"))
             made.append(function)
         if source.is_of_searches:
             yield from uncounted_calls(source)
@@ -214,7 +217,7 @@ def haystacks(sources):
         if name not in ("haystack", *PATTERN_NAMES):
             yield source.at(function.head, (
                 f"bytes of a haystack are called `haystack`, and those of patterns {', '.join(PATTERN_NAMES)}: call "
-                f"the parameter `{name}` so, or add what it holds to PATTERN_NAMES"))
+                f"the parameter `{name}` so, or add what it holds to PATTERN_NAMES{HERE}"))
     takers = {it.name.split("::")[-1] for _, it, name in taken if name == "haystack"}
     for source in of_searches:
         for place, function in source.named(r"\b(?:self\s*\.\s*)?haystack\b"):
@@ -270,7 +273,7 @@ def entries(sources):
             if function and not source.is_one_of(function, readers):
                 yield source.at(place, (
                     f"fields that hold entries or sums are named in {', '.join(ENTRY_READERS)} alone: read an entry by "
-                    "`entry`, or add a field that holds neither to PLAIN_FIELDS"))
+                    f"`entry`, or add a field that holds neither to PLAIN_FIELDS{HERE}"))
         for place, function in source.named(r"\.entry\(") if source.is_of_searches else ():
             if source.path not in (RABIN_KARP, ENTRIES):
                 yield source.at(place, "entries of buckets are read in rabinkarp.rt alone: search by `find_at`")
@@ -289,7 +292,8 @@ def ticks(sources):
             for number, (place, function) in enumerate(places):
                 if not source.is_one_of(function, where) or function in [it for _, it in places[:number]]:
                     yield source.at(place, (
-                        f"`{tick}` stands once in {names}, and nowhere else: call what ticks, or say so in TICKS"))
+                        f"`{tick}` stands once in {names}, and nowhere else: call what ticks, or say in TICKS{HERE} "
+                        "where it stands"))
             for function in source.functions:
                 if source.is_one_of(function, where) and function not in [it for _, it in places]:
                     yield source.at(function.start, f"`{tick}` stands once in {names}: tick before the step is taken")
@@ -324,13 +328,13 @@ def held(sources):
     """What counts stands word for word as it is held here."""
     for source in sources:
         if source.path == COUNT and words_of(source.code) != words_of(TALLY_CODE):
-            yield source.at(0, "`Tally` stands as TALLY_CODE holds it: review what is counted, and change both")
+            yield source.at(0, f"`Tally` stands as TALLY_CODE{HERE} holds it: review what is counted, and change both")
         for (path, name), body in BODIES.items():
             for function in source.functions if path == source.path else ():
                 code = source.code[function.start : function.end]
                 if source.is_one_of(function, [(path, name)]) and words_of(code) != words_of(body):
                     yield source.at(function.head, (
-                        f"`{name}` stands as BODIES holds it: review what is read and counted, and change both"))
+                        f"`{name}` stands as BODIES{HERE} holds it: review what is counted, and change both"))
     yield from lacking(sources, BODIES)
 
 
