@@ -1,7 +1,7 @@
 //! Laws of the definitions that contracts cite. Each function does nothing, and its contract is the
 //! law.
-ghost use Rattle.std.specs.Prelude.{◌≡◌, ◌+◌, ◌-◌, ◌<◌, ◌≤◌, ◌↔◌, ◌⊎◌, ◌≢◌, [], ◌∷◌, ◌++◌, List, ℕ, Bool, Option, IsTrue};
-ghost use Rattle.std.specs.Prelude.{length, slice_index};
+ghost use Rattle.std.specs.Prelude.{◌≡◌, ◌≢◌, ◌+◌, ◌-◌, ◌<◌, ◌≤◌, ◌↔◌, ◌⊎◌, [], ◌∷◌, ◌++◌, List, ℕ, Bool, Option};
+ghost use Rattle.std.specs.Prelude.{IsTrue, length, slice_index};
 ghost use Rattle.std.specs.List.{All, Contains};
 ghost use Rattle.std.specs.Char.{to_ascii_lowercase};
 ghost use Rattle.std.specs.Hash.{u32, usize};
@@ -188,9 +188,11 @@ pub fn clones_are_equal()
     ensures found { ClonesExactly ⟦<Match as Clone>⟧.is_clone ⟦<Match as Clone>⟧.is_infallible }
     ensures input { ClonesExactly ⟦<Input<'static> as Clone>⟧.is_clone ⟦<Input<'static> as Clone>⟧.is_infallible }
     ensures anchored { ClonesExactly ⟦<Anchored as Clone>⟧.is_clone ⟦<Anchored as Clone>⟧.is_infallible }
-    ensures matches { ClonesExactly ⟦<search::MatchKind as Clone>⟧.is_clone ⟦<search::MatchKind as Clone>⟧.is_infallible }
+    ensures matches { ClonesExactly ⟦<search::MatchKind as Clone>⟧.is_clone
+        ⟦<search::MatchKind as Clone>⟧.is_infallible }
     ensures starts { ClonesExactly ⟦<StartKind as Clone>⟧.is_clone ⟦<StartKind as Clone>⟧.is_infallible }
-    ensures packed { ClonesExactly ⟦<packed::MatchKind as Clone>⟧.is_clone ⟦<packed::MatchKind as Clone>⟧.is_infallible }
+    ensures packed { ClonesExactly ⟦<packed::MatchKind as Clone>⟧.is_clone
+        ⟦<packed::MatchKind as Clone>⟧.is_infallible }
     ensures set { ClonesExactly ⟦<ByteSet as Clone>⟧.is_clone ⟦<ByteSet as Clone>⟧.is_infallible }
     ensures marks { ClonesExactly ⟦<ByteClassSet as Clone>⟧.is_clone ⟦<ByteClassSet as Clone>⟧.is_infallible }
     ensures classes { ClonesExactly ⟦<ByteClasses as Clone>⟧.is_clone ⟦<ByteClasses as Clone>⟧.is_infallible }

@@ -79,7 +79,9 @@ pub fn clones_are_equal()
     ensures small_index { ClonesExactly ⟦<SmallIndex as Clone>⟧.is_clone ⟦<SmallIndex as Clone>⟧.is_infallible }
     ensures pattern_id { ClonesExactly ⟦<PatternID as Clone>⟧.is_clone ⟦<PatternID as Clone>⟧.is_infallible }
     ensures state_id { ClonesExactly ⟦<StateID as Clone>⟧.is_clone ⟦<StateID as Clone>⟧.is_infallible }
-    ensures small_index_error { ClonesExactly ⟦<SmallIndexError as Clone>⟧.is_clone ⟦<SmallIndexError as Clone>⟧.is_infallible }
-    ensures pattern_id_error { ClonesExactly ⟦<PatternIDError as Clone>⟧.is_clone ⟦<PatternIDError as Clone>⟧.is_infallible }
+    ensures small_index_error { ClonesExactly ⟦<SmallIndexError as Clone>⟧.is_clone
+        ⟦<SmallIndexError as Clone>⟧.is_infallible }
+    ensures pattern_id_error { ClonesExactly ⟦<PatternIDError as Clone>⟧.is_clone
+        ⟦<PatternIDError as Clone>⟧.is_infallible }
     ensures state_id_error { ClonesExactly ⟦<StateIDError as Clone>⟧.is_clone ⟦<StateIDError as Clone>⟧.is_infallible }
 {}

@@ -61,17 +61,18 @@ counts_all query haystack old now new done at before is =
     is ∙ (before.goes_on [] ∙ ap (counts_after_all old query haystack 0) (append-nil done))
 
 -- where a greedy list is followed by nothing, no pattern is empty
-greedy_not_empty : (query : Query) (ignore_case : Bool) (haystack : List ℕ) (at : ℕ) (all : List MatchValue) → at ≤ length haystack
-    → IsGreedy query ignore_case haystack at all → NoneIsEmpty query.patterns
-greedy_not_empty query ignore_case haystack at [] within nothing = none_empty query.patterns ignore_case haystack at within nothing
+greedy_not_empty : (query : Query) (ignore_case : Bool) (haystack : List ℕ) (at : ℕ) (all : List MatchValue)
+    → at ≤ length haystack → IsGreedy query ignore_case haystack at all → NoneIsEmpty query.patterns
+greedy_not_empty query ignore_case haystack at [] within nothing =
+    none_empty query.patterns ignore_case haystack at within nothing
 greedy_not_empty query ignore_case haystack at (found ∷ more) within greedy =
     let fits = greedy.0.occurs.before_end in
     let whole = greedy.0.whole in
     greedy_not_empty query ignore_case haystack found.end more (omega arith) greedy.1
 
 -- no pattern occurs whole between a place and the leftmost match from there on
-nothing_between : (query : Query) (ignore_case : Bool) (haystack : List ℕ) (at : ℕ) (found : MatchValue) → NoneIsEmpty query.patterns
-    → IsLeftmostMatch query ignore_case haystack (rest_from haystack at) found
+nothing_between : (query : Query) (ignore_case : Bool) (haystack : List ℕ) (at : ℕ) (found : MatchValue)
+    → NoneIsEmpty query.patterns → IsLeftmostMatch query ignore_case haystack (rest_from haystack at) found
     → NothingOccurs query.patterns ignore_case haystack (between at found.start)
 nothing_between query ignore_case haystack at found not_empty leftmost i s occurs =
     let some : 0 < length (pattern_at query.patterns i) = not_empty i [] occurs.is_pattern in
@@ -86,8 +87,9 @@ nothing_between query ignore_case haystack at found not_empty leftmost i s occur
       same = occurs.same;
     })
 
-apart_from : (query : Query) (ignore_case : Bool) (haystack : List ℕ) (at : ℕ) (all : List MatchValue) → NoneIsEmpty query.patterns
-    → IsGreedy query ignore_case haystack at all → LieApart query.patterns ignore_case haystack at all
+apart_from : (query : Query) (ignore_case : Bool) (haystack : List ℕ) (at : ℕ) (all : List MatchValue)
+    → NoneIsEmpty query.patterns → IsGreedy query ignore_case haystack at all
+    → LieApart query.patterns ignore_case haystack at all
 apart_from query ignore_case haystack at [] not_empty nothing = nothing
 apart_from query ignore_case haystack at (found ∷ more) not_empty greedy =
     let leftmost = greedy.0 in
@@ -103,10 +105,12 @@ apart_from query ignore_case haystack at (found ∷ more) not_empty greedy =
     )
 
 -- a greedy list lies apart
-pub greedy_apart : (query : Query) (ignore_case : Bool) (haystack : List ℕ) (at : ℕ) (all : List MatchValue) → at ≤ length haystack
-    → IsGreedy query ignore_case haystack at all → LieApart query.patterns ignore_case haystack at all
+pub greedy_apart : (query : Query) (ignore_case : Bool) (haystack : List ℕ) (at : ℕ) (all : List MatchValue)
+    → at ≤ length haystack → IsGreedy query ignore_case haystack at all
+    → LieApart query.patterns ignore_case haystack at all
 greedy_apart query ignore_case haystack at all within greedy =
-    apart_from query ignore_case haystack at all (greedy_not_empty query ignore_case haystack at all within greedy) greedy
+    apart_from query ignore_case haystack at all (greedy_not_empty query ignore_case haystack at all within greedy)
+    greedy
 
 -- each of the matches takes a byte or more
 pub apart_few : (patterns : List (List ℕ)) (ignore_case : Bool) (haystack : List ℕ) (at : ℕ) (all : List MatchValue)
