@@ -1,18 +1,20 @@
 //! Laws of the definitions that contracts cite. Each function does nothing, and its contract is the
 //! law.
-ghost use Rattle.std.specs.Prelude.{◌≡◌, ◌+◌, ◌-◌, ◌<◌, ◌≤◌, ◌↔◌, ◌⊎◌, [], ◌∷◌, ◌++◌, List, ℕ, Bool, Option, IsTrue};
-ghost use Rattle.std.specs.Prelude.{length, slice_index};
+ghost use Rattle.std.specs.Prelude.{◌≡◌, ◌≢◌, ◌+◌, ◌-◌, ◌<◌, ◌≤◌, ◌↔◌, ◌⊎◌, [], ◌∷◌, ◌++◌, List, ℕ, Bool, Option};
+ghost use Rattle.std.specs.Prelude.{IsTrue, length, slice_index};
 ghost use Rattle.std.specs.List.{All, Contains};
 ghost use Rattle.std.specs.Char.{to_ascii_lowercase};
 ghost use Rattle.std.specs.Hash.{u32, usize};
 ghost use Rattle.literal_base.specs.Bytes.{by_byte, contains, no_bytes, opposite_case};
-ghost use Rattle.literal_base.specs.Classes.{AreRuns, NonePart, alphabet_len_of, class_of, marks_of, with_range_marked};
+ghost use Rattle.literal_base.specs.Classes.{AreRuns, NonePart, alphabet_len_of, class_of, elements_of};
+ghost use Rattle.literal_base.specs.Classes.{marks_of, with_range_marked};
 ghost use Rattle.literal_base.specs.declared.packed.MatchKind.{MatchKind as PackedMatchKind};
 ghost use Rattle.literal_base.specs.declared.packed.MatchKind.TheVariants.{LeftmostFirst, LeftmostLongest};
 ghost use Rattle.literal_base.specs.declared.search.Anchored.{Anchored};
 ghost use Rattle.literal_base.specs.declared.search.MatchKind.{MatchKind};
 ghost use Rattle.literal_base.specs.declared.search.Span.{Span};
 ghost use Rattle.literal_base.specs.declared.search.StartKind.{StartKind};
+ghost use Rattle.literal_ids.specs.Clones.{ClonesExactly};
 ghost use Rattle.literal_ids.specs.Iteration.{GivesEachThenNone};
 ghost use Rattle.literal_base.specs.MatchValue.{MatchValue};
 ghost use Rattle.literal_base.specs.Leftmost.{IsLeftmost, IsLeftmostMatch};
@@ -20,9 +22,11 @@ ghost use Rattle.literal_base.specs.Occurs.{NoneIsEmpty, Occurs, pattern_at};
 ghost use Rattle.literal_base.specs.Greedy.{IsGreedy};
 ghost use Rattle.literal_base.specs.Query.{Query};
 
-use crate::alphabet::{ByteClassElementRanges, ByteClassElements, ByteClassIter, ByteSet};
+use crate::alphabet::{
+    ByteClassElementRanges, ByteClassElements, ByteClassIter, ByteClassSet, ByteClasses, ByteSet,
+};
 use crate::packed;
-use crate::search::{self, Anchored, Match, Span, StartKind};
+use crate::search::{self, Anchored, Input, Match, Span, StartKind};
 use std::hash::Hash;
 
 /// Every search has a leftmost answer.
@@ -133,6 +137,15 @@ pub fn classes_are_below_the_alphabet_len()
         → slice_index (by_byte (class_of marked)) b < alphabet_len_of (by_byte (class_of marked)) }
 {}
 
+/// Where the classes come from marks, each class below the length of the alphabet has a byte, so the
+/// list of its bytes is not empty.
+pub fn classes_have_bytes()
+    ensures byte { (marked : List Bool) (class : ℕ) → class < alphabet_len_of (by_byte (class_of marked))
+        → (b : ℕ) × b < 256 × (slice_index (by_byte (class_of marked)) b ≡ class) }
+    ensures elements { (marked : List Bool) (class : ℕ) → class < alphabet_len_of (by_byte (class_of marked))
+        → elements_of (by_byte (class_of marked)) class ≢ [] }
+{}
+
 /// Every iteration over classes, bytes or runs gives each of what is left in turn, then nothing for
 /// ever.
 pub fn iterations_end()
@@ -167,4 +180,20 @@ pub fn values_hash_all_their_parts()
     ensures span { (span : Span) → ⟦<Span as Hash>⟧.hash_input span ≡ usize span.start ++ usize span.end }
     ensures found { (found : MatchValue)
         → ⟦<Match as Hash>⟧.hash_input found ≡ u32 found.pattern ++ usize found.start ++ usize found.end }
+{}
+
+/// A clone of a plain value, a set of bytes, classes or an input takes no memory, and is the same value.
+pub fn clones_are_equal()
+    ensures span { ClonesExactly ⟦<Span as Clone>⟧.is_clone ⟦<Span as Clone>⟧.is_infallible }
+    ensures found { ClonesExactly ⟦<Match as Clone>⟧.is_clone ⟦<Match as Clone>⟧.is_infallible }
+    ensures input { ClonesExactly ⟦<Input<'static> as Clone>⟧.is_clone ⟦<Input<'static> as Clone>⟧.is_infallible }
+    ensures anchored { ClonesExactly ⟦<Anchored as Clone>⟧.is_clone ⟦<Anchored as Clone>⟧.is_infallible }
+    ensures matches { ClonesExactly ⟦<search::MatchKind as Clone>⟧.is_clone
+        ⟦<search::MatchKind as Clone>⟧.is_infallible }
+    ensures starts { ClonesExactly ⟦<StartKind as Clone>⟧.is_clone ⟦<StartKind as Clone>⟧.is_infallible }
+    ensures packed { ClonesExactly ⟦<packed::MatchKind as Clone>⟧.is_clone
+        ⟦<packed::MatchKind as Clone>⟧.is_infallible }
+    ensures set { ClonesExactly ⟦<ByteSet as Clone>⟧.is_clone ⟦<ByteSet as Clone>⟧.is_infallible }
+    ensures marks { ClonesExactly ⟦<ByteClassSet as Clone>⟧.is_clone ⟦<ByteClassSet as Clone>⟧.is_infallible }
+    ensures classes { ClonesExactly ⟦<ByteClasses as Clone>⟧.is_clone ⟦<ByteClasses as Clone>⟧.is_infallible }
 {}

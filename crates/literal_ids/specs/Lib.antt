@@ -1,3 +1,4 @@
 pub mod Bits
+pub mod Clones
 pub mod Identifier
 pub mod Iteration

@@ -2,12 +2,13 @@
 //! those on the ends, which give the constants that a contract can't name.
 ghost use Rattle.std.specs.Prelude.{◌≡◌, ◌<◌, ◌^◌, ◌-◌, ℕ, ℤ, ◌≤ℤ◌, ◌<ℤ◌, pos, neg_ℤ};
 ghost use Rattle.literal_ids.specs.Bits.{bits_of, number_of};
+ghost use Rattle.literal_ids.specs.Clones.{ClonesExactly};
 ghost use Rattle.literal_ids.specs.Identifier.{IsComparedByNumber};
 ghost use Rattle.literal_ids.specs.Iteration.{GivesEachThenNone};
 
 use crate::primitives::{
-    PatternID, PatternIDIter, SmallIndex, SmallIndexIter, StateID, StateIDIter, WithPatternIDIter,
-    WithStateIDIter,
+    PatternID, PatternIDError, PatternIDIter, SmallIndex, SmallIndexError, SmallIndexIter, StateID,
+    StateIDError, StateIDIter, WithPatternIDIter, WithStateIDIter,
 };
 use std::hash::Hash;
 
@@ -71,4 +72,16 @@ pub fn iterations_end<T: 'static>()
         ⟦<WithPatternIDIter<'static, T> as Iterator>⟧.next_gives }
     ensures with_state_ids { GivesEachThenNone (λ pair. (pair.0, pair.1.now))
         ⟦<WithStateIDIter<'static, T> as Iterator>⟧.next_gives }
+{}
+
+/// A clone of an identifier, a small index or an error takes no memory, and is the same value.
+pub fn clones_are_equal()
+    ensures small_index { ClonesExactly ⟦<SmallIndex as Clone>⟧.is_clone ⟦<SmallIndex as Clone>⟧.is_infallible }
+    ensures pattern_id { ClonesExactly ⟦<PatternID as Clone>⟧.is_clone ⟦<PatternID as Clone>⟧.is_infallible }
+    ensures state_id { ClonesExactly ⟦<StateID as Clone>⟧.is_clone ⟦<StateID as Clone>⟧.is_infallible }
+    ensures small_index_error { ClonesExactly ⟦<SmallIndexError as Clone>⟧.is_clone
+        ⟦<SmallIndexError as Clone>⟧.is_infallible }
+    ensures pattern_id_error { ClonesExactly ⟦<PatternIDError as Clone>⟧.is_clone
+        ⟦<PatternIDError as Clone>⟧.is_infallible }
+    ensures state_id_error { ClonesExactly ⟦<StateIDError as Clone>⟧.is_clone ⟦<StateIDError as Clone>⟧.is_infallible }
 {}

@@ -2,7 +2,7 @@
 ghost use Rattle.std.specs.Prelude.{◌≡◌, ◌<◌, ◌≤◌, ◌⊎◌, ◌∷◌, [], length, Ok, Err, false, IsOk, IfOk, OnOk, OnErr};
 ghost use Rattle.std.specs.Prelude.{IfSome, MatchResult};
 ghost use Rattle.std.specs.Borrow.{sem};
-ghost use Rattle.literal_base.specs.Occurs.{IsValidSpan, whole_of};
+ghost use Rattle.literal_base.specs.Occurs.{IsValidSpan, NothingOccurs, whole_of};
 ghost use Rattle.literal_base.specs.Leftmost.{IsLeftmost};
 ghost use Rattle.literal_base.specs.Greedy.{IsGreedy};
 ghost use Rattle.literal_base.specs.Counts.{none_yet};
@@ -299,10 +299,11 @@ impl Builder {
         self.patterns.minimum_len()
     }
 
-    /// A copy: the same configuration and patterns, and inert where this builder is. Memory may be
-    /// refused; the builder stays as it is.
+    /// A copy: the same configuration and patterns, and inert where this builder is. Memory is asked
+    /// for only where a pattern is kept; the builder stays as it is.
     pub fn try_clone(&self) -> Result<Builder, AllocError>
-        ensures { IfOk result (λ copy. copy ≡ self.now) }
+        ensures copy { IfOk result (λ copy. copy ≡ self.now) }
+        ensures no_memory { OnErr result (IsBuildable self.now) }
     {
         Ok(Builder {
             config: self.config.copy(),
@@ -471,11 +472,13 @@ impl Searcher {
     }
 
     /// The list of what [`Searcher::find_iter`] gives, with the steps that it takes added to a tally,
-    /// those before memory was refused too.
+    /// those before memory was refused too. Memory is asked for only where there is a match.
     pub fn find_all(&self, haystack: &[u8], tally: &mut Tally) -> Result<Vec<Match>, AllocError>
         ensures greedy { IfOk result (λ all. IsGreedy self.now false haystack.now 0 all.items) }
         ensures exact { IfOk result (λ all. tally.new ≡ counts_after_all tally.old self.now haystack.now 0 all.items) }
         ensures counted { SpendsWithin self.now haystack.now tally.old tally.new }
+        ensures no_memory { OnErr result
+            (¬ NothingOccurs self.now.patterns false haystack.now (whole_of haystack.now)) }
     {
         let mut all = Vec::new(self.patterns.allocator());
         let mut rest = Span {

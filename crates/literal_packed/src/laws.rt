@@ -3,9 +3,11 @@
 //! the calls that the law is about.
 ghost use Rattle.std.specs.Prelude.{◌≡◌, ◌<◌, ◌≤◌, ◌+◌, ◌-◌, ◌*◌, ◌^◌, ◌/◌, ◌%◌, ◌↔◌, ℕ, List, [], ◌∷◌, ◌++◌};
 ghost use Rattle.std.specs.Prelude.{length, map, replicate, sum};
-ghost use Rattle.std.specs.Prelude.{slice_index, codes, true, false, IsTrue, IsNone, Option, Some, None, IfOk};
+ghost use Rattle.std.specs.Prelude.{Bool, slice_index, codes, true, false, IsTrue, IsNone, Option, Some, None, IfOk};
 ghost use Rattle.std.specs.Iterator.{Yields};
 ghost use Rattle.std.specs.List.{All, range_with_len};
+ghost use Rattle.literal_ids.specs.Clones.{ClonesExactly};
+ghost use Rattle.literal_ids.specs.Iteration.{GivesEachThenNone};
 ghost use Rattle.literal_base.specs.declared.packed.MatchKind.{MatchKind};
 ghost use Rattle.literal_base.specs.declared.packed.MatchKind.TheVariants.{LeftmostFirst, LeftmostLongest};
 ghost use Rattle.literal_base.specs.Counts.{Counts, none_yet};
@@ -23,6 +25,7 @@ ghost use Rattle.literal_base.specs.Apart.{LieApart};
 ghost use Rattle.literal_packed.specs.FindIterValue.{FindIterValue, FindsNext, StandsAtEnd};
 ghost use Rattle.literal_packed.specs.Spending.{SpendsAtMost, SpendsWithin, counts_after_all};
 
+use crate::pattern::{Pattern, PatternIter};
 use crate::{Builder, Config, FindIter, Searcher};
 use literal_base::count::Tally;
 use literal_base::laws::{greedy_is_unique, leftmost_is_unique};
@@ -76,12 +79,23 @@ pub fn better_is_tested()
 {}
 
 /// The matches of a greedy list are non-empty, in order, and don't overlap, and no pattern occurs
-/// whole before the first, between two neighbours, or after the last.
+/// whole before the first, between two neighbours, or after the last, with case kept or ignored.
 pub fn greedy_lists_lie_apart()
-    ensures { (query : Query) (haystack : List ℕ) (at : ℕ) (all : List MatchValue)
+    ensures { (query : Query) (ignore_case : Bool) (haystack : List ℕ) (at : ℕ) (all : List MatchValue)
         → at ≤ length haystack
-        → IsGreedy query false haystack at all
-        → LieApart query.patterns haystack at all }
+        → IsGreedy query ignore_case haystack at all
+        → LieApart query.patterns ignore_case haystack at all }
+{}
+
+/// An iteration over patterns gives each of what is left in turn, then nothing for ever.
+pub fn iterations_over_patterns_end()
+    ensures { GivesEachThenNone (λ pair. pair) ⟦<PatternIter<'static> as Iterator>⟧.next_gives }
+{}
+
+/// A clone of a pattern or of a configuration takes no memory, and is the same value.
+pub fn clones_are_equal()
+    ensures pattern { ClonesExactly ⟦<Pattern<'static> as Clone>⟧.is_clone ⟦<Pattern<'static> as Clone>⟧.is_infallible }
+    ensures config { ClonesExactly ⟦<Config as Clone>⟧.is_clone ⟦<Config as Clone>⟧.is_infallible }
 {}
 
 /// A search of the whole haystack answers as a search of the span that is all of it.
@@ -113,7 +127,7 @@ pub fn iteration_is_greedy(
     haystack: &[u8],
 ) -> Result<Vec<Match>, AllocError>
     ensures greedy { IfOk result (λ all. IsGreedy searcher.now false haystack.now 0 all.items) }
-    ensures apart { IfOk result (λ all. LieApart searcher.now.patterns haystack.now 0 all.items) }
+    ensures apart { IfOk result (λ all. LieApart searcher.now.patterns false haystack.now 0 all.items) }
     ensures few { IfOk result (λ all. length all.items ≤ length haystack.now) }
 {
     let mut all = Vec::new(alloc);

@@ -81,12 +81,13 @@ impl Patterns {
     }
 
     /// Sets which occurrence is the match, and puts the patterns in that order. Where memory is
-    /// refused, all stays as it was.
+    /// refused, all stays as it was; with up to 20 patterns none is asked for.
     pub fn set_match_kind(&mut self, kind: MatchKind) -> Result<(), AllocError>
         ensures kind { OnOk result (self.new.kind ≡ kind) }
         ensures patterns { self.new.patterns ≡ self.old.patterns }
         ensures in_order { OnOk result (IsInOrder self.new) }
         ensures err { OnErr result (self.new ≡ self.old) }
+        ensures no_memory { OnErr result (20 < length self.old.patterns) }
     {
         put_in_order(&mut self.order, self.by_id.as_slice(), kind)?;
         self.kind = kind;
@@ -193,15 +194,17 @@ impl Patterns {
         *self.by_id.allocator()
     }
 
-    /// A copy: the same patterns, order and kind. Memory may be refused; the patterns stay as they are.
+    /// A copy: the same patterns, order and kind. Memory is asked for only where there is a pattern; the
+    /// patterns stay as they are.
     pub fn try_clone(&self) -> Result<Patterns, AllocError>
-        ensures { IfOk result (λ copy. copy ≡ self.now) }
+        ensures copy { IfOk result (λ copy. copy ≡ self.now) }
+        ensures no_memory { OnErr result (0 < length self.now.patterns) }
     {
         let alloc = *self.by_id.allocator();
         Ok(Patterns {
             kind: self.kind,
             by_id: copy_of(alloc, self.by_id.as_slice())?,
-            order: Vec::from_slice(alloc, self.order.as_slice())?,
+            order: copy_of_order(alloc, self.order.as_slice())?,
             minimum_len: self.minimum_len,
             total_pattern_bytes: self.total_pattern_bytes,
         })
@@ -209,12 +212,23 @@ impl Patterns {
 }
 
 fn copy_of(alloc: Global, lists: &[Vec<u8>]) -> Result<Vec<Vec<u8>>, AllocError>
-    ensures { IfOk result (λ copy. bytes_of copy.items ≡ bytes_of lists.now) }
+    ensures copy { IfOk result (λ copy. bytes_of copy.items ≡ bytes_of lists.now) }
+    ensures no_memory { OnErr result (0 < length lists.now) }
 {
     let mut copy = Vec::new(alloc);
     for bytes in lists {
         copy.push(Vec::from_slice(alloc, bytes.as_slice())?)?;
     }
+    Ok(copy)
+}
+
+/// No contract says when `Vec::from_slice` asks for memory, so room is made first.
+fn copy_of_order(alloc: Global, order: &[PatternID]) -> Result<Vec<PatternID>, AllocError>
+    ensures copy { IfOk result (λ copy. copy.items ≡ order.now) }
+    ensures no_memory { OnErr result (0 < length order.now) }
+{
+    let mut copy = Vec::with_capacity(alloc, order.len())?;
+    copy.extend_from_slice(order)?;
     Ok(copy)
 }
 
@@ -234,6 +248,7 @@ fn sort_longest_first(order: &mut Vec<PatternID>, by_id: &[Vec<u8>]) -> Result<(
     ensures permutation { IsPermutation order.old.items order.new.items }
     ensures sorted { OnOk result (IsSorted (longest_cmp (bytes_of by_id.now)) order.new.items) }
     ensures err { OnErr result (order.new.items ≡ order.old.items) }
+    ensures no_memory { OnErr result (20 < length order.old.items) }
 {
     order.sort_by(|a, b| {
         length_of(by_id, *b)
@@ -252,6 +267,7 @@ fn put_in_order(
     ensures permutation { IsPermutation order.old.items order.new.items }
     ensures in_order { OnOk result (AllPairs (IsBetter kind (bytes_of by_id.now)) order.new.items) }
     ensures err { OnErr result (order.new.items ≡ order.old.items) }
+    ensures no_memory { OnErr result (20 < length order.old.items) }
 {
     match kind {
         MatchKind::LeftmostFirst => order.sort(),

@@ -1,5 +1,5 @@
 //! What the program reads from and writes to: std's readers and writers, which remember a failure.
-ghost use Rattle.std.specs.Prelude.{◌≡◌, ℕ, ◌<◌, ◌≤◌, ◌||◌, Bool, false, List, Option, length, IfOk, is_ok, is_err};
+ghost use Rattle.std.specs.Prelude.{◌≡◌, ℕ, ◌<◌, ◌≤◌, Bool, false, List, Option, length, IfOk, is_ok, is_err};
 ghost use Rattle.std.specs.Io.KnownBytes.{Keeps, ReadConsumes, WriteAppends};
 ghost use Rattle.litfind.specs.Device.{device_of, gave_nothing};
 
@@ -12,7 +12,7 @@ use std::marker::Model;
 #[derive(Clone, Copy, Debug, PartialEq, Eq)]
 pub struct Failed;
 
-/// What bytes are read from. After a failed read no call is made again.
+/// What bytes are read from. Once a read has failed or found the end, no other is made.
 pub trait Source {
     /// The bytes that reads will give from here on, where they are known.
     ghost remaining: { Self → Option (List ℕ) };
@@ -26,11 +26,12 @@ pub trait Source {
     /// Reads some bytes to the front of the buffer, and says how many. Into a buffer with room it
     /// gives none only at the end.
     fn read(&mut self, buf: &mut [u8]) -> Result<usize, Failed>
-        requires { failed self.old ≡ false }
+        requires readable { failed self.old ≡ false }
+        requires more { ended self.old ≡ false }
         ensures bound { IfOk result (λ n. n ≤ length buf.new) }
         ensures bytes { ReadConsumes (remaining self.old) (remaining self.new) result buf.new }
         ensures failure { failed self.new ≡ is_err result }
-        ensures end { ended self.new ≡ (ended self.old || gave_nothing result buf.new) };
+        ensures end { ended self.new ≡ gave_nothing result buf.new };
 
     /// Whether a read has failed.
     fn has_failed(&self) -> bool

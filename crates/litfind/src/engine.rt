@@ -184,7 +184,8 @@ impl Searching {
 
 /// Reads to the end.
 fn read_to_end<R: Source>(alloc: Global, reader: &mut R) -> Result<Vec<u8>, Fault>
-    requires { R.failed reader.old ≡ false }
+    requires readable { R.failed reader.old ≡ false }
+    requires more { R.ended reader.old ≡ false }
     ensures whole { IfOk result (λ input. IsWhole (R.remaining reader.old) (R.remaining reader.new) input.items) }
     ensures ended { OnOk result (R.ended reader.new ≡ true) }
     ensures some { ReadSome (R.remaining reader.old) (R.remaining reader.new) }

@@ -1,17 +1,18 @@
 -- The marks of ranges of bytes.
--- For `ByteClassSet::set_range` and the laws on marks.
+-- For `ByteClassSet::set_range` and the laws on marks and classes.
 use Rattle.std.proofs.Common.{◌≡◌, ◌==◌, ℕ, ◌+◌, ◌-◌, ◌<◌, ◌≤◌, ◌||◌, ◌↔◌, Bool, true, false, List, [], ◌∷◌, ◌++◌}
 use Rattle.std.proofs.Common.{length, get_or, slice_index, take, zero, suc, cond, sym, refl, ap, subst, ⊎_elim, ◌∙◌}
-use Rattle.std.proofs.Common.{arith}
-use Rattle.std.proofs.lemmas.Bool.{eq-eqb, ne_eqb, cases_eq, cases_Bool, both_ways}
+use Rattle.std.proofs.Common.{arith, inl, inr}
+use Rattle.std.proofs.lemmas.Bool.{eq-eqb, ne_eqb, cases_eq, cases_lt, cases_Bool, both_ways}
 use Rattle.std.proofs.lemmas.Bool.Decides.{nat_tests}
 use Rattle.std.specs.List.{All, list_any}
 use Rattle.std.proofs.lemmas.List.Folds.{list_any-append, list_any_at, list_any_none}
-use Rattle.std.proofs.lemmas.List.Sums.{count_by_more_no, count_by_more_yes, sum_by-take-le}
+use Rattle.std.proofs.lemmas.List.Sums.{count_by_more_no, count_by_more_yes, length-filter, sum_by-cons, sum_by-take-le}
+use Rattle.std.proofs.lemmas.List.FromFn.{get_or-range_with_len, length-range_with_len}
 use Rattle.std.specs.Prelude.{count_by}
-use Rattle.literal_base.specs.Bytes.{by_byte, contains}
+use Rattle.literal_base.specs.Bytes.{all_bytes, by_byte, contains}
 use Rattle.literal_base.specs.Classes.{holds, is_marked_by, with_range_marked, marks_of, class_of, alphabet_len_of}
-use Rattle.literal_base.specs.Classes.{NonePart}
+use Rattle.literal_base.specs.Classes.{NonePart, elements_of}
 use Rattle.literal_base.proofs.lemmas.ByByte.{by_byte_is, by_byte_agree, get_or-by_byte, length-by_byte}
 
 or_exchanged : (a b c : Bool) → ((a || b) || c) ≡ (a || (c || b))
@@ -123,4 +124,55 @@ class_below_len marked b below =
       get_or-by_byte (class_of marked) b 0 below,
       get_or-by_byte (class_of marked) 255 0 (omega arith),
       class_of-le marked b 255 (omega arith),
+    )
+
+-- from a byte to the next the class grows by one at most
+class_of-step : (marked : List Bool) (b : ℕ) → class_of marked (suc b) ≤ class_of marked b + 1
+class_of-step [] zero = omega arith
+class_of-step [] (suc b) = omega arith
+class_of-step (true ∷ more) zero = omega arith
+class_of-step (false ∷ more) zero = omega arith
+class_of-step (m ∷ more) (suc b) =
+    let mark : Bool → ℕ = λ k. cond k 1 0 in
+    let here : class_of (m ∷ more) (suc b) ≡ mark m + class_of more b = sum_by-cons mark m (take b more) in
+    let next : class_of (m ∷ more) (suc (suc b)) ≡ mark m + class_of more (suc b) =
+    sum_by-cons mark m (take (suc b) more) in
+    let step = class_of-step more b in
+    omega arith
+
+byte_of_class : (marked : List Bool) (class n : ℕ) → class ≤ class_of marked n
+    → (b : ℕ) × b ≤ n × (class_of marked b ≡ class)
+byte_of_class marked class zero reached = (zero, omega arith, omega arith)
+byte_of_class marked class (suc n) reached =
+    let step = class_of-step marked n in
+    elim (cases_lt (class_of marked n) class) [
+      | inl above ↦ (suc n, omega arith, omega arith)
+      | inr before ↦ let found = byte_of_class marked class n before in (found.0, omega (arith, found.1), found.2)
+    ]
+
+-- each class up to the greatest has a byte
+pub class_has_byte : (marked : List Bool) (class : ℕ) → class < alphabet_len_of (by_byte (class_of marked))
+    → (b : ℕ) × b < 256 × (slice_index (by_byte (class_of marked)) b ≡ class)
+class_has_byte marked class below =
+    let found = byte_of_class marked class 255 (omega (arith, get_or-by_byte (class_of marked) 255 0 (omega arith))) in
+    let within : found.0 < 256 = omega (arith, found.1) in
+    (found.0, within, get_or-by_byte (class_of marked) found.0 0 within ∙ found.2)
+
+-- so the list of its bytes is not empty
+pub class_has_elements : (marked : List Bool) (class : ℕ) → class < alphabet_len_of (by_byte (class_of marked))
+    → elements_of (by_byte (class_of marked)) class ≡ [] → ⊥
+unfolding all_bytes
+class_has_elements marked class below none =
+    let found = class_has_byte marked class below in
+    let b = found.0 in
+    let p = λ (k : ℕ). slice_index (by_byte (class_of marked)) k == class in
+    let within : b < length all_bytes = omega (arith, found.1, length-range_with_len 0 256) in
+    let here : get_or all_bytes b 0 ≡ b = omega (arith, get_or-range_with_len 0 256 b 0 found.1) in
+    let passes : p (get_or all_bytes b 0) ≡ true = subst (λ k. p k ≡ true) (sym here) (eq-eqb _ _ found.2) in
+    omega (
+      arith,
+      ap length none,
+      length-filter p all_bytes,
+      count_by_more_yes p all_bytes b 0 within passes,
+      sum_by-take-le (λ k. cond (p k) 1 0) all_bytes (b + 1),
     )

@@ -1,10 +1,11 @@
 -- A greedy list and its counts, match by match, and how its matches lie.
 -- For `Searcher::find_all`, lists of confirming searches, and the laws on iterations.
-use Rattle.std.proofs.Common.{◌≡◌, ℕ, ◌-◌, ◌<◌, ◌≤◌, Bool, false, List, [], ◌∷◌, ◌++◌, length, Some, None}
+use Rattle.std.proofs.Common.{◌≡◌, ℕ, ◌-◌, ◌<◌, ◌≤◌, Bool, List, [], ◌∷◌, ◌++◌, length, Some, None}
 use Rattle.std.proofs.Common.{append_assoc, append-nil, sym, ap, ◌∙◌, subst, arith}
+use Rattle.literal_base.specs.declared.search.Span.{Span}
 use Rattle.literal_base.specs.Counts.{Counts}
 use Rattle.literal_base.specs.MatchValue.{MatchValue}
-use Rattle.literal_base.specs.Occurs.{NoneIsEmpty, NothingOccurs, pattern_at, rest_from, between}
+use Rattle.literal_base.specs.Occurs.{NoneIsEmpty, NothingOccurs, pattern_at, rest_from, between, whole_of}
 use Rattle.literal_base.specs.Leftmost.{IsLeftmostMatch}
 use Rattle.literal_base.specs.Greedy.{IsGreedy}
 use Rattle.literal_base.specs.Query.{Query}
@@ -60,19 +61,20 @@ counts_all query haystack old now new done at before is =
     is ∙ (before.goes_on [] ∙ ap (counts_after_all old query haystack 0) (append-nil done))
 
 -- where a greedy list is followed by nothing, no pattern is empty
-greedy_not_empty : (query : Query) (haystack : List ℕ) (at : ℕ) (all : List MatchValue) → at ≤ length haystack
-    → IsGreedy query false haystack at all → NoneIsEmpty query.patterns
-greedy_not_empty query haystack at [] within nothing = none_empty query.patterns haystack at within nothing
-greedy_not_empty query haystack at (found ∷ more) within greedy =
+greedy_not_empty : (query : Query) (ignore_case : Bool) (haystack : List ℕ) (at : ℕ) (all : List MatchValue)
+    → at ≤ length haystack → IsGreedy query ignore_case haystack at all → NoneIsEmpty query.patterns
+greedy_not_empty query ignore_case haystack at [] within nothing =
+    none_empty query.patterns ignore_case haystack at within nothing
+greedy_not_empty query ignore_case haystack at (found ∷ more) within greedy =
     let fits = greedy.0.occurs.before_end in
     let whole = greedy.0.whole in
-    greedy_not_empty query haystack found.end more (omega arith) greedy.1
+    greedy_not_empty query ignore_case haystack found.end more (omega arith) greedy.1
 
 -- no pattern occurs whole between a place and the leftmost match from there on
-nothing_between : (query : Query) (haystack : List ℕ) (at : ℕ) (found : MatchValue) → NoneIsEmpty query.patterns
-    → IsLeftmostMatch query false haystack (rest_from haystack at) found
-    → NothingOccurs query.patterns false haystack (between at found.start)
-nothing_between query haystack at found not_empty leftmost i s occurs =
+nothing_between : (query : Query) (ignore_case : Bool) (haystack : List ℕ) (at : ℕ) (found : MatchValue)
+    → NoneIsEmpty query.patterns → IsLeftmostMatch query ignore_case haystack (rest_from haystack at) found
+    → NothingOccurs query.patterns ignore_case haystack (between at found.start)
+nothing_between query ignore_case haystack at found not_empty leftmost i s occurs =
     let some : 0 < length (pattern_at query.patterns i) = not_empty i [] occurs.is_pattern in
     let fits = occurs.before_end in
     let there = leftmost.occurs.before_end in
@@ -85,10 +87,11 @@ nothing_between query haystack at found not_empty leftmost i s occurs =
       same = occurs.same;
     })
 
-apart_from : (query : Query) (haystack : List ℕ) (at : ℕ) (all : List MatchValue) → NoneIsEmpty query.patterns
-    → IsGreedy query false haystack at all → LieApart query.patterns haystack at all
-apart_from query haystack at [] not_empty nothing = nothing
-apart_from query haystack at (found ∷ more) not_empty greedy =
+apart_from : (query : Query) (ignore_case : Bool) (haystack : List ℕ) (at : ℕ) (all : List MatchValue)
+    → NoneIsEmpty query.patterns → IsGreedy query ignore_case haystack at all
+    → LieApart query.patterns ignore_case haystack at all
+apart_from query ignore_case haystack at [] not_empty nothing = nothing
+apart_from query ignore_case haystack at (found ∷ more) not_empty greedy =
     let leftmost = greedy.0 in
     let some : 0 < length (pattern_at query.patterns found.pattern) =
     not_empty found.pattern [] leftmost.occurs.is_pattern in
@@ -97,20 +100,36 @@ apart_from query haystack at (found ∷ more) not_empty greedy =
       leftmost.occurs.after_start,
       omega arith,
       omega arith,
-      nothing_between query haystack at found not_empty leftmost,
-      apart_from query haystack found.end more not_empty greedy.1,
+      nothing_between query ignore_case haystack at found not_empty leftmost,
+      apart_from query ignore_case haystack found.end more not_empty greedy.1,
     )
 
 -- a greedy list lies apart
-pub greedy_apart : (query : Query) (haystack : List ℕ) (at : ℕ) (all : List MatchValue) → at ≤ length haystack
-    → IsGreedy query false haystack at all → LieApart query.patterns haystack at all
-greedy_apart query haystack at all within greedy =
-    apart_from query haystack at all (greedy_not_empty query haystack at all within greedy) greedy
+pub greedy_apart : (query : Query) (ignore_case : Bool) (haystack : List ℕ) (at : ℕ) (all : List MatchValue)
+    → at ≤ length haystack → IsGreedy query ignore_case haystack at all
+    → LieApart query.patterns ignore_case haystack at all
+greedy_apart query ignore_case haystack at all within greedy =
+    apart_from query ignore_case haystack at all (greedy_not_empty query ignore_case haystack at all within greedy)
+    greedy
 
 -- each of the matches takes a byte or more
-pub apart_few : (patterns : List (List ℕ)) (haystack : List ℕ) (at : ℕ) (all : List MatchValue)
-    → LieApart patterns haystack at all → length all ≤ length haystack - at
-apart_few patterns haystack at [] apart = omega arith
-apart_few patterns haystack at (found ∷ more) (after, some, within, nothing, apart) =
-    let rest = apart_few patterns haystack found.end more apart in
+pub apart_few : (patterns : List (List ℕ)) (ignore_case : Bool) (haystack : List ℕ) (at : ℕ) (all : List MatchValue)
+    → LieApart patterns ignore_case haystack at all → length all ≤ length haystack - at
+apart_few patterns ignore_case haystack at [] apart = omega arith
+apart_few patterns ignore_case haystack at (found ∷ more) (after, some, within, nothing, apart) =
+    let rest = apart_few patterns ignore_case haystack found.end more apart in
     omega arith
+
+-- a match of a rest is an occurrence in the whole
+pub found_occurs : (query : Query) (ignore_case : Bool) (haystack : List ℕ) (span : Span) (found : MatchValue)
+    → span.end ≡ length haystack → IsLeftmostMatch query ignore_case haystack span found
+    → ¬ NothingOccurs query.patterns ignore_case haystack (whole_of haystack)
+found_occurs query ignore_case haystack span found to_end leftmost nothing =
+    let fits = leftmost.occurs.before_end in
+    nothing found.pattern found.start
+    (record {
+      is_pattern = leftmost.occurs.is_pattern;
+      after_start = omega arith;
+      before_end = omega arith;
+      same = leftmost.occurs.same;
+    })

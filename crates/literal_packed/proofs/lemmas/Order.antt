@@ -8,6 +8,7 @@ use Rattle.std.proofs.lemmas.List.{drop_more, get_or-map, length_push, length-ma
 use Rattle.std.proofs.lemmas.List.Elements.{All-push}
 use Rattle.std.proofs.lemmas.List.FromFn.{get_or-range_with_len, length-range_with_len}
 use Rattle.std.proofs.lemmas.List.Sorted.{All-permutation, IsPermutation-append_left, IsPermutation-trans}
+use Rattle.std.proofs.lemmas.List.Sorted.{length_permutation}
 use Rattle.std.proofs.lemmas.List.Sums.{fold_push, sum_by_push}
 use Rattle.std.proofs.lemmas.List.Quantifiers.{all_pairs_push}
 use Rattle.literal_base.specs.declared.packed.MatchKind.TheVariants.{LeftmostFirst}
@@ -29,6 +30,14 @@ pub order-below : (c : PatternsValue) → IsWellFormed c → All (λ i. i < leng
 order-below c w =
     All-permutation (λ i. i < length c.patterns) (range_with_len 0 (length c.patterns)) c.order w.once
     (All-range (length c.patterns))
+
+-- as many numbers stand in the order as there are patterns
+pub order_len : (a : Inside) (c : PatternsValue) → patterns_value a ≡ c → IsConsistent a
+    → length a.order.items ≡ length c.patterns
+order_len a c is kept =
+    let n = length (patterns_value a).patterns in
+    subst (λ (p : PatternsValue). length a.order.items ≡ length p.patterns) is
+    (length_permutation (range_with_len 0 n) a.order.items kept.well_formed.once ∙ length-range_with_len 0 n)
 
 -- the number at a place of the order is that of a pattern
 pub order_below_at : (c : PatternsValue) (i id : ℕ) → IsWellFormed c → i < length c.order → id ≡ get_or c.order i id

@@ -129,7 +129,7 @@ module _ (query : Query) (haystack : List ℕ) (from : ℕ) (old new : Counts) (
       → SpendsAtMost query haystack from (length haystack) old new
   spends_none nothing is =
       let m = minimum_len_of patterns in
-      let some = minimum_len_of_some patterns (none_empty patterns haystack from within nothing) in
+      let some = minimum_len_of_some patterns (none_empty patterns false haystack from within nothing) in
       let n = length haystack in
       let hashed : new.hashed ≡ old.hashed + cond (ltb (n - from) m) 0 (n - from) = ap (λ (c : Counts). c.hashed) is in
       let entries : new.entries ≡ old.entries + pairs_between (has_equal_bucket patterns haystack)

@@ -36,7 +36,7 @@ impl Read for SlowReader<'_> {
 }
 
 /// A writer into memory, a few bytes a call, whose write of one number fails and of another takes
-/// nothing, or whose flush fails. No call of it asks for memory.
+/// nothing, and whose flush of one number fails. No call of it asks for memory.
 #[derive(Drop)]
 struct SlowWriter {
     held: [u8; 64],
@@ -45,7 +45,8 @@ struct SlowWriter {
     calls: u32,
     failing: u32,
     refusing: u32,
-    flush_fails: bool,
+    flushes: u32,
+    failing_flush: u32,
     ghost in_range: { len ≤ 64 },
 }
 
@@ -58,7 +59,8 @@ impl SlowWriter {
             calls: 0,
             failing: 0,
             refusing: 0,
-            flush_fails: false,
+            flushes: 0,
+            failing_flush: 0,
         }
     }
 
@@ -84,7 +86,8 @@ impl Write for SlowWriter {
     }
 
     fn flush(&mut self) -> io::Result<()> {
-        if self.flush_fails {
+        self.flushes = self.flushes.saturating_add(1);
+        if self.flushes == self.failing_flush {
             return Err(io::Error::from(io::ErrorKind::Other));
         }
         Ok(())
@@ -327,16 +330,16 @@ fn assert_reports_write(
 
 #[test]
 fn reports_a_failed_write(rt: HostRuntime) -> Result<(), Fail> {
-    for (case, step, failing, refusing, flush_fails, front) in [
-        ("the third", 5, 3, 0, false, b"1 13 18\n0 ".as_slice()),
-        ("refused", 5, 0, 2, false, b"1 13 "),
-        ("the first", 5, 1, 0, false, b""),
-        ("the flush", 64, 0, 0, true, OUTPUT),
+    for (case, step, failing, refusing, failing_flush, front) in [
+        ("the third", 5, 3, 0, 0, b"1 13 18\n0 ".as_slice()),
+        ("refused", 5, 0, 2, 0, b"1 13 "),
+        ("the first", 5, 1, 0, 0, b""),
+        ("the flush", 64, 0, 0, 1, OUTPUT),
     ] {
         let mut writer = SlowWriter::new(step);
         writer.failing = failing;
         writer.refusing = refusing;
-        writer.flush_fails = flush_fails;
+        writer.failing_flush = failing_flush;
         assert_reports_write(&rt, rt.alloc(), writer, front, case)?;
     }
     Ok(())
@@ -345,7 +348,7 @@ fn reports_a_failed_write(rt: HostRuntime) -> Result<(), Fail> {
 #[test]
 fn flushes_an_empty_text(rt: HostRuntime) -> Result<(), Fail> {
     let mut writer = SlowWriter::new(64);
-    writer.flush_fails = true;
+    writer.failing_flush = 1;
     let reader = one_byte_a_call(b"none here", 0);
     let answer = answer(rt.alloc(), WORDS, reader, &mut writer)?;
     assert_eq!(rt; answer, Err(Fault::WriteFailed));
@@ -360,13 +363,14 @@ fn reader_tells(reader: &Checked<SlowReader<'_>>) -> (bool, bool) {
 #[test]
 fn readers_remember_their_end_and_a_failure(rt: HostRuntime) {
     let mut buffer = [0u8; 8];
-    let mut reader = Checked::new(one_byte_a_call(b"a", 3));
+    let mut reader = Checked::new(one_byte_a_call(b"a", 0));
     assert!(rt; reader.read(&mut buffer) == Ok(1));
     assert!(rt; reader_tells(&reader) == (false, false));
     assert!(rt; reader.read(&mut buffer) == Ok(0));
     assert!(rt; reader_tells(&reader) == (false, true));
+    let mut reader = Checked::new(one_byte_a_call(b"a", 1));
     assert!(rt; reader.read(&mut buffer) == Err(Failed));
-    assert!(rt; reader_tells(&reader) == (true, true));
+    assert!(rt; reader_tells(&reader) == (true, false));
 }
 
 #[test]
@@ -378,6 +382,7 @@ fn writers_have_not_failed_at_first(rt: HostRuntime) {
     assert!(rt; !writer.has_failed());
     assert!(rt; writer.flush() == Ok(()));
     assert!(rt; !writer.has_failed());
+    assert!(rt; writer.into_inner().flushes == 1);
 }
 
 #[test]

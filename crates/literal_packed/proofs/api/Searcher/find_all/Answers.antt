@@ -1,4 +1,4 @@
-use Rattle.std.proofs.Common.{◌≡◌, Some, None, ◌++◌, ◌∷◌, [], sym, subst, false, List, length, arith}
+use Rattle.std.proofs.Common.{◌≡◌, Some, None, ◌++◌, ◌∷◌, [], sym, subst, false, List, length, arith, rules}
 use Rattle.literal_base.specs.declared.search.Span.{Span}
 use Rattle.literal_base.specs.MatchValue.{MatchValue}
 use Rattle.literal_base.specs.Occurs.{NothingOccurs}
@@ -7,7 +7,7 @@ use Rattle.literal_packed.specs.Pairs.{counts_after}
 use Rattle.literal_packed.specs.Spending.{SpendsAtMost}
 use Rattle.literal_packed.proofs.lemmas.Spending.{spends_found, spends_last, spends_within, ends_within, rest_is}
 use Rattle.literal_packed.proofs.lemmas.GreedyLists.{CountsBefore, IsGreedyBefore, greedy_more, greedy_all, counts_more}
-use Rattle.literal_packed.proofs.lemmas.GreedyLists.{counts_all}
+use Rattle.literal_packed.proofs.lemmas.GreedyLists.{counts_all, found_occurs}
 use Rattle.literal_packed.proofs.api.Searcher.find_all.Goals as goal
 
 pub returns-in_err-push-clause-counted : goal.returns-in_err-push-clause-counted
@@ -17,6 +17,12 @@ returns-in_err-push-clause-counted c =
     c.find_in_counted.new.tally c.in-Some.found
     c.loop-found.invariant.to_end c.loop-found.invariant.within c.in-Some.ensures.not_empty
     c.loop-found.invariant.spends c.in-Some.ensures.leftmost c.in-Some.ensures.exact)
+
+pub returns-in_err-push-clause-no_memory : goal.returns-in_err-push-clause-no_memory
+returns-in_err-push-clause-no_memory c =
+    let occurs = found_occurs c.args.self.now false c.args.haystack.now c.loop-found.rest c.in-Some.found
+    c.loop-found.invariant.to_end c.in-Some.ensures.leftmost in
+    search (rules, occurs)
 
 pub loop-found-preserved : goal.loop-found-preserved
 loop-found-preserved c =
