@@ -1,4 +1,5 @@
 -- Lemmas that several proofs share, by topic.
+pub mod Answered
 pub mod Asks
 pub mod BestAt
 pub mod Callers
