@@ -23,5 +23,6 @@ pub mod Sound
 pub mod Spends
 pub mod Stands
 pub mod TableOf
+pub mod Taken
 pub mod Tries
 pub mod Variants
