@@ -56,9 +56,17 @@ pub fn start_bytes_begin_variants()
         → StartsVariants ignore_case patterns }
 {}
 
-/// By a table that covers the patterns, the scan for a match ends before the match does, and no scan is
-/// longer than its span.
+/// By a table that covers the patterns, the first of its bytes from a match's start on lies in the match. As
+/// many bytes are scanned as there are from the span's start up to it: so no more than up to the match's end,
+/// and with or without a match no more than the span has.
 pub fn scans_end_with_the_match()
+    ensures last { (table : List (Option ℕ)) (query : Query) (ignore_case : Bool) (haystack : List ℕ) (span : Span)
+        (found : MatchValue)
+        → All (Covers table ignore_case) query.patterns
+        → AreBytes haystack
+        → IsValidSpan haystack span
+        → IsLeftmostMatch query ignore_case haystack span found
+        → (place : ℕ) × (first table haystack (between found.start span.end) ≡ Some place) × (place < found.end) }
     ensures found { (table : List (Option ℕ)) (query : Query) (ignore_case : Bool) (haystack : List ℕ) (span : Span)
         (found : MatchValue)
         → All (Covers table ignore_case) query.patterns

@@ -27,10 +27,10 @@ use Rattle.literal_prefilters.proofs.lemmas.Tries.{counts_are}
 module _ (table : List (Option ℕ)) (query : Query) (ignore_case : Bool)
     (covers : All (Covers table ignore_case) query.patterns) (haystack : List ℕ) (bytes : AreBytes haystack)
     (span : Span) (valid : IsValidSpan haystack span) where
-  -- the scan for a match ends within the match
-  pub scan_ends_in_match : (found : MatchValue) → IsLeftmostMatch query ignore_case haystack span found
-      → scanned_once table haystack span (Some found) ≤ found.end - span.start
-  scan_ends_in_match found leftmost = from (first table haystack behind) refl
+  -- the first byte of the table from a match's start on lies in the match
+  pub first_in_match : (found : MatchValue) → IsLeftmostMatch query ignore_case haystack span found
+      → (place : ℕ) × (first table haystack (between found.start span.end) ≡ Some place) × (place < found.end)
+  first_in_match found leftmost = from (first table haystack behind) refl
     where
       behind : Span
       behind = between found.start span.end
@@ -50,13 +50,22 @@ module _ (table : List (Option ℕ)) (query : Query) (ignore_case : Bool)
       }
 
       from : (o : Option ℕ) → first table haystack behind ≡ o
-          → unwrap_or o 0 + 1 - span.start ≤ found.end - span.start
+          → (place : ℕ) × (o ≡ Some place) × (place < found.end)
       from None e = absurd (nothing_from_free table query.patterns ignore_case covers haystack bytes behind behind_valid
           (free_from_first table haystack behind behind_valid e) found.pattern found.start occurs)
       from (Some place) e =
           let within = first_in_occurrence table query.patterns ignore_case covers haystack bytes behind behind_valid
           place (is_first_from table haystack behind behind_valid place e) found.pattern found.start occurs in
-          omega (arith, within, leftmost.whole)
+          (place, refl, omega (arith, within, leftmost.whole))
+
+  -- so the scan for it ends within the match
+  pub scan_ends_in_match : (found : MatchValue) → IsLeftmostMatch query ignore_case haystack span found
+      → scanned_once table haystack span (Some found) ≤ found.end - span.start
+  scan_ends_in_match found leftmost =
+      let last = first_in_match found leftmost in
+      let is : unwrap_or (first table haystack (between found.start span.end)) 0 ≡ last.0 =
+      ap (λ o. unwrap_or o 0) last.1 in
+      omega (arith, is, last.2)
 
   -- and no scan is longer than the span
   pub scan_ends_in_span : (answer : Option MatchValue) → IsLeftmost query ignore_case haystack span answer
