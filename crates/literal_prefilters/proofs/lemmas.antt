@@ -1,4 +1,5 @@
 -- Lemmas that several proofs share, by topic.
+pub mod Answered
 pub mod Asks
 pub mod BestAt
 pub mod Callers
@@ -22,5 +23,6 @@ pub mod Sound
 pub mod Spends
 pub mod Stands
 pub mod TableOf
+pub mod Taken
 pub mod Tries
 pub mod Variants

@@ -1,11 +1,17 @@
 -- What a confirming search counts.
-use Rattle.std.specs.Prelude.{◌≡◌, ℕ, ◌+◌, ◌-◌, ◌*◌, ◌≤◌, List, length, Option, None, Some, unwrap_or}
+use Rattle.std.specs.Prelude.{◌≡◌, ℕ, ◌+◌, ◌-◌, ◌*◌, ◌<◌, ◌≤◌, ◌==◌, ◌||◌, List, [], ◌∷◌, ◌++◌, length, map, count_by}
+use Rattle.std.specs.Prelude.{Option, None, Some, unwrap_or}
+use Rattle.std.specs.List.{range_with_len}
 use Rattle.literal_base.specs.declared.search.Span.{Span}
 use Rattle.literal_base.specs.Counts.{Counts}
+use Rattle.literal_base.specs.Greedy.{IsGreedy}
+use Rattle.literal_base.specs.Leftmost.{is_better}
 use Rattle.literal_base.specs.MatchValue.{MatchValue}
-use Rattle.literal_base.specs.Occurs.{between, whole_of}
+use Rattle.literal_base.specs.Occurs.{between, rest_from, whole_of}
+use Rattle.literal_base.specs.Query.{Query}
 use Rattle.literal_packed.specs.Pairs.{counts_after}
 use Rattle.literal_packed.specs.Spending.{SpendsWithin}
+use Rattle.literal_prefilters.specs.ConfirmingValue.{ConfirmingValue}
 use Rattle.literal_prefilters.specs.Exact.{query_of_one}
 use Rattle.literal_prefilters.specs.Near.{near_count}
 use Rattle.literal_prefilters.specs.PrefilterValue.{PrefilterValue, by_table, by_pattern, by_search}
@@ -28,25 +34,59 @@ abbrev pub tried_places : List (Option ℕ) → List ℕ → Span → Option Mat
 tried_places table haystack span None = near_count table haystack span span.end
 tried_places table haystack span (Some found) = near_count table haystack span (found.start + 1)
 
--- what a search by a table counts until its answer: so many bytes are scanned, so many places tried, and at most as
--- often is a pattern compared as there are patterns for each place tried; the others stay
-pub record CountsTries (table : List (Option ℕ)) (patterns : List (List ℕ)) (haystack : List ℕ) (span : Span)
-    (answer : Option MatchValue) (old new : Counts) : Type 0 where
-  pub scanned : new.scanned ≡ old.scanned + scanned_once table haystack span answer
-  pub tried : new.tried ≡ old.tried + tried_places table haystack span answer
-  pub compared : new.compared ≤ old.compared + (new.tried - old.tried) * length patterns
-  pub grows : old.compared ≤ new.compared
-  pub others : new ≡ record old { compared = new.compared; scanned = new.scanned; tried = new.tried }
+-- how many patterns are compared at a place: the pattern that is the answer there and the better ones, or all
+abbrev pub compared_at : Query → Option ℕ → ℕ
+compared_at query None = length query.patterns
+compared_at query (Some j) =
+    count_by (λ i. i == j || is_better query.kind query.patterns i j) (range_with_len 0 (length query.patterns))
 
--- what a confirming search counts: by a table its tries, and by an exact prefilter one search
-abbrev pub CountsConfirming : PrefilterValue → List (List ℕ) → List ℕ → Span → Option MatchValue → Counts → Counts
-    → Type 0
-CountsConfirming (by_table table) patterns haystack span answer old new =
-    CountsTries table patterns haystack span answer old new
-CountsConfirming (by_pattern pattern) patterns haystack span answer old new =
-    new ≡ counts_after old (query_of_one pattern) haystack span answer
-CountsConfirming (by_search query) patterns haystack span answer old new =
-    new ≡ counts_after old query haystack span answer
+-- how often a pattern is compared: at each place that is tried all are, and at the match's start its pattern and the
+-- better ones
+abbrev pub compared_by_tries : List (Option ℕ) → Query → List ℕ → Span → Option MatchValue → ℕ
+compared_by_tries table query haystack span None =
+    near_count table haystack span span.end * compared_at query None
+compared_by_tries table query haystack span (Some found) =
+    near_count table haystack span found.start * compared_at query None + compared_at query (Some found.pattern)
+
+-- the counts after a search by a table that gives an answer: `compared`, `scanned` and `tried` as said above; the
+-- others stay
+abbrev pub counts_after_tries : Counts → List (Option ℕ) → Query → List ℕ → Span → Option MatchValue → Counts
+counts_after_tries old table query haystack span answer = record old {
+  compared = old.compared + compared_by_tries table query haystack span answer;
+  scanned = old.scanned + scanned_once table haystack span answer;
+  tried = old.tried + tried_places table haystack span answer;
+}
+
+-- the counts after a confirming search that gives an answer: by a table those of its tries, and by an exact prefilter
+-- those of one search
+abbrev pub counts_after_confirming : Counts → PrefilterValue → Query → List ℕ → Span → Option MatchValue → Counts
+counts_after_confirming old (by_table table) query haystack span answer =
+    counts_after_tries old table query haystack span answer
+counts_after_confirming old (by_pattern pattern) query haystack span answer =
+    counts_after old (query_of_one pattern) haystack span answer
+counts_after_confirming old (by_search searched) query haystack span answer =
+    counts_after old searched haystack span answer
+
+-- the counts after searches one after another with these answers: the first in the rest of the haystack from a place
+-- on, and each of the others in the rest from where the one before goes on
+abbrev pub counts_after_answers : Counts → PrefilterValue → Query → List ℕ → ℕ → List (Option MatchValue) → Counts
+counts_after_answers old pre query haystack at [] = old
+counts_after_answers old pre query haystack at (answer ∷ more) =
+    counts_after_answers (counts_after_confirming old pre query haystack (rest_from haystack at) answer) pre query
+    haystack (answer_end (rest_from haystack at) answer) more
+
+-- the answers of searches that find these matches
+abbrev pub answers_of : List MatchValue → List (Option MatchValue)
+answers_of = map Some
+
+-- memory was refused for the list of all matches: behind the first of them, one or more, for the last of which there
+-- was no room. The searches that found these are counted, and no other
+pub record RefusesList (search : ConfirmingValue) (haystack : List ℕ) (old new : Counts) : Type 0 where
+  pub found : List MatchValue
+  pub more : List MatchValue
+  pub some : 0 < length found
+  pub are_first : IsGreedy search.query search.ignore_case haystack 0 (found ++ more)
+  pub counted : new ≡ counts_after_answers old search.prefilter search.query haystack 0 (answers_of found)
 
 -- what the searches by a table up to a place of a haystack count together, one match after another: at most each byte
 -- before the place is scanned, each near place before it tried, and a pattern compared as often as there are patterns

@@ -12,9 +12,14 @@ ghost use Rattle.literal_prefilters.specs.Answers.{candidate_of};
 ghost use Rattle.literal_base.specs.Bytes.{AreBytes};
 ghost use Rattle.literal_packed.specs.State.{kept_of};
 ghost use Rattle.literal_prefilters.specs.Choice.{pick, suits_packed};
+ghost use Rattle.literal_base.specs.Counts.{none_yet};
+ghost use Rattle.literal_base.specs.declared.packed.MatchKind.TheVariants.{LeftmostFirst};
+ghost use Rattle.literal_prefilters.specs.Confirming.{answers_of, counts_after_answers, counts_after_confirming};
 ghost use Rattle.literal_prefilters.specs.Confirming.{scanned_once, tried_places};
+ghost use Rattle.literal_prefilters.specs.ConfirmingValue.{prefilter_builder};
 ghost use Rattle.literal_prefilters.specs.PrefilterBuilderValue.{PrefilterBuilderValue};
-ghost use Rattle.literal_prefilters.specs.PrefilterValue.{CoveredBy, exact_query, prefilter_reach, prefilter_table};
+ghost use Rattle.literal_prefilters.specs.PrefilterValue.{CoveredBy, by_table, exact_query, prefilter_reach};
+ghost use Rattle.literal_prefilters.specs.PrefilterValue.{prefilter_table};
 ghost use Rattle.literal_prefilters.specs.Sound.{Sound};
 ghost use Rattle.literal_prefilters.specs.Rarest.{IsRarest};
 ghost use Rattle.literal_prefilters.specs.Table.{Covers, IsFirst, distance_of, first, is_in, reach_of, step};
@@ -51,9 +56,17 @@ pub fn start_bytes_begin_variants()
         → StartsVariants ignore_case patterns }
 {}
 
-/// By a table that covers the patterns, the scan for a match ends before the match does, and no scan is
-/// longer than its span.
+/// By a table that covers the patterns, the first of its bytes from a match's start on lies in the match. As
+/// many bytes are scanned as there are from the span's start up to it: so no more than up to the match's end,
+/// and with or without a match no more than the span has.
 pub fn scans_end_with_the_match()
+    ensures last { (table : List (Option ℕ)) (query : Query) (ignore_case : Bool) (haystack : List ℕ) (span : Span)
+        (found : MatchValue)
+        → All (Covers table ignore_case) query.patterns
+        → AreBytes haystack
+        → IsValidSpan haystack span
+        → IsLeftmostMatch query ignore_case haystack span found
+        → (place : ℕ) × (first table haystack (between found.start span.end) ≡ Some place) × (place < found.end) }
     ensures found { (table : List (Option ℕ)) (query : Query) (ignore_case : Bool) (haystack : List ℕ) (span : Span)
         (found : MatchValue)
         → All (Covers table ignore_case) query.patterns
@@ -191,19 +204,49 @@ pub fn worked_counts()
         let answer : Option MatchValue = Some (record { pattern = 1; start = 13; end = 18 }) in
         (tried_places table haystack (between 0 51) answer ≡ 3)
         × (scanned_once table haystack (between 0 51) answer ≡ 16) }
-    ensures list { let table : List (Option ℕ) = table_of (λ b. b == 0x70) (λ _. 4) in
-        let haystack = codes "Nobody likes maple in their apple flavored Snapple." in
-        let maple : Option MatchValue = Some (record { pattern = 1; start = 13; end = 18 }) in
-        let apple : Option MatchValue = Some (record { pattern = 0; start = 28; end = 33 }) in
-        let snapple : Option MatchValue = Some (record { pattern = 2; start = 43; end = 50 }) in
-        (tried_places table haystack (between 0 51) maple + tried_places table haystack (between 18 51) apple
-        + tried_places table haystack (between 33 51) snapple + tried_places table haystack (between 50 51) None ≡ 9)
-        × (scanned_once table haystack (between 0 51) maple + scanned_once table haystack (between 18 51) apple
-        + scanned_once table haystack (between 33 51) snapple + scanned_once table haystack (between 50 51) None ≡ 43) }
     ensures every_place { let table : List (Option ℕ) = table_of (λ b. b == 0x51) (λ _. 254) in
         let haystack = replicate 254 0x7A ++ 0x51 ∷ [] in
         (tried_places table haystack (between 0 255) None ≡ 255)
         × (scanned_once table haystack (between 0 255) None ≡ 255) }
+{}
+
+/// What the searches count that [`ConfirmingSearch::build`] makes for these patterns, worked by hand. All of
+/// `apple`, `maple` and `Snapple` are listed after nine tries, at which 8, 10 and 6 times a pattern is
+/// compared: 16, 12 and 14 bytes are scanned for a word, and one behind the last. With ASCII case ignored
+/// it is the same. `lockjaw` is found after three tries and six bytes in either case.
+pub fn worked_counts_of_patterns()
+    ensures words { let patterns : List (List ℕ) = codes "apple" ∷ codes "maple" ∷ codes "Snapple" ∷ [] in
+        let table : List (Option ℕ) = table_of (λ b. b == 0x70) (λ _. 4) in
+        let maple : MatchValue = record { pattern = 1; start = 13; end = 18 } in
+        let apple : MatchValue = record { pattern = 0; start = 28; end = 33 } in
+        let snapple : MatchValue = record { pattern = 2; start = 43; end = 50 } in
+        (pick (prefilter_builder LeftmostFirst false patterns) ≡ Some (by_table table))
+        × (counts_after_answers none_yet (by_table table) (record { kind = LeftmostFirst; patterns = patterns })
+        (codes "Nobody likes maple in their apple flavored Snapple.") 0
+        (answers_of (maple ∷ apple ∷ snapple ∷ []) ++ None ∷ [])
+        ≡ record none_yet { compared = 24; scanned = 43; tried = 9 }) }
+    ensures in_either_case { let patterns : List (List ℕ) = codes "apple" ∷ codes "maple" ∷ codes "snapple" ∷ [] in
+        let table : List (Option ℕ) = table_of (λ b. b == 0x70 || b == 0x50) (λ _. 4) in
+        let maple : MatchValue = record { pattern = 1; start = 13; end = 18 } in
+        let apple : MatchValue = record { pattern = 0; start = 28; end = 33 } in
+        let snapple : MatchValue = record { pattern = 2; start = 43; end = 50 } in
+        (pick (prefilter_builder LeftmostFirst true patterns) ≡ Some (by_table table))
+        × (counts_after_answers none_yet (by_table table) (record { kind = LeftmostFirst; patterns = patterns })
+        (codes "Nobody likes maple in their apple flavored Snapple.") 0
+        (answers_of (maple ∷ apple ∷ snapple ∷ []) ++ None ∷ [])
+        ≡ record none_yet { compared = 24; scanned = 43; tried = 9 }) }
+    ensures lockjaw { let patterns : List (List ℕ) = codes "Sherlock" ∷ codes "lockjaw" ∷ [] in
+        let table : List (Option ℕ) = table_of (λ b. b == 0x6B) (λ _. 7) in
+        (pick (prefilter_builder LeftmostFirst false patterns) ≡ Some (by_table table))
+        × (counts_after_confirming none_yet (by_table table) (record { kind = LeftmostFirst; patterns = patterns })
+        (codes "Shlockjaw") (between 0 9) (Some (record { pattern = 1; start = 2; end = 9 }))
+        ≡ record none_yet { compared = 6; scanned = 6; tried = 3 }) }
+    ensures lockjaw_in_either_case { let patterns : List (List ℕ) = codes "Sherlock" ∷ codes "lockjaw" ∷ [] in
+        let table : List (Option ℕ) = table_of (λ b. b == 0x6B || b == 0x4B) (λ _. 7) in
+        (pick (prefilter_builder LeftmostFirst true patterns) ≡ Some (by_table table))
+        × (counts_after_confirming none_yet (by_table table) (record { kind = LeftmostFirst; patterns = patterns })
+        (codes "ShLOCKJAW") (between 0 9) (Some (record { pattern = 1; start = 2; end = 9 }))
+        ≡ record none_yet { compared = 6; scanned = 6; tried = 3 }) }
 {}
 
 /// Where a match begins at the place that its table proposes first, that place alone is tried, and the

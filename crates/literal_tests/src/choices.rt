@@ -292,7 +292,7 @@ static NO_TABLE: [Row; 4] = [
 ];
 
 /// Lists whose tables are taken.
-static OF_TABLES: [Row; 5] = [
+static OF_TABLES: [Row; 6] = [
     (
         "both tables of three bytes, one pattern of one",
         ANY,
@@ -303,7 +303,16 @@ static OF_TABLES: [Row; 5] = [
         Answer::Start(2),
     ),
     (
-        "fewer start bytes",
+        "fewer start bytes, but common ones",
+        ANY,
+        "Prefilter(StartBytesOne)",
+        &[b"a\x01", b"a\x02"],
+        false,
+        b"\x01qa",
+        Answer::Start(2),
+    ),
+    (
+        "the same bytes in both tables",
         ANY,
         "Prefilter(StartBytesTwo)",
         &[b"foo", b"bar"],

@@ -29,7 +29,7 @@ const RARE_THREE: &str = "Some(Prefilter(RareBytesThree))";
 /// 256 bytes, one more than a rare table has room for.
 const LONG: &[u8] = &[b'x'; 256];
 
-static ROWS: [Row; 15] = [
+static ROWS: [Row; 16] = [
     (
         "a byte that is rare in both",
         false,
@@ -39,6 +39,11 @@ static ROWS: [Row; 15] = [
         "a rare byte of each",
         false,
         &[(b"lockjaw", MEMMEM), (b"Sherlock", RARE_TWO)],
+    ),
+    (
+        "one word, and then the same",
+        false,
+        &[(b"Sherlock", MEMMEM), (b"Sherlock", START_ONE)],
     ),
     (
         "a fourth start byte in either case",

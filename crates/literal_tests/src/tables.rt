@@ -16,7 +16,14 @@ type Table = Option<(u16, &'static [(u8, u8)])>;
 type Row = (&'static str, &'static [&'static [u8]], bool, Table, Table);
 
 /// Patterns with rare bytes inside.
-static OF_RARE_BYTES: [Row; 4] = [
+static OF_RARE_BYTES: [Row; 5] = [
+    (
+        "one word",
+        &[b"Sherlock"],
+        false,
+        Some((192, &[(b'S', 0)])),
+        Some((180, &[(b'k', 7)])),
+    ),
     (
         "a rare byte of both",
         &[b"Sherlock", b"lockjaw"],

@@ -1,18 +1,21 @@
 -- The best of the patterns that stand at a place, by the patterns that an iterator gave.
 -- For `best_at`.
-use Rattle.std.proofs.Common.{◌≡◌, ℕ, ◌+◌, ◌<◌, inl, inr, Bool, List, [], ◌∷◌, ◌++◌, length, get_or, sym, ap, ◌∙◌}
-use Rattle.std.proofs.Common.{subst, arith}
-use Rattle.std.specs.List.{All, Contains, range_with_len}
+use Rattle.std.proofs.Common.{◌≡◌, ℕ, ◌+◌, ◌<◌, inl, inr, Bool, true, false, cond, List, [], ◌∷◌, ◌++◌, length}
+use Rattle.std.proofs.Common.{take, drop, get_or, Some, refl, sym, ap, ◌∙◌, subst, arith}
+use Rattle.std.specs.List.{All, Contains, count_by, range_with_len}
 use Rattle.std.proofs.lemmas.Bool.{cases_order}
-use Rattle.std.proofs.lemmas.List.{get_or-map, get_or_append_left}
+use Rattle.std.proofs.lemmas.List.{get_or-map, get_or_append_left, get_or-take, get_or-drop, drop_more}
+use Rattle.std.proofs.lemmas.List.{take-append-drop, length-drop, length-take-le}
 use Rattle.std.proofs.lemmas.List.FromFn.{get_or-range_with_len, length-range_with_len}
-use Rattle.std.proofs.lemmas.List.Sorted.{Contains-permutation, length_permutation}
+use Rattle.std.proofs.lemmas.List.Sorted.{Contains-permutation, length_permutation, sum_by-IsPermutation}
 use Rattle.literal_base.specs.Leftmost.{IsBetter}
 use Rattle.literal_base.specs.Occurs.{StandsAt, pattern_at}
 use Rattle.literal_packed.specs.PatternsValue.{PatternsValue, IsWellFormed, IsInOrder, in_order, query_of}
 use Rattle.literal_packed.specs.Inside.Place.{IsBestAt, NoneStandsAt}
-use Rattle.literal_packed.proofs.lemmas.Ties.{better_asymmetric}
+use Rattle.literal_packed.proofs.lemmas.Lists.{count_by-all, count_by-append, count_by-cons, count_by-none}
+use Rattle.literal_packed.proofs.lemmas.Ties.{better_asymmetric, is_up_to, up_to_better, up_to_self, up_to_worse}
 use Rattle.literal_packed.proofs.lemmas.Given.{head_at, head_below, length-order}
+use Rattle.literal_prefilters.specs.Confirming.{compared_at}
 
 module _ (c : PatternsValue) where
   done_at : (done left : List (ℕ × List ℕ)) → done ++ left ≡ in_order c → (k : ℕ) (d : ℕ × List ℕ) (e : ℕ)
@@ -31,6 +34,52 @@ module _ (c : PatternsValue) where
         omega (arith, length-range_with_len 0 n),
         omega (arith, get_or-range_with_len 0 n j j h),
       )
+
+  -- how many patterns are compared up to one that an iterator gives
+  module _ (w : IsWellFormed c) (ordered : IsInOrder c) (done left : List (ℕ × List ℕ)) (x : ℕ × List ℕ)
+      (split : done ++ x ∷ left ≡ in_order c) where
+    abbrev k : ℕ
+    k = length done
+
+    abbrev up : ℕ → Bool
+    up i = is_up_to c.kind c.patterns x.0 i
+
+    abbrev Better : ℕ → ℕ → Type 0
+    Better = IsBetter c.kind c.patterns
+
+    before_it : count_by up (take k c.order) ≡ k
+    before_it =
+        let head = head_at c done left x split in
+        let long = length-take-le k c.order (omega (arith, head.0)) in
+        count_by-all up (take k c.order) (λ i d h.
+        let before : i < k = omega (arith, long) in
+        let better : Better (get_or c.order i d) x.0 =
+        subst (λ y. Better (get_or c.order i d) y) (head.1 d) (ordered i k d before head.0) in
+        subst (λ y. up y ≡ true) (sym (get_or-take k c.order i d before)) (up_to_better c.kind c.patterns x.0 _ better))
+        ∙ long
+
+    behind_it : count_by up (drop (k + 1) c.order) ≡ 0
+    behind_it =
+        let head = head_at c done left x split in
+        count_by-none up (drop (k + 1) c.order) (λ i d h.
+        let later : k + 1 + i < length c.order = omega (arith, length-drop (k + 1) c.order) in
+        let worse : Better x.0 (get_or c.order (k + 1 + i) d) =
+        subst (λ y. Better y (get_or c.order (k + 1 + i) d)) (head.1 d)
+        (ordered k (k + 1 + i) d (omega arith) later) in
+        subst (λ y. up y ≡ false) (sym (get_or-drop (k + 1) c.order i d)) (up_to_worse c.kind c.patterns x.0 _ worse))
+
+    pub compared_up_to : compared_at (query_of c) (Some x.0) ≡ k + 1
+    compared_up_to =
+        let head = head_at c done left x split in
+        let split_order : c.order ≡ take k c.order ++ x.0 ∷ drop (k + 1) c.order =
+        sym (take-append-drop k c.order) ∙ ap (λ ys. take k c.order ++ ys)
+        (drop_more c.order k x.0 head.0 ∙ ap (λ y. y ∷ drop (k + 1) c.order) (head.1 x.0)) in
+        let here : cond {A = ℕ} (up x.0) 1 0 ≡ 1 =
+        ap (λ b. cond {A = ℕ} b 1 0) (up_to_self c.kind c.patterns x.0 x.0 refl) in
+        sym (sum_by-IsPermutation (λ i. cond (up i) 1 0) (range_with_len 0 (length c.patterns)) c.order w.once)
+        ∙ (ap (count_by up) split_order
+        ∙ (count_by-append up (take k c.order) (x.0 ∷ drop (k + 1) c.order)
+        ∙ omega (arith, before_it, behind_it, here, count_by-cons up x.0 (drop (k + 1) c.order))))
 
   module _ (ignore_case : Bool) (haystack : List ℕ) (at : ℕ) where
     abbrev pub NoneStandsOf : List (ℕ × List ℕ) → Type 0

@@ -88,21 +88,28 @@ module _ (table : List (Option ℕ)) (haystack : List ℕ) (span : Span) (valid 
       ∙ count_skipped near span.start (at - span.start) (to - at)
       (λ k from before. none (span.start + k) (omega arith) (omega arith))
 
+  -- before the place that is tried none more is near
+  pub near_count-before : (at place : ℕ) → span.start ≤ at → IsFirst table haystack (rest at) place
+      → near_count table haystack span (step_back table haystack at place) ≡ near_count table haystack span at
+  near_count-before at place after f =
+      let from = f.after_start in
+      skipped at (step_back table haystack at place) after (omega arith)
+      (λ k low high. near_at place k (first_later at place k f low (omega arith))
+      ∙ lt-leb place (k + distance place) (omega arith))
+
   -- of the places up to the one that is tried, that one alone is near
   pub near_count-tried : (at place : ℕ) → span.start ≤ at → IsFirst table haystack (rest at) place
       → near_count table haystack span (step_back table haystack at place + 1) ≡ near_count table haystack span at + 1
   near_count-tried at place after f =
       let s = step_back table haystack at place in
       let from = f.after_start in
-      let to_here = skipped at s after (omega arith)
-      (λ k low high. near_at place k (first_later at place k f low (omega arith))
-      ∙ lt-leb place (k + distance place) (omega arith)) in
       let e : s + 1 - span.start ≡ (s - span.start) + 1 = omega arith in
       let same : span.start + (s - span.start) ≡ s = omega arith in
       let here = near_at place s (first_later at place s f (omega arith) (omega arith))
       ∙ le-leb place (s + distance place) (omega arith) in
       ap (λ n. count_by near (range_with_len span.start n)) e
-      ∙ (count_more_yes near span.start (s - span.start) (ap near same ∙ here) ∙ ap (λ n. n + 1) to_here)
+      ∙ (count_more_yes near span.start (s - span.start) (ap near same ∙ here)
+      ∙ ap (λ n. n + 1) (near_count-before at place after f))
 
   pub near_count-free : (at : ℕ) → span.start ≤ at → at ≤ span.end → IsFree table haystack at span.end
       → near_count table haystack span span.end ≡ near_count table haystack span at

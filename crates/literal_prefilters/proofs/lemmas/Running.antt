@@ -20,7 +20,7 @@ and_true : (x : Bool) → (x && true) ≡ x
 and_true true = refl
 and_true false = refl
 
-is_start_byte-push : (c : Bool) (ps : List (List ℕ)) (p : List ℕ) (b : ℕ)
+pub is_start_byte-push : (c : Bool) (ps : List (List ℕ)) (p : List ℕ) (b : ℕ)
     → is_start_byte c (ps ++ p ∷ []) b ≡ (is_start_byte c ps b || same_byte c b (slice_index p 0))
 is_start_byte-push c ps p b =
     list_any-append (λ q. same_byte c b (slice_index q 0)) ps (p ∷ [])

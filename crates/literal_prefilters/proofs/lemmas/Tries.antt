@@ -1,9 +1,15 @@
 -- One try of a confirming search by a table.
 -- For `confirm_by_table`.
-use Rattle.std.proofs.Common.{◌≡◌, ℕ, ◌+◌, ◌-◌, ◌<◌, ◌≤◌, max, Bool, List}
-use Rattle.std.proofs.Common.{slice_index, Option, Some, sym, ap, ◌∙◌, ⊎_elim, unwrap_or, arith}
-use Rattle.std.specs.List.{All}
+use Rattle.std.proofs.Common.{◌≡◌, ℕ, ◌+◌, ◌-◌, ◌*◌, ◌<◌, ◌≤◌, eqb, max, Bool, ◌||◌, List, length}
+use Rattle.std.proofs.Common.{slice_index, Option, Some, None, refl, sym, ap, ◌∙◌, ⊎_elim, unwrap_or, arith}
+use Rattle.std.specs.List.{All, range_with_len}
 use Rattle.std.proofs.lemmas.Bool.{cases_lt}
+use Rattle.std.proofs.lemmas.List.FromFn.{length-range_with_len}
+use Rattle.std.proofs.lemmas.List.Sums.{count_by-le-length}
+use Rattle.literal_base.specs.Leftmost.{is_better}
+use Rattle.literal_base.specs.MatchValue.{MatchValue}
+use Rattle.literal_base.specs.Query.{Query}
+use Rattle.literal_prefilters.specs.Confirming.{compared_at, counts_after_tries}
 use Rattle.literal_base.specs.Counts.{Counts}
 use Rattle.literal_base.specs.declared.search.Span.{Span}
 use Rattle.literal_prefilters.specs.declared.prefilter.byte_table.TableByte.{TableByte}
@@ -16,7 +22,7 @@ use Rattle.literal_prefilters.specs.Table.{distance_of, first, step_back, Covers
 use Rattle.literal_prefilters.specs.Table.{IsFirst}
 use Rattle.literal_prefilters.proofs.lemmas.First.{IsFree, is_first_from, first_is}
 use Rattle.literal_prefilters.proofs.lemmas.Asks.{in_rest}
-use Rattle.literal_prefilters.proofs.lemmas.Near.{valid_rest, first_later, near_count-tried}
+use Rattle.literal_prefilters.proofs.lemmas.Near.{valid_rest, first_later, near_count-before, near_count-tried}
 use Rattle.literal_prefilters.proofs.lemmas.Sound.{none_before_step, nothing_from_free}
 
 module _ (table : List (Option ℕ)) (haystack : List ℕ) (span : Span) where
@@ -80,6 +86,7 @@ pub record Try (table : List (Option ℕ)) (haystack : List ℕ) (span : Span) (
   pub from : at ≤ start
   pub to : start ≤ found.place
   pub first_from_start : first table haystack (rest table haystack span start) ≡ Some found.place
+  pub before : near_count table haystack span start ≡ near_count table haystack span at
   pub counted : near_count table haystack span (start + 1) ≡ near_count table haystack span at + 1
   pub read : read_to span.start kept ≤ found.place + 1
   pub next : IsKept table haystack span.start (start + 1) span.end (Some found)
@@ -109,6 +116,8 @@ one_try table haystack span valid at kept found less start k place far back up =
       first_from_start = first_is table haystack (rest table haystack span start)
           (valid_rest table haystack span valid start (omega arith)) found.place
           (first_later table haystack span valid at found.place start f from to);
+      before = ap (near_count table haystack span) tried
+          ∙ near_count-before table haystack span valid at found.place after f;
       counted = ap (λ s. near_count table haystack span (s + 1)) tried
           ∙ near_count-tried table haystack span valid at found.place after f;
       read = read_to-le table haystack span at found.place kept k f;
@@ -129,3 +138,46 @@ counts_are a b h e c s t =
     }) (record
     { hashed = b.hashed; entries = b.entries; compared = b.compared; scanned = b.scanned; tried = b.tried }) =
     cc in made
+
+-- the counts after one try more: a byte of the table is looked for, the place is ticked, and patterns are compared
+pub counts_of_try : (old base next ticked new : Counts) (a b t read more compared scanned tried : ℕ)
+    → base ≡ record old { compared = old.compared + a; scanned = old.scanned + b; tried = old.tried + t }
+    → next ≡ record base { scanned = base.scanned + read } → ticked ≡ record next { tried = next.tried + 1 }
+    → new ≡ record ticked { compared = ticked.compared + more }
+    → a + more ≡ compared → b + read ≡ scanned → t + 1 ≡ tried
+    → new ≡ record old
+    { compared = old.compared + compared; scanned = old.scanned + scanned; tried = old.tried + tried }
+counts_of_try old base next ticked new a b t read more compared scanned tried base_is next_is ticked_is new_is c s tr =
+    new_is
+    ∙ (ap (λ (n : Counts). record n { compared = n.compared + more }) (ticked_is
+    ∙ ap (λ (n : Counts). record n { tried = n.tried + 1 }) (next_is
+    ∙ ap (λ (n : Counts). record n { scanned = n.scanned + read }) base_is))
+    ∙ counts_are _ _ refl refl (omega arith) (omega arith) (omega arith))
+
+-- at no place more patterns are compared than there are
+pub compared_at_most : (query : Query) (answer : Option ℕ) → compared_at query answer ≤ length query.patterns
+compared_at_most query None = omega arith
+compared_at_most query (Some j) =
+    let n = length query.patterns in
+    omega (
+      arith,
+      count_by-le-length (λ i. eqb i j || is_better query.kind query.patterns i j) (range_with_len 0 n),
+      length-range_with_len 0 n,
+    )
+
+-- so a search compares at most as often as there are patterns for each place that it tries
+pub compared_by_tries_at_most : (old new : Counts) (table : List (Option ℕ)) (query : Query) (haystack : List ℕ)
+    (span : Span) (found : MatchValue)
+    → near_count table haystack span (found.start + 1) ≡ near_count table haystack span found.start + 1
+    → new ≡ counts_after_tries old table query haystack span (Some found)
+    → new.compared ≤ old.compared + (new.tried - old.tried) * length query.patterns
+compared_by_tries_at_most old new table query haystack span found one is =
+    let n = length query.patterns in
+    let before = near_count table haystack span found.start in
+    let tried : new.tried ≡ old.tried + near_count table haystack span (found.start + 1) =
+    ap (λ (c : Counts). c.tried) is in
+    let compared : new.compared ≡ old.compared + (before * n + compared_at query (Some found.pattern)) =
+    ap (λ (c : Counts). c.compared) is in
+    let times : (new.tried - old.tried) * n ≡ (before + 1) * n =
+    let e : new.tried - old.tried ≡ before + 1 = omega arith in ap (λ k. k * n) e in
+    omega (arith, compared_at_most query (Some found.pattern))

@@ -1,6 +1,7 @@
 -- What the builder of a prefilter keeps of its patterns beside them, while it takes one after the other.
-use Rattle.std.specs.Prelude.{◌≡◌, ◌<◌, ◌≤◌, ℕ, Bool, false, not, List, [], ◌∷◌, length, nat_lt, nat_le, slice_index}
-use Rattle.std.specs.List.{list_all}
+use Rattle.std.specs.Prelude.{◌≡◌, ◌<◌, ◌≤◌, ℕ, Bool, false, not, List, [], ◌∷◌, ◌++◌, length, fold, nat_lt, nat_le}
+use Rattle.std.specs.Prelude.{slice_index, if◌then◌else◌}
+use Rattle.std.specs.List.{list_all, take_while}
 use Rattle.literal_base.specs.Bytes.{contains}
 use Rattle.literal_prefilters.specs.declared.prefilter.running.Came.{Came}
 use Rattle.literal_prefilters.specs.declared.prefilter.running.Came.TheVariants.{Nothing, One, Several}
@@ -26,19 +27,37 @@ one_more Several = Several
 abbrev pub are_short : List (List ℕ) → Bool
 are_short patterns = list_all (λ p. nat_le (length p) 255) patterns
 
+-- of patterns that come one by one, those that are taken into a set: no more once it has more than three bytes
+abbrev pub taken_in : (List (List ℕ) → ℕ → Bool) → List (List ℕ) → List (List ℕ)
+taken_in bytes_of patterns =
+    fold (λ taken p. if nat_le (size (of_set (bytes_of taken))) 3 then taken ++ p ∷ [] else taken) [] patterns
+
+-- those whose first byte is
+abbrev pub start_taken : Bool → List (List ℕ) → List (List ℕ)
+start_taken ignore_case patterns = taken_in (is_start_byte ignore_case) patterns
+
+-- those whose rare byte is: no more from the first on that is longer than a rare table allows
+abbrev pub rare_taken : Bool → List (List ℕ) → List (List ℕ)
+rare_taken ignore_case patterns =
+    taken_in (is_rare_byte ignore_case) (take_while (λ p. nat_le (length p) 255) patterns)
+
 -- the set is the wanted one; or both have more than three bytes, so that there is no table of the wanted one, and with
 -- more patterns never will be: then the set need not be kept up
 pub record IsUpTo (set wanted : ℕ → Bool) : Type 0 where
   pub exact : size (of_set set) ≤ 3 → (b : ℕ) → set b ≡ wanted b
   pub past : 3 < size (of_set set) → 3 < size (of_set wanted)
 
--- the start bytes of the patterns that a builder of prefilters keeps beside them, as far as they are kept up
+-- the start bytes of the patterns that a builder of prefilters keeps beside them, as far as they are kept up: those of
+-- the patterns that were taken in
 pub record IsRunningStart (ignore_case : Bool) (patterns : List (List ℕ)) (start : RunningStart) : Type 0 where
+  pub taken : (b : ℕ) → contains start.set b ≡ is_start_byte ignore_case (start_taken ignore_case patterns) b
   pub set : IsUpTo (contains start.set) (is_start_byte ignore_case patterns)
 
--- the rare bytes of the patterns and their largest offsets, as far as they are kept up: once a long pattern came there
--- is no rare table and never will be, and neither set nor offsets need be kept up
+-- the rare bytes of the patterns and their largest offsets, as far as they are kept up: those of the patterns that were
+-- taken in. Once a long pattern came there is no rare table and never will be
 pub record IsRunningRare (ignore_case : Bool) (patterns : List (List ℕ)) (rare : RunningRare) : Type 0 where
+  pub taken : (b : ℕ) → contains rare.set b ≡ is_rare_byte ignore_case (rare_taken ignore_case patterns) b
+  pub raised : (b : ℕ) → slice_index rare.offsets b ≡ largest_offset ignore_case (rare_taken ignore_case patterns) b
   pub long : rare.has_long ≡ not (are_short patterns)
   pub set : rare.has_long ≡ false → IsUpTo (contains rare.set) (is_rare_byte ignore_case patterns)
   pub some : rare.has_long ≡ false → nat_lt 0 (length patterns) ≡ nat_le 1 (size (of_set (contains rare.set)))
@@ -51,3 +70,11 @@ pub record IsRunning (ignore_case : Bool) (patterns : List (List ℕ)) (running 
   pub came : running.came ≡ came_of patterns
   pub start : IsRunningStart ignore_case patterns running.start
   pub rare : IsRunningRare ignore_case patterns running.rare
+
+-- two states are the same: what came, the same bytes, and the same offsets
+pub record AreSame (a b : Running) : Type 0 where
+  pub came : a.came ≡ b.came
+  pub start : (byte : ℕ) → contains a.start.set byte ≡ contains b.start.set byte
+  pub long : a.rare.has_long ≡ b.rare.has_long
+  pub rare : (byte : ℕ) → contains a.rare.set byte ≡ contains b.rare.set byte
+  pub offsets : (byte : ℕ) → slice_index a.rare.offsets byte ≡ slice_index b.rare.offsets byte

@@ -1,15 +1,16 @@
 //! The confirming search: a prefilter proposes places, and the patterns are compared there.
 ghost use Rattle.std.specs.Prelude.{◌≡◌, ◌+◌, ◌-◌, ◌*◌, ◌≤◌, length, take, is_some, slice_index, Some};
-ghost use Rattle.std.specs.Prelude.{IfOk, OnErr, IfSome, IsTrue, MatchOption, option_map};
+ghost use Rattle.std.specs.Prelude.{IfOk, OnErr, IfSome, IsTrue, MatchOption, option_map, None, ◌++◌, ◌∷◌, []};
 ghost use Rattle.std.specs.List.{All};
 ghost use Rattle.literal_base.specs.Greedy.{IsGreedy};
 ghost use Rattle.literal_base.specs.Leftmost.{IsLeftmost};
 ghost use Rattle.literal_base.specs.Occurs.{IsValidSpan, NoneIsEmpty};
 ghost use Rattle.literal_packed.specs.Inside.Place.{IsBestAt, NoneStandsAt};
 ghost use Rattle.literal_packed.specs.PatternsValue.{IsInOrder, query_of};
-ghost use Rattle.literal_prefilters.specs.Confirming.{CountsConfirming, SpendsConfirming, answer_end};
-ghost use Rattle.literal_prefilters.specs.Confirming.{scanned_once, tried_places};
-ghost use Rattle.literal_prefilters.specs.PrefilterValue.{CoveredBy};
+ghost use Rattle.literal_prefilters.specs.Confirming.{SpendsConfirming, answer_end, compared_at};
+ghost use Rattle.literal_prefilters.specs.Confirming.{RefusesList, answers_of, counts_after_answers};
+ghost use Rattle.literal_prefilters.specs.Confirming.{counts_after_confirming, counts_after_tries};
+ghost use Rattle.literal_prefilters.specs.PrefilterValue.{CoveredBy, prefilter_table};
 ghost use Rattle.literal_packed.specs.Lending.{CanBeTaken};
 ghost use Rattle.literal_prefilters.specs.Choice.{pick};
 ghost use Rattle.literal_base.specs.Kinds.{root_kind_of};
@@ -43,9 +44,8 @@ fn best_at(
     ensures best { MatchOption result
         (NoneStandsAt patterns.now.patterns ignore_case (take span.end haystack.now) at)
         (IsBestAt (query_of patterns.now) ignore_case (take span.end haystack.now) at) }
-    ensures compared { tally.new.compared ≤ tally.old.compared + length patterns.now.patterns }
-    ensures grows { tally.old.compared ≤ tally.new.compared }
-    ensures others { tally.new ≡ record tally.old { compared = tally.new.compared } }
+    ensures counted { tally.new ≡ record tally.old
+        { compared = tally.old.compared + compared_at (query_of patterns.now) result } }
 {
     // An occurrence that runs past the end of the span is none.
     let haystack = &haystack[..span.end];
@@ -151,14 +151,11 @@ fn confirm_by_table(
     requires covered { All (Covers table.now ignore_case) patterns.now.patterns }
     requires valid { IsValidSpan haystack.now span }
     ensures leftmost { IsLeftmost (query_of patterns.now) ignore_case haystack.now span result }
-    ensures scanned { tally.new.scanned ≡ tally.old.scanned + scanned_once table.now haystack.now span result }
+    ensures counted { tally.new
+        ≡ counts_after_tries tally.old table.now (query_of patterns.now) haystack.now span result }
     ensures within { tally.new.scanned ≤ tally.old.scanned + (answer_end span result - span.start) }
-    ensures tried { tally.new.tried ≡ tally.old.tried + tried_places table.now haystack.now span result }
     ensures compared { tally.new.compared ≤ tally.old.compared
         + (tally.new.tried - tally.old.tried) * length patterns.now.patterns }
-    ensures grows { tally.old.compared ≤ tally.new.compared }
-    ensures others { tally.new ≡ record tally.old
-        { compared = tally.new.compared; scanned = tally.new.scanned; tried = tally.new.tried } }
 {
     let mut at = span.start;
     let mut kept = None;
@@ -274,14 +271,17 @@ impl ConfirmingSearch {
     }
 
     /// Answers as [`ConfirmingSearch::find_in`], and adds the steps that it takes to a tally. By a table
-    /// of bytes each byte is scanned at most once, and none behind the match's end; for each place that is
-    /// tried there are at most as many comparisons as there are patterns. By an exact prefilter it is one
-    /// search.
+    /// of bytes it scans at most as many bytes as there are from the span's start up to the match's end, or
+    /// as the span has where there is no match. Only places near a byte of the table are tried, and at each
+    /// of them the patterns are compared in match order, up to the match's own. By an exact prefilter it is
+    /// one search.
     pub fn find_in_counted(&self, haystack: &[u8], span: Span, tally: &mut Tally) -> Option<Match>
         requires { IsValidSpan haystack.now span }
         ensures leftmost { IsLeftmost self.now.query self.now.ignore_case haystack.now span result }
-        ensures counted { CountsConfirming self.now.prefilter self.now.query.patterns haystack.now span result
-            tally.old tally.new }
+        ensures counted { tally.new ≡ counts_after_confirming tally.old self.now.prefilter self.now.query haystack.now
+            span result }
+        ensures compared { IfSome (prefilter_table self.now.prefilter) (λ _. tally.new.compared ≤ tally.old.compared
+            + (tally.new.tried - tally.old.tried) * length self.now.query.patterns) }
         ensures within { tally.new.scanned ≤ tally.old.scanned + (answer_end span result - span.start) }
     {
         match self.prefilter.table() {
@@ -305,13 +305,17 @@ impl ConfirmingSearch {
 
     /// All matches in the haystack, from the left, none of which overlaps another: first the leftmost
     /// match of the haystack, and after each match the leftmost one of what is left behind it. The
-    /// steps that this takes are added to a tally, those before memory was refused too. By a table no
+    /// steps of these searches are added to a tally, those before memory was refused too. By a table no
     /// more bytes are scanned than the haystack has, and no more places tried than lie near a byte of
     /// the table; by an exact prefilter it counts no more than
-    /// [`Searcher::find_all`](literal_packed::Searcher::find_all) may.
+    /// [`Searcher::find_all`](literal_packed::Searcher::find_all) may. Memory is refused only for a match
+    /// that was found, and nothing is searched for behind it.
     pub fn find_all(&self, haystack: &[u8], tally: &mut Tally) -> Result<Vec<Match>, AllocError>
         ensures greedy { IfOk result
             (λ all. IsGreedy self.now.query self.now.ignore_case haystack.now 0 all.items) }
+        ensures exact { IfOk result (λ all. tally.new ≡ counts_after_answers tally.old self.now.prefilter self.now.query
+            haystack.now 0 (answers_of all.items ++ None ∷ [])) }
+        ensures no_memory { OnErr result (RefusesList self.now haystack.now tally.old tally.new) }
         ensures counted { SpendsConfirming self.now.prefilter self.now.query.patterns haystack.now
             tally.old tally.new }
     {

@@ -1,7 +1,8 @@
 //! What a builder keeps of its patterns beside them, so that it makes their tables without a walk over
 //! the list.
 ghost use Rattle.std.specs.Prelude.{◌≡◌, ◌==◌, ◌<◌, ◌≤◌, ◌++◌, ◌∷◌, [], ℕ, Bool, List, length, slice_index};
-ghost use Rattle.literal_prefilters.specs.Inside.Running.{IsRunning, IsRunningRare, IsRunningStart, came_of, one_more};
+ghost use Rattle.literal_prefilters.specs.Inside.Running.{AreSame, IsRunning, IsRunningRare, IsRunningStart};
+ghost use Rattle.literal_prefilters.specs.Inside.Running.{came_of, one_more};
 ghost use Rattle.literal_prefilters.specs.Tables.{start_table, rare_table};
 
 use super::ByteTable;
@@ -78,6 +79,15 @@ impl Running {
         self.rare.table()
     }
 }
+
+/// The patterns determine what is kept of them. So where a builder that is refused memory has the patterns that
+/// it had, what it keeps of them is as before too.
+pub(super) fn patterns_determine_what_is_kept()
+    ensures { (ignore_case : Bool) (patterns : List (List ℕ)) (a b : Running)
+        → IsRunning ignore_case patterns a
+        → IsRunning ignore_case patterns b
+        → AreSame a b }
+{}
 
 /// How many patterns came.
 #[derive(Clone, Copy, Drop)]

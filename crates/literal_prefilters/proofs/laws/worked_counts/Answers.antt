@@ -18,10 +18,6 @@ pub returns-clause-words : goal.returns-clause-words
 unfolding by_byte
 returns-clause-words c = (refl, refl)
 
-pub returns-clause-list : goal.returns-clause-list
-unfolding by_byte
-returns-clause-list c = (refl, refl)
-
 pub returns-clause-every_place : goal.returns-clause-every_place
 unfolding by_byte
 returns-clause-every_place c = (refl, refl)

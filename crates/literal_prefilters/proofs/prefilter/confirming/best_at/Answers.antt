@@ -5,7 +5,7 @@ use Rattle.std.proofs.lemmas.List.Elements.{All-push}
 use Rattle.literal_base.specs.Counts.{Counts}
 use Rattle.literal_base.specs.Occurs.{StandsAt, pattern_at}
 use Rattle.literal_packed.proofs.lemmas.Given.{head_below, split_next, split_more}
-use Rattle.literal_prefilters.proofs.lemmas.BestAt.{best_from_front, none_from_all, given_at_most}
+use Rattle.literal_prefilters.proofs.lemmas.BestAt.{best_from_front, none_from_all, given_at_most, compared_up_to}
 use Rattle.literal_prefilters.proofs.prefilter.confirming.best_at.Goals as goal
 
 pub matches_at-requires-clause-is_pattern : goal.matches_at-requires-clause-is_pattern
@@ -20,15 +20,15 @@ returns-then-matches_at-clause-best c =
     (split_next c.loop-id.yielded c.loop-id.invariant.split c.in-Some.ensures.steps) c.loop-id.invariant.none
     (c.if-matches_at.ensures.stands.0 refl)
 
-pub returns-then-matches_at-clause-compared : goal.returns-then-matches_at-clause-compared
-returns-then-matches_at-clause-compared c =
-    let all = given_at_most c.args.patterns.now c.args.ignore_case (take c.args.span.end c.args.haystack.now)
-    c.args.at c.iter-id-items.ensures.well_formed c.loop-id.yielded
-    ((c.in-Some.id, c.in-Some.field-0-1) ∷ c.next.new.self)
+pub returns-then-matches_at-clause-counted : goal.returns-then-matches_at-clause-counted
+returns-then-matches_at-clause-counted c =
+    let old = c.args.tally.now in
+    let up_to = compared_up_to c.args.patterns.now c.iter-id-items.ensures.well_formed c.requires.in_order
+    c.loop-id.yielded _ (c.in-Some.id, c.in-Some.field-0-1)
     (split_next c.loop-id.yielded c.loop-id.invariant.split c.in-Some.ensures.steps) in
-    let before = ap (λ t. t.compared) c.loop-id.invariant.counted in
-    let one = ap (λ t. t.compared) c.matches_at.ensures.counted in
-    omega (arith, all, before, one)
+    let step : Counts → Counts = λ t. record t { compared = t.compared + 1 } in
+    c.matches_at.ensures.counted ∙ (ap step c.loop-id.invariant.counted
+    ∙ ap (λ k. record old { compared = k }) (omega (arith, up_to)))
 
 pub loop-id-preserved : goal.loop-id-preserved
 loop-id-preserved c =
@@ -53,10 +53,10 @@ returns-clause-best c =
     c.iter-id-items.ensures.well_formed _ (ap (λ ps. c.loop-id.yielded ++ ps) (sym c.in-None.ensures.steps.0)
     ∙ c.loop-id.invariant.split) c.loop-id.invariant.none
 
-pub returns-clause-compared : goal.returns-clause-compared
-returns-clause-compared c =
+pub returns-clause-counted : goal.returns-clause-counted
+returns-clause-counted c =
+    let old = c.args.tally.now in
     let all = given_at_most c.args.patterns.now c.args.ignore_case (take c.args.span.end c.args.haystack.now)
     c.args.at c.iter-id-items.ensures.well_formed c.loop-id.yielded []
     (ap (λ ps. c.loop-id.yielded ++ ps) (sym c.in-None.ensures.steps.0) ∙ c.loop-id.invariant.split) in
-    let before = ap (λ t. t.compared) c.loop-id.invariant.counted in
-    omega (arith, all, before)
+    c.loop-id.invariant.counted ∙ ap (λ k. record old { compared = k }) (omega (arith, all))

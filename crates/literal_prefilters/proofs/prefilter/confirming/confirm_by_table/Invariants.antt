@@ -11,13 +11,10 @@ invariant-loop-found l =
       kept : IsKept l.table l.haystack span.start l.at span.end l.kept;
       none_before : (i at : ℕ) → Occurs l.patterns.patterns l.ignore_case l.haystack span i at → l.at ≤ at;
       counts : l.tally ≡ record l.initial.tally {
-        compared = l.tally.compared;
+        compared = l.initial.tally.compared + near_count l.table l.haystack span l.at * length l.patterns.patterns;
         scanned = l.initial.tally.scanned + (read_to span.start l.kept - span.start);
         tried = l.initial.tally.tried + near_count l.table l.haystack span l.at;
       };
-      grows : l.initial.tally.compared ≤ l.tally.compared;
-      compared : l.tally.compared ≤ l.initial.tally.compared + near_count l.table l.haystack span l.at * length
-          l.patterns.patterns;
     }
 
 abbrev pub decreases-loop-found : goal.decreases-loop-found

@@ -9,6 +9,8 @@ pub returns : goal.returns
 returns c ignore_case =
     let set = contains c.empty.result in
     record {
+      taken = c.empty.ensures;
+      raised = λ b. get_or-replicate_same 256 0 b;
       long = refl;
       set = λ _. up_to-none set c.empty.ensures;
       some = λ _. sym (ap (λ n. nat_le 1 n) (size-none set c.empty.ensures));
