@@ -222,7 +222,7 @@ fn copy_of(alloc: Global, lists: &[Vec<u8>]) -> Result<Vec<Vec<u8>>, AllocError>
     Ok(copy)
 }
 
-/// No contract says when `Vec::from_slice` asks for memory, so room is made first.
+/// A copy of the order. No contract says when `Vec::from_slice` asks for memory, so room is made first.
 fn copy_of_order(alloc: Global, order: &[PatternID]) -> Result<Vec<PatternID>, AllocError>
     ensures copy { IfOk result (λ copy. copy.items ≡ order.now) }
     ensures no_memory { OnErr result (0 < length order.now) }

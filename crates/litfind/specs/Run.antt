@@ -21,6 +21,18 @@ pub record ReadSome (had has : Option (List ℕ)) : Type 0 where
   pub input : List ℕ
   pub bytes : Consumes had has input
 
+-- bytes were read, at least one
+pub record ReadBytes (had has : Option (List ℕ)) : Type 0 where
+  pub input : List ℕ
+  pub some : input ≢ []
+  pub bytes : Consumes had has input
+
+-- the input was read to its end, and it has a line
+pub record HasLine (words : List (List ℕ)) (had has : Option (List ℕ)) : Type 0 where
+  pub input : List ℕ
+  pub read : IsWhole had has input
+  pub line : ¬ AreLines words input []
+
 -- the input was read to its end and all its lines were written, and the answer tells whether there is a line
 pub record WroteLines (words : List (List ℕ)) (had has held holds : Option (List ℕ)) (printed : Bool) : Type 0 where
   pub input : List ℕ

@@ -1,13 +1,13 @@
 //! The engine: the words and the whole input in, the whole text out.
 ghost use Rattle.std.specs.Prelude.{◌≡◌, ◌≢◌, ◌⊎◌, ◌↔◌, true, false, map, Some, None, IfOk, IfErr, OnOk, OnErr};
-ghost use Rattle.std.specs.Prelude.{MatchOption, IsErrOf, List, ℕ, option_map, string_bytes};
+ghost use Rattle.std.specs.Prelude.{MatchOption, IsErrOf, List, [], ℕ, option_map, string_bytes};
 ghost use Rattle.std.specs.Io.KnownBytes.{Appends};
 ghost use Rattle.literal_packed.specs.BuilderValue.{searcher_of};
 ghost use Rattle.litfind.specs.Lines.{AreLinesOf};
 ghost use Rattle.litfind.specs.Inside.{asked_of, searches_for};
 ghost use Rattle.litfind.specs.Query.{HasNoSearcher, all_matches, builder_for, leftmost_match, mode_asks, words_ask};
 ghost use Rattle.literal_prefilters.specs.ConfirmingValue.{confirming_of, prefilter_builder};
-ghost use Rattle.litfind.specs.Run.{IsFront, IsWhole, ReadSome, WroteFront, WroteLines};
+ghost use Rattle.litfind.specs.Run.{HasLine, IsFront, IsWhole, ReadBytes, ReadSome, WroteFront, WroteLines};
 
 use crate::device::{Failed, Sink, Source};
 use crate::fault::Fault;
@@ -138,7 +138,8 @@ fn searcher(alloc: Global, words: &[String]) -> Result<Searching, Fault>
 /// search comes to lie in the program where no jump of it crosses 32 bytes (docs/DECISIONS.md).
 #[inline(never)]
 fn all_lines(alloc: Global, searcher: &Searcher, input: &[u8]) -> Result<String, AllocError>
-    ensures { IfOk result (λ text. AreLinesOf (all_matches searcher.now) input.now (string_bytes text)) }
+    ensures lines { IfOk result (λ text. AreLinesOf (all_matches searcher.now) input.now (string_bytes text)) }
+    ensures no_memory { OnErr result (¬ AreLinesOf (all_matches searcher.now) input.now []) }
 {
     let mut text = String::new(alloc);
     for found in searcher.find_iter(input) {
@@ -154,8 +155,10 @@ fn leftmost_line(
     search: &ConfirmingSearch,
     input: &[u8],
 ) -> Result<String, AllocError>
-    ensures { IfOk result (λ text. AreLinesOf (leftmost_match search.now.query search.now.ignore_case) input.now
-        (string_bytes text)) }
+    ensures lines { IfOk result (λ text. AreLinesOf (leftmost_match search.now.query search.now.ignore_case)
+        input.now (string_bytes text)) }
+    ensures no_memory { OnErr result
+        (¬ AreLinesOf (leftmost_match search.now.query search.now.ignore_case) input.now []) }
 {
     let mut text = String::new(alloc);
     let span = Span {
@@ -171,9 +174,11 @@ fn leftmost_line(
 }
 
 impl Searching {
-    /// The lines of the matches in the whole input that the searcher is for.
+    /// The lines of the matches in the whole input that the searcher is for. Memory is asked for only where
+    /// there is one.
     fn lines(&self, alloc: Global, input: &[u8]) -> Result<String, AllocError>
-        ensures { IfOk result (λ text. AreLinesOf (searches_for self.now) input.now (string_bytes text)) }
+        ensures lines { IfOk result (λ text. AreLinesOf (searches_for self.now) input.now (string_bytes text)) }
+        ensures no_memory { OnErr result (¬ AreLinesOf (searches_for self.now) input.now []) }
     {
         match self {
             Searching::All(searcher) => all_lines(alloc, searcher, input),
@@ -191,6 +196,8 @@ fn read_to_end<R: Source>(alloc: Global, reader: &mut R) -> Result<Vec<u8>, Faul
     ensures some { ReadSome (R.remaining reader.old) (R.remaining reader.new) }
     ensures failed { IsErrOf result Fault.ReadFailed ↔ (R.failed reader.new ≡ true) }
     ensures fault { IfErr result (λ fault. (fault ≡ Fault.OutOfMemory) ⊎ (fault ≡ Fault.ReadFailed)) }
+    ensures no_memory { IsErrOf result Fault.OutOfMemory → (R.ended reader.new ≡ false)
+        × ReadBytes (R.remaining reader.old) (R.remaining reader.new) }
 {
     let mut input = Vec::new(alloc);
     let mut buffer = [0u8; BLOCK];
@@ -254,6 +261,11 @@ pub fn run<R: Source, W: Sink>(
     ensures read_failed { IsErrOf result Fault.ReadFailed ↔ (R.failed reader.new ≡ true) }
     ensures ended { OnOk result (R.ended reader.new ≡ true) }
     ensures ended_at_write { IsErrOf result Fault.WriteFailed → R.ended reader.new ≡ true }
+
+    // Memory is refused before the first read, for bytes that were read, or for a line.
+    ensures no_memory { IsErrOf result Fault.OutOfMemory → (reader.new ≡ reader.old)
+        ⊎ ((R.ended reader.new ≡ false) × ReadBytes (R.remaining reader.old) (R.remaining reader.new))
+        ⊎ HasLine (map string_bytes words.now) (R.remaining reader.old) (R.remaining reader.new) }
 
     // Of the writer: it is left alone, but where all is written or writing fails.
     ensures unwritten { IfErr result (λ fault. fault ≢ Fault.WriteFailed → writer.new ≡ writer.old) }
