@@ -79,8 +79,8 @@ counts_after_answers old pre query haystack at (answer ∷ more) =
 abbrev pub answers_of : List MatchValue → List (Option MatchValue)
 answers_of = map Some
 
--- memory was refused for the list of all matches: behind the first of them, one or more, for the last of which there
--- was no room. The searches that found these are counted, and no other
+-- memory was refused for the list of all matches: once the first of them were found, one or more, the last of which had
+-- no room. The searches that found these are counted, and no other
 pub record RefusesList (search : ConfirmingValue) (haystack : List ℕ) (old new : Counts) : Type 0 where
   pub found : List MatchValue
   pub more : List MatchValue
