@@ -3,6 +3,7 @@
 ghost use Rattle.std.specs.Prelude.{◌≡◌, ◌↔◌, ◌-◌, ◌≤◌, ◌<◌, ◌++◌, ◌∷◌, [], ℕ, Bool, List, Option, None, Some, IfSome};
 ghost use Rattle.std.specs.Prelude.{false, true, codes, is_some, slice_index, length, ◌==◌, ◌||◌, ◌+◌, replicate};
 ghost use Rattle.std.specs.List.{All};
+ghost use Rattle.literal_ids.specs.Clones.{ClonesExactly};
 ghost use Rattle.literal_base.specs.Leftmost.{IsLeftmost, IsLeftmostMatch};
 ghost use Rattle.literal_base.specs.MatchValue.{MatchValue};
 ghost use Rattle.literal_base.specs.Query.{Query};
@@ -271,4 +272,9 @@ pub fn empty_spans_count_nothing()
     ensures { (table : List (Option ℕ)) (haystack : List ℕ) (at : ℕ)
         → (tried_places table haystack (between at at) None ≡ 0)
         × (scanned_once table haystack (between at at) None ≡ 0) }
+{}
+
+/// A clone of a candidate takes no memory, and is the same candidate.
+pub fn clones_are_equal()
+    ensures { ClonesExactly ⟦<Candidate as Clone>⟧.is_clone ⟦<Candidate as Clone>⟧.is_infallible }
 {}
