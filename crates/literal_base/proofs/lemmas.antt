@@ -3,6 +3,7 @@ pub mod ByByte
 pub mod Callers
 pub mod ClassIterations
 pub mod Exists
+pub mod LentParts
 pub mod Marks
 pub mod Runs
 pub mod Stride

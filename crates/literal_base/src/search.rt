@@ -1,8 +1,8 @@
 //! Spans of a haystack, matches in it, and what a search is asked for. All offsets are in bytes, from
 //! the beginning of the whole haystack.
 ghost use Rattle.std.specs.Prelude.{◌≡◌, ◌≤◌, ◌<◌, ◌+◌, ◌-◌, ◌^◌, ◌++◌, ◌↔◌, ◌⊎◌, IsTrue, IsCharBoundary, ⊤, Some};
-ghost use Rattle.std.specs.Prelude.{codes, false, length, slice_range};
-ghost use Rattle.std.specs.Borrow.{u8};
+ghost use Rattle.std.specs.Prelude.{codes, drop, false, length, slice_range, take};
+ghost use Rattle.std.specs.Borrow.{Array, Lends, sem, u8};
 ghost use Rattle.std.specs.Fmt.{decimal};
 ghost use Rattle.std.specs.Ptr.{as_mut_ptr, ptr_add};
 
@@ -345,10 +345,13 @@ impl Span {
     }
 
     /// The bytes of the span, lent in place to be written to: they lie in the slice's own memory,
-    /// `start` bytes after its beginning. It has to be a valid span of the slice. What the slice ends
-    /// as is not said; a caller whose proof needs it writes `&mut bytes[span.start..span.end]`.
+    /// `start` bytes after its beginning. It has to be a valid span of the slice. The slice ends as what
+    /// is written there, between the bytes before the span and those after it as they were. No generated
+    /// proof of a caller takes that up; one that needs it writes `&mut bytes[span.start..span.end]`.
     pub fn of_mut<'a>(&self, bytes: &'a mut [u8]) -> &'a mut [u8]
         requires { IsValidSpan bytes.old self.now }
+        ensures* writes_back { sem 𝓛 (Lends (Array u8 0) (Array u8 0) bytes.entry result
+            (λ part. take self.now.start bytes.old ++ (part ++ drop self.now.end bytes.old))) }
         ensures part { result.now ≡ slice_range bytes.old self.now.start self.now.end }
         ensures in_place { as_mut_ptr result ≡ ptr_add u8 self.now.start (as_mut_ptr bytes.entry) }
     {
