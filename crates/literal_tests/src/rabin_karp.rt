@@ -25,7 +25,12 @@ fn rolls_on_by_its_equation(rt: HostRuntime) {
     let mut rolling = Rolling::new(1);
     rolling.push(10, &mut tally);
     rolling.push(5, &mut tally);
-    assert_same(&rt, rolling.value(), 25, "of more bytes than the window is to have");
+    assert_same(
+        &rt,
+        rolling.value(),
+        25,
+        "of more bytes than the window is to have",
+    );
     rolling.roll(5, 7, &mut tally);
     assert_same(&rt, rolling.value(), 47, "of a window that is none");
 }
