@@ -32,7 +32,7 @@ BYTE_TABLE = "crates/literal_prefilters/src/prefilter/byte_table.rt"
 CONFIRMING = "crates/literal_prefilters/src/prefilter/confirming.rt"
 ENGINE = "crates/litfind/src/engine.rt"
 
-# The functions that may make a tally, each one: for the hashes of patterns, or for a search that nobody counts.
+# The functions that may make a tally, each one: for the hashes of patterns, or for a search that is given none.
 TALLY_MAKERS = {
     API: ("Builder::build", "Searcher::find", "Searcher::find_in", "Searcher::find_iter"),
     PREFILTER: ("Builder::build", "Prefilter::find_in"),
