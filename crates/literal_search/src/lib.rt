@@ -1,6 +1,7 @@
 //! One search for any list of literals: up to 128 patterns that are not empty, by both kinds of match, with
 //! ASCII case kept or ignored. It takes the search of the layers below that suits the list.
 #![tactic(auto)]
+
 ghost use Rattle.std.specs.Prelude.{◌≡◌, ◌<◌, ◌↔◌, ℕ, length, map, IfOk, OnErr, IfSome, IsTrue};
 ghost use Rattle.std.specs.Prelude.{true, false};
 ghost use Rattle.literal_base.specs.Greedy.{IsGreedy};
@@ -13,11 +14,11 @@ ghost use Rattle.literal_search.specs.SearchValue.{BuildsSearch, CanBeSearched, 
 
 mod plain;
 
-use plain::PlainSearch;
 pub use literal_prefilters::packed::MatchKind;
 use literal_prefilters::packed::{Config, Searcher};
 use literal_prefilters::prefilter::ConfirmingSearch;
 pub use literal_prefilters::{Match, PatternID, Span};
+use plain::PlainSearch;
 use std::alloc::{AllocError, Global};
 use std::marker::Model;
 
@@ -88,11 +89,7 @@ impl Search {
         if !suits || words.is_empty() {
             return Ok(None);
         }
-        let engine = if ignore_case {
-            engine_for_any_case(alloc, kind, &words)?
-        } else {
-            packed_engine(alloc, kind, &words)?
-        };
+        let engine = engine_for(alloc, kind, ignore_case, &words)?;
         Ok(Some(Search {
             alloc,
             patterns_len: words.len(),
@@ -169,34 +166,38 @@ impl Search {
     }
 }
 
-/// A packed search for the words, with case kept.
-fn packed_engine(alloc: Global, kind: MatchKind, words: &[&[u8]]) -> Result<Engine, AllocError>
+/// The search that suits the words.
+fn engine_for(
+    alloc: Global,
+    kind: MatchKind,
+    ignore_case: bool,
+    words: &[&[u8]],
+) -> Result<Engine, AllocError>
     requires { CanBeSearched (map (λ word. word.now) words.now) }
     ensures { IfOk result (λ engine. value_of_engine engine
-        ≡ search_for kind false (map (λ word. word.now) words.now)) }
+        ≡ search_for kind ignore_case (map (λ word. word.now) words.now)) }
+{
+    if !ignore_case {
+        return Ok(Engine::Packed(packed_search(alloc, kind, words)?));
+    }
+    let built = ConfirmingSearch::build(alloc, kind, ignore_case, words.iter().copied())?;
+    if let Some(search) = built {
+        return Ok(Engine::Confirming(search));
+    }
+    Ok(Engine::Plain(PlainSearch::new(alloc, kind, words)?))
+}
+
+/// A packed search for the words.
+fn packed_search(alloc: Global, kind: MatchKind, words: &[&[u8]]) -> Result<Searcher, AllocError>
+    requires { CanBeSearched (map (λ word. word.now) words.now) }
+    ensures { IfOk result (λ searcher. searcher
+        ≡ record { kind = kind; patterns = map (λ word. word.now) words.now }) }
 {
     let mut builder = Config::new().match_kind(kind).builder(alloc);
     for word in words {
         builder.add(word)?;
     }
-    Ok(Engine::Packed(builder.build()?.unwrap()))
-}
-
-/// What searches for the words with ASCII case ignored: by a prefilter, or at every place where none suits them.
-fn engine_for_any_case(
-    alloc: Global,
-    kind: MatchKind,
-    words: &[&[u8]],
-) -> Result<Engine, AllocError>
-    requires { CanBeSearched (map (λ word. word.now) words.now) }
-    ensures { IfOk result (λ engine. value_of_engine engine
-        ≡ search_for kind true (map (λ word. word.now) words.now)) }
-{
-    let built = ConfirmingSearch::build(alloc, kind, true, words.iter().copied())?;
-    if let Some(search) = built {
-        return Ok(Engine::Confirming(search));
-    }
-    Ok(Engine::Plain(PlainSearch::new(alloc, kind, words)?))
+    Ok(builder.build()?.unwrap())
 }
 
 /// What [`Search::find_iter`] goes over. Contracts see the search, the haystack, and the place from which the search
@@ -228,7 +229,10 @@ impl<'s, 'h> Iterator for Matches<'s, 'h> {
 
     fn next(&mut self) -> Option<Match> {
         let end = self.haystack.len();
-        let rest = Span { start: self.at, end };
+        let rest = Span {
+            start: self.at,
+            end,
+        };
         let Some(found) = self.search.find_in(self.haystack, rest) else {
             self.at = end;
             return None;

@@ -73,6 +73,13 @@ impl PlainSearch {
         ensures { IsLeftmost self.now true haystack.now span result }
     {
         let _ = self.patterns.len(); // (its contract says that no pattern is empty)
-        confirm(&EveryPlace, &self.patterns, true, haystack, span, &mut Tally::new())
+        confirm(
+            &EveryPlace,
+            &self.patterns,
+            true,
+            haystack,
+            span,
+            &mut Tally::new(),
+        )
     }
 }
