@@ -12,6 +12,7 @@ ghost use Rattle.literal_search.specs.Inside.Search.{value_of_engine};
 ghost use Rattle.literal_search.specs.MatchesValue.{GivesMatch, most_to_come};
 ghost use Rattle.literal_search.specs.SearchValue.{BuildsSearch, CanBeSearched, RefusesSearch, search_for};
 
+pub mod laws;
 mod plain;
 
 pub use literal_prefilters::packed::MatchKind;
