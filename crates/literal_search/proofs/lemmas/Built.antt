@@ -105,6 +105,12 @@ module _ (kept all : List (List ℕ)) (suits : Bool) (is_kept : suits ≡ true)
   kept_is_searched kind ignore_case some = sym (search_is_built kind ignore_case kept (kept_can some))
       ∙ ap (search_of kind ignore_case) kept_is_all
 
+-- a search for the words of a slice is one for the words of the vector that lends it
+pub is_for : (kind : MatchKind) (ignore_case : Bool) (lent words : List (Bor (List ℕ))) (value : SearchValue)
+    → value ≡ search_for kind ignore_case (bytes_of_all lent) → lent ≡ words
+    → value ≡ search_for kind ignore_case (bytes_of_all words)
+is_for kind ignore_case lent words value is same = is ∙ ap (λ ws. search_for kind ignore_case (bytes_of_all ws)) same
+
 -- what a search that holds the words keeps
 pub ready_of : (kind : MatchKind) (ignore_case : Bool) (words : List (Bor (List ℕ))) (value : SearchValue)
     → CanBeSearched (bytes_of_all words) → value ≡ search_for kind ignore_case (bytes_of_all words)

@@ -1,9 +1,8 @@
 use Rattle.std.proofs.Common.{◌<◌, length, Some, sym, ap, ◌∙◌, arith}
 use Rattle.std.proofs.lemmas.Bool.{eqb-false}
 use Rattle.std.proofs.lemmas.List.{length-map}
-use Rattle.literal_search.specs.SearchValue.{search_for}
 use Rattle.literal_search.specs.Inside.Search.{value_of_engine}
-use Rattle.literal_search.proofs.lemmas.Built.{bytes_of_all, kept_can, kept_is_searched, ready_of}
+use Rattle.literal_search.proofs.lemmas.Built.{bytes_of_all, is_for, kept_can, kept_is_searched, ready_of}
 use Rattle.literal_search.proofs.Search.new.Goals as goal
 
 pub invariant_of-result : goal.invariant_of-result
@@ -18,8 +17,8 @@ invariant_of-result g c =
     let ready = ready_of c.args.kind c.args.ignore_case words (value_of_engine c.in_ok-engine.engine)
     (kept_can (bytes_of_all words) (bytes_of_all c.loop-bytes.yielded) c.loop-bytes.suits c.if-not-suits.false
     c.loop-bytes.invariant some)
-    (c.in_ok-engine.ensures ∙ ap (λ ws. search_for c.args.kind c.args.ignore_case (bytes_of_all ws)) c.deref.ensures.value)
-    in
+    (is_for c.args.kind c.args.ignore_case c.deref.result.now words (value_of_engine c.in_ok-engine.engine)
+    c.in_ok-engine.ensures c.deref.ensures.value) in
     record { patterns = ready.0; len = omega (arith, c.len-2.ensures, c.loop-bytes.words.ok.0, ready.1) }
 
 pub returns-clause-ok : goal.returns-clause-ok
@@ -35,8 +34,8 @@ returns-clause-ok g c =
       c.loop-bytes.yielded,
       c.into_iter-bytes-iterator.ensures.into_iter_gives,
       (_, (_, c.loop-bytes.yielded_by, c.in-None.ensures.steps)),
-      ap Some (c.in_ok-engine.ensures
-          ∙ ap (λ ws. search_for c.args.kind c.args.ignore_case (bytes_of_all ws)) c.deref.ensures.value)
+      ap Some (is_for c.args.kind c.args.ignore_case c.deref.result.now words (value_of_engine c.in_ok-engine.engine)
+          c.in_ok-engine.ensures c.deref.ensures.value)
           ∙ kept_is_searched (bytes_of_all words) (bytes_of_all c.loop-bytes.yielded) c.loop-bytes.suits
           c.if-not-suits.false c.loop-bytes.invariant c.args.kind c.args.ignore_case some,
     )
