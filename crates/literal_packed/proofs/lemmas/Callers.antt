@@ -2,7 +2,8 @@
 -- vector, builders to which patterns are added in turn, iterations over patterns, and iterations over matches.
 -- For callers.
 use Rattle.std.proofs.Common.{◌≡◌, ◌<◌, ◌^◌, ℕ, Bool, true, false, cond, nat_lt, List, [], ◌∷◌, length, map}
-use Rattle.std.proofs.Common.{Option, Some, None, IfSome, refl, sym, ap, ◌∙◌, subst, ⊎_elim}
+use Rattle.std.proofs.Common.{Option, Some, None, IfSome, refl, sym, ap, ◌∙◌, subst, ⊎_elim, ◌++◌, ltb, arith}
+use Rattle.std.proofs.Common.{append_assoc, append-nil}
 use Rattle.std.specs.Array.Iter.{array_into_iter_items, array_steps, array_steps_back}
 use Rattle.std.specs.Borrow.{Bor}
 use Rattle.std.specs.declared.array.IntoIter.{IntoIter}
@@ -18,7 +19,9 @@ use Rattle.std.proofs.lemmas.Bool.{cases_Bool, cond-true, cond-false}
 use Rattle.std.proofs.lemmas.Iterator.{YieldsList, YieldsList-from_slice, items_from_drains}
 use Rattle.std.proofs.lemmas.Iterator.Adapters.{YieldsList-from_vec}
 use Rattle.std.proofs.lemmas.Iterator.Consumers.{YieldsList-from_copied, YieldsList-from_shown}
-use Rattle.std.proofs.lemmas.List.{length-map, map-id}
+use Rattle.std.proofs.lemmas.Bool.Decides.{nat_tests}
+use Rattle.std.proofs.lemmas.List.{length-append, length-map, map-id}
+use Rattle.std.proofs.lemmas.List.Folds.{list_all-append}
 use Rattle.std.proofs.lemmas.List.FromFn.{length-range_with_len}
 use Rattle.std.proofs.lemmas.List.Sorted.{length_permutation}
 use Rattle.std.specs.Iterator.{Drains, Yields}
@@ -33,10 +36,8 @@ use Rattle.literal_packed.specs.ConfigValue.{ConfigValue, default_config}
 use Rattle.literal_packed.specs.FindIterValue.{FindIterValue, FindsNext}
 use Rattle.literal_packed.specs.Lending.{HoldsAll}
 use Rattle.literal_packed.specs.PatternsValue.{PatternsValue, IsWellFormed, in_order}
-use Rattle.literal_packed.specs.State.{may_keep}
+use Rattle.literal_packed.specs.State.{may_keep, state_after, state_of}
 use Rattle.literal_packed.proofs.lemmas.GreedyLists.{found_occurs}
--- one addition after another is one of both: of a builder, and of the state of any builder with a limit
-pub use Rattle.literal_packed.proofs.lemmas.Additions.{added_more, state_after-state_of}
 
 -- whichever iterator the given value becomes, that gives this list and ends
 pub record GivesList {U T A : Type 0} (becomes : U → T → Type 0) (steps : T → Option A → T → Type 0) (given : U)
@@ -126,6 +127,40 @@ module _ {U T : Type 0} {becomes : U → T → Type 0} {steps : T → Option (Bo
   adds_all old new (it, items, is_iterator, adds, drains) =
       adds ∙ ap (λ (all : List (Bor (List ℕ))). with_added old (map (λ p. p.now) all))
       (items_are gives it items is_iterator drains)
+
+abbrev has_a_byte : List ℕ → Bool
+has_a_byte bytes = ltb 0 (length bytes)
+
+-- what may not be kept may not with more patterns either
+past_for_good : (limit : ℕ) (a b : List (List ℕ)) → may_keep limit a ≡ false → may_keep limit (a ++ b) ≡ false
+past_for_good limit a b past = grind (arith, nat_tests, list_all-append has_a_byte a b, length-append a b)
+
+after_state : (limit : ℕ) (a b : List (List ℕ)) (first : List ℕ) (kept : Bool) → may_keep limit a ≡ kept
+    → state_after limit (cond kept (Some a) None) (first ∷ b) ≡ state_of limit (a ++ first ∷ b)
+after_state limit a b first true is = refl
+after_state limit a b first false is =
+    sym (ap (λ k. cond k (Some (a ++ first ∷ b)) None) (past_for_good limit a (first ∷ b) is))
+
+-- one addition after another is one of both, of the state of any builder with a limit
+pub state_after-state_of : (limit : ℕ) (a b : List (List ℕ))
+    → state_after limit (state_of limit a) b ≡ state_of limit (a ++ b)
+state_after-state_of limit a [] = ap (state_of limit) (sym (append-nil a))
+state_after-state_of limit a (first ∷ b) = after_state limit a b first (may_keep limit a) refl
+
+-- two additions in turn are one of both
+pub state_after-append : (limit : ℕ) (state : Option (List (List ℕ))) (a b : List (List ℕ))
+    → state_after limit (state_after limit state a) b ≡ state_after limit state (a ++ b)
+state_after-append limit state [] b = refl
+state_after-append limit state (first ∷ a) [] = ap (state_after limit state) (sym (append-nil (first ∷ a)))
+state_after-append limit None (first ∷ a) (next ∷ b) = refl
+state_after-append limit (Some kept) (first ∷ a) (next ∷ b) =
+    state_after-state_of limit (kept ++ first ∷ a) (next ∷ b)
+    ∙ ap (state_of limit) (append_assoc kept (first ∷ a) (next ∷ b))
+
+-- the same of a builder
+pub added_more : (config : ConfigValue) (a b : List (List ℕ))
+    → with_added (builder_of config a) b ≡ builder_of config (a ++ b)
+added_more config a b = ap (λ s. record { config = config; state = s }) (state_after-state_of config.pattern_limit a b)
 
 -- a builder with no pattern to which two are added in turn is the builder of both
 pub added_two : (config : ConfigValue) (a b : List ℕ) (mid new : BuilderValue)
