@@ -1,23 +1,17 @@
 -- What is built of words that can be searched for.
 -- For the searches that a `Search` holds.
-use Rattle.std.proofs.Common.{◌≡◌, ℕ, ◌<◌, ◌≤◌, Bool, List, Option, Some, None, length, map, take, get_or, true, false, cond}
-use Rattle.std.proofs.Common.{option_map, refl, sym, ap, subst, ◌∙◌, arith}
+use Rattle.std.proofs.Common.{IfSome, ◌≡◌, ℕ, ◌<◌, ◌≤◌, Bool, List, Option, Some, None, length, map, take, get_or, true, false, cond}
+use Rattle.std.proofs.Common.{refl, sym, ap, subst, ◌∙◌, arith}
 use Rattle.std.specs.Borrow.{Bor}
-use Rattle.std.specs.Iterator.{Drains}
 use Rattle.std.specs.Option.{unwrap_or}
 use Rattle.std.proofs.lemmas.Bool.{lt-ltb}
-use Rattle.std.proofs.lemmas.Iterator.{YieldsList, items_from_drains}
-use Rattle.std.proofs.lemmas.List.{get_or-map, length-map, map-id, take_all}
+use Rattle.std.proofs.lemmas.List.{get_or-map, length-map, take_all}
 use Rattle.literal_base.specs.declared.packed.MatchKind.{MatchKind}
-use Rattle.literal_base.specs.Kinds.{root_kind_of}
 use Rattle.literal_packed.specs.State.{kept_of, may_keep, state_of}
 use Rattle.literal_packed.specs.BuilderValue.{BuilderValue, builder_of, searcher_of}
 use Rattle.literal_packed.specs.ConfigValue.{default_config}
 use Rattle.literal_packed.proofs.lemmas.Limits.{builds_if, builds_only_if, may_keep_if}
-use Rattle.literal_prefilters.specs.Choice.{pick}
-use Rattle.literal_prefilters.specs.ConfirmingValue.{ConfirmingValue, confirming_of, prefilter_builder}
-use Rattle.literal_prefilters.specs.PrefilterBuilderValue.{PrefilterBuilderValue, pattern_limit}
-use Rattle.literal_prefilters.specs.PrefilterValue.{PrefilterValue}
+use Rattle.literal_prefilters.specs.ConfirmingValue.{ConfirmingValue}
 use Rattle.literal_search.specs.SearchValue.{CanBeSearched, SearchValue, search_for, search_of}
 
 -- the bytes of words
@@ -43,36 +37,17 @@ has_a_byte words i d can below =
     subst (λ (bytes : List ℕ). 0 < length bytes) at
     (can.not_empty i d.now (omega (arith, length-map words (λ (word : Bor (List ℕ)). word.now))))
 
--- an iteration that was drained gave just the list that its chain gives
-pub drained : {S A : Type 0} {steps : S → Option A → S → Type 0} {s : S} {all : List A} (items : List A)
-    → Drains steps s items → YieldsList steps (λ x. x) s all → items ≡ all
-drained items d road = sym (map-id items) ∙ items_from_drains items (d.1.0, d.1.1, λ _. (d.0, d.1.2)) road
-
--- a confirming search, if there is one, is for the words
-pub searches_for : (kind : MatchKind) (ignore_case : Bool) (words : List (List ℕ)) (found : ConfirmingValue)
-    → Some found ≡ confirming_of kind (prefilter_builder kind ignore_case words)
+-- a confirming search for words, as a `Search` shows it
+pub shown_for : (kind : MatchKind) (ignore_case : Bool) (words : List (List ℕ)) (built : Option ConfirmingValue)
+    (found : ConfirmingValue)
+    → IfSome built (λ s. (s.query ≡ record { kind = kind; patterns = words }) × (s.ignore_case ≡ ignore_case))
+    → built ≡ Some found
     → record { query = found.query; ignore_case = found.ignore_case } ≡ search_for kind ignore_case words
-searches_for kind ignore_case words found is = from (may_keep pattern_limit words) refl is
-  where
-    of_state : Option (List (List ℕ)) → PrefilterBuilderValue
-    of_state state = record { kind = root_kind_of kind; ignore_case = ignore_case; state = state }
-
-    of_pick : (picked : Option PrefilterValue)
-        → Some found ≡ option_map (λ prefilter. record {
-          query = record { kind = kind; patterns = words };
-          ignore_case = ignore_case;
-          prefilter = prefilter;
-        }) picked
-        → record { query = found.query; ignore_case = found.ignore_case } ≡ search_for kind ignore_case words
-    of_pick None is = cc
-    of_pick (Some prefilter) is = ap (λ s. record { query = s.query; ignore_case = s.ignore_case })
-        (ap {B = ConfirmingValue} (λ answer. unwrap_or answer found) is)
-
-    from : (may : Bool) → may_keep pattern_limit words ≡ may
-        → Some found ≡ confirming_of kind (of_state (cond may (Some words) None))
-        → record { query = found.query; ignore_case = found.ignore_case } ≡ search_for kind ignore_case words
-    from true may is = of_pick (pick (of_state (Some words))) is
-    from false may is = cc
+shown_for kind ignore_case words built found are is =
+    let both = subst (λ answer. IfSome answer (λ s. (s.query ≡ record { kind = kind; patterns = words })
+    × (s.ignore_case ≡ ignore_case))) is are in
+    ap (λ query. record { query = query; ignore_case = found.ignore_case }) both.0
+    ∙ ap (λ ignored. record { query = record { kind = kind; patterns = words }; ignore_case = ignored }) both.1
 
 -- what can be searched for is searched for
 pub search_is_built : (kind : MatchKind) (ignore_case : Bool) (patterns : List (List ℕ)) → CanBeSearched patterns

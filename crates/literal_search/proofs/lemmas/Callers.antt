@@ -1,12 +1,43 @@
--- What callers take from this crate beside its contracts and laws: iterations over matches.
-use Rattle.std.proofs.Common.{◌≡◌, ℕ, List, [], ◌∷◌, Some, None, sym, ap, ◌∙◌, subst, refl}
+-- What callers take from this crate beside its contracts and laws: what a search was given, and iterations over
+-- matches. For callers: their proofs cite this file, and no other of this crate's proofs.
+use Rattle.std.proofs.Common.{◌≡◌, ℕ, Bool, true, false, cond, ◌&&◌, nat_lt, List, [], ◌∷◌, length, map, Option, Some, None}
+use Rattle.std.proofs.Common.{IfSome, sym, ap, ◌∙◌, subst, refl}
+use Rattle.std.specs.Borrow.{Bor}
 use Rattle.std.specs.Iterator.{Yields}
 use Rattle.literal_base.specs.MatchValue.{MatchValue}
 use Rattle.literal_base.specs.Occurs.{NothingOccurs, rest_from, whole_of}
 use Rattle.literal_base.specs.Greedy.{IsGreedy}
+use Rattle.literal_base.specs.declared.packed.MatchKind.{MatchKind}
+use Rattle.literal_packed.specs.ConfigValue.{default_config}
+use Rattle.literal_packed.specs.State.{may_keep}
+use Rattle.literal_packed.proofs.lemmas.Callers.{GivesList, items_are}
 use Rattle.literal_packed.proofs.lemmas.GreedyLists.{found_occurs}
 use Rattle.literal_search.specs.MatchesValue.{MatchesValue, GivesMatch}
-use Rattle.literal_search.specs.SearchValue.{SearchValue}
+use Rattle.literal_search.specs.SearchValue.{BuildsSearch, SearchValue, search_for, search_of}
+
+-- what is built of a list that is given, as by `array_gives`
+module _ {U T : Type 0} {becomes : U → T → Type 0} {steps : T → Option (Bor (List ℕ)) → T → Type 0} {given : U}
+    {list : List (Bor (List ℕ))} (gives : GivesList becomes steps given list) (kind : MatchKind) (ignore_case : Bool)
+  where
+    -- `Search::new` builds the search for the list
+    pub search_built_of : (built : Option SearchValue) → BuildsSearch becomes steps kind ignore_case given built
+        → built ≡ search_of kind ignore_case (map (λ p. p.now) list)
+    search_built_of built (it, items, is_iterator, drains, is) =
+        is ∙ ap (λ (all : List (Bor (List ℕ))). search_of kind ignore_case (map (λ p. p.now) all))
+        (items_are gives it items is_iterator drains)
+
+    -- so a search that it builds is for the list
+    pub search_is_for : (built : Option SearchValue) → BuildsSearch becomes steps kind ignore_case given built
+        → IfSome built (λ s. s ≡ search_for kind ignore_case (map (λ p. p.now) list))
+    search_is_for built builds =
+        subst (λ answer. IfSome answer (λ s. s ≡ search_for kind ignore_case (map (λ p. p.now) list)))
+        (sym (search_built_of built builds)) (some_search (nat_lt 0 (length (map (λ p. p.now) list)) && may_keep default_config.pattern_limit (map (λ p. p.now) list)))
+      where
+        some_search : (may : Bool)
+            → IfSome (cond may (Some (search_for kind ignore_case (map (λ p. p.now) list))) None)
+            (λ s. s ≡ search_for kind ignore_case (map (λ p. p.now) list))
+        some_search true = refl
+        some_search false = tt
 
 -- an iteration over matches keeps what it searches for, and where
 keeps_search : (m : MatchesValue) (all : List MatchValue) (n : MatchesValue) → Yields GivesMatch m all n
