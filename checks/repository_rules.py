@@ -236,12 +236,13 @@ def comments_of(text):
 
 
 def examples(repository):
-    """Each example in a document or a comment of documentation stands, line for line, in a function that is a test. On
-    the page for callers it may stand in a function that shows how the crates are called, and each of a proof stands in
-    a proof file. The files of the program that `checks/used` proves stand nowhere else."""
+    """Each example in a document or a comment of documentation stands, line for line, in a function that is a test, or
+    is a whole program. On the page for callers it may stand in a function that shows how the crates are called, and
+    each of a proof stands in a proof file. The files of the program that `checks/used` proves stand nowhere else."""
     held = {kind: [plain_lines(text) for path, text in repository.texts.items() if place.fullmatch(path)]
             for kind, place in EXAMPLES.items()}
     sources = [text for path, text in repository.texts.items() if path.endswith(".rt")]
+    programs = [text for path, text in repository.texts.items() if path.endswith("/src/main.rt")]
     tests = [plain_lines(test) for text in sources for test in tests_of(text)]
     for path, text in documents(repository):
         is_page = path == calling_page.PATH
@@ -249,7 +250,9 @@ def examples(repository):
         for kind, block, _ in blocks_of(text):
             lines = plain_lines(block)
             places = tests if kind == "rust" and not is_page else held.get(kind)
-            if places is not None and block not in proved and not any(lines in one for one in places):
+            if places is None or block in proved or block in programs:
+                continue
+            if not any(lines in one for one in places):
                 yield f"{path}: an example stands in no test, caller or proof: {lines.splitlines()[0]}"
 
 
