@@ -12,8 +12,9 @@ import sys
 import threading
 import time
 
-# What `rt` prints of a function that it has checked: the crate, the functions checked so far, and all of them.
-CHECKED = re.compile(r"checked (\w+)::.*, ([0-9]+) of ([0-9]+)$")
+# What `rt` prints when it begins with a crate, and from time to time.
+BEGUN = re.compile(r"rt: chose .* for (\w+)$")
+SO_FAR = re.compile(r"so far: ([0-9]+ of [0-9]+ functions)")
 
 
 class Progress:
@@ -51,14 +52,16 @@ class Progress:
 
 
 def main():
-    now = ["starting"]
     how = {"stdout": subprocess.PIPE, "stderr": subprocess.STDOUT, "errors": "replace"}
     child = subprocess.Popen(sys.argv[1:], **how)
-    with Progress(lambda: now[-1]):
+    crate, count = "", "at its beginning"
+    with Progress(lambda: f"proving {crate}, {count}" if crate else "reading the sources"):
         for line in child.stdout:
             print(line, end="")
-            if found := CHECKED.match(line):
-                now[:] = [f"proving {found[1]}, {found[2]} of {found[3]} functions"]
+            if found := BEGUN.match(line):
+                crate, count = found[1], "at its beginning"
+            elif found := SO_FAR.match(line):
+                count = found[1]
         return child.wait()
 
 
