@@ -111,12 +111,14 @@ REPOSITORY = [
         append("crates/literal_base/specs/Counts.antt", "\nabbrev pub another : Counts\nanother = none_yet\n")]),
     ("definition_said_otherwise", "definitions", [replace(
         "crates/literal_base/specs/Occurs.antt", "-- no pattern is empty\n", "-- some pattern is not empty\n")]),
-    ("definition_said_of_its_namesake", "definitions", [
-        replace("docs/DEFINITIONS.md", "| `IsSound` (`Builder.antt`) |", "| `IsSound` (`Dense.antt`) |")]),
-    ("example_in_no_test", "examples", [replace("README.md", "let searcher = built", "let search = built")]),
+    ("definitions_of_a_file_unnamed", "definitions", [
+        replace("docs/DEFINITIONS.md", "### `literal_tests` (`specs/Best.antt`)", "### `literal_tests`")]),
+    ("definition_of_another_crate", "definitions", [
+        replace("docs/DEFINITIONS.md", "## Steps (`literal_base`,", "## Steps (`literal_ids`,")]),
+    ("example_in_no_test", "examples", [append("README.md", "\n```rust\nlet search = built;\n```\n")]),
     ("example_in_a_comment", "examples", [append(API, "\n/// ```rust\n/// let peek = 0;\n/// ```\nfn peek() {}\n")]),
     ("example_changed_in_its_test", "examples", [
-        replace("crates/literal_examples/src/tests.rt", "[1, 0, 2]", "[1, 0]")]),
+        replace("crates/literal_examples/src/shown.rt", "span.contains(5)", "span.contains(6)")]),
     ("example_in_a_plain_function", "examples", [
         replace("crates/literal_examples/src/shown.rt", "#[test]\nfn shows_spans", "fn shows_spans")]),
     ("example_changed_in_its_caller", "examples", [

@@ -4,6 +4,7 @@ import os
 import re
 
 import calling_page
+import definitions_page
 import search_rules
 from calling_page import blocks_of, contract_of, page_of, quotes_of
 from rattle_source import code_of, functions_in
@@ -28,10 +29,6 @@ CITATIONS = re.compile(
 # Folders that are not read, by their paths from the top: git's own, what is built, and what Python keeps of the checks.
 # Elsewhere a folder of such a name is one of proofs, of a function that is called so.
 NOT_READ = re.compile(r"\.git|(?:crates/\w+/)?out|checks/__pycache__")
-
-# A definition in a file of specs: the comment above it, and its name.
-DEFINITION = re.compile(
-    r"((?:^ *-- .*\n)*)^ *(?:abbrev pub|unfoldable pub|pub (?:record|data)) ([^\s:(]+)", re.M)
 
 LONGEST_FILE = 800
 WIDEST_LINE = 120
@@ -186,32 +183,19 @@ def strays(repository):
             yield f"{path} is no file of this repository"
 
 
-def rows_of(text):
-    """What the rows of the tables of a document say, by each name that their first cell has in code, and the files of
-    specs that it is said of: those that the cell names or else a row before it, or the heading of the table."""
-    rows, files = {}, set()
-    for line in re.findall(r"^(?:## .*|\| .* \|)$", text, re.M):
-        cells = line.removeprefix("| ").removesuffix(" |").split(" | ")
-        codes = re.findall(r"`([^`]*)`", cells[0])
-        files = {code.split("/")[-1] for code in codes if code.endswith(".antt")} or files
-        for code in codes:
-            for file in files if line.startswith("|") else ():
-                rows.setdefault((file, code.split()[0]), []).append(cells[-1])
-    return rows
-
-
 def definitions(repository):
-    """Each definition that a contract may cite has a row in docs/DEFINITIONS.md, which says what its comment says."""
-    rows = rows_of(repository.texts["docs/DEFINITIONS.md"])
+    """docs/DEFINITIONS.md is as checks/definitions_page.py writes it, and names each file of definitions, of which each
+    has a comment."""
+    page = repository.texts[definitions_page.PATH]
+    if definitions_page.written(page, repository.texts) != page:
+        yield f"{definitions_page.PATH} says otherwise than the files of specs: run checks/definitions_page.py"
+    named = {path for _, paths in definitions_page.sections_of(page) for path in paths}
     for path, text in repository.texts.items():
-        if re.match(r"crates/\w+/specs/.*\.antt$", path):
-            for comment, name in DEFINITION.findall(text):
-                said = " ".join(line.strip().removeprefix("-- ") for line in comment.splitlines())
-                rows_here = rows.get((path.split("/")[-1], name))
-                if not rows_here:
-                    yield f"{path}: {name} is not in docs/DEFINITIONS.md"
-                elif said not in rows_here:
-                    yield f"{path}: docs/DEFINITIONS.md says otherwise of {name}"
+        found = list(definitions_page.definitions_in(text)) if re.match(r"crates/\w+/specs/.*\.antt$", path) else []
+        if found and path not in named:
+            yield f"{path} is named by no heading of {definitions_page.PATH}"
+        for name in (name for name, comment in found if not comment):
+            yield f"{path}: {name} has no comment"
 
 
 @functools.lru_cache(maxsize=None)
@@ -236,12 +220,13 @@ def comments_of(text):
 
 
 def examples(repository):
-    """Each example in a document or a comment of documentation stands, line for line, in a function that is a test. On
-    the page for callers it may stand in a function that shows how the crates are called, and each of a proof stands in
-    a proof file. The files of the program that `checks/used` proves stand nowhere else."""
+    """Each example in a document or a comment of documentation stands, line for line, in a function that is a test, or
+    is a whole program. On the page for callers it may stand in a function that shows how the crates are called, and
+    each of a proof stands in a proof file. The files of the program that `checks/used` proves stand nowhere else."""
     held = {kind: [plain_lines(text) for path, text in repository.texts.items() if place.fullmatch(path)]
             for kind, place in EXAMPLES.items()}
     sources = [text for path, text in repository.texts.items() if path.endswith(".rt")]
+    programs = [text for path, text in repository.texts.items() if path.endswith("/src/main.rt")]
     tests = [plain_lines(test) for text in sources for test in tests_of(text)]
     for path, text in documents(repository):
         is_page = path == calling_page.PATH
@@ -249,7 +234,9 @@ def examples(repository):
         for kind, block, _ in blocks_of(text):
             lines = plain_lines(block)
             places = tests if kind == "rust" and not is_page else held.get(kind)
-            if places is not None and block not in proved and not any(lines in one for one in places):
+            if places is None or block in proved or block in programs:
+                continue
+            if not any(lines in one for one in places):
                 yield f"{path}: an example stands in no test, caller or proof: {lines.splitlines()[0]}"
 
 

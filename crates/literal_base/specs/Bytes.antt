@@ -14,7 +14,7 @@ by_byte f = map f (range_with_len 0 256)
 unfoldable pub all_bytes : List ℕ
 all_bytes = range_with_len 0 256
 
--- whether a byte is in a set, which is a list with a test for each byte; what is no byte is in none
+-- whether a byte is in a set, which is a list with a test for each byte; a number that is no byte is in no set
 abbrev pub contains : List Bool → ℕ → Bool
 contains set byte = slice_index_or set byte false
 

@@ -8,15 +8,15 @@ use Rattle.literal_base.specs.Bytes.{all_bytes, by_byte, contains}
 abbrev pub holds : ℕ × ℕ → ℕ → Bool
 holds range b = nat_le range.0 b && nat_le b range.1
 
--- no range holds just one of a byte and the next
+-- no range holds just one of the bytes b and b + 1
 abbrev pub NonePart : List (ℕ × ℕ) → ℕ → Type 0
 NonePart ranges b = All (λ range. holds range b ≡ holds range (b + 1)) ranges
 
--- whether a range marks a byte: its last one, and the one before its first
+-- whether a range marks a byte: a range marks its last byte, and the byte before its first
 abbrev pub is_marked_by : ℕ × ℕ → ℕ → Bool
 is_marked_by range b = b == range.1 || b + 1 == range.0
 
--- the set with the bytes that a range marks
+-- the set, with the bytes added that a range marks
 abbrev pub with_range_marked : List Bool → ℕ → ℕ → List Bool
 with_range_marked marked start end = by_byte (λ b. contains marked b || is_marked_by (start, end) b)
 
@@ -28,7 +28,7 @@ marks_of ranges = by_byte (λ b. list_any (λ range. is_marked_by range b) range
 abbrev pub class_of : List Bool → ℕ → ℕ
 class_of marked b = count_by (λ m. m) (take b marked)
 
--- the class of the last byte, and one
+-- the class of the last byte, plus 1
 abbrev pub alphabet_len_of : List ℕ → ℕ
 alphabet_len_of classes = slice_index classes 255 + 1
 

@@ -15,7 +15,7 @@ pub record Counts : Type 0 where
 abbrev pub none_yet : Counts
 none_yet = record { hashed = 0; entries = 0; compared = 0; scanned = 0; tried = 0 }
 
--- the steps of both
+-- two counts added up, each with its like
 abbrev pub plus : Counts → Counts → Counts
 plus a b = record {
   hashed = a.hashed + b.hashed;

@@ -27,7 +27,7 @@ pattern_at patterns i = slice_index_or patterns i []
 abbrev pub NoneIsEmpty : List (List ℕ) → Type 0
 NoneIsEmpty patterns = All (λ (bytes : List ℕ). 0 < length bytes) patterns
 
--- the bytes lie whole in the haystack at a place, and the haystack's bytes there are the same
+-- at a place the bytes lie whole in the haystack, and the haystack has the same bytes there
 pub record StandsAt (ignore_case : Bool) (bytes haystack : List ℕ) (at : ℕ) : Type 0 where
   pub fits : at + length bytes ≤ length haystack
   pub same : Same ignore_case (slice_range haystack at (at + length bytes)) bytes
@@ -49,7 +49,7 @@ between from to = record { start = from; end = to }
 abbrev pub rest_from : List ℕ → ℕ → Span
 rest_from haystack at = record { start = at; end = length haystack }
 
--- i is the number of a pattern, it lies whole in the span at the place, and the haystack's bytes there are the same
+-- i is the number of a pattern; at the place this pattern lies whole in the span, and the haystack has the same bytes
 pub record Occurs (patterns : List (List ℕ)) (ignore_case : Bool) (haystack : List ℕ) (span : Span)
     (i at : ℕ) : Type 0 where
   pub is_pattern : i < length patterns

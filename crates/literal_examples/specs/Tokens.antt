@@ -24,7 +24,7 @@ matched (token ∷ more) = match_of token.span token.pattern ++ matched more
 abbrev pub gap : ℕ → ℕ → List Token
 gap from to = if nat_lt from to then record { span = record { start = from; end = to }; pattern = None } ∷ [] else []
 
--- what lies between two matches is one token at most: of two neighbouring tokens one is a match
+-- what lies between two matches is at most one token: of two neighbouring tokens one is a match
 abbrev pub GapsAreWhole : List Token → Type 0
 GapsAreWhole [] = ⊤
 GapsAreWhole (token ∷ []) = ⊤

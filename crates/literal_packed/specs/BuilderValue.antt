@@ -36,7 +36,7 @@ pub record IsSearcher (query : Query) : Type 0 where
   pub few : length query.patterns ≤ max_pattern_limit
   pub not_empty : NoneIsEmpty query.patterns
 
--- after an addition of references to patterns
+-- the builder after patterns were added, which are given by references
 abbrev pub AddsAll : BuilderValue → List (Bor (List ℕ)) → BuilderValue → Type 0
 AddsAll old more new = new ≡ with_added old (map (λ p. p.now) more)
 

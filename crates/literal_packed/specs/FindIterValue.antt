@@ -15,7 +15,7 @@ pub record FindIterValue : Type 0 where
   pub at : ℕ
   pub counts : Counts
 
--- the place at which the search goes on: the end of the match, and that of the haystack where there is none
+-- where the search goes on: at the end of the match, or at the end of the haystack if there is none
 abbrev pub place_after : List ℕ → Option MatchValue → ℕ
 place_after haystack None = length haystack
 place_after haystack (Some found) = found.end
@@ -38,6 +38,6 @@ pub record FindsNext (old : FindIterValue) (answer : Option MatchValue) (new : F
 abbrev pub StandsAtEnd : FindIterValue → Type 0
 StandsAtEnd f = f.at ≡ length f.haystack
 
--- at most how many matches are to come: each takes a byte or more of the rest
+-- how many bytes are left: at most so many matches are to come, since each takes a byte or more
 abbrev pub bytes_left : FindIterValue → Count
 bytes_left f = at_most (length f.haystack - f.at)

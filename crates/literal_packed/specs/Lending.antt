@@ -8,18 +8,17 @@ use Rattle.literal_packed.specs.State.{WouldKeep}
 use Rattle.literal_packed.specs.declared.api.Lent.{Lent}
 use Rattle.literal_packed.specs.contracts.api.Builder.{the_row}
 
--- the patterns that an iterator gives can be taken to their end: whichever iterator they become, it may be asked, and
--- it ends
+-- the patterns can be taken to their end: whatever iterator they become, it may be asked, and it ends
 abbrev pub CanBeTaken : {U T : Type 0} → (U → T → Type 0) → (T → Type 0) → (T → Count) → U → Type 0
 CanBeTaken {U} {T} becomes can_next remaining patterns =
     (it : T) → becomes patterns it → can_next it × IsFinite (remaining it)
 
--- where the call that was lent the builder b has no builder in its answer, P holds of the builder
+-- if the call that was lent the builder b does not hand it back in its answer, P holds of the builder
 abbrev pub RestsAtErr : {E : Type 0} → (BuilderValue → Type 0) → MutBor BuilderValue → Result (MutBor BuilderValue) E
     → Fml
 RestsAtErr P b r = RestsIfErr the_row b (λ (x : MutBor BuilderValue). x.ghost_name) r P
 
--- the same where the answer has the builder in a struct
+-- the same for an answer that holds the builder in a struct
 abbrev pub LentRestsAtErr : {E : Type 0} → (BuilderValue → Type 0) → MutBor BuilderValue → Result Lent E → Fml
 LentRestsAtErr P b r = RestsIfErr the_row b (λ (l : Lent). l.builder.ghost_name) r P
 
@@ -29,8 +28,8 @@ module _ {U T : Type 0} (becomes : U → T → Type 0) (steps : T → Option (Bo
   abbrev pub HoldsAll : Type 0
   HoldsAll = (it : T) × (xs : List (Bor (List ℕ))) × becomes patterns it × AddsAll old xs new × Drains steps it xs
 
-  -- the items that the iterator gave before the refused one were added, in their order, and the builder would keep that
-  -- one
+  -- the items that the iterator gave before the refused one were added, in their order; the builder would have kept the
+  -- refused one
   pub record HoldsTaken : Type 0 where
     pub iterator : T
     pub items : List (Bor (List ℕ))

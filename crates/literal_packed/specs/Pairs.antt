@@ -38,39 +38,39 @@ pairs_at_up_to test query at j =
     count_by (λ i. test at i && (i == j || is_better query.kind query.patterns i j))
     (range_with_len 0 (length query.patterns))
 
--- how many of the patterns pass a test at a place: up to the pattern that is the answer there, if there is one
+-- how many of the patterns pass a test at a place: all that do or, if there is an answer, those up to its pattern
 abbrev pub pairs_answered : (ℕ → ℕ → Bool) → Query → ℕ → Option ℕ → ℕ
 pairs_answered test query at None = pairs_at test (length query.patterns) at
 pairs_answered test query at (Some j) = pairs_at_up_to test query at j
 
--- how many pairs of a place, from `from` on and before `to`, and one of n patterns pass a test
+-- how many pairs (place, pattern) pass a test, with from ≤ place < to, and a pattern below n
 abbrev pub pairs_between : (ℕ → ℕ → Bool) → ℕ → ℕ → ℕ → ℕ
 pairs_between test n from to = sum_by (pairs_at test n) (range_with_len from (to - from))
 
--- the pairs of a place, whose window lies in the span, and a pattern that pass a test
+-- how many pairs (place, pattern) pass a test, of the places whose window lies in the span
 abbrev pub pairs_in : (ℕ → ℕ → Bool) → List (List ℕ) → Span → ℕ
 pairs_in test patterns span =
     pairs_between test (length patterns) span.start (span.end + 1 - minimum_len_of patterns)
 
--- EqualPairs: how many pairs of a place, whose window lies in the span, and a pattern have equal sums
+-- EqualPairs: how many pairs (place, pattern) have equal sums, of the places whose window lies in the span
 abbrev pub equal_pairs : List (List ℕ) → List ℕ → Span → ℕ
 equal_pairs patterns haystack span = pairs_in (has_equal_sum patterns haystack) patterns span
 
--- BucketPairs: how many pairs of a place, whose window lies in the span, and a pattern have sums that are equal modulo
--- 64
+-- BucketPairs: how many pairs (place, pattern) have sums that are equal modulo 64, of the places whose window lies in
+-- the span
 abbrev pub bucket_pairs : List (List ℕ) → List ℕ → Span → ℕ
 bucket_pairs patterns haystack span = pairs_in (has_equal_bucket patterns haystack) patterns span
 
--- the pairs up to an answer: all where there is none; with a match those of an earlier place, and at its place those of
--- its pattern and of better ones
+-- how many pairs pass a test up to an answer: without a match all in the span; with a match those of earlier places
+-- and, at its own place, those of its pattern and of better ones
 abbrev pub pairs_up_to : (ℕ → ℕ → Bool) → Query → Span → Option MatchValue → ℕ
 pairs_up_to test query span None = pairs_in test query.patterns span
 pairs_up_to test query span (Some found) =
     pairs_between test (length query.patterns) span.start found.start + pairs_at_up_to test query found.start
     found.pattern
 
--- how many bytes of the span go into the sums, up to an answer: each up to the end of the last window. With no answer
--- each byte, and none where the span is shorter than the window
+-- how many bytes of the span go into the sums up to an answer: with a match, those up to the end of the window at its
+-- start; without one, all, or none if the span is shorter than the window
 abbrev pub hashed_up_to : List (List ℕ) → Span → Option MatchValue → ℕ
 hashed_up_to patterns span None =
     if nat_lt (span.end - span.start) (minimum_len_of patterns) then 0 else span.end - span.start

@@ -15,15 +15,15 @@ pub record PatternsValue : Type 0 where
   pub patterns : List (List ℕ)
   pub order : List ℕ
 
--- what a search for them searches for: their match kind and the patterns
+-- what a search for these patterns searches for: their match kind, and the patterns
 abbrev pub query_of : PatternsValue → Query
 query_of c = record { kind = c.kind; patterns = c.patterns }
 
--- none
+-- a collection without patterns
 abbrev pub no_patterns : PatternsValue
 no_patterns = record { kind = LeftmostFirst; patterns = []; order = [] }
 
--- one more, which gets the next identifier and is tried last
+-- a collection with one more pattern, which gets the next identifier and is tried last
 abbrev pub with_pattern : PatternsValue → List ℕ → PatternsValue
 with_pattern c bytes =
     record { kind = c.kind; patterns = c.patterns ++ bytes ∷ []; order = c.order ++ length c.patterns ∷ [] }

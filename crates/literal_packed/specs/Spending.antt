@@ -23,8 +23,9 @@ pub record CountsOn (old new : Counts) : Type 0 where
   pub compared : old.compared ≤ new.compared
   pub others : new ≡ record old { hashed = new.hashed; entries = new.entries; compared = new.compared }
 
--- going on from one place to a later one counts at most the bytes, the BucketPairs and the EqualPairs of the rest from
--- the one less those of the rest from the other. Each call of `next` does (`literal_packed::laws::next_is_bounded`)
+-- what a search counts that goes on from one place to a later one: hashed ≤ H(from) - H(to), entries ≤ B(from) - B(to),
+-- compared ≤ E(from) - E(to), where H, B and E are the bytes, the BucketPairs and the EqualPairs of the rest from a
+-- place on. Each call of `next` keeps to it (`literal_packed::laws::next_is_bounded`)
 pub record SpendsAtMost (query : Query) (haystack : List ℕ) (from to : ℕ) (old new : Counts) : Type 0 where
   pub hashed : new.hashed + (length haystack - to) ≤ old.hashed + (length haystack - from)
   pub entries : new.entries + bucket_pairs query.patterns haystack (rest_from haystack to)

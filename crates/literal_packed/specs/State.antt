@@ -24,11 +24,11 @@ state_after limit state [] = state
 state_after limit None (first ∷ more) = None
 state_after limit (Some kept) (first ∷ more) = state_of limit (kept ++ first ∷ more)
 
--- the patterns that a builder in a state keeps may be kept
+-- the patterns that a builder keeps in this state are such that it may keep them
 abbrev pub IsState : ℕ → Option (List (List ℕ)) → Type 0
 IsState limit state = IfSome state (λ kept. IsTrue (may_keep limit kept))
 
--- in this state a pattern would be kept, and only then its addition takes memory: patterns are kept, the pattern is not
--- empty, and there is room
+-- in this state a pattern would be kept: patterns are kept, this one is not empty, and there is room. Only then its
+-- addition takes memory
 abbrev pub WouldKeep : ℕ → Option (List (List ℕ)) → List ℕ → Type 0
 WouldKeep limit state bytes = IsSomeAnd state (λ kept. (0 < length bytes) × (length kept < limit))

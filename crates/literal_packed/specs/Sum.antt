@@ -1,8 +1,7 @@
 -- The sum of a window of bytes.
 use Rattle.std.specs.Prelude.{ℕ, ◌+◌, ◌*◌, ◌%◌, ◌^◌, List, [], ◌∷◌, length}
 
--- the bytes as the digits of a number in base 2: each stands for itself times 2 to the power of how many bytes follow
--- it
+-- the bytes added up, each times 2 to the power of how many bytes follow it
 abbrev pub weighted : List ℕ → ℕ
 weighted [] = 0
 weighted (b ∷ w) = b * 2 ^ length w + weighted w

@@ -17,31 +17,31 @@ use Rattle.literal_prefilters.specs.Near.{near_count}
 use Rattle.literal_prefilters.specs.PrefilterValue.{PrefilterValue, by_table, by_pattern, by_search}
 use Rattle.literal_prefilters.specs.Table.{first}
 
--- how many bytes are scanned: those from the span's start up to and including the first of the table from the match's
--- start on, or the whole span
+-- how many bytes are scanned: with a match, those from the span's start up to and including the first of the table at
+-- the match's start or later; without one, the whole span
 abbrev pub scanned_once : List (Option ℕ) → List ℕ → Span → Option MatchValue → ℕ
 scanned_once table haystack span None = span.end - span.start
 scanned_once table haystack span (Some found) =
     unwrap_or (first table haystack (between found.start span.end)) 0 + 1 - span.start
 
--- where an answer ends, and where there is none the span
+-- the end of the match, or of the span if there is none
 abbrev pub answer_end : Span → Option MatchValue → ℕ
 answer_end span None = span.end
 answer_end span (Some found) = found.end
 
--- how many places are tried: the near places up to and with the match's start, or all
+-- how many places are tried: all near ones or, with a match, those up to and including its start
 abbrev pub tried_places : List (Option ℕ) → List ℕ → Span → Option MatchValue → ℕ
 tried_places table haystack span None = near_count table haystack span span.end
 tried_places table haystack span (Some found) = near_count table haystack span (found.start + 1)
 
--- how many patterns are compared at a place: the pattern that is the answer there and the better ones, or all
+-- how many patterns are compared at a place: all or, if one is the answer there, this one and the better ones
 abbrev pub compared_at : Query → Option ℕ → ℕ
 compared_at query None = length query.patterns
 compared_at query (Some j) =
     count_by (λ i. i == j || is_better query.kind query.patterns i j) (range_with_len 0 (length query.patterns))
 
--- how often a pattern is compared: at each place that is tried all are, and at the match's start its pattern and the
--- better ones
+-- how many comparisons there are: at each place that is tried one with every pattern, but at the match's start only
+-- with its pattern and the better ones
 abbrev pub compared_by_tries : List (Option ℕ) → Query → List ℕ → Span → Option MatchValue → ℕ
 compared_by_tries table query haystack span None =
     near_count table haystack span span.end * compared_at query None
@@ -79,8 +79,8 @@ counts_after_answers old pre query haystack at (answer ∷ more) =
 abbrev pub answers_of : List MatchValue → List (Option MatchValue)
 answers_of = map Some
 
--- memory was refused for the list of all matches: once the first of them were found, one or more, the last of which had
--- no room. The searches that found these are counted, and no other
+-- memory was refused for the list of all matches: the last match that was found had no room. The searches that found
+-- the matches so far are counted, and no other
 pub record RefusesList (search : ConfirmingValue) (haystack : List ℕ) (old new : Counts) : Type 0 where
   pub found : List MatchValue
   pub more : List MatchValue
@@ -88,9 +88,9 @@ pub record RefusesList (search : ConfirmingValue) (haystack : List ℕ) (old new
   pub are_first : IsGreedy search.query search.ignore_case haystack 0 (found ++ more)
   pub counted : new ≡ counts_after_answers old search.prefilter search.query haystack 0 (answers_of found)
 
--- what the searches by a table up to a place of a haystack count together, one match after another: at most each byte
--- before the place is scanned, each near place before it tried, and a pattern compared as often as there are patterns
--- for each place tried; these counts don't fall, and the others stay
+-- what the searches by a table up to a place of a haystack count together, one match after another: scanned at most the
+-- bytes before the place, tried at most the near places before it, compared at most (places tried) * (number of
+-- patterns). None of these counts falls, and the others stay
 pub record SpendsTries (table : List (Option ℕ)) (patterns : List (List ℕ)) (haystack : List ℕ) (to : ℕ)
     (old new : Counts) : Type 0 where
   pub scanned : new.scanned ≤ old.scanned + to

@@ -23,7 +23,7 @@ CoveredBy (by_table table) = CoversAll table
 CoveredBy (by_pattern pattern) = CoversPattern pattern
 CoveredBy (by_search query) = CoversQuery query
 
--- how many bytes past a place that it proposes it may read, 0 where it is exact
+-- how many bytes it may read past a place that it proposes; 0 if it is exact
 abbrev pub prefilter_reach : PrefilterValue → ℕ
 prefilter_reach (by_table table) = reach_of table
 prefilter_reach (by_pattern pattern) = 0
@@ -48,7 +48,7 @@ prefilter_table (by_table table) = Some table
 prefilter_table (by_pattern pattern) = None
 prefilter_table (by_search query) = None
 
--- it holds patterns, so that to make it takes memory
+-- it holds patterns, so making it takes memory
 abbrev pub TakesMemory : PrefilterValue → Type 0
 TakesMemory (by_table table) = ⊥
 TakesMemory (by_pattern pattern) = ⊤

@@ -34,8 +34,8 @@ pub record PassesOverNone (covers : Coverage) (haystack : List ℕ) (span : Span
   pub each : (query : Query) (ignore_case : Bool) → covers query ignore_case
       → Sound query ignore_case haystack span answer
 
--- how many bytes an answer may scan: with a possible start s, s and the reach and one less the span's start; the span's
--- length otherwise
+-- how many bytes an answer may scan: with a possible start s, s + reach + 1 - the span's start; otherwise the span's
+-- length
 abbrev pub scans_at_most : ℕ → Span → Candidate → ℕ
 scans_at_most reach span None = span.end - span.start
 scans_at_most reach span (Match found) = span.end - span.start

@@ -49,7 +49,7 @@ pub record IsFirst (table : List (Option ℕ)) (haystack : List ℕ) (span : Spa
   pub here : is_in table (slice_index haystack place) ≡ true
   pub none_before : (k : ℕ) → span.start ≤ k → k < place → is_in table (slice_index haystack k) ≡ false
 
--- a place less its byte's distance, and at least the span's start
+-- the place less the distance of its byte, but at least the span's start
 abbrev pub step_back : List (Option ℕ) → List ℕ → ℕ → ℕ → ℕ
 step_back table haystack start place = max start (place - unwrap_or (distance_of table (slice_index haystack place)) 0)
 
@@ -58,7 +58,7 @@ step_back table haystack start place = max start (place - unwrap_or (distance_of
 abbrev pub step : List (Option ℕ) → List ℕ → Span → Option ℕ
 step table haystack span = option_map (step_back table haystack span.start) (first table haystack span)
 
--- the bytes from the span's start up to and including a place, or those of the whole span
+-- how many bytes are scanned: those from the span's start up to and including a place, or all if there is none
 abbrev pub bytes_scanned : Span → Option ℕ → ℕ
 bytes_scanned span None = span.end - span.start
 bytes_scanned span (Some place) = place + 1 - span.start

@@ -35,7 +35,7 @@ start_bytes ignore_case patterns = of_set (is_start_byte ignore_case patterns)
 abbrev pub start_table : Bool → List (List ℕ) → Option (List (Option ℕ))
 start_table ignore_case patterns = if_low (start_bytes ignore_case patterns)
 
--- of two bytes the one of less rank, and of equal ranks the first
+-- of two bytes the one of lower rank; if the ranks are equal, the first
 abbrev pub rarer : ℕ → ℕ → ℕ
 rarer a b = if nat_lt (rank_of b) (rank_of a) then b else a
 
@@ -43,17 +43,17 @@ rarer a b = if nat_lt (rank_of b) (rank_of a) then b else a
 abbrev pub rarest : List ℕ → ℕ
 rarest pattern = fold rarer (slice_index pattern 0) pattern
 
--- the set after one more pattern: one that holds a byte of the set adds nothing, another its rarest byte, in both cases
--- where case is ignored
+-- the set after one more pattern: a pattern that holds a byte of the set adds nothing; any other adds its rarest byte,
+-- in both cases if case is ignored
 abbrev pub with_rarest : Bool → (ℕ → Bool) → List ℕ → ℕ → Bool
 with_rarest ignore_case in_set pattern byte =
     in_set byte || (not (list_any in_set pattern) && same_byte ignore_case byte (rarest pattern))
 
--- the set of rare bytes, by the patterns in the order of their numbers
+-- whether a byte is in the set of rare bytes: the set that all patterns make, taken in the order of their numbers
 abbrev pub is_rare_byte : Bool → List (List ℕ) → ℕ → Bool
 is_rare_byte ignore_case patterns = fold (with_rarest ignore_case) (λ _. false) patterns
 
--- the largest offset below a number at which a byte stands in a pattern, in some case
+-- the largest offset, of those below a number, at which a byte stands in a pattern, in some case
 abbrev pub offset_below : Bool → ℕ → List ℕ → ℕ → ℕ
 offset_below ignore_case byte pattern zero = 0
 offset_below ignore_case byte pattern (suc n) =

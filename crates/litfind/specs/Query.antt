@@ -12,7 +12,7 @@ pub data Asked : Type 0 where
   all_matches : Query → Asked
   leftmost_match : Query → Bool → Asked
 
--- what is asked for in the mode of a name, by its patterns, and None where the name is unknown
+-- what the name of a mode and some patterns ask for, and None if the name is unknown
 abbrev pub mode_asks : List ℕ → List (List ℕ) → Option Asked
 mode_asks name patterns =
     let first : Query = record { kind = LeftmostFirst; patterns = patterns } in
@@ -25,7 +25,7 @@ mode_asks name patterns =
     else if bytes_eq name (codes "nocase-longest") then Some (leftmost_match longest true)
     else None
 
--- what the words ask for: they are the name of a mode, followed by at least one pattern. Otherwise they ask for nothing
+-- what the words ask for. They have to be the name of a mode and at least one pattern; otherwise they ask for nothing
 abbrev pub words_ask : List (List ℕ) → Option Asked
 words_ask [] = None
 words_ask (mode ∷ []) = None

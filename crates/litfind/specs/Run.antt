@@ -16,12 +16,12 @@ pub record IsFront (held holds : Option (List ℕ)) (text : List ℕ) : Type 0 w
   pub split : text ≡ front ++ rest
   pub written : Appends held holds front
 
--- some bytes were read
+-- bytes were read, perhaps none
 pub record ReadSome (had has : Option (List ℕ)) : Type 0 where
   pub input : List ℕ
   pub bytes : Consumes had has input
 
--- bytes were read, at least one
+-- at least one byte was read
 pub record ReadBytes (had has : Option (List ℕ)) : Type 0 where
   pub input : List ℕ
   pub some : input ≢ []

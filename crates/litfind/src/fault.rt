@@ -9,15 +9,22 @@ use std::fmt;
 /// Why a run gave no answer.
 #[derive(Clone, Copy, Debug, PartialEq, Eq)]
 pub enum Fault {
-    /// The words have no mode, an unknown one, or no pattern.
+    /// The words do not say what to search for: the mode is missing or unknown, or there is no pattern. Nothing was
+    /// read.
     Usage,
-    /// No searcher can be built for the patterns: one of them is empty, or there are too many.
+    /// No searcher can be built for the patterns, and nothing was read. In each mode that is so if a pattern is empty;
+    /// in `first` and `longest` also if there are more than 128; in the other modes also if no prefilter suits them.
+    /// With ASCII case kept one suits every list of up to 128 patterns. With it ignored one suits only if at most three
+    /// bytes begin all patterns, or at most three rare ones stand in them all, where a letter counts as two: most lists
+    /// of several words have none.
     NoSearcher,
-    /// A request for memory was refused.
+    /// A request for memory was refused: for the patterns, for the whole input, or for the lines of its matches.
+    /// Nothing was written.
     OutOfMemory,
-    /// A read failed.
+    /// Standard input could not be read: a folder, a closed stream, or an error of the device. Nothing was written.
     ReadFailed,
-    /// A write or the flush failed, or a write took no byte.
+    /// A write or the flush failed, or a write took no byte: a full device, or a closed pipe or stream. A beginning of
+    /// the lines may have been written.
     WriteFailed,
 }
 
