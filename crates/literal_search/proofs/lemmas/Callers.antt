@@ -1,7 +1,7 @@
 -- What callers take from this crate beside its contracts and laws: what a search was given, and iterations over
 -- matches. For callers: their proofs cite this file, and no other of this crate's proofs.
-use Rattle.std.proofs.Common.{◌≡◌, ℕ, Bool, true, false, cond, ◌&&◌, nat_lt, List, [], ◌∷◌, length, map, Option, Some, None}
-use Rattle.std.proofs.Common.{IfSome, sym, ap, ◌∙◌, subst, refl}
+use Rattle.std.proofs.Common.{◌≡◌, ℕ, Bool, true, false, cond, ◌&&◌, nat_lt, List, [], ◌∷◌, length, map, Option, Some}
+use Rattle.std.proofs.Common.{None, IfSome, sym, ap, ◌∙◌, subst, refl}
 use Rattle.std.specs.Borrow.{Bor}
 use Rattle.std.specs.Iterator.{Yields}
 use Rattle.literal_base.specs.MatchValue.{MatchValue}
@@ -31,7 +31,8 @@ module _ {U T : Type 0} {becomes : U → T → Type 0} {steps : T → Option (Bo
         → IfSome built (λ s. s ≡ search_for kind ignore_case (map (λ p. p.now) list))
     search_is_for built builds =
         subst (λ answer. IfSome answer (λ s. s ≡ search_for kind ignore_case (map (λ p. p.now) list)))
-        (sym (search_built_of built builds)) (some_search (nat_lt 0 (length (map (λ p. p.now) list)) && may_keep default_config.pattern_limit (map (λ p. p.now) list)))
+        (sym (search_built_of built builds)) (some_search (nat_lt 0 (length (map (λ p. p.now) list))
+        && may_keep default_config.pattern_limit (map (λ p. p.now) list)))
       where
         some_search : (may : Bool)
             → IfSome (cond may (Some (search_for kind ignore_case (map (λ p. p.now) list))) None)
