@@ -1,6 +1,5 @@
 //! Searches for the words that a caller has: as an array, a slice or a vector.
-ghost use Rattle.std.specs.Prelude.{◌≡◌, ◌∷◌, [], IfOk, IfSome, IsSomeAnd, OnOk, codes, false, is_some, map};
-ghost use Rattle.literal_base.specs.Greedy.{IsGreedy};
+ghost use Rattle.std.specs.Prelude.{◌≡◌, ◌∷◌, [], IfOk, IfSome, IsSomeAnd, OnOk, false, is_some, map};
 ghost use Rattle.literal_base.specs.Leftmost.{IsLeftmost};
 ghost use Rattle.literal_base.specs.Occurs.{IsValidSpan, whole_of};
 ghost use Rattle.literal_base.specs.declared.packed.MatchKind.TheVariants.{LeftmostFirst};
@@ -10,6 +9,7 @@ ghost use Rattle.literal_prefilters.specs.Choice.{pick};
 ghost use Rattle.literal_prefilters.specs.ConfirmingValue.{prefilter_builder};
 
 use crate::uses::collected;
+use literal_base::laws::greedy_is_unique;
 use literal_prefilters::packed::{self, Builder, Searcher};
 use literal_prefilters::prefilter::ConfirmingSearch;
 use literal_prefilters::{Match, Span};
@@ -112,12 +112,14 @@ pub fn add_all(builder: &mut Builder, words: &[&[u8]]) -> Result<(), AllocError>
     Ok(())
 }
 
-/// All matches of README's example, in their order: the greedy list of its three words.
+/// All matches of README's example, in their order.
 pub fn found_in_readme(alloc: Global) -> Result<Option<Vec<Match>>, AllocError>
-    ensures { IfOk result (λ answer. IsSomeAnd answer (λ all. IsGreedy
-        (record { kind = LeftmostFirst; patterns = codes "apple" ∷ codes "maple" ∷ codes "Snapple" ∷ [] }) false
-        (codes "Nobody likes maple in their apple flavored Snapple.") 0 all.items)) }
+    ensures { IfOk result (λ answer. IsSomeAnd answer (λ all. all.items
+        ≡ record { pattern = 1; start = 13; end = 18 }
+        ∷ record { pattern = 0; start = 28; end = 33 }
+        ∷ record { pattern = 2; start = 43; end = 50 } ∷ [])) }
 {
+    greedy_is_unique();
     let words = [b"apple".as_slice(), b"maple", b"Snapple"];
     let Some(searcher) = Searcher::new(alloc, words)? else {
         return Ok(None);
