@@ -30,6 +30,7 @@ ENTRIES = "crates/literal_packed/src/rabinkarp/entries.rt"
 PREFILTER = "crates/literal_prefilters/src/prefilter.rt"
 BYTE_TABLE = "crates/literal_prefilters/src/prefilter/byte_table.rt"
 CONFIRMING = "crates/literal_prefilters/src/prefilter/confirming.rt"
+PLAIN = "crates/literal_search/src/plain.rt"
 ENGINE = "crates/litfind/src/engine.rt"
 
 # The functions that may make a tally, each one: for the hashes of patterns, or for a search that is given none.
@@ -37,6 +38,7 @@ TALLY_MAKERS = {
     API: ("Builder::build", "Searcher::find", "Searcher::find_in", "Searcher::find_iter"),
     PREFILTER: ("Builder::build", "Prefilter::find_in"),
     CONFIRMING: ("ConfirmingSearch::find_in",),
+    PLAIN: ("PlainSearch::find_in",),
     ENGINE: ("run",),
 }
 
@@ -60,8 +62,8 @@ HASHES = ((RABIN_KARP, "RabinKarp::find_at"),)
 PATTERN_NAMES = ("pattern", "bytes", "by_id", "lists")
 BYTES = re.compile(r"\[u8\]|\bVec<u8>|\bstr\b")
 
-# The types that may keep a slice of bytes: two a haystack, and one a pattern.
-KEEPERS = ("FindIter", "Input", "Pattern")
+# The types that may keep a slice of bytes: three a haystack, and one a pattern.
+KEEPERS = ("FindIter", "Matches", "Input", "Pattern")
 
 # The fields of `BucketEntries` that tell nothing of an entry, and the functions that may name the others: the one that
 # reads an entry, and those that make and copy it.

@@ -1,5 +1,4 @@
 -- Lemmas that several proofs share, by topic.
-pub mod ByByte
 pub mod Callers
 pub mod ClassIterations
 pub mod Exists

@@ -20,6 +20,9 @@ use std::ops::Range;
 /// The bounds are a valid span of the haystack, except where the start is one beyond the end: there
 /// no search is left, as [`Input::is_done`] tells.
 ///
+/// No search of these crates takes an `Input`: hand on its haystack and its span. What `anchored` and
+/// `earliest` ask for is for layers above to heed.
+///
 /// ```rust
 /// let mut input = Input::new(b"abcabc").range(1..4);
 /// assert!(rt; input.get_span().of(input.haystack()) == b"bca".as_slice());

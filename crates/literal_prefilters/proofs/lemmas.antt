@@ -7,7 +7,6 @@ pub mod Case
 pub mod Choice
 pub mod Covers
 pub mod Exact
-pub mod First
 pub mod KeptByte
 pub mod Lists
 pub mod Near

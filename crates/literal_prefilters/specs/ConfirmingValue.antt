@@ -40,9 +40,9 @@ BuildsConfirming {U} {T} becomes steps kind ignore_case patterns answer =
     (it : T) × (items : List (Bor (List ℕ))) × becomes patterns it × Drains steps it items
     × (answer ≡ confirming_of kind (prefilter_builder kind ignore_case (map (λ p. p.now) items)))
 
-module _ {U T : Type 0} (becomes : U → T → Type 0) (steps : T → Option (Bor (List ℕ)) → T → Type 0)
-    (kind : MatchKind) (ignore_case : Bool) (patterns : U) where
-  -- the prefilter's builder would keep an item of the iterator, after those before it
+module _ (limit : ℕ) {U T : Type 0} (becomes : U → T → Type 0) (steps : T → Option (Bor (List ℕ)) → T → Type 0)
+    (patterns : U) where
+  -- an item of the iterator would be kept, after those before it and up to a limit
   pub record WouldKeepItem : Type 0 where
     pub iterator : T
     pub items : List (Bor (List ℕ))
@@ -52,10 +52,11 @@ module _ {U T : Type 0} (becomes : U → T → Type 0) (steps : T → Option (Bo
     pub is_iterator : becomes patterns iterator
     pub gave : Yields steps iterator items before
     pub gives : steps before (Some refused) after
-    pub would_keep : WouldKeep pattern_limit (state_of pattern_limit (map (λ p. p.now) items)) refused.now
+    pub would_keep : WouldKeep limit (state_of limit (map (λ p. p.now) items)) refused.now
 
-  -- memory was refused: for an item that is kept, or after all items, where there is a prefilter for them
-  abbrev pub RefusesConfirming : Type 0
-  RefusesConfirming = WouldKeepItem
-      ⊎ ((it : T) × (items : List (Bor (List ℕ))) × becomes patterns it × Drains steps it items
-      × IsTrue (is_some (pick (prefilter_builder kind ignore_case (map (λ p. p.now) items)))))
+-- memory was refused: for an item that is kept, or after all items, where there is a prefilter for them
+abbrev pub RefusesConfirming : {U T : Type 0} → (U → T → Type 0) → (T → Option (Bor (List ℕ)) → T → Type 0) → MatchKind
+    → Bool → U → Type 0
+RefusesConfirming {U} {T} becomes steps kind ignore_case patterns = WouldKeepItem pattern_limit becomes steps patterns
+    ⊎ ((it : T) × (items : List (Bor (List ℕ))) × becomes patterns it × Drains steps it items
+    × IsTrue (is_some (pick (prefilter_builder kind ignore_case (map (λ p. p.now) items)))))

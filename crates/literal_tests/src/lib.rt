@@ -44,6 +44,8 @@ mod rows;
 #[cfg(test)]
 mod running_tables;
 #[cfg(test)]
+mod searches;
+#[cfg(test)]
 mod spans;
 pub mod steps;
 #[cfg(test)]

@@ -23,3 +23,5 @@ mod pattern_lists;
 mod prefilters;
 #[cfg(test)]
 mod searchers;
+#[cfg(test)]
+mod searches;

@@ -1,15 +1,143 @@
--- What is known of lists with a value for each byte, of marks, and of each byte that a `for` takes of a class.
+-- What is known of lists with a value for each byte, of marks and classes, and of each byte that a `for` takes of a class.
 -- For callers: their proofs cite this file, and no other of this crate's proofs.
-use Rattle.std.proofs.Common.{◌≡◌, ◌==◌, ℕ, ◌<◌, true, List, ◌∷◌, ◌++◌, length, get_or, slice_index}
-use Rattle.std.proofs.Common.{sym, subst, ap, ◌∙◌, arith}
-use Rattle.std.proofs.lemmas.List.{length-append}
+use Rattle.std.proofs.Common.{◌≡◌, ◌==◌, ℕ, ◌+◌, ◌<◌, ◌≤◌, ◌||◌, ◌↔◌, Bool, true, false, List, [], ◌∷◌, ◌++◌}
+use Rattle.std.proofs.Common.{length, get_or, slice_index, take, zero, suc, cond, sym, refl, ap, subst, ⊎_elim, ◌∙◌}
+use Rattle.std.proofs.Common.{arith}
+use Rattle.std.specs.List.{All, list_any}
+use Rattle.std.specs.Prelude.{count_by, replicate}
+use Rattle.std.proofs.lemmas.Bool.{cases_Bool, cases_lt, both_ways, eqb-true}
+use Rattle.std.proofs.lemmas.Bool.Decides.{nat_tests}
+use Rattle.std.proofs.lemmas.List.{get_or-replicate, length-replicate, get_or_past, length-append}
 use Rattle.std.proofs.lemmas.List.Elements.{filter_passes}
+use Rattle.std.proofs.lemmas.List.Folds.{list_any-append, list_any_at, list_any_none}
+use Rattle.std.proofs.lemmas.List.FromFn.{length-map-range_with_len, get_or-map-range_with_len, fill_by_all}
+use Rattle.std.proofs.lemmas.List.Sums.{count_by_more_no, count_by_more_yes, sum_by-take-le}
 use Rattle.std.proofs.Math.Seq.{get_or-append_seam}
-use Rattle.std.proofs.lemmas.Bool.{eqb-true}
-use Rattle.literal_base.specs.Bytes.{all_bytes}
-use Rattle.literal_base.specs.Classes.{elements_of}
-pub use Rattle.literal_base.proofs.lemmas.ByByte.{get_or-by_byte, length-by_byte}
-pub use Rattle.literal_base.proofs.lemmas.Marks.{class_below_len, marks_of-push, share_a_class}
+use Rattle.literal_base.specs.Bytes.{all_bytes, by_byte, contains}
+use Rattle.literal_base.specs.Classes.{NonePart, alphabet_len_of, class_of, elements_of, holds, is_marked_by, marks_of}
+use Rattle.literal_base.specs.Classes.{with_range_marked}
+
+-- a list with a value for each byte has 256 of them, and at a byte its value
+pub length-by_byte : {X : Type 0} (f : ℕ → X) → length (by_byte f) ≡ 256
+unfolding by_byte
+length-by_byte f = length-map-range_with_len f 0 256
+
+pub get_or-by_byte : {X : Type 0} (f : ℕ → X) (b : ℕ) (d : X) → b < 256 → get_or (by_byte f) b d ≡ f b
+unfolding by_byte
+get_or-by_byte f b d below = get_or-map-range_with_len f 0 256 b b d below (omega arith)
+
+-- a list of 256 with these values is that list
+pub by_byte_is : {X : Type 0} (f : ℕ → X) (xs : List X) (d : X) → length xs ≡ 256
+    → ((k : ℕ) → k < 256 → get_or xs k d ≡ f k) → xs ≡ by_byte f
+unfolding by_byte
+by_byte_is f xs d whole each = fill_by_all f xs 256 d whole each
+
+-- one value for every byte
+pub replicate_is : {X : Type 0} (x : X) (n : ℕ) → n ≡ 256 → replicate n x ≡ by_byte (λ _. x)
+replicate_is x n e =
+    by_byte_is (λ _. x) (replicate n x) x (length-replicate n x ∙ e) (λ k below. get_or-replicate n k x x (omega arith))
+
+-- the same value at every place, also past the end
+pub get_or-by_byte_same : {X : Type 0} (x : X) (b : ℕ) → get_or (by_byte (λ _. x)) b x ≡ x
+get_or-by_byte_same x b =
+    ⊎_elim (λ below. get_or-by_byte (λ _. x) b x below)
+    (λ past. get_or_past (by_byte (λ _. x)) b x (omega (arith, length-by_byte (λ (_ : ℕ). x)))) (cases_lt b 256)
+
+-- the values of bytes alone tell the list
+pub by_byte_agree : {X : Type 0} (f g : ℕ → X) → ((b : ℕ) → b < 256 → f b ≡ g b) → by_byte f ≡ by_byte g
+by_byte_agree f g same =
+    by_byte_is g (by_byte f) (f 0) (length-by_byte f) (λ k below. get_or-by_byte f k (f 0) below ∙ same k below)
+
+-- the same of any list of one value
+pub get_or-replicate_same : {X : Type 0} (n : ℕ) (x : X) (b : ℕ) → get_or (replicate n x) b x ≡ x
+get_or-replicate_same n x b =
+    ⊎_elim (λ below. get_or-replicate n b x x below)
+    (λ past. get_or_past (replicate n x) b x (omega (arith, length-replicate n x))) (cases_lt b n)
+
+or_false : (a : Bool) → a ≡ (a || false)
+or_false true = refl
+or_false false = refl
+
+-- the marks of one range more
+pub marks_of-push : (ranges : List (ℕ × ℕ)) (start end : ℕ)
+    → marks_of (ranges ++ (start, end) ∷ []) ≡ with_range_marked (marks_of ranges) start end
+marks_of-push ranges start end = by_byte_agree _ _ (λ b below.
+    list_any-append (λ range. is_marked_by range b) ranges ((start, end) ∷ [])
+    ∙ (ap (λ t. list_any (λ range. is_marked_by range b) ranges || t)
+    (sym (or_false (is_marked_by (start, end) b)))
+    ∙ ap (λ t. t || is_marked_by (start, end) b)
+    (sym (get_or-by_byte (λ b. list_any (λ range. is_marked_by range b) ranges) b false below))))
+
+marked_parts : (first last b : ℕ) → first ≤ last → is_marked_by (first, last) b ≡ false
+    → holds (first, last) b ≡ holds (first, last) (b + 1)
+marked_parts first last b ordered unmarked = grind (arith, nat_tests)
+
+parts_marked : (first last b : ℕ) → first ≤ last → holds (first, last) b ≡ holds (first, last) (b + 1)
+    → is_marked_by (first, last) b ≡ false
+parts_marked first last b ordered same = grind (arith, nat_tests)
+
+-- a byte tells itself from the next exactly if it is marked
+class_of-more : (marked : List Bool) (b : ℕ) → length marked ≡ 256 → b < 256
+    → (class_of marked b ≡ class_of marked (b + 1)) ↔ (contains marked b ≡ false)
+class_of-more marked b whole below = (
+  λ same. ⊎_elim
+      (λ here. let more = count_by_more_yes (λ m. m) marked b false (omega arith) here in absurd (omega arith))
+      (λ none. none)
+      (cases_Bool (contains marked b)),
+  λ none. sym (count_by_more_no (λ m. m) marked b false (omega arith) none),
+)
+
+none_marks : (ranges : List (ℕ × ℕ)) (b : ℕ) → All (λ range. range.0 ≤ range.1) ranges
+    → list_any (λ range. is_marked_by range b) ranges ≡ false → NonePart ranges b
+none_marks ranges b ordered none k d below =
+    let range = get_or ranges k d in
+    marked_parts range.0 range.1 b (ordered k d below) (⊎_elim
+    (λ one. absurd (both_ways (list_any (λ range. is_marked_by range b) ranges) none
+    (list_any_at (λ range. is_marked_by range b) ranges k d below one)))
+    (λ not. not)
+    (cases_Bool (is_marked_by range b)))
+
+none_part : (ranges : List (ℕ × ℕ)) (b : ℕ) → All (λ range. range.0 ≤ range.1) ranges → NonePart ranges b
+    → list_any (λ range. is_marked_by range b) ranges ≡ false
+none_part ranges b ordered none =
+    list_any_none (λ range. is_marked_by range b) ranges (λ k d below.
+    let range = get_or ranges k d in
+    parts_marked range.0 range.1 b (ordered k d below) (none k d below))
+
+-- neighbouring bytes share a class exactly if no range holds just one of them
+pub share_a_class : (ranges : List (ℕ × ℕ)) (b : ℕ) → All (λ range. range.0 ≤ range.1) ranges → b < 255
+    → (class_of (marks_of ranges) b ≡ class_of (marks_of ranges) (b + 1)) ↔ NonePart ranges b
+share_a_class ranges b ordered below =
+    let is : contains (marks_of ranges) b ≡ list_any (λ range. is_marked_by range b) ranges = get_or-by_byte
+    (λ b. list_any (λ range. is_marked_by range b) ranges) b false (omega arith) in
+    let told = class_of-more (marks_of ranges) b (length-by_byte (λ b. list_any (λ range. is_marked_by range b) ranges))
+    (omega arith) in (
+      λ same. none_marks ranges b ordered (sym is ∙ told.0 same),
+      λ none. told.1 (is ∙ none_part ranges b ordered none),
+    )
+
+take_of_take : (b c : ℕ) (marked : List Bool) → b ≤ c → take b (take c marked) ≡ take b marked
+take_of_take zero c marked ordered = refl
+take_of_take (suc b) zero marked ordered = absurd (omega arith)
+take_of_take (suc b) (suc c) [] ordered = refl
+take_of_take (suc b) (suc c) (m ∷ more) ordered = ap (λ ms. m ∷ ms) (take_of_take b c more (omega arith))
+
+-- a later byte has no smaller class
+class_of-le : (marked : List Bool) (b c : ℕ) → b ≤ c → class_of marked b ≤ class_of marked c
+class_of-le marked b c ordered =
+    subst (λ ms. count_by (λ m. m) ms ≤ class_of marked c) (take_of_take b c marked ordered)
+    (sum_by-take-le (λ m. cond m 1 0) (take c marked) b)
+
+-- a byte's class is below the number of classes: byte 255 has the greatest
+pub class_below_len : (marked : List Bool) (b : ℕ) → b < 256
+    → slice_index (by_byte (class_of marked)) b < alphabet_len_of (by_byte (class_of marked))
+class_below_len marked b below =
+    omega (
+      arith,
+      get_or-by_byte (class_of marked) b 0 below,
+      get_or-by_byte (class_of marked) 255 0 (omega arith),
+      class_of-le marked b 255 (omega arith),
+    )
 
 -- Of the bytes of a class some were taken, and of the rest the next one is given: it has that class.
 pub element_has_class : (classes : List ℕ) (class : ℕ) (taken rest : List ℕ) (byte : ℕ) (left : List ℕ)

@@ -1,23 +1,166 @@
--- What callers take from this crate beside its contracts and laws: builders to which patterns are added in turn,
--- iterations over patterns, and iterations over matches. For callers.
-use Rattle.std.proofs.Common.{◌≡◌, ℕ, false, List, [], ◌∷◌, Some, None, length, map, refl, sym, ap, ◌∙◌, subst}
-use Rattle.std.proofs.lemmas.List.{length-map}
+-- What callers take from this crate beside its contracts and laws: patterns that were given as a slice, an array or a
+-- vector, builders to which patterns are added in turn, iterations over patterns, and iterations over matches.
+-- For callers.
+use Rattle.std.proofs.Common.{◌≡◌, ◌<◌, ◌^◌, ℕ, Bool, true, false, cond, nat_lt, List, [], ◌∷◌, length, map}
+use Rattle.std.proofs.Common.{Option, Some, None, IfSome, refl, sym, ap, ◌∙◌, subst, ⊎_elim, ◌++◌, ltb, arith}
+use Rattle.std.proofs.Common.{append_assoc, append-nil}
+use Rattle.std.specs.Array.Iter.{array_into_iter_items, array_steps, array_steps_back}
+use Rattle.std.specs.Borrow.{Bor}
+use Rattle.std.specs.declared.array.IntoIter.{IntoIter}
+use Rattle.std.specs.declared.iter.Copied.{Copied}
+use Rattle.std.specs.declared.slice.Iter.{Iter}
+use Rattle.std.specs.declared.vec.IntoIter.{IntoIter as VecIntoIter}
+use Rattle.std.specs.declared.vec.Vec.{Vec}
+use Rattle.std.specs.Iterator.Adapters.{copied_source, copied_steps}
+use Rattle.std.specs.Iterator.Runs.{EveryRun, ItemsAre, ItemsAreReversed}
+use Rattle.std.specs.Slice.Iter.{iter_rest, iter_steps}
+use Rattle.std.specs.Vec.Iter.{into_iter_items, into_iter_len, into_iter_steps}
+use Rattle.std.proofs.lemmas.Bool.{cases_Bool, cond-true, cond-false}
+use Rattle.std.proofs.lemmas.Iterator.{YieldsList, YieldsList-from_slice, items_from_drains}
+use Rattle.std.proofs.lemmas.Iterator.Adapters.{YieldsList-from_vec}
+use Rattle.std.proofs.lemmas.Iterator.Consumers.{YieldsList-from_copied, YieldsList-from_shown}
+use Rattle.std.proofs.lemmas.Bool.Decides.{nat_tests}
+use Rattle.std.proofs.lemmas.List.{length-append, length-map, map-id}
+use Rattle.std.proofs.lemmas.List.Folds.{list_all-append}
 use Rattle.std.proofs.lemmas.List.FromFn.{length-range_with_len}
 use Rattle.std.proofs.lemmas.List.Sorted.{length_permutation}
-use Rattle.std.specs.Iterator.{Yields}
+use Rattle.std.specs.Iterator.{Drains, Yields}
 use Rattle.std.specs.List.{range_with_len}
 use Rattle.literal_base.specs.Counts.{none_yet}
 use Rattle.literal_base.specs.MatchValue.{MatchValue}
 use Rattle.literal_base.specs.Occurs.{NothingOccurs, pattern_at, rest_from, whole_of}
 use Rattle.literal_base.specs.Greedy.{IsGreedy}
 use Rattle.literal_base.specs.Query.{Query}
-use Rattle.literal_packed.specs.BuilderValue.{BuilderValue, builder_of, with_added}
-use Rattle.literal_packed.specs.ConfigValue.{ConfigValue}
+use Rattle.literal_packed.specs.BuilderValue.{BuilderValue, BuildsItems, builder_of, searcher_of, with_added}
+use Rattle.literal_packed.specs.ConfigValue.{ConfigValue, default_config}
 use Rattle.literal_packed.specs.FindIterValue.{FindIterValue, FindsNext}
+use Rattle.literal_packed.specs.Lending.{HoldsAll}
 use Rattle.literal_packed.specs.PatternsValue.{PatternsValue, IsWellFormed, in_order}
+use Rattle.literal_packed.specs.State.{may_keep, state_after, state_of}
 use Rattle.literal_packed.proofs.lemmas.GreedyLists.{found_occurs}
--- one addition after another is one of both: of a builder, and of the state of any builder with a limit
-pub use Rattle.literal_packed.proofs.lemmas.Additions.{added_more, state_after-state_of}
+
+-- whichever iterator the given value becomes, that gives this list and ends
+pub record GivesList {U T A : Type 0} (becomes : U → T → Type 0) (steps : T → Option A → T → Type 0) (given : U)
+    (list : List A) : Type 0 where
+  pub each : (it : T) → becomes given it → YieldsList steps (λ x. x) it list
+
+-- `list.iter().copied()` gives the slice's list: what `copied` and `iter` ensure says of which list it is
+pub slice_gives : {A : Type 0} {given : Copied (Iter A)} (list : List A) → iter_rest (copied_source given) ≡ list
+    → GivesList (λ s r. r ≡ s) (copied_steps (iter_steps {A = A})) given list
+slice_gives list is = record {
+  each = λ it same.
+      YieldsList-from_copied {s = it} (YieldsList-from_slice {s = copied_source it} list
+      (ap (λ i. iter_rest (copied_source i)) same ∙ is));
+}
+
+-- an array by value gives its list
+pub array_gives : {A : Type 0} {n : ℕ} (list : List A)
+    → GivesList
+    (λ (xs : List A) (r : IntoIter A n). (array_into_iter_items r ≡ xs) × (length (array_into_iter_items r) ≡ n)
+    × EveryRun (array_steps {A = A} {n = n}) (λ p. ItemsAre p (array_into_iter_items p.from))
+    × EveryRun (array_steps_back {A = A} {n = n}) (λ p. ItemsAreReversed p (array_into_iter_items p.from)))
+    (array_steps {A = A} {n = n}) list list
+array_gives {A} {n} list = record {
+  each = λ it becomes.
+      subst (YieldsList (array_steps {A = A} {n = n}) (λ x. x) it) becomes.0
+      (YieldsList-from_shown (array_steps {A = A} {n = n}) (λ x. x) array_into_iter_items (λ s t h. h.0)
+      (λ s x t h. h) it);
+}
+
+-- a vector by value gives its list
+pub vec_gives : {A Z : Type 0} (vec : Vec A Z)
+    → GivesList
+    (λ (v : Vec A Z) (r : VecIntoIter A Z). (into_iter_items r ≡ v.items) × (into_iter_len r ≡ v.len)
+    × (into_iter_len r < 2 ^ 64)
+    × EveryRun (into_iter_steps {X = A} {Z = Z}) (λ p. ItemsAre p (into_iter_items p.from)))
+    (into_iter_steps {X = A} {Z = Z}) vec vec.items
+vec_gives vec = record { each = λ it becomes. YieldsList-from_vec vec.items becomes.0 (becomes.1 ∙ vec.ok.0) }
+
+-- a searcher that is built is for the patterns that were added, and for the builder's kind
+module _ (config : ConfigValue) (added : List (List ℕ)) where
+  abbrev IsForAdded : Option Query → Type 0
+  IsForAdded built = IfSome built (λ query. query ≡ record { kind = config.kind; patterns = added })
+
+  abbrev IsForState : Option (List (List ℕ)) → Type 0
+  IsForState state = IsForAdded (searcher_of (record { config = config; state = state }))
+
+  some_searcher : (some : Bool) → IsForAdded (cond some (Some (record { kind = config.kind; patterns = added })) None)
+  some_searcher true = refl
+  some_searcher false = tt
+
+  pub built_for : (built : Option Query) → built ≡ searcher_of (builder_of config added)
+      → IfSome built (λ query. query ≡ record { kind = config.kind; patterns = added })
+  built_for built is =
+      let may = may_keep config.pattern_limit added in
+      subst IsForAdded (sym is) (⊎_elim
+      (λ kept. subst IsForState (sym (cond-true may (Some added) None kept))
+      (some_searcher (nat_lt 0 (length added))))
+      (λ refused. subst IsForState (sym (cond-false may (Some added) None refused)) tt)
+      (cases_Bool may))
+
+-- What a call says of all items of an iterator it says of the list that is given, as by `array_gives`.
+module _ {U T A : Type 0} {becomes : U → T → Type 0} {steps : T → Option A → T → Type 0} {given : U} {list : List A}
+    (gives : GivesList becomes steps given list) where
+  -- the items are the list
+  pub items_are : (it : T) (items : List A) → becomes given it → Drains steps it items → items ≡ list
+  items_are it items is_iterator drains =
+      sym (map-id items)
+      ∙ items_from_drains items (drains.1.0, drains.1.1, λ _. (drains.0, drains.1.2)) (gives.each it is_iterator)
+
+module _ {U T : Type 0} {becomes : U → T → Type 0} {steps : T → Option (Bor (List ℕ)) → T → Type 0} {given : U}
+    {list : List (Bor (List ℕ))} (gives : GivesList becomes steps given list) where
+  -- `Searcher::new` builds what a builder of the list does
+  pub built_of : (built : Option Query) → BuildsItems becomes steps given built
+      → built ≡ searcher_of (builder_of default_config (map (λ p. p.now) list))
+  built_of built (it, items, is_iterator, drains, is) =
+      is ∙ ap (λ (all : List (Bor (List ℕ))). searcher_of (builder_of default_config (map (λ p. p.now) all)))
+      (items_are gives it items is_iterator drains)
+
+  -- so a searcher that it builds is for the list
+  pub searches_for : (built : Option Query) → BuildsItems becomes steps given built
+      → IfSome built (λ query. query ≡ record { kind = default_config.kind; patterns = map (λ p. p.now) list })
+  searches_for built builds = built_for default_config (map (λ p. p.now) list) built (built_of built builds)
+
+  -- `Builder::extend` adds the list
+  pub adds_all : (old new : BuilderValue) → HoldsAll becomes steps given old new
+      → new ≡ with_added old (map (λ p. p.now) list)
+  adds_all old new (it, items, is_iterator, adds, drains) =
+      adds ∙ ap (λ (all : List (Bor (List ℕ))). with_added old (map (λ p. p.now) all))
+      (items_are gives it items is_iterator drains)
+
+abbrev has_a_byte : List ℕ → Bool
+has_a_byte bytes = ltb 0 (length bytes)
+
+-- what may not be kept may not with more patterns either
+past_for_good : (limit : ℕ) (a b : List (List ℕ)) → may_keep limit a ≡ false → may_keep limit (a ++ b) ≡ false
+past_for_good limit a b past = grind (arith, nat_tests, list_all-append has_a_byte a b, length-append a b)
+
+after_state : (limit : ℕ) (a b : List (List ℕ)) (first : List ℕ) (kept : Bool) → may_keep limit a ≡ kept
+    → state_after limit (cond kept (Some a) None) (first ∷ b) ≡ state_of limit (a ++ first ∷ b)
+after_state limit a b first true is = refl
+after_state limit a b first false is =
+    sym (ap (λ k. cond k (Some (a ++ first ∷ b)) None) (past_for_good limit a (first ∷ b) is))
+
+-- one addition after another is one of both, of the state of any builder with a limit
+pub state_after-state_of : (limit : ℕ) (a b : List (List ℕ))
+    → state_after limit (state_of limit a) b ≡ state_of limit (a ++ b)
+state_after-state_of limit a [] = ap (state_of limit) (sym (append-nil a))
+state_after-state_of limit a (first ∷ b) = after_state limit a b first (may_keep limit a) refl
+
+-- two additions in turn are one of both
+pub state_after-append : (limit : ℕ) (state : Option (List (List ℕ))) (a b : List (List ℕ))
+    → state_after limit (state_after limit state a) b ≡ state_after limit state (a ++ b)
+state_after-append limit state [] b = refl
+state_after-append limit state (first ∷ a) [] = ap (state_after limit state) (sym (append-nil (first ∷ a)))
+state_after-append limit None (first ∷ a) (next ∷ b) = refl
+state_after-append limit (Some kept) (first ∷ a) (next ∷ b) =
+    state_after-state_of limit (kept ++ first ∷ a) (next ∷ b)
+    ∙ ap (state_of limit) (append_assoc kept (first ∷ a) (next ∷ b))
+
+-- the same of a builder
+pub added_more : (config : ConfigValue) (a b : List (List ℕ))
+    → with_added (builder_of config a) b ≡ builder_of config (a ++ b)
+added_more config a b = ap (λ s. record { config = config; state = s }) (state_after-state_of config.pattern_limit a b)
 
 -- a builder with no pattern to which two are added in turn is the builder of both
 pub added_two : (config : ConfigValue) (a b : List ℕ) (mid new : BuilderValue)

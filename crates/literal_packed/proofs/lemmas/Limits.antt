@@ -10,7 +10,7 @@ use Rattle.literal_packed.specs.ConfigValue.{ConfigValue}
 use Rattle.literal_packed.specs.BuilderValue.{IsBuildable, builder_of, searcher_of}
 
 -- what may be kept
-may_keep_if : (limit : ℕ) (added : List (List ℕ)) → NoneIsEmpty added → length added ≤ limit
+pub may_keep_if : (limit : ℕ) (added : List (List ℕ)) → NoneIsEmpty added → length added ≤ limit
     → may_keep limit added ≡ true
 may_keep_if limit added not_empty few =
     let each = list_all-from_AllPass (λ bytes. nat_lt 0 (length bytes)) added

@@ -12,7 +12,7 @@ use Rattle.literal_prefilters.specs.Table.{distance_of, step_back}
 use Rattle.literal_prefilters.specs.Near.{is_within_distance, is_near, near_count}
 use Rattle.literal_base.specs.Occurs.{rest_from}
 use Rattle.literal_prefilters.specs.Table.{IsFirst}
-use Rattle.literal_prefilters.proofs.lemmas.First.{IsFree, first_is, first_none}
+use Rattle.literal_prefilters.proofs.lemmas.Callers.{IsFree, first_is, first_none}
 
 count_more : (p : ℕ → Bool) (start n : ℕ) → count_by p (range_with_len start (n + 1)) ≡ count_by p
     (range_with_len start n) + cond (p (start + n)) 1 0

@@ -9,7 +9,7 @@ use Rattle.std.proofs.lemmas.List.{length-set, get_or-set_same, get_or-set_other
 use Rattle.std.proofs.lemmas.List.FromFn.{length-enumerate_from, get_or-enumerate_from}
 use Rattle.std.proofs.lemmas.List.Sums.{sum_by-set, sum_by-le, sum_by-cons}
 use Rattle.literal_base.specs.Rank.{rank_of}
-use Rattle.literal_base.proofs.lemmas.ByByte.{by_byte_is, length-by_byte, get_or-by_byte}
+use Rattle.literal_base.proofs.lemmas.Callers.{by_byte_is, length-by_byte, get_or-by_byte}
 use Rattle.literal_prefilters.specs.Table.{size, rank_at, rank_sum_of}
 use Rattle.literal_prefilters.specs.Tables.{of_set, table_of}
 use Rattle.literal_prefilters.proofs.lemmas.TableOf.{length-table_of, table_of_agree}

@@ -14,7 +14,7 @@ use Rattle.literal_base.specs.declared.packed.MatchKind.{MatchKind}
 use Rattle.literal_prefilters.specs.Answers.{candidate_of}
 use Rattle.literal_prefilters.specs.Sound.{Sound}
 use Rattle.literal_prefilters.specs.Table.{IsFirst, distance_of, is_in, first, step_back, step, Covers}
-use Rattle.literal_prefilters.proofs.lemmas.First.{IsFree, is_first_from, free_from_first}
+use Rattle.literal_prefilters.proofs.lemmas.Callers.{IsFree, is_first_from, free_from_first}
 
 -- the earliest offset at which the text has a byte of the table, with its distance
 record EarliestOffset (table : List (Option ℕ)) (text : List ℕ) : Type 0 where

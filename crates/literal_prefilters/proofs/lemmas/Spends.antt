@@ -19,7 +19,7 @@ use Rattle.literal_prefilters.specs.Near.{near_count}
 use Rattle.literal_prefilters.specs.PrefilterValue.{PrefilterValue, CoveredBy, by_table, by_pattern, by_search}
 use Rattle.literal_prefilters.specs.PrefilterValue.{prefilter_table}
 use Rattle.literal_prefilters.specs.Table.{Covers, first}
-use Rattle.literal_prefilters.proofs.lemmas.First.{free_from_first, is_first_from}
+use Rattle.literal_prefilters.proofs.lemmas.Callers.{free_from_first, is_first_from}
 use Rattle.literal_prefilters.proofs.lemmas.Near.{near_count-joined}
 use Rattle.literal_prefilters.proofs.lemmas.Sound.{first_in_occurrence, nothing_from_free}
 use Rattle.literal_prefilters.proofs.lemmas.Tries.{counts_are}

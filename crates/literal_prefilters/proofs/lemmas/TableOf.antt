@@ -3,7 +3,7 @@
 use Rattle.std.proofs.Common.{◌≡◌, ℕ, ◌<◌, ◌≤◌, cond, Bool, true, false, length, drop, Some, None, is_some}
 use Rattle.std.proofs.Common.{refl, ap, ◌∙◌, arith}
 use Rattle.std.proofs.lemmas.Bool.{cond-true, cond-false, ne_eqb, eq-eqb}
-use Rattle.literal_base.proofs.lemmas.ByByte.{by_byte_agree, length-by_byte, get_or-by_byte}
+use Rattle.literal_base.proofs.lemmas.Callers.{by_byte_agree, length-by_byte, get_or-by_byte}
 use Rattle.literal_prefilters.specs.Table.{size, is_in, distance_of}
 use Rattle.literal_prefilters.specs.Tables.{table_of, of_set, if_low, if_small}
 use Rattle.literal_prefilters.proofs.lemmas.Sizes.{size_some, size_drop_some, size_drop_none}

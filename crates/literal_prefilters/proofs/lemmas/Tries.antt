@@ -20,7 +20,7 @@ use Rattle.literal_prefilters.specs.Inside.Confirming.{IsKept, read_to}
 use Rattle.literal_base.specs.Occurs.{NothingOccurs}
 use Rattle.literal_prefilters.specs.Table.{distance_of, first, step_back, Covers}
 use Rattle.literal_prefilters.specs.Table.{IsFirst}
-use Rattle.literal_prefilters.proofs.lemmas.First.{IsFree, is_first_from, first_is}
+use Rattle.literal_prefilters.proofs.lemmas.Callers.{IsFree, is_first_from, first_is}
 use Rattle.literal_prefilters.proofs.lemmas.Asks.{in_rest}
 use Rattle.literal_prefilters.proofs.lemmas.Near.{valid_rest, first_later, near_count-before, near_count-tried}
 use Rattle.literal_prefilters.proofs.lemmas.Sound.{none_before_step, nothing_from_free}

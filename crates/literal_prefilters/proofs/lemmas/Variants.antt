@@ -1,12 +1,11 @@
 -- Texts that are the same, byte by byte.
 -- For what tables cover.
 use Rattle.std.proofs.Common.{◌≡◌, ℕ, ◌<◌, Bool, true, false, List, map, length, get_or, slice_index, sym, ap, ◌∙◌}
-use Rattle.std.proofs.Common.{subst, arith}
+use Rattle.std.proofs.Common.{arith}
 use Rattle.std.specs.Char.{to_ascii_lowercase}
 use Rattle.std.proofs.lemmas.Bool.{eq-eqb, eqb-true}
-use Rattle.std.proofs.lemmas.List.{length-map, get_or-map, get_or_default, ext_get_or}
+use Rattle.std.proofs.lemmas.List.{length-map, get_or-map, ext_get_or}
 use Rattle.literal_base.specs.Occurs.{Same, same_byte}
-use Rattle.literal_base.specs.Bytes.{AreBytes}
 
 pub same_length : (c : Bool) (a b : List ℕ) → Same c a b → length a ≡ length b
 same_length true a b s = sym (length-map a to_ascii_lowercase) ∙ (ap length s ∙ length-map b to_ascii_lowercase)
@@ -27,10 +26,6 @@ same_byte_joined false a b r x y = eq-eqb _ _ (sym (eqb-true _ _ y) ∙ eqb-true
 pub same_byte_turned : (c : Bool) (a b : ℕ) → same_byte c a b ≡ true → same_byte c b a ≡ true
 same_byte_turned true a b x = eq-eqb _ _ (sym (eqb-true _ _ x))
 same_byte_turned false a b x = eq-eqb _ _ (sym (eqb-true _ _ x))
-
-pub are_bytes : (bytes : List ℕ) → ((k : ℕ) → get_or bytes k 0 < 256) → AreBytes bytes
-are_bytes bytes each k d below =
-    let P : ℕ → Type 0 = λ b. b < 256 in subst P (get_or_default bytes k 0 d below) (each k)
 
 pub same_from_bytes : (c : Bool) (a b : List ℕ) → length a ≡ length b
     → ((k : ℕ) → k < length a → same_byte c (slice_index a k) (slice_index b k) ≡ true) → Same c a b

@@ -215,8 +215,10 @@ impl Model for ConfirmingSearch {
 
 impl ConfirmingSearch {
     /// The search for the patterns that the iterator gives, with this kind of match and ASCII case
-    /// ignored or not, and `None` exactly where [`Builder::build`] has no prefilter for them. The
-    /// iterator has to end. Memory is asked for only for a pattern that [`Builder::add`] keeps, and behind
+    /// ignored or not, and `None` exactly where [`Builder::build`] has no prefilter for them. With case
+    /// ignored that is so of most lists of several words, since a letter takes two of the three bytes
+    /// that a table may have: `literal_search::Search` searches for any list. The iterator has to end.
+    /// Memory is asked for only for a pattern that [`Builder::add`] keeps, and behind
     /// the last of them only where there is a prefilter.
     pub fn build<'a, I: IntoIterator<Item = &'a [u8]>>(
         alloc: Global,

@@ -1,5 +1,5 @@
 use Rattle.std.proofs.Common.{false}
-use Rattle.literal_base.proofs.lemmas.ByByte.{get_or-by_byte, length-by_byte}
+use Rattle.literal_base.proofs.lemmas.Callers.{get_or-by_byte, length-by_byte}
 use Rattle.literal_base.proofs.laws.by_byte_gives_each_value.Goals as goal
 
 pub returns-clause-number : goal.returns-clause-number

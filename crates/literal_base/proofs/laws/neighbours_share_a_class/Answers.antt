@@ -1,4 +1,4 @@
-use Rattle.literal_base.proofs.lemmas.Marks.{share_a_class}
+use Rattle.literal_base.proofs.lemmas.Callers.{share_a_class}
 use Rattle.literal_base.proofs.laws.neighbours_share_a_class.Goals as goal
 
 pub returns : goal.returns

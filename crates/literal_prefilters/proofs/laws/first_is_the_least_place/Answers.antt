@@ -1,4 +1,4 @@
-use Rattle.literal_prefilters.proofs.lemmas.First.{first_is, is_first_from}
+use Rattle.literal_prefilters.proofs.lemmas.Callers.{first_is, is_first_from}
 use Rattle.literal_prefilters.proofs.laws.first_is_the_least_place.Goals as goal
 
 pub returns : goal.returns

@@ -12,7 +12,7 @@ use Rattle.literal_prefilters.specs.Confirming.{scanned_once, tried_places}
 use Rattle.literal_prefilters.specs.Near.{is_near, near_count}
 use Rattle.literal_prefilters.specs.Table.{IsFirst, distance_of, first, is_in, step_back}
 use Rattle.literal_prefilters.specs.Tables.{table_of}
-use Rattle.literal_prefilters.proofs.lemmas.First.{first_is, is_first_from}
+use Rattle.literal_prefilters.proofs.lemmas.Callers.{first_is, is_first_from}
 use Rattle.literal_prefilters.proofs.lemmas.Near.{first_later, near_count-tried, valid_rest}
 use Rattle.literal_prefilters.proofs.laws.one_try_where_a_match_is_proposed.Goals as goal
 

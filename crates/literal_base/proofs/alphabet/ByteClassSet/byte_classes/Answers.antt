@@ -1,6 +1,6 @@
 use Rattle.std.proofs.Common.{rules}
 use Rattle.literal_base.specs.Classes.{class_of}
-use Rattle.literal_base.proofs.lemmas.ByByte.{by_byte_is}
+use Rattle.literal_base.proofs.lemmas.Callers.{by_byte_is}
 use Rattle.literal_base.proofs.alphabet.ByteClassSet.byte_classes.Goals as goal
 
 pub returns-after-contains : goal.returns-after-contains

@@ -9,8 +9,8 @@ use Rattle.literal_prefilters.specs.Confirming.{compared_at, counts_after_tries}
 use Rattle.literal_prefilters.specs.Table.{first}
 use Rattle.literal_prefilters.specs.Near.{near_count}
 use Rattle.literal_prefilters.specs.Inside.Confirming.{read_to}
-use Rattle.literal_prefilters.proofs.lemmas.Variants.{are_bytes}
-use Rattle.literal_prefilters.proofs.lemmas.First.{free_from_first}
+use Rattle.literal_prefilters.proofs.lemmas.Callers.{are_bytes}
+use Rattle.literal_prefilters.proofs.lemmas.Callers.{free_from_first}
 use Rattle.literal_packed.specs.PatternsValue.{query_of}
 use Rattle.literal_prefilters.proofs.lemmas.Asks.{none_before_next, leftmost_here}
 use Rattle.literal_prefilters.proofs.lemmas.Near.{valid_rest, near_count-free}

@@ -1,5 +1,5 @@
 use Rattle.std.proofs.Common.{sym}
-use Rattle.literal_prefilters.proofs.lemmas.First.{first_is}
+use Rattle.literal_prefilters.proofs.lemmas.Callers.{first_is}
 use Rattle.literal_prefilters.proofs.lemmas.KeptByte.{kept_first}
 use Rattle.literal_prefilters.proofs.prefilter.confirming.next_byte.Goals as goal
 

@@ -4,7 +4,7 @@ use Rattle.std.proofs.lemmas.List.Folds.{Any-from_list_any}
 use Rattle.literal_base.specs.Bytes.{contains}
 use Rattle.literal_prefilters.proofs.lemmas.Rare.{same_byte_refl}
 use Rattle.literal_prefilters.proofs.lemmas.TableOf.{set_some}
-use Rattle.literal_prefilters.proofs.lemmas.Variants.{are_bytes}
+use Rattle.literal_prefilters.proofs.lemmas.Callers.{are_bytes}
 use Rattle.literal_prefilters.proofs.prefilter.tables.add_rarest.Goals as goal
 
 pub returns-then-not-holds_any-clause-some : goal.returns-then-not-holds_any-clause-some

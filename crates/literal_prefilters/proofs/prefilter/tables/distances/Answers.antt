@@ -1,6 +1,6 @@
 use Rattle.std.proofs.Common.{cond, Some, None, slice_index, refl, arith}
 use Rattle.literal_base.specs.Bytes.{contains}
-use Rattle.literal_base.proofs.lemmas.ByByte.{by_byte_is, get_or-replicate_same}
+use Rattle.literal_base.proofs.lemmas.Callers.{by_byte_is, get_or-replicate_same}
 use Rattle.literal_prefilters.proofs.prefilter.tables.distances.Goals as goal
 
 pub loop-byte-init : goal.loop-byte-init

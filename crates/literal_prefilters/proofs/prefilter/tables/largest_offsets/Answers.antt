@@ -2,7 +2,7 @@ use Rattle.std.proofs.Common.{◌≡◌, slice_index, ap, ◌∙◌, arith}
 use Rattle.std.proofs.lemmas.List.{take_all}
 use Rattle.literal_prefilters.specs.Tables.{largest_offset}
 use Rattle.literal_prefilters.proofs.lemmas.Offsets.{largest_offset-near}
-use Rattle.literal_base.proofs.lemmas.ByByte.{get_or-replicate_same}
+use Rattle.literal_base.proofs.lemmas.Callers.{get_or-replicate_same}
 use Rattle.literal_prefilters.proofs.prefilter.tables.largest_offsets.Goals as goal
 
 pub loop-id-init : goal.loop-id-init

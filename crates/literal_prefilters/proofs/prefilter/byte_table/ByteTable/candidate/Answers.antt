@@ -3,7 +3,7 @@ use Rattle.literal_prefilters.specs.declared.prefilter.Candidate.{Candidate}
 use Rattle.literal_prefilters.specs.Sound.{Sound}
 use Rattle.literal_prefilters.proofs.lemmas.Reach.{distance-le-reach_of}
 use Rattle.literal_prefilters.proofs.lemmas.Sound.{step-sound}
-use Rattle.literal_prefilters.proofs.lemmas.Variants.{are_bytes}
+use Rattle.literal_prefilters.proofs.lemmas.Callers.{are_bytes}
 use Rattle.literal_prefilters.proofs.prefilter.byte_table.ByteTable.candidate.Goals as goal
 
 pub returns-in-None-clause-step : goal.returns-in-None-clause-step

@@ -1,5 +1,5 @@
 use Rattle.std.proofs.Common.{sym, ap, is_some, arith}
-use Rattle.literal_prefilters.proofs.lemmas.First.{first_is, first_none}
+use Rattle.literal_prefilters.proofs.lemmas.Callers.{first_is, first_none}
 use Rattle.literal_prefilters.proofs.prefilter.byte_table.ByteTable.find.Goals as goal
 
 pub returns-in-Some-clause-place : goal.returns-in-Some-clause-place

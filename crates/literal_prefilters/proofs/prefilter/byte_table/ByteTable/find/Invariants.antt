@@ -1,5 +1,5 @@
 use Rattle.std.proofs.Common.{◌≡◌, ◌+◌, ◌-◌}
-use Rattle.literal_prefilters.proofs.lemmas.First.{IsFree}
+use Rattle.literal_prefilters.proofs.lemmas.Callers.{IsFree}
 use Rattle.literal_prefilters.proofs.prefilter.byte_table.ByteTable.find.Given as goal
 
 abbrev pub invariant-loop-place : goal.invariant-loop-place

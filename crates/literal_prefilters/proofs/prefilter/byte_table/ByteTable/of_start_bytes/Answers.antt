@@ -1,7 +1,7 @@
 use Rattle.std.proofs.Common.{◌≡◌, true, ℕ, slice_index, replicate, refl, sym, ap, ◌∙◌, arith}
 use Rattle.std.proofs.lemmas.Bool.{false_from_ne_true}
 use Rattle.literal_base.specs.Bytes.{contains}
-use Rattle.literal_base.proofs.lemmas.ByByte.{get_or-replicate_same}
+use Rattle.literal_base.proofs.lemmas.Callers.{get_or-replicate_same}
 use Rattle.literal_prefilters.specs.Tables.{if_small}
 use Rattle.literal_prefilters.proofs.lemmas.TableOf.{table_of_agree, if_low_none, if_low_some}
 use Rattle.literal_prefilters.proofs.prefilter.byte_table.ByteTable.of_start_bytes.Goals as goal

@@ -1,7 +1,7 @@
 use Rattle.std.proofs.Common.{[], ◌∷◌, List, ℕ, map, sym, ap, ◌∙◌}
 use Rattle.std.specs.Borrow.{Bor}
 use Rattle.std.proofs.lemmas.List.{map_push}
-use Rattle.literal_packed.proofs.lemmas.Additions.{state_after-append}
+use Rattle.literal_packed.proofs.lemmas.Callers.{state_after-append}
 use Rattle.literal_prefilters.specs.PrefilterBuilderValue.{pattern_limit, with_added}
 use Rattle.literal_prefilters.proofs.prefilter.confirming.ConfirmingSearch.build.Goals as goal
 

@@ -5,7 +5,7 @@ use Rattle.literal_base.specs.Occurs.{NothingOccurs}
 use Rattle.literal_packed.proofs.lemmas.GreedyLists.{greedy_all}
 use Rattle.literal_packed.proofs.lemmas.Spending.{rest_is}
 use Rattle.literal_prefilters.proofs.lemmas.Answered.{SoFar, counted_all, one_more, refused, spent_all, spent_before}
-use Rattle.literal_prefilters.proofs.lemmas.Variants.{are_bytes}
+use Rattle.literal_prefilters.proofs.lemmas.Callers.{are_bytes}
 use Rattle.literal_prefilters.proofs.prefilter.confirming.ConfirmingSearch.find_all.Goals as goal
 
 pub returns-in_err-push-clause-no_memory : goal.returns-in_err-push-clause-no_memory

@@ -1,6 +1,6 @@
 use Rattle.std.proofs.Common.{ℕ, nat_le, refl, sym, ap, arith}
 use Rattle.literal_base.specs.Bytes.{contains}
-use Rattle.literal_base.proofs.lemmas.ByByte.{get_or-replicate_same}
+use Rattle.literal_base.proofs.lemmas.Callers.{get_or-replicate_same}
 use Rattle.literal_prefilters.proofs.lemmas.Running.{up_to-none}
 use Rattle.literal_prefilters.proofs.lemmas.Sets.{size-none}
 use Rattle.literal_prefilters.proofs.prefilter.running.RunningRare.new.Goals as goal

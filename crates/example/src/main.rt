@@ -1,0 +1,18 @@
+#![tactic(auto)]
+
+use literal_search::{MatchKind, Search};
+use std::io;
+
+fn main(rt: HostRuntime) -> io::Result<()> {
+    let words = [b"apple".as_slice(), b"maple", b"Snapple"];
+    let text = b"Nobody likes maple in their apple flavored Snapple.";
+    // There is no search for an empty list, for an empty pattern, or for more than 128 of them.
+    let Some(search) = Search::new(rt.alloc(), MatchKind::LeftmostFirst, false, words)? else {
+        return Ok(());
+    };
+    for found in search.find_iter(text) {
+        let (word, span) = (found.pattern().as_usize(), found.span());
+        println!(rt; "{word} {} {}", span.start, span.end)?;
+    }
+    Ok(())
+}
