@@ -1,7 +1,10 @@
-"""What `rt check` keeps of its work in a crate's folder out/: over it, later checks prove only what has changed."""
+"""What stands in a crate's folder out/: what `rt check` keeps of its work, over which later checks prove only what has
+changed, and what `rt ci`, `rt run` and `rt test` built."""
 import os
 import shutil
 from pathlib import Path
+
+TOP = os.path.dirname(os.path.dirname(os.path.abspath(__file__)))
 
 
 def built_in(crates):
@@ -33,3 +36,17 @@ def copy_with_kept(source, target, leave_out=None):
         (link_or_copy if parts[:1] + parts[2:3] == ("crates", "out") else shutil.copy)(file, to)
 
     shutil.copytree(source, target, ignore=leave_out, copy_function=link_or_copy_of, dirs_exist_ok=True)
+
+
+def newest_source(top=TOP):
+    """When a source of any crate was changed last."""
+    times, crates = [0], os.path.join(top, "crates")
+    for folder, folders, names in os.walk(crates):
+        folders[:] = [name for name in folders if name not in built_in(crates)(folder, folders)]
+        times += [os.path.getmtime(os.path.join(folder, name)) for name in names if name.endswith(".rt")]
+    return max(times)
+
+
+def is_built(program):
+    """Whether a program is there, and was built after the last change of a source."""
+    return os.path.isfile(program) and os.path.getmtime(program) > newest_source()

@@ -2,7 +2,7 @@
 import os
 import subprocess
 
-from built import TOP
+from kept import TOP
 
 # The number of the request that is refused: each of them.
 ALL = 0
