@@ -8,11 +8,11 @@ ghost use Rattle.literal_packed.specs.ConfigValue.{default_config};
 ghost use Rattle.literal_prefilters.specs.Choice.{pick};
 ghost use Rattle.literal_prefilters.specs.ConfirmingValue.{prefilter_builder};
 
-use crate::uses::collected;
 use literal_base::laws::greedy_is_unique;
 use literal_prefilters::packed::{self, Builder, Searcher};
 use literal_prefilters::prefilter::ConfirmingSearch;
 use literal_prefilters::{Match, Span};
+use literal_search::Search;
 use std::alloc::{AllocError, Global};
 
 /// What a search found.
@@ -121,11 +121,11 @@ pub fn found_in_readme(alloc: Global) -> Result<Option<Vec<Match>>, AllocError>
 {
     greedy_is_unique();
     let words = [b"apple".as_slice(), b"maple", b"Snapple"];
-    let Some(searcher) = Searcher::new(alloc, words)? else {
+    let Some(search) = Search::new(alloc, packed::MatchKind::LeftmostFirst, false, words)? else {
         return Ok(None);
     };
-    let haystack = b"Nobody likes maple in their apple flavored Snapple.";
-    let all = collected(alloc, &searcher, haystack)?;
+    let text = b"Nobody likes maple in their apple flavored Snapple.";
+    let all = search.find_all(text)?;
     Ok(Some(all))
 }
 
