@@ -2,3 +2,4 @@
 pub mod Lists
 pub mod Runs
 pub mod Shared
+pub mod Tested

@@ -17,6 +17,7 @@ mod compared;
 mod confirming;
 pub mod copies;
 pub mod counts;
+pub mod given;
 #[cfg(test)]
 mod identifiers;
 pub mod inputs;

@@ -1,4 +1,5 @@
--- What is known of lists with a value for each byte, of marks and classes, and of each byte that a `for` takes of a class.
+-- What is known of lists with a value for each byte, of marks and classes, and of each byte that a `for` takes of a
+-- class.
 -- For callers: their proofs cite this file, and no other of this crate's proofs.
 use Rattle.std.proofs.Common.{◌≡◌, ◌==◌, ℕ, ◌+◌, ◌<◌, ◌≤◌, ◌||◌, ◌↔◌, Bool, true, false, List, [], ◌∷◌, ◌++◌}
 use Rattle.std.proofs.Common.{length, get_or, slice_index, take, zero, suc, cond, sym, refl, ap, subst, ⊎_elim, ◌∙◌}

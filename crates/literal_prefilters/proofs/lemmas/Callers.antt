@@ -1,8 +1,8 @@
 -- What a confirming search searches for, and the first place of a table in a span.
 -- For callers: their proofs cite this file, and no other of this crate's proofs.
-use Rattle.std.proofs.Common.{◌≡◌, ◌↔◌, ℕ, ◌+◌, ◌-◌, ◌<◌, ◌≤◌, Bool, false, List, length, get_or, map, Option, Some, None}
-use Rattle.std.proofs.Common.{IfSome, is_some, option_map, position, slice_range, slice_index, refl, sym, ap, ◌∙◌, subst}
-use Rattle.std.proofs.Common.{⊎_elim, arith}
+use Rattle.std.proofs.Common.{◌≡◌, ◌↔◌, ℕ, ◌+◌, ◌-◌, ◌<◌, ◌≤◌, Bool, false, List, length, get_or, map, Option, Some}
+use Rattle.std.proofs.Common.{None, IfSome, is_some, option_map, position, slice_range, slice_index, refl, sym, ap}
+use Rattle.std.proofs.Common.{◌∙◌, subst, ⊎_elim, arith}
 use Rattle.std.specs.Borrow.{Bor}
 use Rattle.std.proofs.lemmas.Bool.{cases_Bool, cond-true, cond-false}
 use Rattle.std.proofs.lemmas.List.{get_or_default}
