@@ -82,7 +82,7 @@ fn counts_words(rt: HostRuntime) -> Result<(), Fail> {
 }
 
 #[test]
-fn does_as_the_readme_says(rt: HostRuntime) -> Result<(), Fail> {
+fn finds_three_words_in_turn(rt: HostRuntime) -> Result<(), Fail> {
     let alloc = rt.alloc();
     let built = Searcher::new(alloc, [b"apple".as_slice(), b"maple", b"Snapple"])?;
     let searcher = built.ok_or("no searcher for these patterns")?;

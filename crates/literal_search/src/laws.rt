@@ -1,9 +1,9 @@
 //! What follows from the definitions, for callers: call a law where its fact is needed.
-ghost use Rattle.std.specs.Prelude.{◌≡◌, Bool, List, ℕ, IsTrue, None, Some};
+ghost use Rattle.std.specs.Prelude.{◌≡◌, Bool, List, ℕ, length, IsNone, Option, None, Some};
 ghost use Rattle.literal_base.specs.declared.packed.MatchKind.{MatchKind};
+ghost use Rattle.literal_base.specs.MatchValue.{MatchValue};
+ghost use Rattle.literal_search.specs.MatchesValue.{GivesMatch, MatchesValue};
 ghost use Rattle.literal_search.specs.SearchValue.{CanBeSearched, search_for, search_of};
-
-use crate::Matches;
 
 /// There is a search for a list of patterns exactly if there are 1 to 128 of them, none of which is empty.
 pub fn lists_have_a_search()
@@ -13,17 +13,9 @@ pub fn lists_have_a_search()
         → search_of kind ignore_case patterns ≡ None }
 {}
 
-/// Whether a `None` of an iterator is followed by nothing but `None`, in so many calls more. It is.
-pub fn none_is_for_good(matches: &mut Matches<'_, '_>, more: usize) -> bool
-    ensures { IsTrue result }
-{
-    if matches.next().is_some() {
-        return true;
-    }
-    for _ in 0..more {
-        if matches.next().is_some() {
-            return false;
-        }
-    }
-    true
-}
+/// An iterator that answers `None` stands at the end of the haystack then, and there it answers `None` and stays.
+pub fn none_is_for_good()
+    ensures ends { (old new : MatchesValue) → GivesMatch old None new → new.at ≡ length new.haystack }
+    ensures stays { (old new : MatchesValue) (answer : Option MatchValue) → old.at ≡ length old.haystack
+        → GivesMatch old answer new → IsNone answer × (new ≡ old) }
+{}

@@ -2,7 +2,6 @@
 use crate::asserted::assert_same;
 use crate::made::{Place, assert_places, place};
 use MatchKind::{LeftmostFirst, LeftmostLongest};
-use literal_search::laws::none_is_for_good;
 use literal_search::{MatchKind, Search, Span};
 use std::alloc::{AllocError, Global};
 use std::process::Abort;
@@ -103,7 +102,15 @@ fn finds_all_matches(rt: HostRuntime) -> Result<(), AllocError> {
         assert_places(&rt, alloc, listed.as_slice(), row.all, row.shows)?;
         let iterated = Vec::from_iter(alloc, search.find_iter(haystack))?;
         assert_places(&rt, alloc, iterated.as_slice(), row.all, row.shows)?;
-        assert!(rt; none_is_for_good(&mut search.find_iter(haystack), 3));
+        let mut matches = search.find_iter(haystack);
+        for _ in row.all {
+            assert!(rt; matches.next().is_some(), "{}", row.shows);
+        }
+        assert!(rt;
+            matches.next().is_none() && matches.next().is_none(),
+            "{}",
+            row.shows
+        );
     }
     Ok(())
 }
@@ -117,9 +124,24 @@ fn finds_in_a_span(rt: HostRuntime) -> Result<(), AllocError> {
             continue;
         };
         let found = search.find_in(row.haystack, Span { start, end });
-        assert_same(&rt, found.map(place), Some((pattern, start, end)), row.shows);
-        let found = search.find_in(row.haystack, Span { start, end: end - 1 });
-        assert!(rt; found.map(|it| it.end() < end) != Some(false), "{}", row.shows);
+        assert_same(
+            &rt,
+            found.map(place),
+            Some((pattern, start, end)),
+            row.shows,
+        );
+        let found = search.find_in(
+            row.haystack,
+            Span {
+                start,
+                end: end - 1,
+            },
+        );
+        assert!(rt;
+            found.map(|it| it.end() < end) != Some(false),
+            "{}",
+            row.shows
+        );
     }
     Ok(())
 }
