@@ -101,6 +101,7 @@ REPOSITORY = [
     ("paper_cited", "citations", [append("README.md", "as the theorem " + "T" + "3 says\n")]),
     ("hole_left", "holes", [append(UNIQUE, "\nopen_goal = ?\n")]),
     ("long_file", "lengths", [append(BASE_SEARCH, "\n" * 801)]),
+    ("long_readme", "lengths", [append("README.md", "\n" * 131)]),
     ("wide_line", "widths", [append(BASE_SEARCH, "\n// " + "x" * 118 + "\n")]),
     ("wide_line_of_a_proof", "widths", [append(UNIQUE, "\n-- " + "λ" * 118 + "\n")]),
     ("wide_line_of_a_document", "widths", [append(CALLING, "\n" + "x" * 121 + "\n")]),
@@ -116,6 +117,8 @@ REPOSITORY = [
     ("definition_of_another_crate", "definitions", [
         replace("docs/DEFINITIONS.md", "## Steps (`literal_base`,", "## Steps (`literal_ids`,")]),
     ("example_in_no_test", "examples", [append("README.md", "\n```rust\nlet search = built;\n```\n")]),
+    ("example_changed_in_its_program", "examples", [
+        replace("crates/example/src/main.rt", "(word, span)", "(it, span)")]),
     ("example_in_a_comment", "examples", [append(API, "\n/// ```rust\n/// let peek = 0;\n/// ```\nfn peek() {}\n")]),
     ("example_changed_in_its_test", "examples", [
         replace("crates/literal_examples/src/shown.rt", "span.contains(5)", "span.contains(6)")]),
