@@ -165,6 +165,8 @@ REPOSITORY = [
     ("source_elsewhere", "strays", [write("crates/literal_packed/proofs/peek.rt", "")]),
     ("source_that_no_module_names", "strays", [write("crates/literal_packed/src/peek.rt", "fn one() {}\n")]),
     ("unsafe_code", "unsafe", [append(BASE_SEARCH, "\nfn one() {\n    unsafe { two() }\n}\n")]),
+    ("unsafe_code_for_c", "unsafe", [append("crates/literal_c/src/lib.rt", "\nfn one() {\n    unsafe { two() }\n}\n")]),
+    ("export_elsewhere", "unsafe", [append(BASE_SEARCH, "\n#[unsafe(no_mangle)]\npub fn one() {}\n")]),
 ]
 
 TALLIES = [

@@ -62,8 +62,8 @@ HASHES = ((RABIN_KARP, "RabinKarp::find_at"),)
 PATTERN_NAMES = ("pattern", "bytes", "by_id", "lists")
 BYTES = re.compile(r"\[u8\]|\bVec<u8>|\bstr\b")
 
-# The types that may keep a slice of bytes: three a haystack, and one a pattern.
-KEEPERS = ("FindIter", "Matches", "Input", "Pattern")
+# The types that may keep a slice of bytes: three a haystack, one a pattern, and one what C hands over of either.
+KEEPERS = ("FindIter", "Matches", "Input", "Pattern", "Pieces")
 
 # The fields of `BucketEntries` that tell nothing of an entry, and the functions that may name the others: the one that
 # reads an entry, and those that make and copy it.

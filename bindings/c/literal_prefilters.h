@@ -1,0 +1,125 @@
+/* Search for several literals at once, proved: the leftmost match, or all matches that do not overlap.
+ *
+ * Patterns and haystacks are bytes, and every offset counts bytes from 0. A list crosses as one buffer and the ends of
+ * its pieces: piece i is the bytes from ends[i - 1] (for the first, from 0) up to and not including ends[i]. The ends
+ * must not fall, and the last must not pass the buffer. Bytes behind the last end belong to no piece.
+ *
+ * A list of patterns can be searched for if it has 1 to LITERAL_PATTERN_LIMIT patterns and none of them is empty.
+ * Patterns are numbered from 0. Of the patterns that match at one place, the kind says which one is taken:
+ *
+ *   LITERAL_LEFTMOST_FIRST     the one that stands first in the list
+ *   LITERAL_LEFTMOST_LONGEST   the longest, and of several equally long ones the one that stands first
+ *
+ * With ignore_case A to Z are the same as a to z, in patterns and haystacks; other bytes are themselves.
+ *
+ * Each call checks its arguments and answers one of the statuses below. The checks come in their order: first
+ * LITERAL_BAD_ARGUMENTS, then LITERAL_NO_SEARCHER, then LITERAL_OUT_OF_MEMORY. What a call writes, it writes only
+ * where it answers LITERAL_OK: after any other status the memory that it was lent is as it was.
+ *
+ * No call keeps anything after it returns. There is nothing to free, and any thread may call at any time.
+ *
+ * What no call can check is up to the caller:
+ *   - No pointer is NULL, even for a length of 0. Each is aligned for its type and points to at least as many elements
+ *     as the length says.
+ *   - Nobody writes to the memory during a call, and what a call may write to overlaps nothing else that it is given.
+ *   - No call is made from a signal handler, or from the forked child of a process with threads.
+ *   - malloc, realloc and free are from one allocator. malloc and realloc align a block to each power of two up to 16
+ *     that divides its size.
+ */
+#ifndef LITERAL_PREFILTERS_H
+#define LITERAL_PREFILTERS_H
+
+#include <stdbool.h>
+#include <stddef.h>
+#include <stdint.h>
+
+#ifdef __cplusplus
+extern "C" {
+#endif
+
+/* How many patterns a list may have at most. */
+#define LITERAL_PATTERN_LIMIT 128
+
+/* Statuses. */
+#define LITERAL_OK 0             /* done: found, or what was asked for is written, or the patterns can be searched for */
+#define LITERAL_NONE 1           /* no pattern occurs */
+#define LITERAL_NO_SEARCHER 2    /* the patterns can't be searched for: none, too many, or an empty one */
+#define LITERAL_OUT_OF_MEMORY 3  /* malloc or realloc refused a request; the patterns can be searched for */
+#define LITERAL_BAD_ARGUMENTS 4  /* the arguments contradict each other, as each function says */
+
+/* Kinds of match. */
+#define LITERAL_LEFTMOST_FIRST 0
+#define LITERAL_LEFTMOST_LONGEST 1
+
+/* A match: the number of its pattern, the offset of its first byte, and the offset behind its last byte. */
+typedef struct literal_match {
+    size_t pattern;
+    size_t start;
+    size_t end;
+} literal_match;
+
+/* What literal_find_all wrote: how many matches, the offset from which the search goes on, and 1 if no match is left
+ * from there on, else 0. */
+typedef struct literal_page {
+    size_t written;
+    size_t next;
+    uint32_t is_last;
+} literal_page;
+
+/* The answer for one haystack: LITERAL_OK and its leftmost match, or LITERAL_NONE and a match of zeros. */
+typedef struct literal_answer {
+    int32_t status;
+    literal_match found;
+} literal_answer;
+
+/* Whether the patterns can be searched for, by either kind, with case kept or ignored. It takes no memory.
+ *
+ * LITERAL_OK             they can
+ * LITERAL_NO_SEARCHER    they can't
+ * LITERAL_BAD_ARGUMENTS  the ends fall or pass the buffer */
+int32_t literal_can_search(const uint8_t *patterns, size_t patterns_len, const size_t *ends, size_t ends_len);
+
+/* The leftmost match in the bytes of the haystack from start up to and not including end. A match lies whole in these
+ * bytes, and its offsets are in the whole haystack.
+ *
+ * LITERAL_OK             found holds the match
+ * LITERAL_NONE           no pattern occurs there
+ * LITERAL_NO_SEARCHER    the patterns can't be searched for
+ * LITERAL_OUT_OF_MEMORY  there is not enough memory for the search
+ * LITERAL_BAD_ARGUMENTS  the ends fall or pass the buffer; start is above end, or end above haystack_len; or the kind
+ *                        is none of the two */
+int32_t literal_find(uint32_t kind, bool ignore_case, const uint8_t *patterns, size_t patterns_len,
+                     const size_t *ends, size_t ends_len, const uint8_t *haystack, size_t haystack_len,
+                     size_t start, size_t end, literal_match *found);
+
+/* All matches in the haystack from an offset on, as many as there is room for: first the leftmost match of the bytes
+ * from that offset on, and after each match the leftmost one of the bytes behind it. To go on where the room ended, call
+ * again with page->next for the offset, until page->is_last is 1: the pages together are the same matches as one long
+ * page. found[0] up to found[page->written - 1] are written, the rest of found stays as it was.
+ *
+ * LITERAL_OK             found and page are written, also where no pattern occurs (then page->written is 0)
+ * LITERAL_NO_SEARCHER    the patterns can't be searched for
+ * LITERAL_OUT_OF_MEMORY  there is not enough memory for the search
+ * LITERAL_BAD_ARGUMENTS  the ends fall or pass the buffer, from is above haystack_len, or the kind is none of the two */
+int32_t literal_find_all(uint32_t kind, bool ignore_case, const uint8_t *patterns, size_t patterns_len,
+                         const size_t *ends, size_t ends_len, const uint8_t *haystack, size_t haystack_len,
+                         size_t from, literal_match *found, size_t found_len, literal_page *page);
+
+/* The leftmost match of each of many haystacks, which lie in one buffer like patterns. The search is built once for all
+ * of them. answers[i] is the answer for haystack i, with offsets from the beginning of that haystack.
+ *
+ * LITERAL_OK             every answer is written
+ * LITERAL_NO_SEARCHER    the patterns can't be searched for
+ * LITERAL_OUT_OF_MEMORY  there is not enough memory for the search
+ * LITERAL_BAD_ARGUMENTS  the ends of the patterns or of the haystacks fall or pass their buffer, there are not as many
+ *                        answers as haystacks, or the kind is none of the two */
+int32_t literal_find_each(uint32_t kind, bool ignore_case, const uint8_t *patterns, size_t patterns_len,
+                          const size_t *ends, size_t ends_len, const uint8_t *haystacks, size_t haystacks_len,
+                          const size_t *haystack_ends, size_t haystack_ends_len, literal_answer *answers,
+                          size_t answers_len);
+
+#ifdef __cplusplus
+}
+#endif
+
+#endif

@@ -1,0 +1,3 @@
+-- Lemmas by topic. Each file says what it is about and for which functions.
+pub mod Pages
+pub mod Pieces

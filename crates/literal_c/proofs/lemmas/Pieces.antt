@@ -1,0 +1,111 @@
+-- The ends at which a buffer can be cut, and its pieces.
+-- For `Pieces`, `are_ends`, `can_be_searched`, `search_for` and `answer_each`.
+use Rattle.std.proofs.Common.{◌≡◌, ◌↔◌, ℕ, ◌+◌, ◌<◌, ◌≤◌, List, [], ◌∷◌, ◌++◌, length, get_or, drop, map, Bor, suc}
+use Rattle.std.proofs.Common.{refl, sym, ap, ◌∙◌, subst, arith, add-one}
+use Rattle.std.proofs.Common.{Bool, Option, take, append_assoc}
+use Rattle.std.proofs.Math.ListN.{set}
+use Rattle.std.proofs.Math.Seq.{drop-cons, take-suc-set}
+use Rattle.std.proofs.lemmas.List.{length-append, length-map, map-append}
+use Rattle.std.proofs.lemmas.List.Elements.{All-cons}
+use Rattle.std.specs.Iterator.{Drains, YieldsFirstRef}
+use Rattle.std.specs.List.{AllZip}
+use Rattle.literal_base.specs.declared.packed.MatchKind.{MatchKind}
+use Rattle.literal_base.specs.Occurs.{NoneIsEmpty}
+use Rattle.literal_search.specs.SearchValue.{BuildsSearch, SearchValue, search_of}
+use Rattle.literal_c.specs.declared.LiteralAnswer.{LiteralAnswer}
+use Rattle.literal_c.specs.Pieces.{AreEnds, pieces}
+
+-- the place from which a buffer can be cut lies in it
+pub end_within : (len from : ℕ) (ends : List ℕ) → AreEnds len from ends → from ≤ len
+end_within len from [] cut = cut
+end_within len from (end ∷ more) cut =
+    let first : from ≤ end = cut.0 in
+    let rest : end ≤ len = end_within len end more cut.1 in
+    omega arith
+
+-- the next end, and those behind it
+pub next_end : (len from : ℕ) (ends : List ℕ) (end : ℕ) (others : List ℕ) → ends ≡ end ∷ others
+    → AreEnds len from ends → (from ≤ end) × (end ≤ len) × AreEnds len end others
+next_end len from ends end others split cut =
+    let both : (from ≤ end) × AreEnds len end others = subst (λ es. AreEnds len from es) split cut in
+    (both.0, end_within len end others both.1, both.1)
+
+-- the same by index, in a loop over the ends
+pub more_ends : (len from i : ℕ) (ends : List ℕ) → i < length ends
+    → AreEnds len from (drop i ends) ↔ ((from ≤ get_or ends i 0) × AreEnds len (get_or ends i 0) (drop (i + 1) ends))
+more_ends len from i ends lt =
+    let split : drop i ends ≡ get_or ends i 0 ∷ drop (i + 1) ends = rw (add-one, drop-cons ends i 0) refl in (
+      λ cut. subst (λ es. AreEnds len from es) split cut,
+      λ cut. subst (λ es. AreEnds len from es) (sym split) cut,
+    )
+
+-- there are as many pieces as ends
+pub pieces_are_as_many : (buffer : List ℕ) (from : ℕ) (ends : List ℕ) → length (pieces buffer from ends) ≡ length ends
+pieces_are_as_many buffer from [] = refl
+pieces_are_as_many buffer from (end ∷ more) = ap suc (pieces_are_as_many buffer end more)
+
+-- what an iteration over pieces gives is all of them
+pub drained : (left : List (List ℕ)) (items : List (Bor (List ℕ)))
+    → Drains (YieldsFirstRef (λ (s : List (List ℕ)). s)) left items → map (λ p. p.now) items ≡ left
+drained left [] run = sym (run.1.1 ∙ run.1.2.0)
+drained left (item ∷ more) run =
+    let rest = drained run.1.1.0 more (run.0, (run.1.0, run.1.1.2, run.1.2)) in
+    ap (λ ps. item.now ∷ ps) rest ∙ sym run.1.1.1
+
+-- what is built for pieces that are handed over one after another
+pub built_for : (kind : MatchKind) (ignore_case : Bool) (left : List (List ℕ)) (built : Option SearchValue)
+    → BuildsSearch (λ (patterns it : List (List ℕ)). it ≡ patterns) (YieldsFirstRef (λ (s : List (List ℕ)). s)) kind
+    ignore_case left built → built ≡ search_of kind ignore_case left
+built_for kind ignore_case left built run =
+    run.4 ∙ ap (search_of kind ignore_case) (drained run.0 run.1 run.3 ∙ run.2)
+
+-- whether a pattern is empty, among those that are left and those behind the first of these
+pub tail_not_empty : (first : List ℕ) (more : List (List ℕ)) → NoneIsEmpty (first ∷ more) → NoneIsEmpty more
+tail_not_empty first more all = λ k d lt. let lt' : suc k < length (first ∷ more) = omega arith in all (suc k) d lt'
+
+pub more_not_empty : (left : List (List ℕ)) (first : List ℕ) (more : List (List ℕ)) → left ≡ first ∷ more
+    → 0 < length first → NoneIsEmpty left ↔ NoneIsEmpty more
+more_not_empty left first more split some = (
+  λ all. tail_not_empty first more (subst NoneIsEmpty split all),
+  λ all. subst NoneIsEmpty (sym split) (All-cons (λ (bytes : List ℕ). 0 < length bytes) first more some all),
+)
+
+-- answers for one haystack more, behind those for the haystacks before it
+module _ (P : List ℕ → LiteralAnswer → Type 0) where
+  push : (xs : List (List ℕ)) (ys : List LiteralAnswer) (x : List ℕ) (y : LiteralAnswer) → AllZip P xs ys → P x y
+      → AllZip P (xs ++ x ∷ []) (ys ++ y ∷ [])
+  push [] [] x y all here = (here, tt)
+  push [] (b ∷ bs) x y all here = absurd all
+  push (a ∷ xs) [] x y all here = absurd all
+  push (a ∷ xs) (b ∷ bs) x y all here = (all.0, push xs bs x y all.1 here)
+
+  pub one_more_answer : (done : List (List ℕ)) (i : ℕ) (answers : List LiteralAnswer) (haystack : List ℕ)
+      (answer : LiteralAnswer) → i < length answers → AllZip P done (take i answers) → P haystack answer
+      → AllZip P (done ++ haystack ∷ []) (take (i + 1) (set answers i answer))
+  one_more_answer done i answers haystack answer lt before here =
+      let list : take (i + 1) (set answers i answer) ≡ take i answers ++ answer ∷ [] =
+      rw add-one (take-suc-set answers i answer lt) in
+      subst (AllZip P (done ++ haystack ∷ [])) (sym list) (push done (take i answers) haystack answer before here)
+
+-- haystacks that were taken, the next, and those that are left are all of them
+pub map_more : (taken : List (Bor (List ℕ))) (item : Bor (List ℕ))
+    → map (λ p. p.now) (taken ++ item ∷ []) ≡ map (λ p. p.now) taken ++ item.now ∷ []
+map_more taken item = map-append (λ (p : Bor (List ℕ)). p.now) taken (item ∷ [])
+
+pub split_more : (taken : List (Bor (List ℕ))) (item : Bor (List ℕ)) (state left all : List (List ℕ))
+    → map (λ p. p.now) taken ++ state ≡ all → state ≡ item.now ∷ left
+    → map (λ p. p.now) (taken ++ item ∷ []) ++ left ≡ all
+split_more taken item state left all split next =
+    ap (λ ps. ps ++ left) (map_more taken item)
+    ∙ (append_assoc (map (λ p. p.now) taken) (item.now ∷ []) left
+    ∙ (ap (λ ps. map (λ p. p.now) taken ++ ps) (sym next) ∙ split))
+
+pub taken_more : (taken : List (Bor (List ℕ))) (item : Bor (List ℕ)) (left all : List (List ℕ))
+    → map (λ p. p.now) (taken ++ item ∷ []) ++ left ≡ all → length taken < length all
+taken_more taken item left all split = omega (
+  arith,
+  ap length split,
+  length-append (map (λ (p : Bor (List ℕ)). p.now) (taken ++ item ∷ [])) left,
+  length-map (taken ++ item ∷ []) (λ p. p.now),
+  length-append taken (item ∷ []),
+)
