@@ -1,9 +1,8 @@
-//! One search for any list of literals: up to 128 patterns that are not empty, by both kinds of match, with
-//! ASCII case kept or ignored. It takes the search of the layers below that suits the list.
+//! One search for any list of literals: up to 128 patterns that are not empty, by both kinds of match, with ASCII case
+//! kept or ignored. It takes the search of the layers below that suits the list.
 #![tactic(auto)]
 
 ghost use Rattle.std.specs.Prelude.{◌≡◌, ◌<◌, ◌↔◌, ℕ, length, map, IfOk, OnErr, IfSome, IsTrue};
-ghost use Rattle.std.specs.Prelude.{true, false};
 ghost use Rattle.literal_base.specs.Greedy.{IsGreedy};
 ghost use Rattle.literal_base.specs.Leftmost.{IsLeftmost};
 ghost use Rattle.literal_base.specs.Occurs.{IsValidSpan, NothingOccurs, Occurs, whole_of};
@@ -25,6 +24,9 @@ use std::marker::Model;
 
 /// Searches for several patterns at once. Contracts see the kind of match, the patterns, and whether ASCII case is
 /// ignored; which search of the layers below it takes, nobody sees.
+///
+/// With case kept the time of a search grows slowly with the number of patterns. With case ignored, patterns with a rare
+/// letter in common are as fast; for others each pattern is compared at each place, so that many of them are slow.
 ///
 /// ```rust
 /// let words = [b"password".as_slice(), b"secret"];
