@@ -25,8 +25,8 @@ use std::marker::Model;
 /// Searches for several patterns at once. Contracts see the kind of match, the patterns, and whether ASCII case is
 /// ignored; which search of the layers below it takes, nobody sees.
 ///
-/// With case kept the time of a search grows slowly with the number of patterns. With case ignored, patterns with a rare
-/// letter in common are as fast; for others each pattern is compared at each place, so that many of them are slow.
+/// With case kept the time of a search grows slowly with the number of patterns. With case ignored, patterns with a
+/// rare letter in common are as fast; others are all compared at each place, so that many of them are slow.
 ///
 /// ```rust
 /// let words = [b"password".as_slice(), b"secret"];
