@@ -40,7 +40,12 @@ def main():
     parser.add_argument("-t", "--threads", type=int, default=os.cpu_count(), help="searches side by side")
     options = parser.parse_args()
     words = [os.fsencode(word) for word in options.words]
-    searcher = Searcher(words, Kind.LEFTMOST_LONGEST, options.ignore_case)
+    try:
+        searcher = Searcher(words, Kind.LEFTMOST_LONGEST, options.ignore_case)
+    except ValueError as why:
+        parser.error(str(why))
+    if not os.path.isdir(options.folder):
+        parser.error(f"{options.folder} is not a folder")
     paths, count, failed = paths_in(options.folder), 0, 0
     with ThreadPoolExecutor(options.threads) as pool:
         results = pool.map(lambda path: matches_in(searcher, path), paths)

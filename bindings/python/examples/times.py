@@ -63,7 +63,7 @@ def seconds(call, text):
 
 
 def main():
-    chance, size = random.Random(1), int(sys.argv[1]) if len(sys.argv) > 1 else 16
+    chance, size = random.Random(1), int(sys.argv[1]) if len(sys.argv) > 1 else 8
     words = made_words(chance, 4000)
     text = Text(words, size, chance)
     print("| Patterns | Search | Matches | All matches, ms | First match of a line, µs |\n|---|---|---|---|---|")

@@ -11,7 +11,10 @@ be encoded first. Every offset counts bytes.
 """
 import ctypes
 import enum
-from typing import Any, Callable, Iterable, Iterator, List, NamedTuple, NoReturn, Optional, Sequence, Tuple, Union
+import operator
+from contextlib import closing
+from typing import Any, Callable, Generator, Iterable, Iterator, List, NamedTuple, NoReturn, Optional, Sequence, Tuple
+from typing import Union
 
 from . import _library
 from ._library import LiteralAnswer, LiteralMatch, LiteralPage, Lent, PATTERN_LIMIT
@@ -71,21 +74,31 @@ class Searcher:
     ValueError: no search for these patterns: there have to be 1 to 128, none of them empty
     """
 
-    __slots__ = ("patterns", "kind", "ignore_case", "_how")
-
-    #: the patterns, as bytes
-    patterns: Tuple[bytes, ...]
-    kind: Kind
-    ignore_case: bool
+    __slots__ = ("_patterns", "_how")
 
     def __init__(self, patterns: Iterable[Buffer], kind: Kind = Kind.LEFTMOST_FIRST, ignore_case: bool = False) -> None:
-        if isinstance(patterns, (str, bytes, bytearray, memoryview)):
-            raise TypeError("patterns are a list of bytes, not one text")
-        self.patterns = tuple(_bytes_of(it) for it in patterns)
-        self.kind, self.ignore_case = Kind(kind), bool(ignore_case)
-        buffer, ends = _joined(self.patterns)
-        self._how = (int(self.kind), self.ignore_case, buffer or b"\0", len(buffer), ends, len(self.patterns))
-        _check(_library_for_c.literal_can_search(*self._how[2:]))
+        if isinstance(kind, bool):  # (else it would be taken for the number of a kind)
+            raise TypeError("the kind is a Kind, not a bool")
+        self._patterns = tuple(_list_of_bytes(patterns))
+        buffer, ends = _joined(self._patterns)
+        pieces = (buffer or b"\0", len(buffer), ends, len(self._patterns))
+        self._how = (int(Kind(kind)), bool(ignore_case), *pieces)
+        _check(_library_for_c.literal_can_search(*pieces))
+
+    @property
+    def patterns(self) -> Tuple[bytes, ...]:
+        """The patterns, as bytes."""
+        return self._patterns
+
+    @property
+    def kind(self) -> Kind:
+        """Which of the patterns that match at one place is taken."""
+        return Kind(self._how[0])
+
+    @property
+    def ignore_case(self) -> bool:
+        """Whether A to Z are the same as a to z."""
+        return self._how[1]
 
     def find(self, text: Buffer, start: int = 0, end: Optional[int] = None) -> Optional[Match]:
         """The leftmost match in text[start:end], or None. Its offsets are in the whole text.
@@ -115,7 +128,7 @@ class Searcher:
         """
         return self._matches(Lent(text), start, end)
 
-    def _matches(self, text: Lent, start: int, end: Optional[int]) -> Iterator[Match]:
+    def _matches(self, text: Lent, start: int, end: Optional[int]) -> Generator[Match, None, None]:
         with text as lent:
             start, end = _bounds(lent.len, start, end)
             page, room = LiteralPage(0, start, 0), _FIRST_PAGE
@@ -142,7 +155,7 @@ class Searcher:
         >>> Searcher([b"ERROR", b"WARN"]).find_each([b"a WARN", b"fine", b"ERROR"])
         [Match(pattern=1, start=2, end=6), None, Match(pattern=0, start=0, end=5)]
         """
-        pieces = [_bytes_of(it) for it in texts]
+        pieces = _list_of_bytes(texts)
         buffer, ends = _joined(pieces)
         answers = (LiteralAnswer * max(len(pieces), 1))()
         texts_of_c = (buffer or b"\0", len(buffer), ends, len(pieces))
@@ -157,25 +170,25 @@ class Searcher:
         >>> Searcher([b"cat", b"dog"]).sub(lambda it: b"<%d>" % it.pattern, b"dog and cat")
         b'<1> and <0>'
         """
+        count = operator.index(count)
         if count < 0:
             raise ValueError("count is negative")
         with_what = replacement if callable(replacement) else lambda _: replacement
         parts, at = [], 0
-        matches = self.finditer(text)  # (which refuses text of type str)
-        with memoryview(text).cast("B") as view:
+        lent = Lent(text)  # (which refuses text of type str)
+        with memoryview(text).cast("B") as view, closing(self._matches(lent, 0, None)) as matches:
             for done, found in enumerate(matches, 1):
-                parts += [view[at : found.start], with_what(found)]
+                parts += [view[at : found.start].tobytes(), with_what(found)]
                 at = found.end
                 if done == count:
                     break
-            matches.close()  # (which gives the text back)
-            return b"".join([*parts, view[at:]])
+            return b"".join([*parts, view[at:].tobytes()])
 
     def __repr__(self) -> str:
         return f"Searcher({list(self.patterns)!r}, Kind.{self.kind.name}, ignore_case={self.ignore_case})"
 
     def __reduce__(self):
-        return Searcher, (self.patterns, self.kind, self.ignore_case)
+        return type(self), (self.patterns, self.kind, self.ignore_case)
 
 
 def _bytes_of(of: Buffer) -> bytes:
@@ -185,6 +198,16 @@ def _bytes_of(of: Buffer) -> bytes:
     if isinstance(of, (str, int)):
         raise TypeError(f"bytes are wanted, and not {type(of).__name__}: encode text first, as by text.encode()")
     return bytes(memoryview(of))
+
+
+def _list_of_bytes(pieces: Iterable[Buffer]) -> List[bytes]:
+    """The bytes of each piece. One text is refused: its pieces would be its single bytes."""
+    try:
+        memoryview(pieces).release()  # type: ignore
+    except TypeError:
+        if not isinstance(pieces, str):
+            return [_bytes_of(it) for it in pieces]
+    raise TypeError(f"a list of bytes is wanted, not one text of type {type(pieces).__name__}")
 
 
 def _joined(pieces: Sequence[bytes]) -> Tuple[bytes, ctypes.Array]:

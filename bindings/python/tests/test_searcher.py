@@ -1,5 +1,6 @@
 """The module's own tests: rows worked by hand, random cases against a plain search, and its ways to refuse."""
 import array
+import copy
 import ctypes
 import doctest
 import mmap
@@ -25,6 +26,10 @@ def load_tests(loader, tests, pattern):
     """Adds the examples of the documentation."""
     tests.addTests(doctest.DocTestSuite(literal_prefilters))
     return tests
+
+
+class OfAnotherClass(Searcher):
+    """A subclass, for the tests of copies."""
 
 
 class Rows(unittest.TestCase):
@@ -68,10 +73,13 @@ class Rows(unittest.TestCase):
         self.assertEqual(Searcher(WORDS).find_each(lines), [(0, 3, 8), None, None, (2, 0, 7)])
         self.assertEqual(Searcher(WORDS).find_each([]), [])
 
+    def test_a_copy_of_a_subclass(self):
+        self.assertIs(type(copy.copy(OfAnotherClass([b"a"]))), OfAnotherClass)
+
     def test_a_copy_by_pickle(self):
-        copy = pickle.loads(pickle.dumps(Searcher([b"AB"], LONGEST, True)))
-        self.assertEqual((copy.patterns, copy.kind, copy.ignore_case), ((b"AB",), LONGEST, True))
-        self.assertEqual(copy.find(b"ab"), Match(0, 0, 2))
+        copied = pickle.loads(pickle.dumps(Searcher([b"AB"], LONGEST, True)))
+        self.assertEqual((copied.patterns, copied.kind, copied.ignore_case), ((b"AB",), LONGEST, True))
+        self.assertEqual(copied.find(b"ab"), Match(0, 0, 2))
 
 
 class Texts(unittest.TestCase):
@@ -106,6 +114,14 @@ class Texts(unittest.TestCase):
         self.assertEqual(len(list(matches)), 99)
         text.clear()
 
+    def test_sub_gives_the_text_back_after_an_error(self):
+        text = bytearray(b"aa")
+        try:
+            Searcher([b"a"]).sub(lambda it: b"" if it.start == 0 else 1 // 0, text)
+        except ZeroDivisionError:
+            text.clear()  # (while the error holds the frame of `sub`)
+        self.assertEqual(text, b"")
+
     def test_all_bytes(self):
         every = bytes(range(256))
         for byte in range(256):
@@ -136,9 +152,27 @@ class Refusals(unittest.TestCase):
             searcher.find_each(["a"])
         with self.assertRaisesRegex(TypeError, "encode"):
             Searcher(["a"])
-        for patterns in ("ab", b"ab"):
-            with self.assertRaises(TypeError):
-                Searcher(patterns)
+
+    def test_one_text_for_a_list(self):
+        with mmap.mmap(-1, 2) as mapped:
+            for text in ("ab", "", b"ab", b"", bytearray(b"ab"), memoryview(b"ab"), array.array("B", b"ab"), mapped):
+                for call in (Searcher, Searcher([b"a"]).find_each):
+                    with self.assertRaisesRegex(TypeError, "not one text"):
+                        call(text)
+
+    def test_a_bool_for_a_kind(self):
+        with self.assertRaisesRegex(TypeError, "bool"):
+            Searcher([b"a"], True)
+
+    def test_a_searcher_never_changes(self):
+        searcher = Searcher([b"a"])
+        for name in ("patterns", "kind", "ignore_case"):
+            with self.assertRaises(AttributeError):
+                setattr(searcher, name, getattr(searcher, name))
+
+    def test_a_count_that_is_no_number(self):
+        with self.assertRaises(TypeError):
+            Searcher([b"a"]).sub(b"", b"a", 1.5)
 
     def test_other_types(self):
         with self.assertRaises(TypeError):
