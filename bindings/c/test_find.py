@@ -14,7 +14,7 @@ TEXT = "Nobody likes maple in their apple flavored Snapple.\n"
 WORDS, FOUND = ["apple", "maple", "Snapple"], "1 13 18\n0 28 33\n2 43 50\n"
 MOST_REQUESTS = 100
 
-# Where checks/bindings runs this, a library that refuses a request for memory stands before the C library.
+# Where bindings/test runs this, a library that refuses a request for memory stands before the C library.
 PLAIN = {name: value for name, value in os.environ.items() if name != "LD_PRELOAD"}
 REFUSER = os.environ.get("LD_PRELOAD", "")
 
@@ -51,7 +51,7 @@ class Find(unittest.TestCase):
         self.assertEqual(run(find), refused)
         self.assertEqual(run(find, "a", "", text=TEXT), refused)
 
-    @unittest.skipUnless("refuse" in REFUSER, "run by checks/bindings")
+    @unittest.skipUnless("refuse" in REFUSER, "run by bindings/test")
     def test_each_request_refused(self):
         """It finds all the same, as where an output has no buffer, or says why not."""
         find, told, mark = self.compiled(), 0, f"{self.room.name}/mark"

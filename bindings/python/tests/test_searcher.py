@@ -290,7 +290,7 @@ class Threads(unittest.TestCase):
         self.assertGreater(during, 0)
 
 
-@unittest.skipUnless("refuse.so" in os.environ.get("LD_PRELOAD", ""), "run by checks/bindings")
+@unittest.skipUnless("refuse.so" in os.environ.get("LD_PRELOAD", ""), "run by bindings/test")
 class RefusedMemory(unittest.TestCase):
     """With an allocator before the C library's that refuses all requests while the environment says so."""
 

@@ -29,6 +29,7 @@ AreNext query ignore_case haystack at (found ∷ more) next =
 -- Either nothing occurs behind them, and it is the last page, or something does, and the array is full
 pub record IsPage (query : Query) (ignore_case : Bool) (haystack : List ℕ) (from : ℕ) (old new : List LiteralMatch)
     (page : LiteralPage) : Type 0 where
+  pub len : length new ≡ length old
   pub fits : page.written ≤ length new
   pub matches : AreNext query ignore_case haystack from (map match_of (take page.written new)) page.next
   pub others : drop page.written new ≡ drop page.written old

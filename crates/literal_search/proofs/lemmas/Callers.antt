@@ -62,7 +62,7 @@ occurs_from_matches searched haystack m all n o found start run gives =
     (found_occurs n.search.query n.search.ignore_case n.haystack (rest_from n.haystack n.at) found refl gives.leftmost))
 
 -- what an iteration over matches gives up to its end is the greedy list from where it stood
-greedy_from_yields : (m : MatchesValue) (all : List MatchValue) (n o : MatchesValue) → Yields GivesMatch m all n
+pub greedy_from_yields : (m : MatchesValue) (all : List MatchValue) (n o : MatchesValue) → Yields GivesMatch m all n
     → GivesMatch n None o → IsGreedy m.search.query m.search.ignore_case m.haystack m.at all
 greedy_from_yields m [] n o stays nothing =
     subst (λ (it : MatchesValue). NothingOccurs it.search.query.patterns it.search.ignore_case it.haystack
