@@ -173,6 +173,8 @@ class Searcher:
         count = operator.index(count)
         if count < 0:
             raise ValueError("count is negative")
+        if isinstance(replacement, str):
+            raise TypeError("the replacement is bytes, and not str: encode it first, as by replacement.encode()")
         with_what = replacement if callable(replacement) else lambda _: replacement
         parts, at = [], 0
         lent = Lent(text)  # (which refuses text of type str)
@@ -183,6 +185,12 @@ class Searcher:
                 if done == count:
                     break
             return b"".join([*parts, view[at:].tobytes()])
+
+    def __eq__(self, other: object) -> bool:
+        return isinstance(other, Searcher) and self.__reduce__()[1] == other.__reduce__()[1]
+
+    def __hash__(self) -> int:
+        return hash(self.__reduce__()[1])
 
     def __repr__(self) -> str:
         return f"Searcher({list(self.patterns)!r}, Kind.{self.kind.name}, ignore_case={self.ignore_case})"

@@ -69,7 +69,7 @@ class Agree(unittest.TestCase):
         exported = {it[0]: int(it[1]) for it in re.findall(r"pub const (LITERAL_\w+): \w+ = ([0-9]+);", EXPORTS)}
         self.assertEqual(in_header, exported)
         kinds = {f"LITERAL_{it.name}": int(it) for it in Kind}
-        statuses = {it: getattr(_library, it.removeprefix("LITERAL_")) for it in in_header if it not in kinds}
+        statuses = {it: getattr(_library, it[len("LITERAL_") :]) for it in in_header if it not in kinds}
         self.assertEqual(in_header, {**statuses, **kinds})
 
 

@@ -67,6 +67,8 @@ class Rows(unittest.TestCase):
         self.assertEqual(Searcher(WORDS).sub(b"-", bytearray(TEXT), 1), TEXT.replace(b"maple", b"-"))
         self.assertEqual(Searcher([b"a"]).sub(lambda it: b"%d" % it.start, b"abca"), b"0bc3")
         self.assertEqual(Searcher([b"a"]).sub(b"b", b""), b"")
+        with self.assertRaisesRegex(TypeError, "encode"):
+            Searcher([b"a"]).sub("b", b"nothing is found")
 
     def test_each(self):
         lines = [b"an apple", b"", b"none", b"Snapple, maple"]
@@ -80,6 +82,8 @@ class Rows(unittest.TestCase):
         copied = pickle.loads(pickle.dumps(Searcher([b"AB"], LONGEST, True)))
         self.assertEqual((copied.patterns, copied.kind, copied.ignore_case), ((b"AB",), LONGEST, True))
         self.assertEqual(copied.find(b"ab"), Match(0, 0, 2))
+        self.assertEqual({copied}, {Searcher([b"AB"], LONGEST, True)})
+        self.assertNotEqual(copied, Searcher([b"AB"], LONGEST, False))
 
 
 class Texts(unittest.TestCase):
