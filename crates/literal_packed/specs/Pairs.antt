@@ -52,12 +52,11 @@ abbrev pub pairs_in : (ℕ → ℕ → Bool) → List (List ℕ) → Span → �
 pairs_in test patterns span =
     pairs_between test (length patterns) span.start (span.end + 1 - minimum_len_of patterns)
 
--- EqualPairs: how many pairs (place, pattern) have equal sums, of the places whose window lies in the span
+-- how many pairs (place, pattern) have equal sums, of the places whose window lies in the span
 abbrev pub equal_pairs : List (List ℕ) → List ℕ → Span → ℕ
 equal_pairs patterns haystack span = pairs_in (has_equal_sum patterns haystack) patterns span
 
--- BucketPairs: how many pairs (place, pattern) have sums that are equal modulo 64, of the places whose window lies in
--- the span
+-- how many pairs (place, pattern) have sums that are equal modulo 64, of the places whose window lies in the span
 abbrev pub bucket_pairs : List (List ℕ) → List ℕ → Span → ℕ
 bucket_pairs patterns haystack span = pairs_in (has_equal_bucket patterns haystack) patterns span
 
@@ -76,8 +75,8 @@ hashed_up_to patterns span None =
     if nat_lt (span.end - span.start) (minimum_len_of patterns) then 0 else span.end - span.start
 hashed_up_to patterns span (Some found) = found.start + minimum_len_of patterns - span.start
 
--- the counts after a search in a span that gives an answer: `hashed` by `hashed_up_to`, `entries` by the pairs of
--- BucketPairs up to the answer, `compared` by those of EqualPairs; the others stay
+-- the counts after a search in a span that gives an answer: `hashed` by `hashed_up_to`, and of the pairs up to the
+-- answer `entries` by those with equal buckets, `compared` by those with equal sums; the others stay
 abbrev pub counts_after : Counts → Query → List ℕ → Span → Option MatchValue → Counts
 counts_after old query haystack span answer = record old {
   hashed = old.hashed + hashed_up_to query.patterns span answer;

@@ -24,8 +24,8 @@ pub record CountsOn (old new : Counts) : Type 0 where
   pub others : new ≡ record old { hashed = new.hashed; entries = new.entries; compared = new.compared }
 
 -- what a search counts that goes on from one place to a later one: hashed ≤ H(from) - H(to), entries ≤ B(from) - B(to),
--- compared ≤ E(from) - E(to), where H, B and E are the bytes, the BucketPairs and the EqualPairs of the rest from a
--- place on. Each call of `next` keeps to it (`literal_packed::laws::next_is_bounded`)
+-- compared ≤ E(from) - E(to), where H, B and E are the bytes, the `bucket_pairs` and the `equal_pairs` of the rest from
+-- a place on. Each call of `next` keeps to it (`literal_packed::laws::next_is_bounded`)
 pub record SpendsAtMost (query : Query) (haystack : List ℕ) (from to : ℕ) (old new : Counts) : Type 0 where
   pub hashed : new.hashed + (length haystack - to) ≤ old.hashed + (length haystack - from)
   pub entries : new.entries + bucket_pairs query.patterns haystack (rest_from haystack to)
@@ -34,7 +34,7 @@ pub record SpendsAtMost (query : Query) (haystack : List ℕ) (from to : ℕ) (o
       ≤ old.compared + equal_pairs query.patterns haystack (rest_from haystack from)
   pub counts_on : CountsOn old new
 
--- a search of all of a haystack counts at most its bytes, its BucketPairs and its EqualPairs
+-- a search of all of a haystack counts at most its bytes, its `bucket_pairs` and its `equal_pairs`
 pub record SpendsWithin (query : Query) (haystack : List ℕ) (old new : Counts) : Type 0 where
   pub hashed : new.hashed ≤ old.hashed + length haystack
   pub entries : new.entries ≤ old.entries + bucket_pairs query.patterns haystack (whole_of haystack)

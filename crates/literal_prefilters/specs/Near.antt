@@ -11,8 +11,8 @@ abbrev pub is_within_distance : List (Option ℕ) → List ℕ → ℕ → ℕ �
 is_within_distance table haystack place at =
     nat_le at (place + unwrap_or (distance_of table (slice_index haystack at)) 0)
 
--- Near: from the place up to the end there is a byte of the table, and the first one lies at most its distance after
--- the place
+-- from the place up to the end there is a byte of the table, and the first one lies at most its distance after the
+-- place
 abbrev pub is_near : List (Option ℕ) → List ℕ → ℕ → ℕ → Bool
 is_near table haystack end place =
     unwrap_or (option_map (is_within_distance table haystack place) (first table haystack (between place end))) false

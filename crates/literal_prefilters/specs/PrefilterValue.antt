@@ -29,7 +29,7 @@ prefilter_reach (by_table table) = reach_of table
 prefilter_reach (by_pattern pattern) = 0
 prefilter_reach (by_search query) = 0
 
--- Answer: the step of its table as a possible start, or the leftmost match as such
+-- what it answers: the step of its table as a possible start, or the leftmost match as such
 abbrev pub IsAnswer : PrefilterValue → List ℕ → Span → Candidate → Type 0
 IsAnswer (by_table table) haystack span answer = answer ≡ candidate_of (step table haystack span)
 IsAnswer (by_pattern pattern) haystack span answer = IsExact (query_of_one pattern) haystack span answer

@@ -34,7 +34,7 @@ pub record AreLinesOf (asked : Asked) (input text : List ℕ) : Type 0 where
   pub found : AreMatches asked input matches
   pub lines : text ≡ flat_map line_of matches
 
--- Lines: the text is a line for each match of the input that the words ask for
+-- the text is a line for each match of the input that the words ask for
 pub record AreLines (words : List (List ℕ)) (input text : List ℕ) : Type 0 where
   pub asked : Asked
   pub ask : words_ask words ≡ Some asked
