@@ -133,30 +133,33 @@ pub fn found_in_readme(alloc: Global) -> Result<Option<Vec<Match>>, AllocError>
 mod tests {
     use super::*;
     use crate::asserted::assert_same;
-    use crate::made::{Place, places};
-    use std::process::Abort;
+    use crate::made::{Place, place, places};
     use std::test::Fail;
 
     const WORDS: [&[u8]; 3] = [b"ab", b"a", b"b"];
 
-    /// In `xab` it is the first word.
-    fn assert_finds_ab(rt: &impl Abort, answer: Option<Found>, case: &str) {
-        let found = answer.and_then(|it| it.first);
-        let wanted = Some(Span { start: 1, end: 3 });
-        assert_same(rt, found.map(|it| it.span()), wanted, case);
+    #[test]
+    fn finds_words_of_an_array(rt: HostRuntime) -> Result<(), Fail> {
+        let answer = first_of_array(rt.alloc(), WORDS, b"xab")?.ok_or("no searcher")?;
+        let first: Option<Match> = answer.first;
+        assert_same(&rt, first.map(place), Some((0, 1, 3)), "an array");
+        Ok(())
     }
 
     #[test]
-    fn finds_words_of_each_kind(rt: HostRuntime) -> Result<(), Fail> {
-        let alloc = rt.alloc();
-        assert_finds_ab(&rt, first_of_array(alloc, WORDS, b"xab")?, "an array");
-        assert_finds_ab(
-            &rt,
-            first_of_slice(alloc, WORDS.as_slice(), b"xab")?,
-            "a slice",
-        );
-        let words = Vec::from_array(alloc, WORDS)?;
-        assert_finds_ab(&rt, first_of_vec(alloc, words, b"xab")?, "a vector");
+    fn finds_words_of_a_slice(rt: HostRuntime) -> Result<(), Fail> {
+        let answer = first_of_slice(rt.alloc(), WORDS.as_slice(), b"xab")?.ok_or("no searcher")?;
+        let first: Option<Match> = answer.first;
+        assert_same(&rt, first.map(place), Some((0, 1, 3)), "a slice");
+        Ok(())
+    }
+
+    #[test]
+    fn finds_words_of_a_vector(rt: HostRuntime) -> Result<(), Fail> {
+        let words = Vec::from_array(rt.alloc(), WORDS)?;
+        let answer = first_of_vec(rt.alloc(), words, b"xab")?.ok_or("no searcher")?;
+        let first: Option<Match> = answer.first;
+        assert_same(&rt, first.map(place), Some((0, 1, 3)), "a vector");
         Ok(())
     }
 
@@ -166,7 +169,8 @@ mod tests {
         let words = [b"ab".as_slice()];
         let span = Span { start: 0, end: 3 };
         let answer = first_confirmed(rt.alloc(), kind, true, words.as_slice(), b"xAB", span)?;
-        assert_finds_ab(&rt, answer, "confirmed");
+        let first: Option<Match> = answer.ok_or("no prefilter")?.first;
+        assert_same(&rt, first.map(place), Some((0, 1, 3)), "confirmed");
         Ok(())
     }
 
