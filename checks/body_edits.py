@@ -1,19 +1,11 @@
-"""A crate's sources with their functions, and edits of them.
-
-An edit is a file of lines:
-
-  file: src/lib.rt    the file that the pairs below it change
-  in: FUNCTION        where it stands, the pairs below it change the body of this function alone; it is named as a check
-                      reports it, or by as many of its last segments as make it one
-  old: TEXT           what stands there exactly once, in what the pairs above have made
-  new: TEXT           what to put in its place
-  shape: REASON       why only the shape of a proof can refuse it
-"""
+"""A crate's sources with their functions, and edits of them: docs/ARCHITECTURE.md, "Wrong bodies", says what stands in
+one."""
 import re
 
 from rattle_source import functions_in
 
-LINE = re.compile(r"(file|in|old|new|shape):(?: (.*))?")
+LINE = re.compile(r"(file|in|old|new|breaks|shape):(?: (.*))?")
+BREAKS = re.compile(r"(\S+)(?: of (\S+))?")
 
 
 class BadEdit(Exception):
@@ -55,27 +47,34 @@ class Edit:
 
     texts       each file that it changes, by path, as it makes it
     bodies      each body that it changes, by path and number in that file
-    functions   the names of these functions
     is_loose    whether it changes more than bodies, as a constant or a contract
+    functions   the names of the functions whose bodies it changes, or of the one that has to refuse it if it is loose
+    clause      the clause that has to refuse it
     shape       its line `shape:`
     fault       why it cannot be applied, or an empty text
     """
 
     def __init__(self, file, crate):
-        self.name, self.texts, self.bodies, self.functions = file.name, {}, {}, []
-        self.is_loose, self.shape, self.fault = False, "", ""
+        self.name = "/".join(file.relative_to(crate.folder).parts[1:])
+        self.texts, self.bodies, self.functions = {}, {}, []
+        self.is_loose, self.clause, self.shape, self.fault = False, "", "", ""
         try:
-            self.read(file.read_text("utf-8"), crate)
+            breaker = self.read(file.read_text("utf-8"), crate)
             for path, text in self.texts.items():
                 self.compare(path, text, crate)
             if not self.is_loose and not self.functions:
                 raise BadEdit("it changes no function")
+            if not self.clause and not self.shape:
+                raise BadEdit("no line 'breaks: CLAUSE' says what has to refuse it")
+            if self.is_loose and not breaker:
+                raise BadEdit("it changes more than bodies: 'breaks: CLAUSE of FUNCTION' says where that shows")
+            self.functions = [breaker] if self.is_loose else self.functions
         except BadEdit as why:
             self.fault = str(why)
 
     def read(self, lines, crate):
-        """Applies the pairs of the edit one after the other."""
-        path = function = old = ""
+        """Applies the pairs of the edit one after the other, and returns the function that its line `breaks:` names."""
+        path = function = old = breaker = ""
         for line in filter(str.strip, lines.split("\n")):
             found = LINE.fullmatch(line)
             if not found:
@@ -93,8 +92,14 @@ class Edit:
                 before = self.texts.get(path, crate.texts.get(path, ""))
                 self.texts[path] = replaced(before, path, function, old, text, crate)
                 old = ""
+            elif head == "breaks":
+                found = BREAKS.fullmatch(text.strip())
+                if not found:
+                    raise BadEdit(f"a line is none of an edit: {line}")
+                self.clause, breaker = found.groups("")
             else:
                 self.shape = text.strip()
+        return breaker
 
     def compare(self, path, text, crate):
         """Finds what the edit changes in a file."""

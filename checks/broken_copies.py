@@ -121,9 +121,9 @@ REPOSITORY = [
         replace("crates/example/src/main.rt", "(word, span)", "(it, span)")]),
     ("example_in_a_comment", "examples", [append(API, "\n/// ```rust\n/// let peek = 0;\n/// ```\nfn peek() {}\n")]),
     ("example_changed_in_its_test", "examples", [
-        replace("crates/literal_examples/src/shown.rt", "span.contains(5)", "span.contains(6)")]),
+        replace("crates/literal_shown/src/types.rt", "span.contains(5)", "span.contains(6)")]),
     ("example_in_a_plain_function", "examples", [
-        replace("crates/literal_examples/src/shown.rt", "#[test]\nfn shows_spans", "fn shows_spans")]),
+        replace("crates/literal_shown/src/types.rt", "#[test]\nfn shows_spans", "fn shows_spans")]),
     ("example_changed_in_its_caller", "examples", [
         replace("crates/literal_tests/src/inputs.rt", "return &[];", "return &[][..];")]),
     ("example_changed_in_its_proof", "examples", [
@@ -132,6 +132,7 @@ REPOSITORY = [
     ("program_is_no_file", "examples", [replace(CALLING, "`crates/marker/src/main.rt`", "The program:")]),
     ("quoted_clause_is_weaker", "quotes", [
         replace(CALLING, "value < PatternID.LIMIT", "value ≤ PatternID.LIMIT")]),
+    ("quoted_clause_of_readme", "quotes", [replace("README.md", "scanned + 255 *", "scanned + 254 *")]),
     ("quoted_clause_of_another", "quotes", [
         replace(CALLING, "fn match_kind(&self) -> &MatchKind", "fn minimum_len(&self) -> usize")]),
     ("quoted_function_is_none", "quotes", [replace(CALLING, "fn match_kind(&self)", "fn kind_of_match(&self)")]),
@@ -160,6 +161,7 @@ REPOSITORY = [
         replace(CALLING, "PatternID, and StateID likewise", "PatternID, and SmallIndex likewise")]),
     ("quote_with_a_clause_less", None, [
         replace(CALLING, "    ensures ordered { self.now.start ≤ self.now.end }\n", "")]),
+    ("tests_without_a_row", "strays", [replace("crates/literal_tests/src/lib.rt", "| `rows` |", "| `row` |")]),
     ("stray_build_file", "strays", [write("BUILD.bazel", "")]),
     ("code_in_another_file", "strays", [write("crates/literal_packed/src/peek.inc", "")]),
     ("source_elsewhere", "strays", [write("crates/literal_packed/proofs/peek.rt", "")]),
@@ -312,7 +314,7 @@ KEEPERS = [
     ("tuple_with_a_haystack", "keepers", [helper("struct Kept<'h>(usize, &'h [u8]);", EXACT)]),
     ("variant_with_a_haystack", "keepers", [helper("enum Kept<'h> {\n    No,\n    All { text: &'h [u8] },\n}", EXACT)]),
     ("search_with_a_haystack", "keepers", [replace(
-        CONFIRMING, "    prefilter: Prefilter,\n}", "    prefilter: Prefilter,\n    last: Option<&'static [u8]>,\n}")]),
+        CONFIRMING, "    way: Way,\n}", "    way: Way,\n    last: Option<&'static [u8]>,\n}")]),
     ("span_with_a_haystack", "keepers", [
         replace(BASE_SEARCH, "pub struct Span {", "pub struct Span<'h> {\n    text: &'h [u8],")]),
 ]

@@ -62,9 +62,9 @@ def contract_of(code):
 
 def quotes_of(text):
     """The functions that the blocks `text` of a page quote, each indented below the line of its type, in the section
-    whose heading is its crate. What is written as a function and stands so in no way is one of no type."""
+    whose heading ends with its crate. What is written as a function and stands so in no way is one of no type."""
     for part in re.split(r"^(?=## )", text, flags=re.M):
-        crate = re.match(r"## `(\w+)`\n|", part)[1]
+        crate = re.match(r"## (?:.*: )?`(\w+)`\n|", part)[1]
         for block in (block for kind, block, _ in blocks_of(part) if kind == "text"):
             for owner, function in functions_below(block):
                 yield from (Quote(crate, *one) for one in quotes_below(owner, function))

@@ -7,13 +7,14 @@ from collections import namedtuple
 GOALS = ("false", "open", "unfit")
 
 # A refusal's kind is one of GOALS, `shape` where a proof only names what is gone or was walked by hand for another
-# body, or `unclear`.
-Refusal = namedtuple("Refusal", "kind text")
+# body, or `unclear`. Of a kind in GOALS it has the names of the goals.
+Refusal = namedtuple("Refusal", "kind text goals", defaults=[()])
 
 CLOSURE = re.compile(r"(^|::)fn::(.*?)::[^:+]*(\+Fn.*)?$")
 FALSE = re.compile(r"^note: (src/\S+):(\d+):\d+: it is not proved .* allow values at which this goal is false", re.M)
 NAME_IS_GONE = re.compile(r"has no field|is not in scope|has no `|is no name|was not admitted")
 UNPROVED_GOALS = re.compile(r"did not prove ((?:`[^`]+`(?:, )?)+)")
+GOAL = re.compile(r"`([^`]+)`")
 WAITS = re.compile(r"which (is|are) not proved|waits for the proof")
 
 
@@ -63,15 +64,22 @@ def errors_of(said, name):
     return re.findall(rf"^(?:\./)?{folder}/(\w+)\.antt:\d+:\d+: error: (?!\d+ declaration)(.*)", said, re.M)
 
 
+def clause_of(goal):
+    """Returns what a line `breaks:` calls a goal: the clause that it is of, `returns` where that has no name, and else
+    the goal itself."""
+    head, found, clause = goal.rpartition("-clause-")
+    return clause if found else re.sub("^returns-.*", "returns", goal)
+
+
 def refusal_of(line, errors, has_a_false_goal):
     """Returns how a function's own proof is refused, or None where nothing of its own is."""
     goals = UNPROVED_GOALS.search(line)
     if goals:
-        return Refusal("false" if has_a_false_goal else "open", goals[1].rstrip(", "))
+        return Refusal("false" if has_a_false_goal else "open", goals[1].rstrip(", "), GOAL.findall(goals[1]))
     unfit = [text for file, text in errors if file != "Proof" and not NAME_IS_GONE.search(text)]
     if unfit:
-        others = [text.partition(": ")[0] for text in unfit[1:]]
-        return Refusal("unfit", ", ".join([*others, unfit[0][:120]]))
+        names = [text.partition(": ")[0] for text in unfit]
+        return Refusal("unfit", ", ".join([*names[1:], unfit[0][:120]]), GOAL.findall(" ".join(names)))
     if errors:
         file, text = errors[0]
         by_hand = "its proof is by hand, and fits no other body: " if file == "Proof" else ""

@@ -36,6 +36,10 @@ EXPORT = "#[unsafe(no_mangle)]"
 LONGEST_FILE = 800
 LONGEST_README = 130
 WIDEST_LINE = 120
+WIDE = re.compile(rf"^.{{{WIDEST_LINE + 1},}}")
+
+# What leaves a proof open, before a comment.
+HOLE = re.compile(r"^(?:(?!--).)*?(?:^|[ (=])\?(?:$|[ );]|--)")
 
 # Where an example on the page for callers, of code or of a proof, may stand.
 EXAMPLES = {
@@ -81,7 +85,7 @@ def handles(repository):
 
 
 def crates(repository):
-    """crates.txt lists the crates, which stand on one another alone, and not on crates of tests."""
+    """crates.txt lists the crates, which stand on one another alone, and on crates of tests only if they are such."""
     listed = {}
     for line in repository.texts["crates.txt"].splitlines():
         line = line.split("#")[0].strip()
@@ -95,7 +99,7 @@ def crates(repository):
         for other in below:
             if other not in listed:
                 yield f"{name} stands on {other}, which crates.txt does not list"
-            if other in search_rules.TEST_CRATES:
+            if other in search_rules.TEST_CRATES and name not in search_rules.TEST_CRATES:
                 yield f"{name} stands on {other}, a crate of tests"
     for name in {path.split("/")[1] for path in repository.texts if path.startswith("crates/")}:
         if name not in listed:
@@ -112,30 +116,23 @@ def walks(repository):
 def citations(repository):
     """No text cites what its reader does not have."""
     for path, text in repository.texts.items():
-        for number, cited in cited_lines(text):
+        for number, cited in lines_with(CITATIONS, text):
             yield f"{path}:{number}: {cited}"
 
 
 @functools.lru_cache(maxsize=None)
-def cited_lines(text):
-    """The lines of a text that cite, by their numbers, with the words that do."""
-    found = [(number, CITATIONS.search(line)) for number, line in enumerate(text.splitlines(), 1)]
-    return [(number, cited.group(0)) for number, cited in found if cited]
+def lines_with(pattern, text):
+    """The numbers of the lines of a text in which a pattern stands, with what stands there."""
+    found = [(number, pattern.search(line)) for number, line in enumerate(text.splitlines(), 1)]
+    return [(number, there.group(0)) for number, there in found if there]
 
 
 def holes(repository):
     """No proof is left open."""
     for path, text in repository.texts.items():
         if path.endswith(".antt"):
-            for number in lines_with_holes(text):
+            for number, _ in lines_with(HOLE, text):
                 yield f"{path}:{number}: a hole"
-
-
-@functools.lru_cache(maxsize=None)
-def lines_with_holes(text):
-    """The numbers of the lines of a text that leave a proof open."""
-    hole = re.compile(r"(?:^|[ (=])\?(?:$|[ );])")
-    return [number for number, line in enumerate(text.splitlines(), 1) if hole.search(line.split("--")[0])]
 
 
 def lengths(repository):
@@ -150,15 +147,9 @@ def widths(repository):
     """No line is wide but headings and rows of tables in documents."""
     for path, text in repository.texts.items():
         if path.endswith((".rt", ".antt", ".md")) or path.startswith("checks/") or path == "test":
-            for number, line in wide_lines(text):
+            for number, line in lines_with(WIDE, text):
                 if not (path.endswith(".md") and line.startswith(("|", "#"))):
                     yield f"{path}:{number}: more than {WIDEST_LINE} columns"
-
-
-@functools.lru_cache(maxsize=None)
-def wide_lines(text):
-    """The lines of a text that are wide, with their numbers."""
-    return [(number, line) for number, line in enumerate(text.splitlines(), 1) if len(line) > WIDEST_LINE]
 
 
 def unsafe(repository):
@@ -176,12 +167,16 @@ def modules_in(text):
 
 
 def strays(repository):
-    """No file of another kind, no link, no source outside of the folders of sources, and none that no module names."""
+    """No file of another kind, no link, no source outside of the folders of sources, and none that no module names. The
+    comment of `literal_tests` has a row for each of its modules."""
     modules = {f"{re.sub('(/lib|/main)?[.]rt$', '', path)}/{name}.rt" for path, text in repository.texts.items()
                if path.endswith(".rt") for name in modules_in(text)}
     for path in repository.texts:
         if path.endswith(".rt") and not re.search(r"/src/(?:lib|main)\.rt$", path) and path not in modules:
             yield f"{path} is named by no module"
+    tests = repository.texts["crates/literal_tests/src/lib.rt"]
+    for name in set(modules_in(tests)) ^ set(re.findall(r"^//! \| `(\w+)` \|", tests, re.M)):
+        yield f"crates/literal_tests/src/lib.rt: `{name}` is a module or has a row above, and not both"
     for path in repository.links:
         yield f"{path} is a link"
     for path in repository.texts:

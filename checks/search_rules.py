@@ -14,8 +14,10 @@ from rattle_source import (
     BRACKETS, closing, enclosing, functions_in, parameters, parts_of, plain_code, without_tests, words_of,
 )
 
-# Crates of tests and examples, which no other crate stands on and no rule here reads.
-TEST_CRATES = ("literal_tests", "literal_examples", "refused_memory", "answers")
+# Crates of callers, tests and examples, which no crate of another sort stands on and no rule here reads.
+TEST_CRATES = (
+    "literal_promise", "literal_tests", "literal_examples", "literal_shown", "litscan", "refused_memory", "answers"
+)
 
 # Crates whose code may have a haystack in hand.
 SEARCH_CRATES = ("literal_packed", "literal_prefilters")

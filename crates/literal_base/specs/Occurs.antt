@@ -12,8 +12,8 @@ abbrev pub case_folded : Bool → List ℕ → List ℕ
 case_folded ignore_case bytes = if ignore_case then map to_ascii_lowercase bytes else bytes
 
 -- a and b have one length and equal bytes, once each of A to Z is replaced by its small letter where case is ignored
-abbrev pub Same : Bool → List ℕ → List ℕ → Type 0
-Same ignore_case a b = case_folded ignore_case a ≡ case_folded ignore_case b
+abbrev pub AreEqualBytes : Bool → List ℕ → List ℕ → Type 0
+AreEqualBytes ignore_case a b = case_folded ignore_case a ≡ case_folded ignore_case b
 
 -- a and b are one byte; where case is ignored, once each of A to Z is replaced by its small letter
 abbrev pub same_byte : Bool → ℕ → ℕ → Bool
@@ -30,7 +30,7 @@ NoneIsEmpty patterns = All (λ (bytes : List ℕ). 0 < length bytes) patterns
 -- at a place the bytes lie whole in the haystack, and the haystack has the same bytes there
 pub record StandsAt (ignore_case : Bool) (bytes haystack : List ℕ) (at : ℕ) : Type 0 where
   pub fits : at + length bytes ≤ length haystack
-  pub same : Same ignore_case (slice_range haystack at (at + length bytes)) bytes
+  pub same : AreEqualBytes ignore_case (slice_range haystack at (at + length bytes)) bytes
 
 -- the span's start is at most its end, and that at most the haystack's length
 pub record IsValidSpan (haystack : List ℕ) (span : Span) : Type 0 where
@@ -55,7 +55,8 @@ pub record Occurs (patterns : List (List ℕ)) (ignore_case : Bool) (haystack : 
   pub is_pattern : i < length patterns
   pub after_start : span.start ≤ at
   pub before_end : at + length (pattern_at patterns i) ≤ span.end
-  pub same : Same ignore_case (slice_range haystack at (at + length (pattern_at patterns i))) (pattern_at patterns i)
+  pub same : AreEqualBytes ignore_case (slice_range haystack at (at + length (pattern_at patterns i)))
+      (pattern_at patterns i)
 
 -- no pattern occurs at any place of the span
 abbrev pub NothingOccurs : List (List ℕ) → Bool → List ℕ → Span → Type 0

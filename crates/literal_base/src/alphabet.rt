@@ -118,7 +118,7 @@ impl ByteClasses {
         ensures bytes { result ≡ elements_of self.now class }
         ensures few { length result ≤ 256 }
     {
-        let _ = &self.classes;
+        let _ = &self.classes; // (a read, after which the proof has what the fields keep)
         ByteClassElements {
             classes: self,
             class,

@@ -1,4 +1,4 @@
 pub mod Answers
-pub mod Asked
+pub mod Arguments
 pub mod Inside
 pub mod Pieces

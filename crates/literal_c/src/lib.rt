@@ -11,18 +11,18 @@ ghost use Rattle.literal_base.specs.Leftmost.{IsLeftmostMatch};
 ghost use Rattle.literal_base.specs.Occurs.{IsValidSpan, NothingOccurs, between};
 ghost use Rattle.literal_search.specs.SearchValue.{CanBeSearched};
 ghost use Rattle.literal_c.specs.Answers.{IsAnswer, IsPage, match_of};
-ghost use Rattle.literal_c.specs.Asked.{IsAsked, IsStatus, asked_query};
+ghost use Rattle.literal_c.specs.Arguments.{Agree, IsStatus, argument_query};
 ghost use Rattle.literal_c.specs.Pieces.{AreEnds, pieces};
 
 mod answers;
-mod asked;
+mod arguments;
 pub mod laws;
 mod pieces;
 #[cfg(test)]
 mod tests;
 
 use answers::{answer_each, match_for_c, write_page};
-use asked::{can_be_searched, search_for};
+use arguments::{can_be_searched, search_for};
 use literal_search::Span;
 use pieces::{Pieces, are_ends};
 use std::alloc::Global;
@@ -112,9 +112,9 @@ pub extern "C" fn literal_find(
     end: usize,
     found: &mut LiteralMatch,
 ) -> i32
-    ensures status { IsStatus (IsAsked kind patterns.now ends.now × IsValidSpan haystack.now (between start end))
+    ensures status { IsStatus (Agree kind patterns.now ends.now × IsValidSpan haystack.now (between start end))
         (pieces patterns.now 0 ends.now) result }
-    ensures found { result ≡ LITERAL_OK → IsLeftmostMatch (asked_query kind patterns.now ends.now) ignore_case
+    ensures found { result ≡ LITERAL_OK → IsLeftmostMatch (argument_query kind patterns.now ends.now) ignore_case
         haystack.now (between start end) (match_of found.new) }
     ensures none { result ≡ LITERAL_NONE
         → NothingOccurs (pieces patterns.now 0 ends.now) ignore_case haystack.now (between start end) }
@@ -153,10 +153,10 @@ pub extern "C" fn literal_find_all(
     found: &mut [LiteralMatch],
     page: &mut LiteralPage,
 ) -> i32
-    ensures status { IsStatus (IsAsked kind patterns.now ends.now × (from ≤ length haystack.now))
+    ensures status { IsStatus (Agree kind patterns.now ends.now × (from ≤ length haystack.now))
         (pieces patterns.now 0 ends.now) result }
-    ensures page { result ≡ LITERAL_OK → IsPage (asked_query kind patterns.now ends.now) ignore_case haystack.now from
-        found.old found.new page.new }
+    ensures page { result ≡ LITERAL_OK → IsPage (argument_query kind patterns.now ends.now) ignore_case haystack.now
+        from found.old found.new page.new }
     ensures as_before { (result ≡ LITERAL_OK) ⊎ ((found.new ≡ found.old) × (page.new ≡ page.old)) }
     ensures not_none { ¬ (result ≡ LITERAL_NONE) }
 {
@@ -187,9 +187,9 @@ pub extern "C" fn literal_find_each(
     haystack_ends: &[usize],
     answers: &mut [LiteralAnswer],
 ) -> i32
-    ensures status { IsStatus (IsAsked kind patterns.now ends.now × AreEnds (length haystacks.now) 0 haystack_ends.now
+    ensures status { IsStatus (Agree kind patterns.now ends.now × AreEnds (length haystacks.now) 0 haystack_ends.now
         × (length answers.old ≡ length haystack_ends.now)) (pieces patterns.now 0 ends.now) result }
-    ensures answers { result ≡ LITERAL_OK → AllZip (IsAnswer (asked_query kind patterns.now ends.now) ignore_case)
+    ensures answers { result ≡ LITERAL_OK → AllZip (IsAnswer (argument_query kind patterns.now ends.now) ignore_case)
         (pieces haystacks.now 0 haystack_ends.now) answers.new }
     ensures as_before { (result ≡ LITERAL_OK) ⊎ (answers.new ≡ answers.old) }
     ensures not_none { ¬ (result ≡ LITERAL_NONE) }

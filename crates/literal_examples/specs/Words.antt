@@ -17,7 +17,7 @@ longest_begun patterns [] = []
 longest_begun patterns (byte ∷ more) =
     if begins_one patterns (byte ∷ more) then byte ∷ more else longest_begun patterns more
 
--- the word of a state, and the empty text where there is none
+-- the word of a state, and the empty text where there is none (as `pattern_at`, but numbered by states)
 abbrev pub word_of : List (List ℕ) → ℕ → List ℕ
 word_of words state = slice_index_or words state []
 

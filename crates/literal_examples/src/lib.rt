@@ -2,16 +2,13 @@
 //! the lemmas for callers alone.
 #![tactic(auto)]
 
+pub mod automaton;
 pub mod dense;
 pub mod earliest;
 pub mod frequencies;
 pub mod keywords;
+mod links;
 pub mod replace;
-#[cfg(test)]
-mod shown;
-#[cfg(test)]
-mod tests;
-#[cfg(test)]
-mod tests_of_automata;
 pub mod tokens;
+mod trie;
 pub mod words;

@@ -106,7 +106,7 @@ fn next_fits(
 }
 
 /// The longest end of a text with which a pattern begins.
-fn longest_begun<'t>(patterns: &[&[u8]], text: &'t [u8]) -> &'t [u8]
+pub(crate) fn longest_begun<'t>(patterns: &[&[u8]], text: &'t [u8]) -> &'t [u8]
     ensures { result.now ≡ longest_begun (map (λ p. p.now) patterns.now) text.now }
 {
     let mut rest = text;
@@ -117,14 +117,14 @@ fn longest_begun<'t>(patterns: &[&[u8]], text: &'t [u8]) -> &'t [u8]
 }
 
 /// Whether a pattern begins with a text.
-fn begins_one(patterns: &[&[u8]], text: &[u8]) -> bool
+pub(crate) fn begins_one(patterns: &[&[u8]], text: &[u8]) -> bool
     ensures { result ≡ list_any (λ p. starts_with nat_eq p.now text.now) patterns.now }
 {
     patterns.iter().any(|pattern| pattern.starts_with(text))
 }
 
 /// Whether a text ends with a pattern.
-fn ends_with_one(patterns: &[&[u8]], text: &[u8]) -> bool
+pub(crate) fn ends_with_one(patterns: &[&[u8]], text: &[u8]) -> bool
     ensures { result ≡ list_any (λ p. ends_with nat_eq text.now p.now) patterns.now }
 {
     patterns.iter().any(|pattern| text.ends_with(pattern))

@@ -8,6 +8,7 @@ pub mod Given
 pub mod GreedyLists
 pub mod Iterations
 pub mod LaidOut
+pub mod Layout
 pub mod Lending
 pub mod Limits
 pub mod Lists

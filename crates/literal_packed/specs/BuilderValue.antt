@@ -30,11 +30,15 @@ searcher_of b =
     if nat_lt 0 (length (kept_of b.state)) then Some
     (record { kind = b.config.kind; patterns = kept_of b.state }) else None
 
+-- patterns of which a searcher is built: one up to a limit, none of them empty
+pub record HaveSearcher (limit : ℕ) (patterns : List (List ℕ)) : Type 0 where
+  pub some : 0 < length patterns
+  pub few : length patterns ≤ limit
+  pub not_empty : NoneIsEmpty patterns
+
 -- what a searcher searches for: one pattern up to the largest limit, none of them empty
-pub record IsSearcher (query : Query) : Type 0 where
-  pub some : 0 < length query.patterns
-  pub few : length query.patterns ≤ max_pattern_limit
-  pub not_empty : NoneIsEmpty query.patterns
+abbrev pub IsSearcher : Query → Type 0
+IsSearcher query = HaveSearcher max_pattern_limit query.patterns
 
 -- the builder after patterns were added, which are given by references
 abbrev pub AddsAll : BuilderValue → List (Bor (List ℕ)) → BuilderValue → Type 0

@@ -13,14 +13,14 @@ abbrev pub CanBeTaken : {U T : Type 0} → (U → T → Type 0) → (T → Type 
 CanBeTaken {U} {T} becomes can_next remaining patterns =
     (it : T) → becomes patterns it → can_next it × IsFinite (remaining it)
 
--- if the call that was lent the builder b does not hand it back in its answer, P holds of the builder
-abbrev pub RestsAtErr : {E : Type 0} → (BuilderValue → Type 0) → MutBor BuilderValue → Result (MutBor BuilderValue) E
+-- if the call that was lent the builder b does not hand it back in its answer, P holds of the builder (`RestsIfErr`)
+abbrev pub HoldsAfterErr : {E : Type 0} → (BuilderValue → Type 0) → MutBor BuilderValue → Result (MutBor BuilderValue) E
     → Fml
-RestsAtErr P b r = RestsIfErr the_row b (λ (x : MutBor BuilderValue). x.ghost_name) r P
+HoldsAfterErr P b r = RestsIfErr the_row b (λ (x : MutBor BuilderValue). x.ghost_name) r P
 
 -- the same for an answer that holds the builder in a struct
-abbrev pub LentRestsAtErr : {E : Type 0} → (BuilderValue → Type 0) → MutBor BuilderValue → Result Lent E → Fml
-LentRestsAtErr P b r = RestsIfErr the_row b (λ (l : Lent). l.builder.ghost_name) r P
+abbrev pub LentHoldsAfterErr : {E : Type 0} → (BuilderValue → Type 0) → MutBor BuilderValue → Result Lent E → Fml
+LentHoldsAfterErr P b r = RestsIfErr the_row b (λ (l : Lent). l.builder.ghost_name) r P
 
 module _ {U T : Type 0} (becomes : U → T → Type 0) (steps : T → Option (Bor (List ℕ)) → T → Type 0) (patterns : U)
     (old new : BuilderValue) where
@@ -29,7 +29,7 @@ module _ {U T : Type 0} (becomes : U → T → Type 0) (steps : T → Option (Bo
   HoldsAll = (it : T) × (xs : List (Bor (List ℕ))) × becomes patterns it × AddsAll old xs new × Drains steps it xs
 
   -- the items that the iterator gave before the refused one were added, in their order; the builder would have kept the
-  -- refused one
+  -- refused one (of a builder that lives on; `WouldKeepItem` of literal_prefilters is of one that is gone)
   pub record HoldsTaken : Type 0 where
     pub iterator : T
     pub items : List (Bor (List ℕ))

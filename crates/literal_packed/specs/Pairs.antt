@@ -38,11 +38,6 @@ pairs_at_up_to test query at j =
     count_by (λ i. test at i && (i == j || is_better query.kind query.patterns i j))
     (range_with_len 0 (length query.patterns))
 
--- how many of the patterns pass a test at a place: all that do or, if there is an answer, those up to its pattern
-abbrev pub pairs_answered : (ℕ → ℕ → Bool) → Query → ℕ → Option ℕ → ℕ
-pairs_answered test query at None = pairs_at test (length query.patterns) at
-pairs_answered test query at (Some j) = pairs_at_up_to test query at j
-
 -- how many pairs (place, pattern) pass a test, with from ≤ place < to, and a pattern below n
 abbrev pub pairs_between : (ℕ → ℕ → Bool) → ℕ → ℕ → ℕ → ℕ
 pairs_between test n from to = sum_by (pairs_at test n) (range_with_len from (to - from))

@@ -14,7 +14,7 @@ ghost use Rattle.literal_packed.specs.State.{IsState, WouldKeep, kept_of};
 ghost use Rattle.literal_packed.specs.Pairs.{counts_after};
 ghost use Rattle.literal_packed.specs.FindIterValue.{FindsNext, bytes_left};
 ghost use Rattle.literal_packed.specs.Spending.{SpendsWithin, counts_after_all};
-ghost use Rattle.literal_packed.specs.Lending.{CanBeTaken, RestsAtErr, LentRestsAtErr, HoldsTaken, HoldsAll};
+ghost use Rattle.literal_packed.specs.Lending.{CanBeTaken, HoldsAfterErr, LentHoldsAfterErr, HoldsTaken, HoldsAll};
 ghost use Rattle.literal_packed.specs.Lending.{RefusedItems};
 
 use crate::pattern::Patterns;
@@ -198,7 +198,7 @@ impl Builder {
     /// pattern is not kept no memory is asked for.
     pub fn add(&mut self, bytes: &[u8]) -> Result<&mut Builder, AllocError>
         // After an error the builder is as before.
-        ensures* as_before { sem 𝓛 (RestsAtErr (λ b. b ≡ self.old) self.entry result) }
+        ensures* as_before { sem 𝓛 (HoldsAfterErr (λ b. b ≡ self.old) self.entry result) }
         ensures same { IfOk result (λ b. b.ghost_name ≡ self.entry.ghost_name) }
         ensures ok { IfOk result (λ b. b.now ≡ with_added self.old (bytes.now ∷ [])) }
         ensures no_memory { OnErr result (WouldKeep self.old.config.pattern_limit self.old.state bytes.now) }
@@ -209,7 +209,7 @@ impl Builder {
     }
 
     fn try_add(&mut self, bytes: &[u8]) -> Result<Lent<'_>, AllocError>
-        ensures* as_before { sem 𝓛 (LentRestsAtErr (λ b. b ≡ self.old) self.entry result) }
+        ensures* as_before { sem 𝓛 (LentHoldsAfterErr (λ b. b ≡ self.old) self.entry result) }
         ensures same { IfOk result (λ l. l.builder.ghost_name ≡ self.entry.ghost_name) }
         ensures ok { IfOk result (λ l. l.builder.now ≡ with_added self.old (bytes.now ∷ [])) }
         ensures no_memory { OnErr result (WouldKeep self.old.config.pattern_limit self.old.state bytes.now) }
@@ -244,7 +244,7 @@ impl Builder {
     ) -> Result<&mut Builder, AllocError>
         requires { CanBeTaken I.into_iter_gives I.IntoIter.can_next I.IntoIter.remaining patterns }
         // After an error the builder has the patterns before the refused one, which it would keep.
-        ensures* taken { sem 𝓛 (RestsAtErr (HoldsTaken I.into_iter_gives I.IntoIter.next_gives patterns self.old)
+        ensures* taken { sem 𝓛 (HoldsAfterErr (HoldsTaken I.into_iter_gives I.IntoIter.next_gives patterns self.old)
             self.entry result) }
         ensures same { IfOk result (λ b. b.ghost_name ≡ self.entry.ghost_name) }
         ensures ok { IfOk result (λ b. HoldsAll I.into_iter_gives I.IntoIter.next_gives patterns self.old b.now) }
@@ -258,7 +258,7 @@ impl Builder {
         patterns: I,
     ) -> Result<Lent<'_>, AllocError>
         requires { CanBeTaken I.into_iter_gives I.IntoIter.can_next I.IntoIter.remaining patterns }
-        ensures* taken { sem 𝓛 (LentRestsAtErr
+        ensures* taken { sem 𝓛 (LentHoldsAfterErr
             (HoldsTaken I.into_iter_gives I.IntoIter.next_gives patterns self.old) self.entry result) }
         ensures same { IfOk result (λ l. l.builder.ghost_name ≡ self.entry.ghost_name) }
         ensures ok { IfOk result (λ l.
@@ -480,6 +480,7 @@ impl Searcher {
         ensures no_memory { OnErr result
             (¬ NothingOccurs self.now.patterns false haystack.now (whole_of haystack.now)) }
     {
+        // A confirming search has the same loop over its own search, whose contract counts other steps.
         let mut all = Vec::new(self.patterns.allocator());
         let mut rest = Span {
             start: 0,

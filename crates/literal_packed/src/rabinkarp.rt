@@ -5,10 +5,10 @@ ghost use Rattle.std.specs.Prelude.{take, All, count_by, ◌==◌, IfOk, IsTrue,
 ghost use Rattle.literal_base.specs.Occurs.{StandsAt, pattern_at, rest_from};
 ghost use Rattle.literal_base.specs.Leftmost.{IsLeftmost};
 ghost use Rattle.literal_packed.specs.PatternsValue.{query_of, IsInOrder, minimum_len_of};
-ghost use Rattle.literal_packed.specs.Inside.Place.{IsBestAt, NoneStandsAt};
+ghost use Rattle.literal_packed.specs.Inside.Place.{IsBestAt, NoneStandsAt, pairs_answered};
 ghost use Rattle.literal_packed.specs.Inside.Entries.{entry_at};
 ghost use Rattle.literal_packed.specs.Sum.{sum_of};
-ghost use Rattle.literal_packed.specs.Pairs.{has_equal_sum, has_equal_bucket, window_sum, pairs_answered, counts_after};
+ghost use Rattle.literal_packed.specs.Pairs.{has_equal_sum, has_equal_bucket, window_sum, counts_after};
 ghost use Rattle.literal_packed.specs.RabinKarpValue.{IsMadeFor, bucket_at};
 
 mod entries;

@@ -9,7 +9,7 @@ pub mod Covers
 pub mod Exact
 pub mod KeptByte
 pub mod Lists
-pub mod Near
+pub mod Reached
 pub mod Offsets
 pub mod Rare
 pub mod RareSet
@@ -25,3 +25,4 @@ pub mod TableOf
 pub mod Taken
 pub mod Tries
 pub mod Variants
+pub mod Ways

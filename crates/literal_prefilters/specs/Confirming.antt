@@ -13,26 +13,26 @@ use Rattle.literal_packed.specs.Pairs.{counts_after}
 use Rattle.literal_packed.specs.Spending.{SpendsWithin}
 use Rattle.literal_prefilters.specs.ConfirmingValue.{ConfirmingValue}
 use Rattle.literal_prefilters.specs.Exact.{query_of_one}
-use Rattle.literal_prefilters.specs.Near.{near_count}
+use Rattle.literal_prefilters.specs.Reached.{reached_count}
 use Rattle.literal_prefilters.specs.PrefilterValue.{PrefilterValue, by_table, by_pattern, by_search}
-use Rattle.literal_prefilters.specs.Table.{first}
+use Rattle.literal_prefilters.specs.Table.{first_place}
 
 -- how many bytes are scanned: with a match, those from the span's start up to and including the first of the table at
 -- the match's start or later; without one, the whole span
 abbrev pub scanned_once : List (Option ℕ) → List ℕ → Span → Option MatchValue → ℕ
 scanned_once table haystack span None = span.end - span.start
 scanned_once table haystack span (Some found) =
-    unwrap_or (first table haystack (between found.start span.end)) 0 + 1 - span.start
+    unwrap_or (first_place table haystack (between found.start span.end)) 0 + 1 - span.start
 
 -- the end of the match, or of the span if there is none
 abbrev pub answer_end : Span → Option MatchValue → ℕ
 answer_end span None = span.end
 answer_end span (Some found) = found.end
 
--- how many places are tried: all near ones or, with a match, those up to and including its start
-abbrev pub tried_places : List (Option ℕ) → List ℕ → Span → Option MatchValue → ℕ
-tried_places table haystack span None = near_count table haystack span span.end
-tried_places table haystack span (Some found) = near_count table haystack span (found.start + 1)
+-- how many places are tried: all that a byte of the table reaches or, with a match, those up to and including its start
+abbrev pub tried_count : List (Option ℕ) → List ℕ → Span → Option MatchValue → ℕ
+tried_count table haystack span None = reached_count table haystack span span.end
+tried_count table haystack span (Some found) = reached_count table haystack span (found.start + 1)
 
 -- how many patterns are compared at a place: all or, if one is the answer there, this one and the better ones
 abbrev pub compared_at : Query → Option ℕ → ℕ
@@ -44,9 +44,9 @@ compared_at query (Some j) =
 -- with its pattern and the better ones
 abbrev pub compared_by_tries : List (Option ℕ) → Query → List ℕ → Span → Option MatchValue → ℕ
 compared_by_tries table query haystack span None =
-    near_count table haystack span span.end * compared_at query None
+    reached_count table haystack span span.end * compared_at query None
 compared_by_tries table query haystack span (Some found) =
-    near_count table haystack span found.start * compared_at query None + compared_at query (Some found.pattern)
+    reached_count table haystack span found.start * compared_at query None + compared_at query (Some found.pattern)
 
 -- the counts after a search by a table that gives an answer: `compared`, `scanned` and `tried` as said above; the
 -- others stay
@@ -54,7 +54,7 @@ abbrev pub counts_after_tries : Counts → List (Option ℕ) → Query → List 
 counts_after_tries old table query haystack span answer = record old {
   compared = old.compared + compared_by_tries table query haystack span answer;
   scanned = old.scanned + scanned_once table haystack span answer;
-  tried = old.tried + tried_places table haystack span answer;
+  tried = old.tried + tried_count table haystack span answer;
 }
 
 -- the counts after a confirming search that gives an answer: by a table those of its tries, and by an exact prefilter
@@ -89,12 +89,12 @@ pub record RefusesList (search : ConfirmingValue) (haystack : List ℕ) (old new
   pub counted : new ≡ counts_after_answers old search.prefilter search.query haystack 0 (answers_of found)
 
 -- what the searches by a table up to a place of a haystack count together, one match after another: scanned at most the
--- bytes before the place, tried at most the near places before it, compared at most (places tried) * (number of
--- patterns). None of these counts falls, and the others stay
+-- bytes before the place, tried at most the places before it that a byte of the table reaches, compared at most (places
+-- tried) * (number of patterns). None of these counts falls, and the others stay
 pub record SpendsTries (table : List (Option ℕ)) (patterns : List (List ℕ)) (haystack : List ℕ) (to : ℕ)
     (old new : Counts) : Type 0 where
   pub scanned : new.scanned ≤ old.scanned + to
-  pub tried : new.tried ≤ old.tried + near_count table haystack (whole_of haystack) to
+  pub tried : new.tried ≤ old.tried + reached_count table haystack (whole_of haystack) to
   pub compared : new.compared ≤ old.compared + (new.tried - old.tried) * length patterns
   pub scanned_grows : old.scanned ≤ new.scanned
   pub tried_grows : old.tried ≤ new.tried

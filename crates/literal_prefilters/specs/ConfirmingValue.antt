@@ -8,7 +8,7 @@ use Rattle.literal_base.specs.Kinds.{root_kind_of}
 use Rattle.literal_base.specs.Query.{Query}
 use Rattle.literal_packed.specs.State.{WouldKeep, kept_of, state_of}
 use Rattle.literal_prefilters.specs.Choice.{pick}
-use Rattle.literal_prefilters.specs.PrefilterBuilderValue.{PrefilterBuilderValue, pattern_limit}
+use Rattle.literal_prefilters.specs.PrefilterBuilderValue.{PrefilterBuilderValue, prefilter_limit}
 use Rattle.literal_prefilters.specs.PrefilterValue.{PrefilterValue}
 
 -- a `ConfirmingSearch` as contracts see it: the kind and the patterns, whether case is ignored, and what the prefilter
@@ -21,17 +21,19 @@ pub record ConfirmingValue : Type 0 where
 -- the prefilter's builder for a leftmost kind of match, to which these patterns were added
 abbrev pub prefilter_builder : MatchKind → Bool → List (List ℕ) → PrefilterBuilderValue
 prefilter_builder kind ignore_case added =
-    record { kind = root_kind_of kind; ignore_case = ignore_case; state = state_of pattern_limit added }
+    record { kind = root_kind_of kind; ignore_case = ignore_case; state = state_of prefilter_limit added }
+
+-- the confirming search for a builder's patterns by a prefilter
+abbrev pub confirming_by : MatchKind → PrefilterBuilderValue → PrefilterValue → ConfirmingValue
+confirming_by kind b prefilter = record {
+  query = record { kind = kind; patterns = kept_of b.state };
+  ignore_case = b.ignore_case;
+  prefilter = prefilter;
+}
 
 -- the confirming search for a builder's patterns, if there is a prefilter for them
 abbrev pub confirming_of : MatchKind → PrefilterBuilderValue → Option ConfirmingValue
-confirming_of kind b = option_map
-    (λ prefilter. record {
-      query = record { kind = kind; patterns = kept_of b.state };
-      ignore_case = b.ignore_case;
-      prefilter = prefilter;
-    })
-    (pick b)
+confirming_of kind b = option_map (confirming_by kind b) (pick b)
 
 -- the answer is what is built from all the items of an iterator
 abbrev pub BuildsConfirming : {U T : Type 0} → (U → T → Type 0) → (T → Option (Bor (List ℕ)) → T → Type 0) → MatchKind
@@ -42,7 +44,8 @@ BuildsConfirming {U} {T} becomes steps kind ignore_case patterns answer =
 
 module _ (limit : ℕ) {U T : Type 0} (becomes : U → T → Type 0) (steps : T → Option (Bor (List ℕ)) → T → Type 0)
     (patterns : U) where
-  -- an item of the iterator would be kept, after those before it and up to a limit
+  -- an item of the iterator would be kept, after those before it and up to a limit (by a builder that is gone;
+  -- `HoldsTaken` of literal_packed is of one that lives on)
   pub record WouldKeepItem : Type 0 where
     pub iterator : T
     pub items : List (Bor (List ℕ))
@@ -57,6 +60,6 @@ module _ (limit : ℕ) {U T : Type 0} (becomes : U → T → Type 0) (steps : T 
 -- memory was refused: for an item that is kept, or after all items, where there is a prefilter for them
 abbrev pub RefusesConfirming : {U T : Type 0} → (U → T → Type 0) → (T → Option (Bor (List ℕ)) → T → Type 0) → MatchKind
     → Bool → U → Type 0
-RefusesConfirming {U} {T} becomes steps kind ignore_case patterns = WouldKeepItem pattern_limit becomes steps patterns
+RefusesConfirming {U} {T} becomes steps kind ignore_case patterns = WouldKeepItem prefilter_limit becomes steps patterns
     ⊎ ((it : T) × (items : List (Bor (List ℕ))) × becomes patterns it × Drains steps it items
     × IsTrue (is_some (pick (prefilter_builder kind ignore_case (map (λ p. p.now) items)))))

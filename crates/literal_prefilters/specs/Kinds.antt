@@ -6,7 +6,7 @@ use Rattle.literal_base.specs.Counts.{Counts}
 use Rattle.literal_prefilters.specs.declared.prefilter.Candidate.{Candidate}
 use Rattle.literal_prefilters.specs.Answers.{candidate_of}
 use Rattle.literal_prefilters.specs.Sound.{Coverage}
-use Rattle.literal_prefilters.specs.Table.{size, reach_of, first, step, bytes_scanned, Covers}
+use Rattle.literal_prefilters.specs.Table.{size, reach_of, first_place, proposed_place, bytes_scanned, Covers}
 
 -- the table covers each pattern, whatever the kind of match
 abbrev pub CoversAll : List (Option ℕ) → Coverage
@@ -16,8 +16,8 @@ CoversAll table query ignore_case = All (Covers table ignore_case) query.pattern
 -- counted
 pub record IsStep (table : List (Option ℕ)) (haystack : List ℕ) (span : Span) (answer : Candidate)
     (old new : Counts) : Type 0 where
-  pub step : answer ≡ candidate_of (step table haystack span)
-  pub scanned : new ≡ record old { scanned = old.scanned + bytes_scanned span (first table haystack span) }
+  pub step : answer ≡ candidate_of (proposed_place table haystack span)
+  pub scanned : new ≡ record old { scanned = old.scanned + bytes_scanned span (first_place table haystack span) }
 
 -- a table of so many bytes
 abbrev pub HasBytes : ℕ → List (Option ℕ) → Type 0

@@ -5,7 +5,7 @@ pub mod ConfirmingValue
 pub mod Exact
 pub mod Inside
 pub mod Kinds
-pub mod Near
+pub mod Reached
 pub mod PrefilterBuilderValue
 pub mod PrefilterValue
 pub mod Rarest

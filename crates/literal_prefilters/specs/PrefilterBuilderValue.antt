@@ -4,8 +4,8 @@ use Rattle.literal_base.specs.declared.search.MatchKind.{MatchKind}
 use Rattle.literal_packed.specs.State.{state_after}
 
 -- 2147483647, how many patterns a prefilter is built for at most
-abbrev pub pattern_limit : ℕ
-pattern_limit = 2147483647
+abbrev pub prefilter_limit : ℕ
+prefilter_limit = 2147483647
 
 -- a prefilter's `Builder` as contracts see it: the kind of match, whether case is ignored, and the patterns, or None
 -- where it is disabled
@@ -16,4 +16,4 @@ pub record PrefilterBuilderValue : Type 0 where
 
 -- a builder after more patterns were added
 abbrev pub with_added : PrefilterBuilderValue → List (List ℕ) → PrefilterBuilderValue
-with_added b more = record b { state = state_after pattern_limit b.state more }
+with_added b more = record b { state = state_after prefilter_limit b.state more }

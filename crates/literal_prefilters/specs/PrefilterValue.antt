@@ -8,7 +8,7 @@ use Rattle.literal_prefilters.specs.Answers.{candidate_of}
 use Rattle.literal_prefilters.specs.Exact.{query_of_one, CoversPattern, CoversQuery, IsExact, IsExactStep}
 use Rattle.literal_prefilters.specs.Kinds.{CoversAll, IsStep}
 use Rattle.literal_prefilters.specs.Sound.{Coverage}
-use Rattle.literal_prefilters.specs.Table.{reach_of, step}
+use Rattle.literal_prefilters.specs.Table.{reach_of, proposed_place}
 
 -- a `Prefilter` as contracts see it: which of three it is, with its table, its one pattern, or its kind of match and
 -- patterns
@@ -31,7 +31,7 @@ prefilter_reach (by_search query) = 0
 
 -- what it answers: the step of its table as a possible start, or the leftmost match as such
 abbrev pub IsAnswer : PrefilterValue → List ℕ → Span → Candidate → Type 0
-IsAnswer (by_table table) haystack span answer = answer ≡ candidate_of (step table haystack span)
+IsAnswer (by_table table) haystack span answer = answer ≡ candidate_of (proposed_place table haystack span)
 IsAnswer (by_pattern pattern) haystack span answer = IsExact (query_of_one pattern) haystack span answer
 IsAnswer (by_search query) haystack span answer = IsExact query haystack span answer
 

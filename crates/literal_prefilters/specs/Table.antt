@@ -6,7 +6,7 @@ use Rattle.std.specs.Prelude.{slice_range, if◌then◌else◌}
 use Rattle.std.specs.List.{enumerate_from}
 use Rattle.literal_base.specs.Rank.{rank_of}
 use Rattle.literal_base.specs.declared.search.Span.{Span}
-use Rattle.literal_base.specs.Occurs.{Same}
+use Rattle.literal_base.specs.Occurs.{AreEqualBytes}
 use Rattle.literal_base.specs.Bytes.{AreBytes}
 
 -- the distance of a byte, and None where it is not in the table
@@ -38,8 +38,8 @@ abbrev pub reach_of : List (Option ℕ) → ℕ
 reach_of table = fold (λ most o. max most (unwrap_or o 0)) 0 table
 
 -- the least place of the span whose byte is in the table
-abbrev pub first : List (Option ℕ) → List ℕ → Span → Option ℕ
-first table haystack span =
+abbrev pub first_place : List (Option ℕ) → List ℕ → Span → Option ℕ
+first_place table haystack span =
     option_map (λ k. span.start + k) (position (is_in table) (slice_range haystack span.start span.end))
 
 -- the place is the least of the span whose byte is in the table
@@ -55,8 +55,8 @@ step_back table haystack start place = max start (place - unwrap_or (distance_of
 
 -- the place that a prefilter by this table answers: the first place of the table in the span, stepped back, and None
 -- where there is none
-abbrev pub step : List (Option ℕ) → List ℕ → Span → Option ℕ
-step table haystack span = option_map (step_back table haystack span.start) (first table haystack span)
+abbrev pub proposed_place : List (Option ℕ) → List ℕ → Span → Option ℕ
+proposed_place table haystack span = option_map (step_back table haystack span.start) (first_place table haystack span)
 
 -- how many bytes are scanned: those from the span's start up to and including a place, or all if there is none
 abbrev pub bytes_scanned : Span → Option ℕ → ℕ
@@ -67,6 +67,6 @@ bytes_scanned span (Some place) = place + 1 - span.start
 -- offset
 abbrev pub Covers : List (Option ℕ) → Bool → List ℕ → Type 0
 Covers table ignore_case pattern =
-    (variant : List ℕ) → AreBytes variant → Same ignore_case variant pattern
+    (variant : List ℕ) → AreBytes variant → AreEqualBytes ignore_case variant pattern
     → MatchOption (position (is_in table) variant) ⊥
     (λ j. IfSome (distance_of table (slice_index variant j)) (λ d. j ≤ d))

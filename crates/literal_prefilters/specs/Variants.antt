@@ -1,6 +1,6 @@
 -- What the tables of a list of patterns say of the case variants of the patterns.
 use Rattle.std.specs.Prelude.{◌≡◌, ◌↔◌, ℕ, ◌<◌, ◌≤◌, true, Bool, List, length, Some, slice_get}
-use Rattle.literal_base.specs.Occurs.{Same, pattern_at}
+use Rattle.literal_base.specs.Occurs.{AreEqualBytes, pattern_at}
 use Rattle.literal_prefilters.specs.Tables.{is_start_byte, largest_offset}
 
 -- the byte stands at the offset in a case variant of a pattern
@@ -8,7 +8,7 @@ pub record StandsIn (ignore_case : Bool) (patterns : List (List ℕ)) (byte offs
   pub pattern : ℕ
   pub is_pattern : pattern < length patterns
   pub variant : List ℕ
-  pub same : Same ignore_case variant (pattern_at patterns pattern)
+  pub same : AreEqualBytes ignore_case variant (pattern_at patterns pattern)
   pub here : slice_get variant offset ≡ Some byte
 
 -- the start bytes are those at offset 0 of case variants

@@ -16,14 +16,15 @@ ghost use Rattle.literal_prefilters.specs.Choice.{pick, suits_packed};
 ghost use Rattle.literal_base.specs.Counts.{none_yet};
 ghost use Rattle.literal_base.specs.declared.packed.MatchKind.TheVariants.{LeftmostFirst};
 ghost use Rattle.literal_prefilters.specs.Confirming.{answers_of, counts_after_answers, counts_after_confirming};
-ghost use Rattle.literal_prefilters.specs.Confirming.{scanned_once, tried_places};
+ghost use Rattle.literal_prefilters.specs.Confirming.{scanned_once, tried_count};
 ghost use Rattle.literal_prefilters.specs.ConfirmingValue.{prefilter_builder};
 ghost use Rattle.literal_prefilters.specs.PrefilterBuilderValue.{PrefilterBuilderValue};
 ghost use Rattle.literal_prefilters.specs.PrefilterValue.{CoveredBy, by_table, exact_query, prefilter_reach};
 ghost use Rattle.literal_prefilters.specs.PrefilterValue.{prefilter_table};
 ghost use Rattle.literal_prefilters.specs.Sound.{Sound};
 ghost use Rattle.literal_prefilters.specs.Rarest.{IsRarest};
-ghost use Rattle.literal_prefilters.specs.Table.{Covers, IsFirst, distance_of, first, is_in, reach_of, step};
+ghost use Rattle.literal_prefilters.specs.Table.{Covers, IsFirst, distance_of, first_place, is_in, reach_of};
+ghost use Rattle.literal_prefilters.specs.Table.{proposed_place};
 ghost use Rattle.literal_prefilters.specs.Tables.{if_small, is_rare_byte, is_start_byte, rarest, start_bytes};
 ghost use Rattle.literal_prefilters.specs.Tables.{start_table, table_of, with_rarest};
 ghost use Rattle.literal_prefilters.specs.Variants.{StartsVariants, IsLargestOffset};
@@ -38,14 +39,14 @@ pub fn covering_tables_are_sound()
         → All (Covers table ignore_case) query.patterns
         → AreBytes haystack
         → IsValidSpan haystack span
-        → Sound query ignore_case haystack span (candidate_of (step table haystack span)) }
+        → Sound query ignore_case haystack span (candidate_of (proposed_place table haystack span)) }
 {}
 
 /// A table proposes nothing exactly if the span holds no byte of it.
 pub fn nothing_is_proposed_without_a_byte()
     ensures { (table : List (Option ℕ)) (haystack : List ℕ) (span : Span)
         → IsValidSpan haystack span
-        → (step table haystack span ≡ None)
+        → (proposed_place table haystack span ≡ None)
         ↔ ((place : ℕ) → span.start ≤ place → place < span.end → is_in table (slice_index haystack place) ≡ false) }
 {}
 
@@ -67,7 +68,7 @@ pub fn scans_end_with_the_match()
         → AreBytes haystack
         → IsValidSpan haystack span
         → IsLeftmostMatch query ignore_case haystack span found
-        → (place : ℕ) × (first table haystack (between found.start span.end) ≡ Some place) × (place < found.end) }
+        → (place : ℕ) × (first_place table haystack (between found.start span.end) ≡ Some place) × (place < found.end) }
     ensures found { (table : List (Option ℕ)) (query : Query) (ignore_case : Bool) (haystack : List ℕ) (span : Span)
         (found : MatchValue)
         → All (Covers table ignore_case) query.patterns
@@ -95,7 +96,7 @@ pub fn distances_are_the_largest_offsets()
 pub fn first_is_the_least_place()
     ensures { (table : List (Option ℕ)) (haystack : List ℕ) (span : Span) (place : ℕ)
         → IsValidSpan haystack span
-        → (first table haystack span ≡ Some place) ↔ IsFirst table haystack span place }
+        → (first_place table haystack span ≡ Some place) ↔ IsFirst table haystack span place }
 {}
 
 /// No distance of a table is beyond its reach, and where that is not 0 it is the distance of a byte.
@@ -191,23 +192,23 @@ pub fn up_to_128_patterns_have_a_prefilter()
 pub fn worked_counts()
     ensures start_table { let table : List (Option ℕ) = table_of (λ b. b == 0x66 || b == 0x62) (λ _. 0) in
         let answer : Option MatchValue = Some (record { pattern = 0; start = 4; end = 7 }) in
-        (tried_places table (codes "xxbafoo") (between 0 7) answer ≡ 2)
+        (tried_count table (codes "xxbafoo") (between 0 7) answer ≡ 2)
         × (scanned_once table (codes "xxbafoo") (between 0 7) answer ≡ 5) }
     ensures rare_table { let table : List (Option ℕ) = table_of (λ b. b == 0x6B) (λ _. 7) in
         let answer : Option MatchValue = Some (record { pattern = 1; start = 2; end = 9 }) in
-        (tried_places table (codes "Shlockjaw") (between 0 9) answer ≡ 3)
+        (tried_count table (codes "Shlockjaw") (between 0 9) answer ≡ 3)
         × (scanned_once table (codes "Shlockjaw") (between 0 9) answer ≡ 6) }
     ensures no_match { let table : List (Option ℕ) = table_of (λ b. b == 0x6B) (λ _. 7) in
-        (tried_places table (codes "Shlockjaw") (between 0 8) None ≡ 6)
+        (tried_count table (codes "Shlockjaw") (between 0 8) None ≡ 6)
         × (scanned_once table (codes "Shlockjaw") (between 0 8) None ≡ 8) }
     ensures words { let table : List (Option ℕ) = table_of (λ b. b == 0x70) (λ _. 4) in
         let haystack = codes "Nobody likes maple in their apple flavored Snapple." in
         let answer : Option MatchValue = Some (record { pattern = 1; start = 13; end = 18 }) in
-        (tried_places table haystack (between 0 51) answer ≡ 3)
+        (tried_count table haystack (between 0 51) answer ≡ 3)
         × (scanned_once table haystack (between 0 51) answer ≡ 16) }
     ensures every_place { let table : List (Option ℕ) = table_of (λ b. b == 0x51) (λ _. 254) in
         let haystack = replicate 254 0x7A ++ 0x51 ∷ [] in
-        (tried_places table haystack (between 0 255) None ≡ 255)
+        (tried_count table haystack (between 0 255) None ≡ 255)
         × (scanned_once table haystack (between 0 255) None ≡ 255) }
 {}
 
@@ -256,21 +257,21 @@ pub fn worked_counts_of_patterns()
 pub fn one_try_where_a_match_is_proposed()
     ensures proposed { (table : List (Option ℕ)) (haystack : List ℕ) (span : Span) (place : ℕ) (found : MatchValue)
         → IsValidSpan haystack span
-        → first table haystack span ≡ Some place
-        → step table haystack span ≡ Some found.start
-        → (tried_places table haystack span (Some found) ≡ 1)
+        → first_place table haystack span ≡ Some place
+        → proposed_place table haystack span ≡ Some found.start
+        → (tried_count table haystack span (Some found) ≡ 1)
         × (scanned_once table haystack span (Some found) ≡ place + 1 - span.start) }
     ensures each_distance { (d : ℕ) → 1 ≤ d → let table : List (Option ℕ) = table_of (λ b. b == 0x51) (λ _. d) in
         let haystack : List ℕ = (replicate 10 0x7A ++ 0xC0 ∷ replicate (d - 1) 0x65) ++ 0x51 ∷ [] in
         let answer : Option MatchValue = Some (record { pattern = 0; start = 10; end = 11 + d }) in
-        (tried_places table haystack (between 0 (11 + d)) answer ≡ 1)
+        (tried_count table haystack (between 0 (11 + d)) answer ≡ 1)
         × (scanned_once table haystack (between 0 (11 + d)) answer ≡ 11 + d) }
 {}
 
 /// A search by a table in an empty span counts nothing.
 pub fn empty_spans_count_nothing()
     ensures { (table : List (Option ℕ)) (haystack : List ℕ) (at : ℕ)
-        → (tried_places table haystack (between at at) None ≡ 0)
+        → (tried_count table haystack (between at at) None ≡ 0)
         × (scanned_once table haystack (between at at) None ≡ 0) }
 {}
 

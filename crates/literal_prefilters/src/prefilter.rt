@@ -6,13 +6,13 @@ ghost use Rattle.std.specs.Prelude.{OnOk, OnErr, IfOk, IfSome};
 ghost use Rattle.std.specs.Prelude.{IsSomeAnd, IsTrue, ◌||◌, if◌then◌else◌};
 ghost use Rattle.std.specs.Option.{option_copied};
 ghost use Rattle.literal_base.specs.Occurs.{IsValidSpan};
-ghost use Rattle.literal_prefilters.specs.Answers.{match_of, start_of};
+ghost use Rattle.literal_prefilters.specs.Answers.{start_of};
 ghost use Rattle.literal_prefilters.specs.Choice.{IsBuiltFor, has_fewer_start_bytes, is_last_resort, is_one_pattern};
 ghost use Rattle.literal_prefilters.specs.Choice.{is_short_list, is_start_nearly_as_rare, packed_search};
 ghost use Rattle.literal_prefilters.specs.Choice.{pick, suits_packed};
 ghost use Rattle.literal_prefilters.specs.PrefilterValue.{CoveredBy, IsAnswer, IsCountedAnswer, TakesMemory};
-ghost use Rattle.literal_prefilters.specs.PrefilterValue.{by_table, prefilter_reach, prefilter_table};
-ghost use Rattle.literal_prefilters.specs.PrefilterBuilderValue.{PrefilterBuilderValue, pattern_limit, with_added};
+ghost use Rattle.literal_prefilters.specs.PrefilterValue.{by_table, prefilter_reach};
+ghost use Rattle.literal_prefilters.specs.PrefilterBuilderValue.{PrefilterBuilderValue, prefilter_limit, with_added};
 ghost use Rattle.literal_packed.specs.PatternsValue.{IsInOrder};
 ghost use Rattle.literal_packed.specs.State.{WouldKeep, kept_of};
 ghost use Rattle.literal_prefilters.specs.Table.{Covers, reach_of};
@@ -143,21 +143,6 @@ impl Prefilter {
         Ok(Prefilter { finder })
     }
 
-    /// The table, if the prefilter goes by one.
-    fn table(&self) -> Option<&ByteTable>
-        ensures { option_copied result ≡ prefilter_table self.now }
-    {
-        match &self.finder {
-            Finder::Memmem(_) | Finder::Packed(_) => None,
-            Finder::StartBytesOne(pre) => Some(&pre.0),
-            Finder::StartBytesTwo(pre) => Some(&pre.0),
-            Finder::StartBytesThree(pre) => Some(&pre.0),
-            Finder::RareBytesOne(pre) => Some(&pre.0),
-            Finder::RareBytesTwo(pre) => Some(&pre.0),
-            Finder::RareBytesThree(pre) => Some(&pre.0),
-        }
-    }
-
     /// What every value keeps, for the law that says so.
     pub(crate) fn keeps_its_reach(&self)
         ensures { prefilter_reach self.now ≤ 254 }
@@ -214,16 +199,6 @@ impl Candidate {
             Candidate::None => None,
             Candidate::Match(found) => Some(found.start()),
             Candidate::PossibleStartOfMatch(start) => Some(start),
-        }
-    }
-
-    /// The match, if it is one.
-    fn into_match(self) -> Option<Match>
-        ensures { result ≡ match_of self }
-    {
-        match self {
-            Candidate::Match(found) => Some(found),
-            Candidate::None | Candidate::PossibleStartOfMatch(_) => None,
         }
     }
 }
@@ -377,13 +352,13 @@ impl Builder {
     fn is_empty(&self) -> bool
         ensures { result ≡ (length (kept_of self.now.state) == 0) }
     {
-        self.running.is_empty()
+        self.patterns.len() == 0
     }
 
     fn is_one_pattern(&self) -> bool
         ensures { result ≡ is_one_pattern self.now }
     {
-        !self.ascii_case_insensitive && self.running.is_one()
+        !self.ascii_case_insensitive && self.patterns.len() == 1
     }
 
     /// What [`ByteTable::start`] gives for the patterns.
@@ -456,7 +431,7 @@ impl Builder {
     /// pattern is not kept no memory is asked for.
     pub fn add(&mut self, bytes: &[u8]) -> Result<(), AllocError>
         ensures ok { OnOk result (self.new ≡ with_added self.old (bytes.now ∷ [])) }
-        ensures no_memory { OnErr result (WouldKeep pattern_limit self.old.state bytes.now) }
+        ensures no_memory { OnErr result (WouldKeep prefilter_limit self.old.state bytes.now) }
         ensures err { OnErr result (self.new ≡ self.old) }
     {
         if !self.enabled {

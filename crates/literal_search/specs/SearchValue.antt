@@ -1,11 +1,11 @@
 -- A search for any list of patterns, as contracts see it, and what it is built from.
-use Rattle.std.specs.Prelude.{◌≡◌, ◌&&◌, ◌⊎◌, ℕ, ◌<◌, ◌≤◌, Bool, List, length, Option, Some, None, nat_lt}
+use Rattle.std.specs.Prelude.{◌≡◌, ◌&&◌, ◌⊎◌, ℕ, Bool, List, length, Option, Some, None, nat_lt}
 use Rattle.std.specs.Prelude.{if◌then◌else◌, map}
 use Rattle.std.specs.Borrow.{Bor}
 use Rattle.std.specs.Iterator.{Drains}
 use Rattle.literal_base.specs.declared.packed.MatchKind.{MatchKind}
-use Rattle.literal_base.specs.Occurs.{NoneIsEmpty}
 use Rattle.literal_base.specs.Query.{Query}
+use Rattle.literal_packed.specs.BuilderValue.{HaveSearcher}
 use Rattle.literal_packed.specs.ConfigValue.{default_config}
 use Rattle.literal_packed.specs.State.{may_keep}
 use Rattle.literal_prefilters.specs.ConfirmingValue.{WouldKeepItem}
@@ -16,10 +16,8 @@ pub record SearchValue : Type 0 where
   pub ignore_case : Bool
 
 -- the patterns can be searched for: there are 1 to 128, none of them empty
-pub record CanBeSearched (patterns : List (List ℕ)) : Type 0 where
-  pub some : 0 < length patterns
-  pub few : length patterns ≤ default_config.pattern_limit
-  pub not_empty : NoneIsEmpty patterns
+abbrev pub CanBeSearched : List (List ℕ) → Type 0
+CanBeSearched patterns = HaveSearcher default_config.pattern_limit patterns
 
 -- the search for the patterns
 abbrev pub search_for : MatchKind → Bool → List (List ℕ) → SearchValue

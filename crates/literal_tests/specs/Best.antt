@@ -10,7 +10,8 @@ module _ (query : Query) (ignore_case : Bool) (haystack : List ℕ) (span : Span
   abbrev pub NoneOccursOf : Type 0
   NoneOccursOf = (i : ℕ) → i < n → ¬ Occurs query.patterns ignore_case haystack span i at
 
-  -- pattern b is one of the first n patterns and occurs at the place, and none of them that is better does
+  -- pattern b is one of the first n patterns and occurs at the place, and none of them that is better does (a loop of
+  -- the plain search says so after n turns)
   pub record IsBestOf (b : ℕ) : Type 0 where
     pub below : b < n
     pub occurs : Occurs query.patterns ignore_case haystack span b at

@@ -1,3 +1,1 @@
 pub mod Best
-pub mod Covered
-pub mod Together

@@ -1,7 +1,7 @@
 //! Which prefilter is built for which patterns, and what it answers: each case of the choice, and each
 //! of its limits from both sides.
 use crate::asserted::{assert_holds, assert_same};
-use crate::made::{Answer, answer_of, place, prefilter};
+use crate::made::{Answer, SPANS, answer_of, bytes_of, place, prefilter};
 use crate::plain::leftmost_plainly;
 use MatchKind::{LeftmostFirst, LeftmostLongest, Standard};
 use literal_prefilters::count::Tally;
@@ -11,17 +11,16 @@ use std::alloc::{AllocError, Global};
 use std::process::Abort;
 use std::test::Fail;
 
-/// What a case shows, the kinds of match that it is for, the prefilter that is built, its patterns,
-/// whether case is ignored, a haystack, and what is answered for all of it.
-type Row = (
-    &'static str,
-    &'static [MatchKind],
-    &'static str,
-    &'static [&'static [u8]],
-    bool,
-    &'static [u8],
-    Answer,
-);
+/// What a case shows, the prefilter that is built for each of the kinds of match, and its answer for all of a haystack.
+struct Row {
+    shows: &'static str,
+    kinds: &'static [MatchKind],
+    built: &'static str,
+    patterns: &'static [&'static [u8]],
+    ignore_case: bool,
+    haystack: &'static [u8],
+    answer: Answer,
+}
 
 const ANY: &[MatchKind] = &[Standard, LeftmostFirst, LeftmostLongest];
 
@@ -29,324 +28,324 @@ const LEFTMOST: &[MatchKind] = &[LeftmostFirst, LeftmostLongest];
 
 /// One pattern.
 static ONE_PATTERN: [Row; 4] = [
-    (
-        "one pattern",
-        ANY,
-        "Prefilter(Memmem)",
-        &[b"abc"],
-        false,
-        b"zabc",
-        Answer::Found((0, 1, 4)),
-    ),
-    (
-        "one pattern that is not there",
-        ANY,
-        "Prefilter(Memmem)",
-        &[b"abc"],
-        false,
-        b"zabzbc",
-        Answer::Nothing,
-    ),
-    (
-        "one pattern of one byte twice",
-        ANY,
-        "Prefilter(Memmem)",
-        &[b"aa"],
-        false,
-        b"baaa",
-        Answer::Found((0, 1, 3)),
-    ),
-    (
-        "one pattern in either case",
-        ANY,
-        "Prefilter(StartBytesTwo)",
-        &[b"foo"],
-        true,
-        b"xxFOO",
-        Answer::Start(2),
-    ),
+    Row {
+        shows: "one pattern",
+        kinds: ANY,
+        built: "Prefilter(Memmem)",
+        patterns: &[b"abc"],
+        ignore_case: false,
+        haystack: b"zabc",
+        answer: Answer::Found((0, 1, 4)),
+    },
+    Row {
+        shows: "one pattern that is not there",
+        kinds: ANY,
+        built: "Prefilter(Memmem)",
+        patterns: &[b"abc"],
+        ignore_case: false,
+        haystack: b"zabzbc",
+        answer: Answer::Nothing,
+    },
+    Row {
+        shows: "one pattern of one byte twice",
+        kinds: ANY,
+        built: "Prefilter(Memmem)",
+        patterns: &[b"aa"],
+        ignore_case: false,
+        haystack: b"baaa",
+        answer: Answer::Found((0, 1, 3)),
+    },
+    Row {
+        shows: "one pattern in either case",
+        kinds: ANY,
+        built: "Prefilter(StartBytesTwo)",
+        patterns: &[b"foo"],
+        ignore_case: true,
+        haystack: b"xxFOO",
+        answer: Answer::Start(2),
+    },
 ];
 
 /// Short lists, for which a packed search is better than full tables.
 static SHORT_LISTS: [Row; 6] = [
-    (
-        "a short list",
-        LEFTMOST,
-        "Prefilter(Packed)",
-        &[b"ax", b"by", b"cz"],
-        false,
-        b"qqby",
-        Answer::Found((1, 2, 4)),
-    ),
-    (
-        "a short list that is not there",
-        LEFTMOST,
-        "Prefilter(Packed)",
-        &[b"ax", b"by", b"cz"],
-        false,
-        b"qqbzaycx",
-        Answer::Nothing,
-    ),
-    (
-        "a short list with standard semantics",
-        &[Standard],
-        "Prefilter(RareBytesThree)",
-        &[b"ax", b"by", b"cz"],
-        false,
-        b"qqby",
-        Answer::Start(2),
-    ),
-    (
-        "a short list in either case",
-        LEFTMOST,
-        "Prefilter(StartBytesTwo)",
-        &[b"[x", b"[y", b"{z"],
-        true,
-        b"qq{zZ",
-        Answer::Start(2),
-    ),
-    (
-        "the first of a short list",
-        &[LeftmostFirst],
-        "Prefilter(Packed)",
-        &[b"ax", b"axy", b"by", b"cz"],
-        false,
-        b"qaxy",
-        Answer::Found((0, 1, 3)),
-    ),
-    (
-        "the longest of a short list",
-        &[LeftmostLongest],
-        "Prefilter(Packed)",
-        &[b"ax", b"axy", b"by", b"cz"],
-        false,
-        b"qaxy",
-        Answer::Found((1, 1, 4)),
-    ),
+    Row {
+        shows: "a short list",
+        kinds: LEFTMOST,
+        built: "Prefilter(Packed)",
+        patterns: &[b"ax", b"by", b"cz"],
+        ignore_case: false,
+        haystack: b"qqby",
+        answer: Answer::Found((1, 2, 4)),
+    },
+    Row {
+        shows: "a short list that is not there",
+        kinds: LEFTMOST,
+        built: "Prefilter(Packed)",
+        patterns: &[b"ax", b"by", b"cz"],
+        ignore_case: false,
+        haystack: b"qqbzaycx",
+        answer: Answer::Nothing,
+    },
+    Row {
+        shows: "a short list with standard semantics",
+        kinds: &[Standard],
+        built: "Prefilter(RareBytesThree)",
+        patterns: &[b"ax", b"by", b"cz"],
+        ignore_case: false,
+        haystack: b"qqby",
+        answer: Answer::Start(2),
+    },
+    Row {
+        shows: "a short list in either case",
+        kinds: LEFTMOST,
+        built: "Prefilter(StartBytesTwo)",
+        patterns: &[b"[x", b"[y", b"{z"],
+        ignore_case: true,
+        haystack: b"qq{zZ",
+        answer: Answer::Start(2),
+    },
+    Row {
+        shows: "the first of a short list",
+        kinds: &[LeftmostFirst],
+        built: "Prefilter(Packed)",
+        patterns: &[b"ax", b"axy", b"by", b"cz"],
+        ignore_case: false,
+        haystack: b"qaxy",
+        answer: Answer::Found((0, 1, 3)),
+    },
+    Row {
+        shows: "the longest of a short list",
+        kinds: &[LeftmostLongest],
+        built: "Prefilter(Packed)",
+        patterns: &[b"ax", b"axy", b"by", b"cz"],
+        ignore_case: false,
+        haystack: b"qaxy",
+        answer: Answer::Found((1, 1, 4)),
+    },
 ];
 
 /// The limits of a short list.
 static NUMBERS_AND_LENGTHS: [Row; 3] = [
-    (
-        "16 patterns",
-        LEFTMOST,
-        "Prefilter(Packed)",
-        &[
+    Row {
+        shows: "16 patterns",
+        kinds: LEFTMOST,
+        built: "Prefilter(Packed)",
+        patterns: &[
             b"ax", b"by", b"cz", b"ax", b"by", b"cz", b"ax", b"by", b"cz", b"ax", b"by", b"cz",
             b"ax", b"by", b"cz", b"ax",
         ],
-        false,
-        b"qqby",
-        Answer::Found((1, 2, 4)),
-    ),
-    (
-        "17 patterns",
-        ANY,
-        "Prefilter(RareBytesThree)",
-        &[
+        ignore_case: false,
+        haystack: b"qqby",
+        answer: Answer::Found((1, 2, 4)),
+    },
+    Row {
+        shows: "17 patterns",
+        kinds: ANY,
+        built: "Prefilter(RareBytesThree)",
+        patterns: &[
             b"ax", b"by", b"cz", b"ax", b"by", b"cz", b"ax", b"by", b"cz", b"ax", b"by", b"cz",
             b"ax", b"by", b"cz", b"ax", b"by",
         ],
-        false,
-        b"qqby",
-        Answer::Start(2),
-    ),
-    (
-        "a pattern of one byte",
-        ANY,
-        "Prefilter(RareBytesThree)",
-        &[b"a", b"by", b"cz"],
-        false,
-        b"qqby",
-        Answer::Start(2),
-    ),
+        ignore_case: false,
+        haystack: b"qqby",
+        answer: Answer::Start(2),
+    },
+    Row {
+        shows: "a pattern of one byte",
+        kinds: ANY,
+        built: "Prefilter(RareBytesThree)",
+        patterns: &[b"a", b"by", b"cz"],
+        ignore_case: false,
+        haystack: b"qqby",
+        answer: Answer::Start(2),
+    },
 ];
 
 /// Tables of three bytes, and of fewer.
 static FULL_TABLES: [Row; 5] = [
-    (
-        "two rare bytes",
-        ANY,
-        "Prefilter(RareBytesTwo)",
-        &[b"ax", b"bx", b"cy"],
-        false,
-        b"qqbx",
-        Answer::Start(2),
-    ),
-    (
-        "two start bytes",
-        ANY,
-        "Prefilter(StartBytesTwo)",
-        &[b"ax", b"ay", b"bz"],
-        false,
-        b"qqbx",
-        Answer::Start(2),
-    ),
-    (
-        "three rare bytes and no start table",
-        LEFTMOST,
-        "Prefilter(Packed)",
-        &[b"ax", b"bx", b"cy", b"dz"],
-        false,
-        b"qqdz",
-        Answer::Found((3, 2, 4)),
-    ),
-    (
-        "three rare bytes alone with standard semantics",
-        &[Standard],
-        "Prefilter(RareBytesThree)",
-        &[b"ax", b"bx", b"cy", b"dz"],
-        false,
-        b"qqdz",
-        Answer::Start(2),
-    ),
-    (
-        "two rare bytes and no start table",
-        ANY,
-        "Prefilter(RareBytesTwo)",
-        &[b"ax", b"bx", b"cy", b"dy"],
-        false,
-        b"qqdy",
-        Answer::Start(2),
-    ),
+    Row {
+        shows: "two rare bytes",
+        kinds: ANY,
+        built: "Prefilter(RareBytesTwo)",
+        patterns: &[b"ax", b"bx", b"cy"],
+        ignore_case: false,
+        haystack: b"qqbx",
+        answer: Answer::Start(2),
+    },
+    Row {
+        shows: "two start bytes",
+        kinds: ANY,
+        built: "Prefilter(StartBytesTwo)",
+        patterns: &[b"ax", b"ay", b"bz"],
+        ignore_case: false,
+        haystack: b"qqbx",
+        answer: Answer::Start(2),
+    },
+    Row {
+        shows: "three rare bytes and no start table",
+        kinds: LEFTMOST,
+        built: "Prefilter(Packed)",
+        patterns: &[b"ax", b"bx", b"cy", b"dz"],
+        ignore_case: false,
+        haystack: b"qqdz",
+        answer: Answer::Found((3, 2, 4)),
+    },
+    Row {
+        shows: "three rare bytes alone with standard semantics",
+        kinds: &[Standard],
+        built: "Prefilter(RareBytesThree)",
+        patterns: &[b"ax", b"bx", b"cy", b"dz"],
+        ignore_case: false,
+        haystack: b"qqdz",
+        answer: Answer::Start(2),
+    },
+    Row {
+        shows: "two rare bytes and no start table",
+        kinds: ANY,
+        built: "Prefilter(RareBytesTwo)",
+        patterns: &[b"ax", b"bx", b"cy", b"dy"],
+        ignore_case: false,
+        haystack: b"qqdy",
+        answer: Answer::Start(2),
+    },
 ];
 
 /// The limits of ranks, and of first bytes.
 static RANKS_AND_HIGH_BYTES: [Row; 4] = [
-    (
-        "ranks that sum to 50 more",
-        ANY,
-        "Prefilter(StartBytesOne)",
-        &[b"a\xB3", b"a\xB3c"],
-        false,
-        b"qa",
-        Answer::Start(1),
-    ),
-    (
-        "ranks that sum to 51 more",
-        ANY,
-        "Prefilter(RareBytesOne)",
-        &[b"a\xB8", b"a\xB8c"],
-        false,
-        b"qa",
-        Answer::Nothing,
-    ),
-    (
-        "a first byte of 0x7F",
-        ANY,
-        "Prefilter(StartBytesOne)",
-        &[b"\x7Fa", b"\x7Fb"],
-        false,
-        b"q\x7F",
-        Answer::Start(1),
-    ),
-    (
-        "a first byte of 0x80",
-        ANY,
-        "Prefilter(RareBytesOne)",
-        &[b"\x80a", b"\x80b"],
-        false,
-        b"q\x80",
-        Answer::Start(1),
-    ),
+    Row {
+        shows: "ranks that sum to 50 more",
+        kinds: ANY,
+        built: "Prefilter(StartBytesOne)",
+        patterns: &[b"a\xB3", b"a\xB3c"],
+        ignore_case: false,
+        haystack: b"qa",
+        answer: Answer::Start(1),
+    },
+    Row {
+        shows: "ranks that sum to 51 more",
+        kinds: ANY,
+        built: "Prefilter(RareBytesOne)",
+        patterns: &[b"a\xB8", b"a\xB8c"],
+        ignore_case: false,
+        haystack: b"qa",
+        answer: Answer::Nothing,
+    },
+    Row {
+        shows: "a first byte of 0x7F",
+        kinds: ANY,
+        built: "Prefilter(StartBytesOne)",
+        patterns: &[b"\x7Fa", b"\x7Fb"],
+        ignore_case: false,
+        haystack: b"q\x7F",
+        answer: Answer::Start(1),
+    },
+    Row {
+        shows: "a first byte of 0x80",
+        kinds: ANY,
+        built: "Prefilter(RareBytesOne)",
+        patterns: &[b"\x80a", b"\x80b"],
+        ignore_case: false,
+        haystack: b"q\x80",
+        answer: Answer::Start(1),
+    },
 ];
 
 /// Lists without a table.
 static NO_TABLE: [Row; 4] = [
-    (
-        "no table",
-        LEFTMOST,
-        "Prefilter(Packed)",
-        &[b"a", b"b", b"c", b"d"],
-        false,
-        b"zzc",
-        Answer::Found((2, 2, 3)),
-    ),
-    (
-        "no table, and nothing there",
-        LEFTMOST,
-        "Prefilter(Packed)",
-        &[b"a", b"b", b"c", b"d"],
-        false,
-        b"zz",
-        Answer::Nothing,
-    ),
-    (
-        "the first where there is no table",
-        &[LeftmostFirst],
-        "Prefilter(Packed)",
-        &[b"a", b"ab", b"b", b"c", b"d"],
-        false,
-        b"zab",
-        Answer::Found((0, 1, 2)),
-    ),
-    (
-        "the longest where there is no table",
-        &[LeftmostLongest],
-        "Prefilter(Packed)",
-        &[b"a", b"ab", b"b", b"c", b"d"],
-        false,
-        b"zab",
-        Answer::Found((1, 1, 3)),
-    ),
+    Row {
+        shows: "no table",
+        kinds: LEFTMOST,
+        built: "Prefilter(Packed)",
+        patterns: &[b"a", b"b", b"c", b"d"],
+        ignore_case: false,
+        haystack: b"zzc",
+        answer: Answer::Found((2, 2, 3)),
+    },
+    Row {
+        shows: "no table, and nothing there",
+        kinds: LEFTMOST,
+        built: "Prefilter(Packed)",
+        patterns: &[b"a", b"b", b"c", b"d"],
+        ignore_case: false,
+        haystack: b"zz",
+        answer: Answer::Nothing,
+    },
+    Row {
+        shows: "the first where there is no table",
+        kinds: &[LeftmostFirst],
+        built: "Prefilter(Packed)",
+        patterns: &[b"a", b"ab", b"b", b"c", b"d"],
+        ignore_case: false,
+        haystack: b"zab",
+        answer: Answer::Found((0, 1, 2)),
+    },
+    Row {
+        shows: "the longest where there is no table",
+        kinds: &[LeftmostLongest],
+        built: "Prefilter(Packed)",
+        patterns: &[b"a", b"ab", b"b", b"c", b"d"],
+        ignore_case: false,
+        haystack: b"zab",
+        answer: Answer::Found((1, 1, 3)),
+    },
 ];
 
 /// Lists whose tables are taken.
 static OF_TABLES: [Row; 6] = [
-    (
-        "both tables of three bytes, one pattern of one",
-        ANY,
-        "Prefilter(StartBytesThree)",
-        &[b"a", b"b", b"c"],
-        false,
-        b"zzb",
-        Answer::Start(2),
-    ),
-    (
-        "fewer start bytes, but common ones",
-        ANY,
-        "Prefilter(StartBytesOne)",
-        &[b"a\x01", b"a\x02"],
-        false,
-        b"\x01qa",
-        Answer::Start(2),
-    ),
-    (
-        "the same bytes in both tables",
-        ANY,
-        "Prefilter(StartBytesTwo)",
-        &[b"foo", b"bar"],
-        false,
-        b"xxbafoo",
-        Answer::Start(2),
-    ),
-    (
-        "a rarer byte",
-        ANY,
-        "Prefilter(RareBytesOne)",
-        &[b"Sherlock", b"lockjaw"],
-        false,
-        b"I am lockjaw",
-        Answer::Start(1),
-    ),
-    (
-        "a rarer byte in either case",
-        ANY,
-        "Prefilter(RareBytesTwo)",
-        &[b"sherlock"],
-        true,
-        b"xxSHERLOCK",
-        Answer::Start(2),
-    ),
-    (
-        "no start table in either case",
-        ANY,
-        "Prefilter(RareBytesTwo)",
-        &[b"apple", b"maple", b"snapple"],
-        true,
-        b"a MAPLE",
-        Answer::Start(0),
-    ),
+    Row {
+        shows: "both tables of three bytes, one pattern of one",
+        kinds: ANY,
+        built: "Prefilter(StartBytesThree)",
+        patterns: &[b"a", b"b", b"c"],
+        ignore_case: false,
+        haystack: b"zzb",
+        answer: Answer::Start(2),
+    },
+    Row {
+        shows: "fewer start bytes, but common ones",
+        kinds: ANY,
+        built: "Prefilter(StartBytesOne)",
+        patterns: &[b"a\x01", b"a\x02"],
+        ignore_case: false,
+        haystack: b"\x01qa",
+        answer: Answer::Start(2),
+    },
+    Row {
+        shows: "the same bytes in both tables",
+        kinds: ANY,
+        built: "Prefilter(StartBytesTwo)",
+        patterns: &[b"foo", b"bar"],
+        ignore_case: false,
+        haystack: b"xxbafoo",
+        answer: Answer::Start(2),
+    },
+    Row {
+        shows: "a rarer byte",
+        kinds: ANY,
+        built: "Prefilter(RareBytesOne)",
+        patterns: &[b"Sherlock", b"lockjaw"],
+        ignore_case: false,
+        haystack: b"I am lockjaw",
+        answer: Answer::Start(1),
+    },
+    Row {
+        shows: "a rarer byte in either case",
+        kinds: ANY,
+        built: "Prefilter(RareBytesTwo)",
+        patterns: &[b"sherlock"],
+        ignore_case: true,
+        haystack: b"xxSHERLOCK",
+        answer: Answer::Start(2),
+    },
+    Row {
+        shows: "no start table in either case",
+        kinds: ANY,
+        built: "Prefilter(RareBytesTwo)",
+        patterns: &[b"apple", b"maple", b"snapple"],
+        ignore_case: true,
+        haystack: b"a MAPLE",
+        answer: Answer::Start(0),
+    },
 ];
 
 /// All calls of a prefilter answer the same for a haystack.
@@ -373,20 +372,15 @@ fn assert_kind(
 }
 
 /// A prefilter is as the row says.
-fn assert_is(
-    rt: &impl Abort,
-    alloc: Global,
-    pre: &Prefilter,
-    (case, _, wanted, _, _, haystack, answer): &Row,
-) -> Result<(), Fail> {
-    assert_kind(rt, alloc, pre, wanted, case)?;
-    assert_answers(rt, pre, haystack, *answer, case);
+fn assert_is(rt: &impl Abort, alloc: Global, pre: &Prefilter, row: &Row) -> Result<(), Fail> {
+    assert_kind(rt, alloc, pre, row.built, row.shows)?;
+    assert_answers(rt, pre, row.haystack, row.answer, row.shows);
     Ok(())
 }
 
 /// What is built is as the row says, and so is a copy of it.
 fn assert_row(rt: &impl Abort, alloc: Global, row: &Row, kind: MatchKind) -> Result<(), Fail> {
-    let pre = prefilter(alloc, kind, row.4, row.3)?;
+    let pre = prefilter(alloc, kind, row.ignore_case, row.patterns)?;
     assert_is(rt, alloc, &pre, row)?;
     assert_is(rt, alloc, &pre.try_clone()?, row)
 }
@@ -394,7 +388,7 @@ fn assert_row(rt: &impl Abort, alloc: Global, row: &Row, kind: MatchKind) -> Res
 /// What is built for each kind of match of each row is as the row says.
 fn assert_rows(rt: &impl Abort, alloc: Global, rows: &[Row]) -> Result<(), Fail> {
     for row in rows {
-        for kind in row.1 {
+        for kind in row.kinds {
             assert_row(rt, alloc, row, *kind)?;
         }
     }
@@ -532,18 +526,6 @@ static EXACT: [&[&[u8]]; 4] = [
     &[b"a", b"ab", b"bb", b"c", b"KK"],
 ];
 
-/// The bytes of a haystack, told by the digits of its number.
-fn bytes_of(number: usize) -> [u8; 5] {
-    let digits = b"abcKQ";
-    [
-        digits[number % 5],
-        digits[number / 5 % 5],
-        digits[number / 25 % 5],
-        digits[number / 125 % 5],
-        digits[number / 625 % 5],
-    ]
-}
-
 /// What is found plainly in a span of a haystack of five bytes.
 fn plainly(patterns: &[&[u8]], kind: packed::MatchKind, haystack: &[u8; 5], span: Span) -> Answer {
     if patterns.len() > 5 || span.start > span.end || span.end > 5 {
@@ -560,7 +542,7 @@ fn compare(rt: &impl Abort, pre: &Prefilter, patterns: &[&[u8]], kind: packed::M
     let mut spans: u32 = 0;
     for number in 0..3125 {
         let haystack = bytes_of(number);
-        for (start, end) in [(0, 5), (1, 5), (0, 4), (2, 4), (3, 3)] {
+        for (start, end) in SPANS {
             let span = Span { start, end };
             let wanted = plainly(patterns, kind, &haystack, span);
             let found = answer_of(pre.find_in(&haystack, span));

@@ -8,12 +8,12 @@ use crate::builders::{INERT, assert_state};
 use crate::made::{
     Place, add_all, built, confirming_search, covered, place, prefilter, proposed, searcher,
 };
-use crate::uses_of_prefilters::confirm_covered;
 use MatchKind::{LeftmostFirst, LeftmostLongest};
 use literal_prefilters::Span;
 use literal_prefilters::count::Tally;
 use literal_prefilters::packed::{Builder, Config, MatchKind, Searcher};
 use literal_prefilters::prefilter::Prefilter;
+use literal_promise::covered::confirm_covered;
 use std::alloc::{AllocError, Global};
 use std::process::Abort;
 use std::test::Fail;
@@ -36,9 +36,10 @@ fn compares_all_of_equal_sums(rt: HostRuntime) -> Result<(), Fail> {
     let haystack = [146, 0];
     for kind in KINDS {
         let found = of_equal_sums(rt.alloc(), kind, 127)?.find(&haystack);
-        assert_same(&rt, found.map(place), None, "127 patterns");
+        assert_same(&rt, found.map(place), None, format_args!("127, {kind:?}"));
         let found = of_equal_sums(rt.alloc(), kind, 128)?.find(&haystack);
-        assert_same(&rt, found.map(place), Some((127, 0, 2)), "128 patterns");
+        let note = format_args!("128, {kind:?}");
+        assert_same(&rt, found.map(place), Some((127, 0, 2)), note);
     }
     Ok(())
 }
@@ -52,7 +53,7 @@ fn tells_long_patterns_of_equal_sums_apart(rt: HostRuntime) -> Result<(), Fail> 
     haystack[0] = b'x';
     for kind in KINDS {
         let found = searcher(rt.alloc(), kind, &[&pattern])?.find(&haystack);
-        assert_same(&rt, found.map(place), None, "another first byte");
+        assert_same(&rt, found.map(place), None, format_args!("{kind:?}"));
     }
     Ok(())
 }
@@ -72,7 +73,12 @@ fn assert_takes_the_first_of_128(
     kind: MatchKind,
 ) -> Result<(), Fail> {
     let found = built(&of_foos(alloc, kind, 128)?)?.find(b"foo");
-    assert_same(rt, found.map(place), Some((0, 0, 3)), "128 patterns");
+    assert_same(
+        rt,
+        found.map(place),
+        Some((0, 0, 3)),
+        format_args!("{kind:?}"),
+    );
     Ok(())
 }
 

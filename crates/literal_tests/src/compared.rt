@@ -150,52 +150,60 @@ fn finds_what_is_found_plainly(rt: HostRuntime) -> Result<(), Fail> {
     Ok(())
 }
 
-/// What a case shows, its patterns, whether case is ignored, a haystack, and the matches in it.
-type Row = (
-    &'static str,
-    &'static [&'static [u8]],
-    bool,
-    &'static [u8],
-    &'static [Place],
-);
+/// What a case shows, and all matches in a haystack.
+struct Row {
+    shows: &'static str,
+    patterns: &'static [&'static [u8]],
+    ignore_case: bool,
+    haystack: &'static [u8],
+    all: &'static [Place],
+}
 
 /// With the first pattern taken at a place.
 static GREEDY: [Row; 5] = [
-    ("inside", &[b"abc"], false, b"zazabcz", &[(0, 3, 6)]),
-    ("each byte", &[b"a"], false, b"aa", &[(0, 0, 1), (0, 1, 2)]),
-    (
-        "with no overlap",
-        &[b"aa"],
-        false,
-        b"aaaaa",
-        &[(0, 0, 2), (0, 2, 4)],
-    ),
-    (
-        "in either case",
-        &[b"foo", b"Bar"],
-        true,
-        b"FoObarx",
-        &[(0, 0, 3), (1, 3, 6)],
-    ),
-    (
-        "in the other case",
-        &[b"foo", b"Bar"],
-        false,
-        b"FoObarx",
-        &[],
-    ),
+    Row {
+        shows: "inside",
+        patterns: &[b"abc"],
+        ignore_case: false,
+        haystack: b"zazabcz",
+        all: &[(0, 3, 6)],
+    },
+    Row {
+        shows: "each byte",
+        patterns: &[b"a"],
+        ignore_case: false,
+        haystack: b"aa",
+        all: &[(0, 0, 1), (0, 1, 2)],
+    },
+    Row {
+        shows: "with no overlap",
+        patterns: &[b"aa"],
+        ignore_case: false,
+        haystack: b"aaaaa",
+        all: &[(0, 0, 2), (0, 2, 4)],
+    },
+    Row {
+        shows: "in either case",
+        patterns: &[b"foo", b"Bar"],
+        ignore_case: true,
+        haystack: b"FoObarx",
+        all: &[(0, 0, 3), (1, 3, 6)],
+    },
+    Row {
+        shows: "in the other case",
+        patterns: &[b"foo", b"Bar"],
+        ignore_case: false,
+        haystack: b"FoObarx",
+        all: &[],
+    },
 ];
 
-fn assert_finds_all(
-    rt: &impl Abort,
-    alloc: Global,
-    (case, patterns, ignore_case, haystack, wanted): &Row,
-) -> Result<(), Fail> {
-    assert_holds(rt, patterns.len() <= 2, case);
-    assert_holds(rt, none_is_empty(patterns), case);
+fn assert_finds_all(rt: &impl Abort, alloc: Global, row: &Row) -> Result<(), Fail> {
+    assert_holds(rt, row.patterns.len() <= 2, row.shows);
+    assert_holds(rt, none_is_empty(row.patterns), row.shows);
     let kind = MatchKind::LeftmostFirst;
-    let all = greedy_plainly(alloc, patterns, kind, *ignore_case, haystack)?;
-    Ok(assert_places(rt, alloc, &all, wanted, *case)?)
+    let all = greedy_plainly(alloc, row.patterns, kind, row.ignore_case, row.haystack)?;
+    Ok(assert_places(rt, alloc, &all, row.all, row.shows)?)
 }
 
 #[test]

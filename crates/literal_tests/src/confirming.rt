@@ -1,145 +1,146 @@
 //! Confirming searches: worked cases, how often a prefilter is asked, and what is found plainly.
 ghost use Rattle.literal_base.specs.Occurs.{IsValidSpan};
-ghost use Rattle.literal_tests.specs.Covered.{IsCovered};
+ghost use Rattle.literal_promise.specs.Together.{IsCovered};
 
 use crate::asserted::{assert_holds, assert_same};
-use crate::made::{Place, assert_places, confirming, confirming_search, covered, place};
+use crate::made::{
+    Place, SPANS, assert_places, bytes_of, confirming, confirming_search, covered, place,
+};
 use crate::plain::leftmost_plainly;
-use crate::uses_of_prefilters::{Covered, confirm_covered};
 use MatchKind::{LeftmostFirst, LeftmostLongest};
 use literal_prefilters::Span;
 use literal_prefilters::count::Tally;
 use literal_prefilters::packed::MatchKind;
 use literal_prefilters::prefilter::{Candidate, ConfirmingSearch, Prefilter, PrefilterI, confirm};
+use literal_promise::covered::{Covered, confirm_covered};
 use std::alloc::{AllocError, Global};
 use std::cell::Cell;
 use std::process::Abort;
 use std::test::Fail;
 
-/// What a case shows, the kind of match, its patterns, whether case is ignored, a haystack, the end of
-/// a span that begins with it, and the leftmost match in the span.
-type Row = (
-    &'static str,
-    MatchKind,
-    &'static [&'static [u8]],
-    bool,
-    &'static [u8],
-    usize,
-    Option<Place>,
-);
+/// What a case shows, and the leftmost match in a haystack up to an end.
+struct Row {
+    shows: &'static str,
+    kind: MatchKind,
+    patterns: &'static [&'static [u8]],
+    ignore_case: bool,
+    haystack: &'static [u8],
+    end: usize,
+    found: Option<Place>,
+}
 
 static BY_TABLES: [Row; 9] = [
-    (
-        "past a start byte",
-        LeftmostFirst,
-        &[b"foo", b"bar"],
-        false,
-        b"xxbafoo",
-        7,
-        Some((0, 4, 7)),
-    ),
-    (
-        "past two places",
-        LeftmostFirst,
-        &[b"Sherlock", b"lockjaw"],
-        false,
-        b"Shlockjaw",
-        9,
-        Some((1, 2, 9)),
-    ),
-    (
-        "past two places in either case",
-        LeftmostFirst,
-        &[b"Sherlock", b"lockjaw"],
-        true,
-        b"ShLOCKJAW",
-        9,
-        Some((1, 2, 9)),
-    ),
-    (
-        "past the end of the span",
-        LeftmostFirst,
-        &[b"Sherlock", b"lockjaw"],
-        false,
-        b"Shlockjaw",
-        8,
-        None,
-    ),
-    (
-        "a rare byte of three words",
-        LeftmostFirst,
-        &[b"apple", b"maple", b"Snapple"],
-        false,
-        b"Nobody likes maple in their apple flavored Snapple.",
-        51,
-        Some((1, 13, 18)),
-    ),
-    (
-        "three words in either case",
-        LeftmostFirst,
-        &[b"apple", b"maple", b"snapple"],
-        true,
-        b"Nobody likes maple in their apple flavored Snapple.",
-        51,
-        Some((1, 13, 18)),
-    ),
-    (
-        "a word in the other case",
-        LeftmostFirst,
-        &[b"sherlock"],
-        true,
-        b"xxSHERLOCK",
-        10,
-        Some((0, 2, 10)),
-    ),
-    (
-        "the longest in either case",
-        LeftmostLongest,
-        &[b"ab", b"ABC"],
-        true,
-        b"xxabcabc",
-        8,
-        Some((1, 2, 5)),
-    ),
-    (
-        "what stands around the letters",
-        LeftmostFirst,
-        &[b"@["],
-        true,
-        b"`{@[",
-        4,
-        Some((0, 2, 4)),
-    ),
+    Row {
+        shows: "past a start byte",
+        kind: LeftmostFirst,
+        patterns: &[b"foo", b"bar"],
+        ignore_case: false,
+        haystack: b"xxbafoo",
+        end: 7,
+        found: Some((0, 4, 7)),
+    },
+    Row {
+        shows: "past two places",
+        kind: LeftmostFirst,
+        patterns: &[b"Sherlock", b"lockjaw"],
+        ignore_case: false,
+        haystack: b"Shlockjaw",
+        end: 9,
+        found: Some((1, 2, 9)),
+    },
+    Row {
+        shows: "past two places in either case",
+        kind: LeftmostFirst,
+        patterns: &[b"Sherlock", b"lockjaw"],
+        ignore_case: true,
+        haystack: b"ShLOCKJAW",
+        end: 9,
+        found: Some((1, 2, 9)),
+    },
+    Row {
+        shows: "past the end of the span",
+        kind: LeftmostFirst,
+        patterns: &[b"Sherlock", b"lockjaw"],
+        ignore_case: false,
+        haystack: b"Shlockjaw",
+        end: 8,
+        found: None,
+    },
+    Row {
+        shows: "a rare byte of three words",
+        kind: LeftmostFirst,
+        patterns: &[b"apple", b"maple", b"Snapple"],
+        ignore_case: false,
+        haystack: b"Nobody likes maple in their apple flavored Snapple.",
+        end: 51,
+        found: Some((1, 13, 18)),
+    },
+    Row {
+        shows: "three words in either case",
+        kind: LeftmostFirst,
+        patterns: &[b"apple", b"maple", b"snapple"],
+        ignore_case: true,
+        haystack: b"Nobody likes maple in their apple flavored Snapple.",
+        end: 51,
+        found: Some((1, 13, 18)),
+    },
+    Row {
+        shows: "a word in the other case",
+        kind: LeftmostFirst,
+        patterns: &[b"sherlock"],
+        ignore_case: true,
+        haystack: b"xxSHERLOCK",
+        end: 10,
+        found: Some((0, 2, 10)),
+    },
+    Row {
+        shows: "the longest in either case",
+        kind: LeftmostLongest,
+        patterns: &[b"ab", b"ABC"],
+        ignore_case: true,
+        haystack: b"xxabcabc",
+        end: 8,
+        found: Some((1, 2, 5)),
+    },
+    Row {
+        shows: "what stands around the letters",
+        kind: LeftmostFirst,
+        patterns: &[b"@["],
+        ignore_case: true,
+        haystack: b"`{@[",
+        end: 4,
+        found: Some((0, 2, 4)),
+    },
 ];
 
 static BY_SEARCHES: [Row; 3] = [
-    (
-        "one pattern",
-        LeftmostFirst,
-        &[b"foo"],
-        false,
-        b"xfofoo",
-        6,
-        Some((0, 3, 6)),
-    ),
-    (
-        "a packed search",
-        LeftmostFirst,
-        &[b"a", b"b", b"c", b"d"],
-        false,
-        b"zzc",
-        3,
-        Some((2, 2, 3)),
-    ),
-    (
-        "the longest of a packed search",
-        LeftmostLongest,
-        &[b"a", b"ab", b"b", b"c", b"d"],
-        false,
-        b"zab",
-        3,
-        Some((1, 1, 3)),
-    ),
+    Row {
+        shows: "one pattern",
+        kind: LeftmostFirst,
+        patterns: &[b"foo"],
+        ignore_case: false,
+        haystack: b"xfofoo",
+        end: 6,
+        found: Some((0, 3, 6)),
+    },
+    Row {
+        shows: "a packed search",
+        kind: LeftmostFirst,
+        patterns: &[b"a", b"b", b"c", b"d"],
+        ignore_case: false,
+        haystack: b"zzc",
+        end: 3,
+        found: Some((2, 2, 3)),
+    },
+    Row {
+        shows: "the longest of a packed search",
+        kind: LeftmostLongest,
+        patterns: &[b"a", b"ab", b"b", b"c", b"d"],
+        ignore_case: false,
+        haystack: b"zab",
+        end: 3,
+        found: Some((1, 1, 3)),
+    },
 ];
 
 /// All calls answer the same in a span of a haystack, which has to be valid.
@@ -163,9 +164,12 @@ fn assert_finds(
 }
 
 fn assert_row(rt: &impl Abort, alloc: Global, row: &Row) -> Result<(), Fail> {
-    let (case, kind, patterns, ignore_case, haystack, end, wanted) = *row;
-    let search = confirming_search(alloc, kind, ignore_case, patterns)?;
-    assert_finds(rt, &search, haystack, Span { start: 0, end }, wanted, case);
+    let search = confirming_search(alloc, row.kind, row.ignore_case, row.patterns)?;
+    let span = Span {
+        start: 0,
+        end: row.end,
+    };
+    assert_finds(rt, &search, row.haystack, span, row.found, row.shows);
     Ok(())
 }
 
@@ -185,90 +189,89 @@ fn finds_the_leftmost_by_searches(rt: HostRuntime) -> Result<(), Fail> {
     Ok(())
 }
 
-/// What a case shows, the kind of match, its patterns, whether case is ignored, a haystack, and all
-/// matches in it.
-type ListRow = (
-    &'static str,
-    MatchKind,
-    &'static [&'static [u8]],
-    bool,
-    &'static [u8],
-    &'static [Place],
-);
+/// What a case shows, and all matches in a haystack.
+struct ListRow {
+    shows: &'static str,
+    kind: MatchKind,
+    patterns: &'static [&'static [u8]],
+    ignore_case: bool,
+    haystack: &'static [u8],
+    all: &'static [Place],
+}
 
 static LISTED: [ListRow; 7] = [
-    (
-        "three words with case kept",
-        LeftmostFirst,
-        &[b"apple", b"maple", b"Snapple"],
-        false,
-        b"Nobody likes maple in their apple flavored Snapple.",
-        &[(1, 13, 18), (0, 28, 33), (2, 43, 50)],
-    ),
-    (
-        "three words with case ignored",
-        LeftmostFirst,
-        &[b"apple", b"maple", b"snapple"],
-        true,
-        b"Nobody likes maple in their apple flavored Snapple.",
-        &[(1, 13, 18), (0, 28, 33), (2, 43, 50)],
-    ),
-    (
-        "one pattern, one after the other",
-        LeftmostFirst,
-        &[b"aa"],
-        false,
-        b"aaaaa",
-        &[(0, 0, 2), (0, 2, 4)],
-    ),
-    (
-        "a packed search",
-        LeftmostLongest,
-        &[b"a", b"ab", b"b", b"c", b"d"],
-        false,
-        b"zabzdb",
-        &[(1, 1, 3), (4, 4, 5), (2, 5, 6)],
-    ),
-    (
-        "the longest of a table, up to the end",
-        LeftmostLongest,
-        &[b"ab", b"ABC"],
-        true,
-        b"abcAB",
-        &[(1, 0, 3), (0, 3, 5)],
-    ),
-    (
-        "no match by a table",
-        LeftmostFirst,
-        &[b"foo", b"bar"],
-        false,
-        b"xxbafo",
-        &[],
-    ),
-    (
-        "an empty haystack",
-        LeftmostFirst,
-        &[b"foo"],
-        false,
-        b"",
-        &[],
-    ),
+    ListRow {
+        shows: "three words with case kept",
+        kind: LeftmostFirst,
+        patterns: &[b"apple", b"maple", b"Snapple"],
+        ignore_case: false,
+        haystack: b"Nobody likes maple in their apple flavored Snapple.",
+        all: &[(1, 13, 18), (0, 28, 33), (2, 43, 50)],
+    },
+    ListRow {
+        shows: "three words with case ignored",
+        kind: LeftmostFirst,
+        patterns: &[b"apple", b"maple", b"snapple"],
+        ignore_case: true,
+        haystack: b"Nobody likes maple in their apple flavored Snapple.",
+        all: &[(1, 13, 18), (0, 28, 33), (2, 43, 50)],
+    },
+    ListRow {
+        shows: "one pattern, one after the other",
+        kind: LeftmostFirst,
+        patterns: &[b"aa"],
+        ignore_case: false,
+        haystack: b"aaaaa",
+        all: &[(0, 0, 2), (0, 2, 4)],
+    },
+    ListRow {
+        shows: "a packed search",
+        kind: LeftmostLongest,
+        patterns: &[b"a", b"ab", b"b", b"c", b"d"],
+        ignore_case: false,
+        haystack: b"zabzdb",
+        all: &[(1, 1, 3), (4, 4, 5), (2, 5, 6)],
+    },
+    ListRow {
+        shows: "the longest of a table, up to the end",
+        kind: LeftmostLongest,
+        patterns: &[b"ab", b"ABC"],
+        ignore_case: true,
+        haystack: b"abcAB",
+        all: &[(1, 0, 3), (0, 3, 5)],
+    },
+    ListRow {
+        shows: "no match by a table",
+        kind: LeftmostFirst,
+        patterns: &[b"foo", b"bar"],
+        ignore_case: false,
+        haystack: b"xxbafo",
+        all: &[],
+    },
+    ListRow {
+        shows: "an empty haystack",
+        kind: LeftmostFirst,
+        patterns: &[b"foo"],
+        ignore_case: false,
+        haystack: b"",
+        all: &[],
+    },
 ];
 
 fn assert_lists(
     rt: &impl Abort,
     alloc: Global,
     search: &ConfirmingSearch,
-    (case, _, _, _, haystack, wanted): &ListRow,
+    row: &ListRow,
 ) -> Result<(), AllocError> {
-    let listed = search.find_all(haystack, &mut Tally::new())?;
-    assert_places(rt, alloc, &listed, wanted, *case)
+    let listed = search.find_all(row.haystack, &mut Tally::new())?;
+    assert_places(rt, alloc, &listed, row.all, row.shows)
 }
 
 #[test]
 fn lists_all_matches(rt: HostRuntime) -> Result<(), Fail> {
     for row in &LISTED {
-        let search = confirming_search(rt.alloc(), row.1, row.3, row.2)?;
+        let search = confirming_search(rt.alloc(), row.kind, row.ignore_case, row.patterns)?;
         assert_lists(&rt, rt.alloc(), &search, row)?;
     }
     Ok(())
@@ -337,33 +340,50 @@ fn times_asked(covered: Covered, ignore_case: bool, haystack: &[u8], span: Span)
     asked.times.get()
 }
 
-/// What a case shows, its patterns, a haystack, the end of a span that begins with it, and how often the
-/// prefilter is asked.
-static ASKED: [(&str, &[&[u8]], &[u8], usize, u32); 3] = [
-    ("a start table", &[b"foo", b"bar"], b"xxbafoo", 7, 2),
-    (
-        "a rare table",
-        &[b"Sherlock", b"lockjaw"],
-        b"Shlockjaw",
-        9,
-        3,
-    ),
-    (
-        "a rare table and no match",
-        &[b"Sherlock", b"lockjaw"],
-        b"Shlockjaw",
-        8,
-        7,
-    ),
+/// What a case shows, and how often the prefilter is asked in a haystack up to an end.
+struct AskedRow {
+    shows: &'static str,
+    patterns: &'static [&'static [u8]],
+    haystack: &'static [u8],
+    end: usize,
+    times: u32,
+}
+
+static ASKED: [AskedRow; 3] = [
+    AskedRow {
+        shows: "a start table",
+        patterns: &[b"foo", b"bar"],
+        haystack: b"xxbafoo",
+        end: 7,
+        times: 2,
+    },
+    AskedRow {
+        shows: "a rare table",
+        patterns: &[b"Sherlock", b"lockjaw"],
+        haystack: b"Shlockjaw",
+        end: 9,
+        times: 3,
+    },
+    AskedRow {
+        shows: "a rare table and no match",
+        patterns: &[b"Sherlock", b"lockjaw"],
+        haystack: b"Shlockjaw",
+        end: 8,
+        times: 7,
+    },
 ];
 
 #[test]
 fn asks_from_place_to_place(rt: HostRuntime) -> Result<(), Fail> {
-    for &(case, patterns, haystack, end, wanted) in &ASKED {
-        let covered = covered(rt.alloc(), LeftmostFirst, false, patterns)?;
-        assert_holds(&rt, end <= haystack.len(), case);
-        let times = times_asked(covered, false, haystack, Span { start: 0, end });
-        assert_same(&rt, times, wanted, case);
+    for row in &ASKED {
+        let covered = covered(rt.alloc(), LeftmostFirst, false, row.patterns)?;
+        assert_holds(&rt, row.end <= row.haystack.len(), row.shows);
+        let span = Span {
+            start: 0,
+            end: row.end,
+        };
+        let times = times_asked(covered, false, row.haystack, span);
+        assert_same(&rt, times, row.times, row.shows);
     }
     Ok(())
 }
@@ -380,18 +400,6 @@ static LISTS: [(&[&[u8]], bool); 8] = [
     (&[b"a", b"ab", b"bb", b"c", b"KK"], false),
 ];
 
-/// The bytes of a haystack, told by the digits of its number.
-fn bytes_of(number: usize) -> [u8; 5] {
-    let digits = b"abcKQ";
-    [
-        digits[number % 5],
-        digits[number / 5 % 5],
-        digits[number / 25 % 5],
-        digits[number / 125 % 5],
-        digits[number / 625 % 5],
-    ]
-}
-
 /// What is found plainly in a span of a haystack of five bytes.
 fn plainly(
     patterns: &[&[u8]],
@@ -407,8 +415,6 @@ fn plainly(
     }
     leftmost_plainly(patterns, kind, ignore_case, haystack, span).map(place)
 }
-
-const SPANS: [(usize, usize); 5] = [(0, 5), (1, 5), (0, 4), (2, 4), (3, 3)];
 
 /// Compares on all haystacks of five bytes and some of their spans, and returns how many there are.
 fn compare(
@@ -470,7 +476,7 @@ fn assert_list(
 ) -> Result<(), Fail> {
     let search = confirming_search(alloc, kind, ignore_case, list)?;
     let spans = compare(rt, &search, list, kind, ignore_case);
-    assert_same(rt, spans, 15625, "spans");
+    assert_same(rt, spans, 15625, format_args!("{list:?}"));
     Ok(())
 }
 
@@ -492,7 +498,7 @@ fn assert_covered_list(
 ) -> Result<(), Fail> {
     let covered = covered(alloc, kind, ignore_case, list)?;
     let spans = compare_covered(rt, &covered, list, kind, ignore_case);
-    assert_same(rt, spans, 15625, "spans");
+    assert_same(rt, spans, 15625, format_args!("{list:?}"));
     Ok(())
 }
 

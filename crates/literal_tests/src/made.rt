@@ -1,12 +1,13 @@
 //! What tests of several modules make, and how they tell matches.
 ghost use Rattle.std.specs.Prelude.{◌<◌, IfOk};
-ghost use Rattle.literal_tests.specs.Covered.{IsCovered};
+ghost use Rattle.literal_promise.specs.Together.{IsCovered};
 
 use crate::asserted::assert_same;
-use crate::uses_of_prefilters::{Covered, covered_patterns};
 use literal_prefilters::Match;
 use literal_prefilters::packed::{Builder, Config, MatchKind, Searcher};
 use literal_prefilters::prefilter::{self, Candidate, ConfirmingSearch, Prefilter};
+use literal_promise::Asked;
+use literal_promise::covered::{Covered, covered_patterns};
 use std::alloc::{AllocError, Global};
 use std::fmt::Display;
 use std::process::Abort;
@@ -138,7 +139,18 @@ pub fn covered(
 ) -> Result<Covered, Fail>
     ensures { IfOk result (λ covered. IsCovered ignore_case covered.patterns covered.prefilter) }
 {
-    let covered = covered_patterns(alloc, kind, ignore_case, patterns)?;
+    let built_for = match kind {
+        MatchKind::LeftmostFirst => literal_prefilters::MatchKind::LeftmostFirst,
+        MatchKind::LeftmostLongest => literal_prefilters::MatchKind::LeftmostLongest,
+    };
+    let asked = Asked {
+        kind,
+        pattern_limit: patterns.len(),
+        built_for,
+        ignore_case,
+        patterns,
+    };
+    let covered = covered_patterns(alloc, &asked)?;
     Ok(covered.ok_or("there is no prefilter")?)
 }
 
@@ -149,4 +161,19 @@ pub fn proposed(candidate: Candidate) -> Result<Option<usize>, &'static str> {
         Candidate::PossibleStartOfMatch(start) => Ok(Some(start)),
         Candidate::Match(_) => Err("a table of bytes confirms no match"),
     }
+}
+
+/// Spans of a haystack of five bytes.
+pub const SPANS: [(usize, usize); 5] = [(0, 5), (1, 5), (0, 4), (2, 4), (3, 3)];
+
+/// A haystack of five bytes, told by the digits of its number, below 3125.
+pub fn bytes_of(number: usize) -> [u8; 5] {
+    let digits = b"abcKQ";
+    [
+        digits[number % 5],
+        digits[number / 5 % 5],
+        digits[number / 25 % 5],
+        digits[number / 125 % 5],
+        digits[number / 625 % 5],
+    ]
 }

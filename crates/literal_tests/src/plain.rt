@@ -1,7 +1,7 @@
 //! A plain search: every place of the span from its start, and at each place every pattern. It
 //! shares nothing with the searches that are compared with it but the definitions.
 ghost use Rattle.std.specs.Prelude.{◌≡◌, ◌+◌, ◌<◌, ◌≤◌, ◌⊎◌, ◌↔◌, length, map, Some, IsTrue, IfOk};
-ghost use Rattle.literal_base.specs.Occurs.{NoneIsEmpty, Occurs, Same, IsValidSpan, pattern_at};
+ghost use Rattle.literal_base.specs.Occurs.{NoneIsEmpty, Occurs, AreEqualBytes, IsValidSpan, pattern_at};
 ghost use Rattle.literal_base.specs.Leftmost.{IsBetter, IsLeftmost};
 ghost use Rattle.literal_base.specs.Greedy.{IsGreedy};
 ghost use Rattle.literal_tests.specs.Best.{IsBestIfAny};
@@ -20,7 +20,7 @@ fn pattern<'a>(patterns: &[&'a [u8]], i: usize) -> &'a [u8]
 
 /// Whether two texts are the same.
 fn is_same(a: &[u8], b: &[u8], ignore_case: bool) -> bool
-    ensures { IsTrue result ↔ Same ignore_case a.now b.now }
+    ensures { IsTrue result ↔ AreEqualBytes ignore_case a.now b.now }
 {
     if ignore_case {
         a.eq_ignore_ascii_case(b)

@@ -9,140 +9,139 @@ use std::alloc::{AllocError, Global};
 use std::process::Abort;
 use std::test::Fail;
 
-/// What a case shows, the kind that is built, its patterns, whether case is ignored, a haystack, the start
-/// of a span that goes to the haystack's end, and the place that is proposed.
-type Row = (
-    &'static str,
-    &'static str,
-    &'static [&'static [u8]],
-    bool,
-    &'static [u8],
-    usize,
-    Option<usize>,
-);
+/// What a case shows, the prefilter that is built, and the place that it proposes in what is behind a start.
+struct Row {
+    shows: &'static str,
+    built: &'static str,
+    patterns: &'static [&'static [u8]],
+    ignore_case: bool,
+    haystack: &'static [u8],
+    start: usize,
+    proposed: Option<usize>,
+}
 
 /// Rare bytes, and how far back from them.
 static BACK_FROM_RARE_BYTES: [Row; 5] = [
-    (
-        "back to the start of the span",
-        "Prefilter(RareBytesOne)",
-        &[b"Sherlock", b"lockjaw"],
-        false,
-        b"I am lockjaw",
-        3,
-        Some(3),
-    ),
-    (
-        "past the rare byte",
-        "Prefilter(RareBytesOne)",
-        &[b"Sherlock", b"lockjaw"],
-        false,
-        b"I am lockjaw",
-        9,
-        None,
-    ),
-    (
-        "back to the start of the haystack",
-        "Prefilter(RareBytesTwo)",
-        &[b"Sherlock", b"lockjaw"],
-        true,
-        b"ShLOCKJAW",
-        0,
-        Some(0),
-    ),
-    (
-        "two rare bytes, at the second",
-        "Prefilter(RareBytesTwo)",
-        &[b"lockjaw", b"Sherlock"],
-        false,
-        b"I am lockjaw",
-        0,
-        Some(1),
-    ),
-    (
-        "two rare bytes, at the first",
-        "Prefilter(RareBytesTwo)",
-        &[b"lockjaw", b"Sherlock"],
-        false,
-        b"I am a jaw",
-        0,
-        Some(3),
-    ),
+    Row {
+        shows: "back to the start of the span",
+        built: "Prefilter(RareBytesOne)",
+        patterns: &[b"Sherlock", b"lockjaw"],
+        ignore_case: false,
+        haystack: b"I am lockjaw",
+        start: 3,
+        proposed: Some(3),
+    },
+    Row {
+        shows: "past the rare byte",
+        built: "Prefilter(RareBytesOne)",
+        patterns: &[b"Sherlock", b"lockjaw"],
+        ignore_case: false,
+        haystack: b"I am lockjaw",
+        start: 9,
+        proposed: None,
+    },
+    Row {
+        shows: "back to the start of the haystack",
+        built: "Prefilter(RareBytesTwo)",
+        patterns: &[b"Sherlock", b"lockjaw"],
+        ignore_case: true,
+        haystack: b"ShLOCKJAW",
+        start: 0,
+        proposed: Some(0),
+    },
+    Row {
+        shows: "two rare bytes, at the second",
+        built: "Prefilter(RareBytesTwo)",
+        patterns: &[b"lockjaw", b"Sherlock"],
+        ignore_case: false,
+        haystack: b"I am lockjaw",
+        start: 0,
+        proposed: Some(1),
+    },
+    Row {
+        shows: "two rare bytes, at the first",
+        built: "Prefilter(RareBytesTwo)",
+        patterns: &[b"lockjaw", b"Sherlock"],
+        ignore_case: false,
+        haystack: b"I am a jaw",
+        start: 0,
+        proposed: Some(3),
+    },
 ];
 
 /// Start bytes.
 static START_BYTES: [Row; 2] = [
-    (
-        "one start byte",
-        "Prefilter(StartBytesOne)",
-        &[b"foo", b"fab"],
-        false,
-        b"xxbafoo",
-        0,
-        Some(4),
-    ),
-    (
-        "no byte",
-        "Prefilter(StartBytesTwo)",
-        &[b"foo"],
-        true,
-        b"",
-        0,
-        None,
-    ),
+    Row {
+        shows: "one start byte",
+        built: "Prefilter(StartBytesOne)",
+        patterns: &[b"foo", b"fab"],
+        ignore_case: false,
+        haystack: b"xxbafoo",
+        start: 0,
+        proposed: Some(4),
+    },
+    Row {
+        shows: "no byte",
+        built: "Prefilter(StartBytesTwo)",
+        patterns: &[b"foo"],
+        ignore_case: true,
+        haystack: b"",
+        start: 0,
+        proposed: None,
+    },
 ];
 
 /// Bytes that are no letters.
 static BESIDE_LETTERS: [Row; 3] = [
-    (
-        "what comes after the letters",
-        "Prefilter(StartBytesOne)",
-        &[b"["],
-        true,
-        b"`{@[",
-        0,
-        Some(3),
-    ),
-    (
-        "what comes before the letters",
-        "Prefilter(StartBytesOne)",
-        &[b"@"],
-        true,
-        b"`{@[",
-        0,
-        Some(2),
-    ),
-    (
-        "no character",
-        "Prefilter(RareBytesOne)",
-        &[b"\xC0"],
-        true,
-        b"\xE0\xC0",
-        0,
-        Some(1),
-    ),
+    Row {
+        shows: "what comes after the letters",
+        built: "Prefilter(StartBytesOne)",
+        patterns: &[b"["],
+        ignore_case: true,
+        haystack: b"`{@[",
+        start: 0,
+        proposed: Some(3),
+    },
+    Row {
+        shows: "what comes before the letters",
+        built: "Prefilter(StartBytesOne)",
+        patterns: &[b"@"],
+        ignore_case: true,
+        haystack: b"`{@[",
+        start: 0,
+        proposed: Some(2),
+    },
+    Row {
+        shows: "no character",
+        built: "Prefilter(RareBytesOne)",
+        patterns: &[b"\xC0"],
+        ignore_case: true,
+        haystack: b"\xE0\xC0",
+        start: 0,
+        proposed: Some(1),
+    },
 ];
 
 /// Rare bytes of several words.
 static OF_WORDS: [Row; 2] = [
-    (
-        "three words",
-        "Prefilter(RareBytesOne)",
-        &[b"apple", b"maple", b"Snapple"],
-        false,
-        b"in an apple",
-        0,
-        Some(3),
-    ),
-    (
-        "past the last rare byte of three words",
-        "Prefilter(RareBytesOne)",
-        &[b"apple", b"maple", b"Snapple"],
-        false,
-        b"in an apple",
-        9,
-        None,
-    ),
+    Row {
+        shows: "three words",
+        built: "Prefilter(RareBytesOne)",
+        patterns: &[b"apple", b"maple", b"Snapple"],
+        ignore_case: false,
+        haystack: b"in an apple",
+        start: 0,
+        proposed: Some(3),
+    },
+    Row {
+        shows: "past the last rare byte of three words",
+        built: "Prefilter(RareBytesOne)",
+        patterns: &[b"apple", b"maple", b"Snapple"],
+        ignore_case: false,
+        haystack: b"in an apple",
+        start: 9,
+        proposed: None,
+    },
 ];
 
 /// All three calls propose the same place of the haystack from a start on.
@@ -183,15 +182,10 @@ fn assert_prints(
 }
 
 /// What is built and proposed by a row, for one kind of match.
-fn assert_row(
-    rt: &impl Abort,
-    alloc: Global,
-    kind: MatchKind,
-    (case, built, patterns, ignore_case, haystack, start, wanted): &Row,
-) -> Result<(), Fail> {
-    let pre = prefilter(alloc, kind, *ignore_case, patterns)?;
-    assert_proposes(rt, &pre, haystack, *start, *wanted, case);
-    assert_prints(rt, alloc, &pre, built, case)
+fn assert_row(rt: &impl Abort, alloc: Global, kind: MatchKind, row: &Row) -> Result<(), Fail> {
+    let pre = prefilter(alloc, kind, row.ignore_case, row.patterns)?;
+    assert_proposes(rt, &pre, row.haystack, row.start, row.proposed, row.shows);
+    assert_prints(rt, alloc, &pre, row.built, row.shows)
 }
 
 fn assert_rows(rt: &impl Abort, alloc: Global, rows: &[Row]) -> Result<(), Fail> {

@@ -20,212 +20,261 @@ const LONG: &[u8] = b"aaaaaaaaaaaaaaaaaaaaaaaaaaaaaaaaaaaaaaaaaaaaaaaaaaaaaaaaaa
 /// The same after an `x`.
 const AFTER_X: &[u8] = b"xaaaaaaaaaaaaaaaaaaaaaaaaaaaaaaaaaaaaaaaaaaaaaaaaaaaaaaaaaaaaaaaaaaaaab";
 
-/// What a case shows, its patterns, match kinds, a span of a haystack, and what is found there with
-/// each of the kinds.
-type SpanRow = (
-    &'static str,
-    &'static [&'static [u8]],
-    &'static [MatchKind],
-    &'static [u8],
-    (usize, usize),
-    Option<Place>,
-);
+/// What a case shows, and what is found in a span of a haystack with each of the match kinds.
+struct SpanRow {
+    shows: &'static str,
+    patterns: &'static [&'static [u8]],
+    kinds: &'static [MatchKind],
+    haystack: &'static [u8],
+    span: (usize, usize),
+    found: Option<Place>,
+}
 
 static IN_SPANS: [SpanRow; 5] = [
-    (
-        "the longer one, which is first",
-        &[b"foobar", b"foo"],
-        FIRST,
-        b"foofoobar",
-        (3, 9),
-        Some((0, 3, 9)),
-    ),
-    (
-        "the longer one does not fit",
-        &[b"foobar", b"foo"],
-        FIRST,
-        b"foofoobar",
-        (3, 8),
-        Some((1, 3, 6)),
-    ),
-    ("cut off at the end", &[b"abc"], BOTH, b"xabc", (0, 3), None),
-    ("no byte", &[b"abc"], BOTH, b"xabc", (4, 4), None),
-    (
-        "a better one does not fit",
-        &[b"b", b"abcd", b"abc"],
-        BOTH,
-        b"abcd",
-        (0, 3),
-        Some((2, 0, 3)),
-    ),
+    SpanRow {
+        shows: "the longer one, which is first",
+        patterns: &[b"foobar", b"foo"],
+        kinds: FIRST,
+        haystack: b"foofoobar",
+        span: (3, 9),
+        found: Some((0, 3, 9)),
+    },
+    SpanRow {
+        shows: "the longer one does not fit",
+        patterns: &[b"foobar", b"foo"],
+        kinds: FIRST,
+        haystack: b"foofoobar",
+        span: (3, 8),
+        found: Some((1, 3, 6)),
+    },
+    SpanRow {
+        shows: "cut off at its end",
+        patterns: &[b"abc"],
+        kinds: BOTH,
+        haystack: b"xabc",
+        span: (0, 3),
+        found: None,
+    },
+    SpanRow {
+        shows: "no byte",
+        patterns: &[b"abc"],
+        kinds: BOTH,
+        haystack: b"xabc",
+        span: (4, 4),
+        found: None,
+    },
+    SpanRow {
+        shows: "a better one does not fit",
+        patterns: &[b"b", b"abcd", b"abc"],
+        kinds: BOTH,
+        haystack: b"abcd",
+        span: (0, 3),
+        found: Some((2, 0, 3)),
+    },
 ];
 
-/// What a case shows, its patterns, match kinds, a haystack, and all matches with each of the kinds.
-type Row = (
-    &'static str,
-    &'static [&'static [u8]],
-    &'static [MatchKind],
-    &'static [u8],
-    &'static [Place],
-);
+/// What a case shows, and all matches in a haystack with each of the match kinds.
+struct Row {
+    shows: &'static str,
+    patterns: &'static [&'static [u8]],
+    kinds: &'static [MatchKind],
+    haystack: &'static [u8],
+    all: &'static [Place],
+}
 
 /// Where haystacks end, and sums collide.
 static AT_EDGES: [Row; 6] = [
-    ("at the end", &[b"abc"], BOTH, b"xabc", &[(0, 1, 4)]),
-    ("no byte", &[b"abc"], BOTH, b"", &[]),
-    ("no byte, for two", &[b"ab", b"ba"], BOTH, b"", &[]),
-    ("past the word size", &[LONG], BOTH, AFTER_X, &[(0, 1, 71)]),
-    (
-        "after a text of the same sum",
-        &[b"ab"],
-        BOTH,
-        b"\x62\x60\x61\x62",
-        &[(0, 2, 4)],
-    ),
-    (
-        "zeros",
-        &[b"\x00\x00\x01", b"\x00\x00\x00"],
-        BOTH,
-        b"\x00\x00\x00",
-        &[(1, 0, 3)],
-    ),
+    Row {
+        shows: "at the end",
+        patterns: &[b"abc"],
+        kinds: BOTH,
+        haystack: b"xabc",
+        all: &[(0, 1, 4)],
+    },
+    Row {
+        shows: "no byte",
+        patterns: &[b"abc"],
+        kinds: BOTH,
+        haystack: b"",
+        all: &[],
+    },
+    Row {
+        shows: "no byte, for two",
+        patterns: &[b"ab", b"ba"],
+        kinds: BOTH,
+        haystack: b"",
+        all: &[],
+    },
+    Row {
+        shows: "past the word size",
+        patterns: &[LONG],
+        kinds: BOTH,
+        haystack: AFTER_X,
+        all: &[(0, 1, 71)],
+    },
+    Row {
+        shows: "after a text of the same sum",
+        patterns: &[b"ab"],
+        kinds: BOTH,
+        haystack: b"\x62\x60\x61\x62",
+        all: &[(0, 2, 4)],
+    },
+    Row {
+        shows: "zeros",
+        patterns: &[b"\x00\x00\x01", b"\x00\x00\x00"],
+        kinds: BOTH,
+        haystack: b"\x00\x00\x00",
+        all: &[(1, 0, 3)],
+    },
 ];
 
 /// Which of those that begin at one place is found.
 static TIES: [Row; 6] = [
-    (
-        "the longer one, which is first",
-        &[b"Samwise", b"Sam"],
-        BOTH,
-        b"Samwise",
-        &[(0, 0, 7)],
-    ),
-    (
-        "the shorter one, which is first",
-        &[b"Sam", b"Samwise"],
-        FIRST,
-        b"Samwise",
-        &[(0, 0, 3)],
-    ),
-    (
-        "the longer one, which is last",
-        &[b"Sam", b"Samwise"],
-        LONGEST,
-        b"Samwise",
-        &[(1, 0, 7)],
-    ),
-    (
-        "the one that begins first",
-        &[b"abcd", b"b"],
-        BOTH,
-        b"abcdef",
-        &[(0, 0, 4)],
-    ),
-    (
-        "the first of four",
-        &[b"ab", b"abc", b"abd", b"abc"],
-        FIRST,
-        b"abc",
-        &[(0, 0, 2)],
-    ),
-    (
-        "the first of the longest",
-        &[b"ab", b"abc", b"abd", b"abc"],
-        LONGEST,
-        b"abc",
-        &[(1, 0, 3)],
-    ),
+    Row {
+        shows: "the longer one, which is first",
+        patterns: &[b"Samwise", b"Sam"],
+        kinds: BOTH,
+        haystack: b"Samwise",
+        all: &[(0, 0, 7)],
+    },
+    Row {
+        shows: "the shorter one, which is first",
+        patterns: &[b"Sam", b"Samwise"],
+        kinds: FIRST,
+        haystack: b"Samwise",
+        all: &[(0, 0, 3)],
+    },
+    Row {
+        shows: "the longer one, which is last",
+        patterns: &[b"Sam", b"Samwise"],
+        kinds: LONGEST,
+        haystack: b"Samwise",
+        all: &[(1, 0, 7)],
+    },
+    Row {
+        shows: "the one that begins first",
+        patterns: &[b"abcd", b"b"],
+        kinds: BOTH,
+        haystack: b"abcdef",
+        all: &[(0, 0, 4)],
+    },
+    Row {
+        shows: "the first of four",
+        patterns: &[b"ab", b"abc", b"abd", b"abc"],
+        kinds: FIRST,
+        haystack: b"abc",
+        all: &[(0, 0, 2)],
+    },
+    Row {
+        shows: "the first of the longest",
+        patterns: &[b"ab", b"abc", b"abd", b"abc"],
+        kinds: LONGEST,
+        haystack: b"abc",
+        all: &[(1, 0, 3)],
+    },
 ];
 
 /// Where a pattern begins another.
 static FRONTS: [Row; 4] = [
-    ("a front", &[b"a", b"ab"], FIRST, b"ab", &[(0, 0, 1)]),
-    ("a whole", &[b"a", b"ab"], LONGEST, b"ab", &[(1, 0, 2)]),
-    (
-        "a whole before its front",
-        &[b"ab", b"a"],
-        BOTH,
-        b"ab",
-        &[(0, 0, 2)],
-    ),
-    (
-        "the longest of each place",
-        &[b"a", b"ab"],
-        LONGEST,
-        b"xayabbbz",
-        &[(0, 1, 2), (1, 3, 5)],
-    ),
+    Row {
+        shows: "a front",
+        patterns: &[b"a", b"ab"],
+        kinds: FIRST,
+        haystack: b"ab",
+        all: &[(0, 0, 1)],
+    },
+    Row {
+        shows: "a whole",
+        patterns: &[b"a", b"ab"],
+        kinds: LONGEST,
+        haystack: b"ab",
+        all: &[(1, 0, 2)],
+    },
+    Row {
+        shows: "a whole before its front",
+        patterns: &[b"ab", b"a"],
+        kinds: BOTH,
+        haystack: b"ab",
+        all: &[(0, 0, 2)],
+    },
+    Row {
+        shows: "the longest of each place",
+        patterns: &[b"a", b"ab"],
+        kinds: LONGEST,
+        haystack: b"xayabbbz",
+        all: &[(0, 1, 2), (1, 3, 5)],
+    },
 ];
 
 /// Where occurrences overlap.
 static ACROSS: [Row; 5] = [
-    (
-        "the first of equal patterns",
-        &[b"foo", b"foo"],
-        BOTH,
-        b"foobarfoo",
-        &[(0, 0, 3), (0, 6, 9)],
-    ),
-    (
-        "one that nearly stands before",
-        &[b"z", b"abcdefghi", b"hz", b"abcdefgh"],
-        BOTH,
-        b"abcdefghz",
-        &[(3, 0, 8), (0, 8, 9)],
-    ),
-    (
-        "the first, and one across it",
-        &[b"a", b"abcdefghi", b"hz", b"abcdefgh"],
-        FIRST,
-        b"abcdefghz",
-        &[(0, 0, 1), (2, 7, 9)],
-    ),
-    (
-        "the longest, and none across it",
-        &[b"a", b"abcdefghi", b"hz", b"abcdefgh"],
-        LONGEST,
-        b"abcdefghz",
-        &[(3, 0, 8)],
-    ),
-    (
-        "one at the end of another",
-        &[b"ab", b"ba"],
-        BOTH,
-        b"abababa",
-        &[(0, 0, 2), (0, 2, 4), (0, 4, 6)],
-    ),
+    Row {
+        shows: "the first of equal patterns",
+        patterns: &[b"foo", b"foo"],
+        kinds: BOTH,
+        haystack: b"foobarfoo",
+        all: &[(0, 0, 3), (0, 6, 9)],
+    },
+    Row {
+        shows: "one that nearly stands before",
+        patterns: &[b"z", b"abcdefghi", b"hz", b"abcdefgh"],
+        kinds: BOTH,
+        haystack: b"abcdefghz",
+        all: &[(3, 0, 8), (0, 8, 9)],
+    },
+    Row {
+        shows: "the first, and one across it",
+        patterns: &[b"a", b"abcdefghi", b"hz", b"abcdefgh"],
+        kinds: FIRST,
+        haystack: b"abcdefghz",
+        all: &[(0, 0, 1), (2, 7, 9)],
+    },
+    Row {
+        shows: "the longest, and none across it",
+        patterns: &[b"a", b"abcdefghi", b"hz", b"abcdefgh"],
+        kinds: LONGEST,
+        haystack: b"abcdefghz",
+        all: &[(3, 0, 8)],
+    },
+    Row {
+        shows: "one at the end of another",
+        patterns: &[b"ab", b"ba"],
+        kinds: BOTH,
+        haystack: b"abababa",
+        all: &[(0, 0, 2), (0, 2, 4), (0, 4, 6)],
+    },
 ];
 
 /// Several matches.
 static SEVERAL: [Row; 4] = [
-    (
-        "words of a sentence",
-        &[b"apple", b"maple", b"Snapple"],
-        BOTH,
-        b"Nobody likes maple in their apple flavored Snapple.",
-        &[(1, 13, 18), (0, 28, 33), (2, 43, 50)],
-    ),
-    (
-        "each occurrence",
-        &[b"abc"],
-        BOTH,
-        b"abcdefghijklmnopqrstuvwxyzabcdefghijk",
-        &[(0, 0, 3), (0, 26, 29)],
-    ),
-    (
-        "a front where the whole is not",
-        &[b"foobar", b"foo"],
-        FIRST,
-        b"foobar fooba foofoo",
-        &[(0, 0, 6), (1, 7, 10), (1, 13, 16), (1, 16, 19)],
-    ),
-    (
-        "inside a longer one",
-        &[b"abcd", b"b", b"bce", b"ce"],
-        FIRST,
-        b"abce",
-        &[(1, 1, 2), (3, 2, 4)],
-    ),
+    Row {
+        shows: "words of a sentence",
+        patterns: &[b"apple", b"maple", b"Snapple"],
+        kinds: BOTH,
+        haystack: b"Nobody likes maple in their apple flavored Snapple.",
+        all: &[(1, 13, 18), (0, 28, 33), (2, 43, 50)],
+    },
+    Row {
+        shows: "each occurrence",
+        patterns: &[b"abc"],
+        kinds: BOTH,
+        haystack: b"abcdefghijklmnopqrstuvwxyzabcdefghijk",
+        all: &[(0, 0, 3), (0, 26, 29)],
+    },
+    Row {
+        shows: "a front where the whole is not",
+        patterns: &[b"foobar", b"foo"],
+        kinds: FIRST,
+        haystack: b"foobar fooba foofoo",
+        all: &[(0, 0, 6), (1, 7, 10), (1, 13, 16), (1, 16, 19)],
+    },
+    Row {
+        shows: "inside a longer one",
+        patterns: &[b"abcd", b"b", b"bce", b"ce"],
+        kinds: FIRST,
+        haystack: b"abce",
+        all: &[(1, 1, 2), (3, 2, 4)],
+    },
 ];
 
 /// Both searches of a span find the same.
@@ -258,21 +307,19 @@ fn assert_row_in_span(
     rt: &impl Abort,
     alloc: Global,
     kind: MatchKind,
-    (case, patterns, _, haystack, (start, end), wanted): &SpanRow,
+    row: &SpanRow,
 ) -> Result<(), Fail> {
-    let searcher = searcher(alloc, kind, patterns)?;
-    let span = Span {
-        start: *start,
-        end: *end,
-    };
-    assert_finds_in(rt, &searcher, haystack, span, *wanted, case);
+    let searcher = searcher(alloc, kind, row.patterns)?;
+    let (start, end) = row.span;
+    let span = Span { start, end };
+    assert_finds_in(rt, &searcher, row.haystack, span, row.found, row.shows);
     Ok(())
 }
 
 #[test]
 fn finds_in_spans(rt: HostRuntime) -> Result<(), Fail> {
     for row in &IN_SPANS {
-        for kind in row.2 {
+        for kind in row.kinds {
             assert_row_in_span(&rt, rt.alloc(), *kind, row)?;
         }
     }
@@ -284,11 +331,11 @@ fn assert_lists(
     rt: &impl Abort,
     alloc: Global,
     searcher: &Searcher,
-    (case, _, _, haystack, wanted): &Row,
+    row: &Row,
 ) -> Result<(), Fail> {
-    let listed = searcher.find_all(haystack, &mut Tally::new())?;
-    let note = format_args!("{case}, listed");
-    Ok(assert_places(rt, alloc, &listed, wanted, note)?)
+    let listed = searcher.find_all(row.haystack, &mut Tally::new())?;
+    let note = format_args!("{}, listed", row.shows);
+    Ok(assert_places(rt, alloc, &listed, row.all, note)?)
 }
 
 /// The matches that an iteration gives.
@@ -296,33 +343,26 @@ fn assert_gives(
     rt: &impl Abort,
     alloc: Global,
     searcher: &Searcher,
-    (case, _, _, haystack, wanted): &Row,
+    row: &Row,
 ) -> Result<(), Fail> {
-    let given = iteration_is_greedy(alloc, searcher, haystack)?;
-    let note = format_args!("{case}, given");
-    Ok(assert_places(rt, alloc, &given, wanted, note)?)
+    let given = iteration_is_greedy(alloc, searcher, row.haystack)?;
+    let note = format_args!("{}, given", row.shows);
+    Ok(assert_places(rt, alloc, &given, row.all, note)?)
 }
 
 /// The first match, by each call that finds one.
-fn assert_finds_first(rt: &impl Abort, searcher: &Searcher, (case, _, _, haystack, wanted): &Row) {
-    let span = Span {
-        start: 0,
-        end: haystack.len(),
-    };
-    let first = wanted.first().copied();
-    assert_finds_in(rt, searcher, haystack, span, first, case);
-    let found = searcher.find(haystack);
-    assert_same(
-        rt,
-        found.map(place),
-        first,
-        format_args!("{case}, anywhere"),
-    );
+fn assert_finds_first(rt: &impl Abort, searcher: &Searcher, row: &Row) {
+    let (start, end) = (0, row.haystack.len());
+    let first = row.all.first().copied();
+    let span = Span { start, end };
+    assert_finds_in(rt, searcher, row.haystack, span, first, row.shows);
+    let found = searcher.find(row.haystack).map(place);
+    assert_same(rt, found, first, format_args!("{}, anywhere", row.shows));
 }
 
 /// What is found in a row's whole haystack with a match kind.
 fn assert_row(rt: &impl Abort, alloc: Global, kind: MatchKind, row: &Row) -> Result<(), Fail> {
-    let searcher = searcher(alloc, kind, row.1)?;
+    let searcher = searcher(alloc, kind, row.patterns)?;
     assert_finds_first(rt, &searcher, row);
     assert_lists(rt, alloc, &searcher, row)?;
     assert_gives(rt, alloc, &searcher, row)
@@ -331,7 +371,7 @@ fn assert_row(rt: &impl Abort, alloc: Global, kind: MatchKind, row: &Row) -> Res
 /// What is found in whole haystacks.
 fn assert_rows(rt: &impl Abort, alloc: Global, rows: &[Row]) -> Result<(), Fail> {
     for row in rows {
-        for kind in row.2 {
+        for kind in row.kinds {
             assert_row(rt, alloc, *kind, row)?;
         }
     }

@@ -146,10 +146,20 @@ fn finds_in_a_span(rt: HostRuntime) -> Result<(), AllocError> {
     Ok(())
 }
 
-/// Whether there is a search for the words.
-fn is_searched_for(alloc: Global, ignore_case: bool, words: &[&[u8]]) -> Result<bool, AllocError> {
-    let built = Search::new(alloc, LeftmostFirst, ignore_case, words.iter().copied())?;
-    Ok(built.is_some())
+/// Whether there is a search for the words, with case kept and with case ignored.
+fn assert_built(
+    rt: &impl Abort,
+    alloc: Global,
+    words: &[&[u8]],
+    wanted: bool,
+    case: &str,
+) -> Result<(), AllocError> {
+    for ignore_case in [false, true] {
+        let built = Search::new(alloc, LeftmostFirst, ignore_case, words.iter().copied())?;
+        let note = format_args!("{case}, {ignore_case}");
+        assert_same(rt, built.is_some(), wanted, note);
+    }
+    Ok(())
 }
 
 #[test]
@@ -157,15 +167,12 @@ fn is_built_of_1_to_128_patterns(rt: HostRuntime) -> Result<(), AllocError> {
     let alloc = rt.alloc();
     let most = vec![in alloc; b"word".as_slice(); 128]?;
     let too_many = vec![in alloc; b"word".as_slice(); 129]?;
-    for ignore_case in [false, true] {
-        assert!(rt; !is_searched_for(alloc, ignore_case, &[])?);
-        assert!(rt; !is_searched_for(alloc, ignore_case, &[b""])?);
-        assert!(rt; !is_searched_for(alloc, ignore_case, &[b"a", b"", b"b"])?);
-        assert!(rt; is_searched_for(alloc, ignore_case, &[b"a"])?);
-        assert!(rt; is_searched_for(alloc, ignore_case, &most)?);
-        assert!(rt; !is_searched_for(alloc, ignore_case, &too_many)?);
-    }
-    Ok(())
+    assert_built(&rt, alloc, &[], false, "no word")?;
+    assert_built(&rt, alloc, &[b""], false, "an empty word")?;
+    assert_built(&rt, alloc, &[b"a", b"", b"b"], false, "one of three")?;
+    assert_built(&rt, alloc, &[b"a"], true, "one word")?;
+    assert_built(&rt, alloc, &most, true, "128 words")?;
+    assert_built(&rt, alloc, &too_many, false, "129 words")
 }
 
 #[test]

@@ -1,7 +1,7 @@
 //! The step of a table found plainly, place by place, and prefilters compared with it.
 ghost use Rattle.std.specs.Prelude.{◌≡◌};
 ghost use Rattle.literal_base.specs.Occurs.{IsValidSpan};
-ghost use Rattle.literal_prefilters.specs.Table.{step};
+ghost use Rattle.literal_prefilters.specs.Table.{proposed_place};
 
 use literal_prefilters::Span;
 use literal_prefilters::prefilter::ByteTable;
@@ -10,7 +10,7 @@ use literal_prefilters::prefilter::ByteTable;
 /// the span's start.
 pub fn step_plainly(table: &ByteTable, haystack: &[u8], span: Span) -> Option<usize>
     requires { IsValidSpan haystack.now span }
-    ensures { result ≡ step table.now haystack.now span }
+    ensures { result ≡ proposed_place table.now haystack.now span }
 {
     for place in span.start..span.end {
         if let Some(distance) = table.distance(haystack[place]) {
@@ -24,7 +24,7 @@ pub fn step_plainly(table: &ByteTable, haystack: &[u8], span: Span) -> Option<us
 mod tests {
     use super::step_plainly;
     use crate::asserted::{assert_holds, assert_same};
-    use crate::made::prefilter;
+    use crate::made::{SPANS, bytes_of, prefilter};
     use crate::plain::leftmost_plainly;
     use literal_prefilters::packed::pattern::Patterns;
     use literal_prefilters::prefilter::{ByteTable, Candidate, Prefilter};
@@ -49,18 +49,6 @@ mod tests {
         (&[b"aK", b"bck"], true, false),
         (&[b"Kab", b"cck", b"K"], true, false),
     ];
-
-    /// The bytes of a haystack, told by the digits of its number.
-    fn bytes_of(number: usize) -> [u8; 5] {
-        let digits = b"abcKQ";
-        [
-            digits[number % 5],
-            digits[number / 5 % 5],
-            digits[number / 25 % 5],
-            digits[number / 125 % 5],
-            digits[number / 625 % 5],
-        ]
-    }
 
     /// Compares in a span: the step, and that no occurrence begins before it.
     fn compare_in(
@@ -92,7 +80,7 @@ mod tests {
         let mut spans: u32 = 0;
         for number in 0..3125 {
             let haystack = bytes_of(number);
-            for (start, end) in [(0, 5), (1, 5), (0, 4), (2, 4), (3, 3)] {
+            for (start, end) in SPANS {
                 let span = Span { start, end };
                 let is_same = compare_in(pre, table, list, &haystack, span);
                 let note = format_args!("{list:?}: {haystack:?} in {span:?}");

@@ -12,162 +12,180 @@ use std::test::Fail;
 /// The sum of the ranks of a table's bytes, and the bytes with their distances.
 type Table = Option<(u16, &'static [(u8, u8)])>;
 
-/// What a case shows, its patterns, whether case is ignored, their start table, and their rare table.
-type Row = (&'static str, &'static [&'static [u8]], bool, Table, Table);
+/// What a case shows, and both tables of its patterns.
+struct Row {
+    shows: &'static str,
+    patterns: &'static [&'static [u8]],
+    ignore_case: bool,
+    start: Table,
+    rare: Table,
+}
 
 /// Patterns with rare bytes inside.
 static OF_RARE_BYTES: [Row; 5] = [
-    (
-        "one word",
-        &[b"Sherlock"],
-        false,
-        Some((192, &[(b'S', 0)])),
-        Some((180, &[(b'k', 7)])),
-    ),
-    (
-        "a rare byte of both",
-        &[b"Sherlock", b"lockjaw"],
-        false,
-        Some((433, &[(b'S', 0), (b'l', 0)])),
-        Some((180, &[(b'k', 7)])),
-    ),
-    (
-        "a rare byte of each",
-        &[b"lockjaw", b"Sherlock"],
-        false,
-        Some((433, &[(b'S', 0), (b'l', 0)])),
-        Some((315, &[(b'j', 4), (b'k', 7)])),
-    ),
-    (
-        "four start bytes in either case",
-        &[b"Sherlock", b"lockjaw"],
-        true,
-        None,
-        Some((317, &[(b'K', 7), (b'k', 7)])),
-    ),
-    (
-        "one word in either case",
-        &[b"sherlock"],
-        true,
-        Some((435, &[(b'S', 0), (b's', 0)])),
-        Some((317, &[(b'K', 7), (b'k', 7)])),
-    ),
+    Row {
+        shows: "one word",
+        patterns: &[b"Sherlock"],
+        ignore_case: false,
+        start: Some((192, &[(b'S', 0)])),
+        rare: Some((180, &[(b'k', 7)])),
+    },
+    Row {
+        shows: "a rare byte of both",
+        patterns: &[b"Sherlock", b"lockjaw"],
+        ignore_case: false,
+        start: Some((433, &[(b'S', 0), (b'l', 0)])),
+        rare: Some((180, &[(b'k', 7)])),
+    },
+    Row {
+        shows: "a rare byte of each",
+        patterns: &[b"lockjaw", b"Sherlock"],
+        ignore_case: false,
+        start: Some((433, &[(b'S', 0), (b'l', 0)])),
+        rare: Some((315, &[(b'j', 4), (b'k', 7)])),
+    },
+    Row {
+        shows: "four start bytes in either case",
+        patterns: &[b"Sherlock", b"lockjaw"],
+        ignore_case: true,
+        start: None,
+        rare: Some((317, &[(b'K', 7), (b'k', 7)])),
+    },
+    Row {
+        shows: "one word in either case",
+        patterns: &[b"sherlock"],
+        ignore_case: true,
+        start: Some((435, &[(b'S', 0), (b's', 0)])),
+        rare: Some((317, &[(b'K', 7), (b'k', 7)])),
+    },
 ];
 
 /// Words.
 static OF_WORDS: [Row; 4] = [
-    (
-        "the last of equal bytes",
-        &[b"apple", b"maple", b"Snapple"],
-        false,
-        Some((674, &[(b'S', 0), (b'a', 0), (b'm', 0)])),
-        Some((231, &[(b'p', 4)])),
-    ),
-    (
-        "six start bytes in either case",
-        &[b"apple", b"maple", b"snapple"],
-        true,
-        None,
-        Some((417, &[(b'P', 4), (b'p', 4)])),
-    ),
-    (
-        "first bytes that are rare",
-        &[b"foo", b"bar"],
-        false,
-        Some((443, &[(b'b', 0), (b'f', 0)])),
-        Some((443, &[(b'b', 0), (b'f', 0)])),
-    ),
-    (
-        "a first byte that is rare in either case",
-        &[b"foo"],
-        true,
-        Some((389, &[(b'F', 0), (b'f', 0)])),
-        Some((389, &[(b'F', 0), (b'f', 0)])),
-    ),
+    Row {
+        shows: "the last of equal bytes",
+        patterns: &[b"apple", b"maple", b"Snapple"],
+        ignore_case: false,
+        start: Some((674, &[(b'S', 0), (b'a', 0), (b'm', 0)])),
+        rare: Some((231, &[(b'p', 4)])),
+    },
+    Row {
+        shows: "six start bytes in either case",
+        patterns: &[b"apple", b"maple", b"snapple"],
+        ignore_case: true,
+        start: None,
+        rare: Some((417, &[(b'P', 4), (b'p', 4)])),
+    },
+    Row {
+        shows: "first bytes that are rare",
+        patterns: &[b"foo", b"bar"],
+        ignore_case: false,
+        start: Some((443, &[(b'b', 0), (b'f', 0)])),
+        rare: Some((443, &[(b'b', 0), (b'f', 0)])),
+    },
+    Row {
+        shows: "a first byte that is rare in either case",
+        patterns: &[b"foo"],
+        ignore_case: true,
+        start: Some((389, &[(b'F', 0), (b'f', 0)])),
+        rare: Some((389, &[(b'F', 0), (b'f', 0)])),
+    },
 ];
 
 /// Few patterns, and few bytes.
 static OF_FEW_BYTES: [Row; 5] = [
-    ("no pattern", &[], false, None, None),
-    ("no pattern in either case", &[], true, None, None),
-    (
-        "three bytes of each kind",
-        &[b"ax", b"by", b"cz"],
-        false,
-        Some((703, &[(b'a', 0), (b'b', 0), (b'c', 0)])),
-        Some((606, &[(b'x', 1), (b'y', 1), (b'z', 1)])),
-    ),
-    (
-        "four bytes of each kind",
-        &[b"a", b"b", b"c", b"d"],
-        false,
-        None,
-        None,
-    ),
-    (
-        "one byte twice",
-        &[b"aa"],
-        false,
-        Some((249, &[(b'a', 0)])),
-        Some((249, &[(b'a', 1)])),
-    ),
+    Row {
+        shows: "no pattern",
+        patterns: &[],
+        ignore_case: false,
+        start: None,
+        rare: None,
+    },
+    Row {
+        shows: "no pattern in either case",
+        patterns: &[],
+        ignore_case: true,
+        start: None,
+        rare: None,
+    },
+    Row {
+        shows: "three bytes of each kind",
+        patterns: &[b"ax", b"by", b"cz"],
+        ignore_case: false,
+        start: Some((703, &[(b'a', 0), (b'b', 0), (b'c', 0)])),
+        rare: Some((606, &[(b'x', 1), (b'y', 1), (b'z', 1)])),
+    },
+    Row {
+        shows: "four bytes of each kind",
+        patterns: &[b"a", b"b", b"c", b"d"],
+        ignore_case: false,
+        start: None,
+        rare: None,
+    },
+    Row {
+        shows: "one byte twice",
+        patterns: &[b"aa"],
+        ignore_case: false,
+        start: Some((249, &[(b'a', 0)])),
+        rare: Some((249, &[(b'a', 1)])),
+    },
 ];
 
 /// Bytes beside the letters.
 static OF_NO_LETTERS: [Row; 4] = [
-    (
-        "a letter in either case",
-        &[b"K"],
-        true,
-        Some((317, &[(b'K', 0), (b'k', 0)])),
-        Some((317, &[(b'K', 0), (b'k', 0)])),
-    ),
-    (
-        "what comes after the letters",
-        &[b"["],
-        true,
-        Some((147, &[(b'[', 0)])),
-        Some((147, &[(b'[', 0)])),
-    ),
-    (
-        "what comes before the letters",
-        &[b"@"],
-        true,
-        Some((120, &[(b'@', 0)])),
-        Some((120, &[(b'@', 0)])),
-    ),
-    (
-        "the last character",
-        &[b"\x7F"],
-        false,
-        Some((27, &[(0x7F, 0)])),
-        Some((27, &[(0x7F, 0)])),
-    ),
+    Row {
+        shows: "a letter in either case",
+        patterns: &[b"K"],
+        ignore_case: true,
+        start: Some((317, &[(b'K', 0), (b'k', 0)])),
+        rare: Some((317, &[(b'K', 0), (b'k', 0)])),
+    },
+    Row {
+        shows: "what comes after the letters",
+        patterns: &[b"["],
+        ignore_case: true,
+        start: Some((147, &[(b'[', 0)])),
+        rare: Some((147, &[(b'[', 0)])),
+    },
+    Row {
+        shows: "what comes before the letters",
+        patterns: &[b"@"],
+        ignore_case: true,
+        start: Some((120, &[(b'@', 0)])),
+        rare: Some((120, &[(b'@', 0)])),
+    },
+    Row {
+        shows: "the last character",
+        patterns: &[b"\x7F"],
+        ignore_case: false,
+        start: Some((27, &[(0x7F, 0)])),
+        rare: Some((27, &[(0x7F, 0)])),
+    },
 ];
 
 /// Bytes that have no other case, and letters that have.
 static OF_EITHER_CASE: [Row; 3] = [
-    (
-        "no character",
-        &[b"\xC0"],
-        true,
-        None,
-        Some((255, &[(0xC0, 0)])),
-    ),
-    (
-        "no character in one of two",
-        &[b"@[", b"\xC0K"],
-        true,
-        None,
-        Some((437, &[(b'@', 0), (b'K', 1), (b'k', 1)])),
-    ),
-    (
-        "words of unlike case",
-        &[b"ab", b"ABC"],
-        true,
-        Some((440, &[(b'A', 0), (b'a', 0)])),
-        Some((373, &[(b'B', 1), (b'b', 1)])),
-    ),
+    Row {
+        shows: "no character",
+        patterns: &[b"\xC0"],
+        ignore_case: true,
+        start: None,
+        rare: Some((255, &[(0xC0, 0)])),
+    },
+    Row {
+        shows: "no character in one of two",
+        patterns: &[b"@[", b"\xC0K"],
+        ignore_case: true,
+        start: None,
+        rare: Some((437, &[(b'@', 0), (b'K', 1), (b'k', 1)])),
+    },
+    Row {
+        shows: "words of unlike case",
+        patterns: &[b"ab", b"ABC"],
+        ignore_case: true,
+        start: Some((440, &[(b'A', 0), (b'a', 0)])),
+        rare: Some((373, &[(b'B', 1), (b'b', 1)])),
+    },
 ];
 
 fn patterns_of(alloc: Global, list: &[&[u8]], kind: MatchKind) -> Result<Patterns, Fail> {
@@ -223,17 +241,12 @@ fn assert_table(
 }
 
 /// Both tables of a row's patterns, which a match kind puts in order.
-fn assert_row(
-    rt: &impl Abort,
-    alloc: Global,
-    kind: MatchKind,
-    (case, list, ignore_case, start, rare): &Row,
-) -> Result<(), Fail> {
-    let patterns = patterns_of(alloc, list, kind)?;
-    let table = ByteTable::start(&patterns, *ignore_case);
-    assert_table(rt, alloc, table, *start, case)?;
-    let table = ByteTable::rare(&patterns, *ignore_case);
-    assert_table(rt, alloc, table, *rare, case)?;
+fn assert_row(rt: &impl Abort, alloc: Global, kind: MatchKind, row: &Row) -> Result<(), Fail> {
+    let patterns = patterns_of(alloc, row.patterns, kind)?;
+    let table = ByteTable::start(&patterns, row.ignore_case);
+    assert_table(rt, alloc, table, row.start, row.shows)?;
+    let table = ByteTable::rare(&patterns, row.ignore_case);
+    assert_table(rt, alloc, table, row.rare, row.shows)?;
     Ok(())
 }
 

@@ -5,10 +5,7 @@ ghost use Rattle.literal_base.specs.Greedy.{IsGreedy};
 ghost use Rattle.literal_packed.specs.BuilderValue.{BuilderValue, builder_of, searcher_of, with_added, BuildsItems};
 ghost use Rattle.literal_packed.specs.ConfigValue.{default_config};
 ghost use Rattle.literal_packed.specs.Lending.{CanBeTaken, HoldsAll};
-ghost use Rattle.literal_tests.specs.Together.{IsIteration};
 
-use literal_prefilters::count::Tally;
-use literal_prefilters::packed::laws::next_is_bounded;
 use literal_prefilters::packed::pattern::{Pattern, PatternIter, Patterns};
 use literal_prefilters::packed::{Builder, Config, MatchKind, Searcher};
 use literal_prefilters::{Match, PatternID};
@@ -109,24 +106,6 @@ pub fn next_at_end<'p>(items: &mut PatternIter<'p>) -> Option<(PatternID, Patter
     items.next()
 }
 
-/// The matches that an iteration gives, and what it counted.
-pub fn taken_in_turn(
-    alloc: Global,
-    searcher: &Searcher,
-    haystack: &[u8],
-) -> Result<(Vec<Match>, Tally), AllocError>
-    ensures greedy { IfOk result (λ taken. IsGreedy searcher.now false haystack.now 0 taken.0.items) }
-    ensures iteration { IfOk result (λ taken. IsIteration searcher.now haystack.now taken.0.items taken.1) }
-{
-    next_is_bounded();
-    let mut all = Vec::new(alloc);
-    let mut matches = searcher.find_iter(haystack);
-    while let Some(found) = matches.next() {
-        all.push(found)?;
-    }
-    Ok((all, matches.into_tally()))
-}
-
 /// The matches that an iteration collects.
 pub fn collected(
     alloc: Global,
@@ -225,14 +204,6 @@ mod tests {
     fn of_two(alloc: Global) -> Result<Searcher, Fail> {
         let built = built_of_two(alloc, b"ab", b"ba")?;
         Ok(built.ok_or("two patterns build nothing")?)
-    }
-
-    #[test]
-    fn takes_matches(rt: HostRuntime) -> Result<(), Fail> {
-        let (taken, _) = taken_in_turn(rt.alloc(), &of_two(rt.alloc())?, b"abababa")?;
-        let taken = places(rt.alloc(), &taken)?;
-        assert_same(&rt, taken.as_slice(), WANTED.as_slice(), "taken");
-        Ok(())
     }
 
     #[test]

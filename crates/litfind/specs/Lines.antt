@@ -8,7 +8,7 @@ use Rattle.literal_base.specs.Greedy.{IsGreedy}
 use Rattle.literal_base.specs.Leftmost.{IsLeftmost}
 use Rattle.literal_base.specs.Occurs.{whole_of}
 use Rattle.literal_base.specs.Query.{Query}
-use Rattle.litfind.specs.Query.{Asked, all_matches, leftmost_match, words_ask}
+use Rattle.litfind.specs.Query.{Task, all_matches, leftmost_match, words_ask}
 
 -- the list is the leftmost match of the whole input, and empty where nothing occurs in it
 pub record IsLeftmostList (query : Query) (ignore_case : Bool) (input : List ℕ) (matches : List MatchValue) : Type 0
@@ -18,7 +18,7 @@ pub record IsLeftmostList (query : Query) (ignore_case : Bool) (input : List ℕ
     pub is_list : matches ≡ option_to_list found
 
 -- the matches that are printed: the greedy list of the whole input, or its leftmost match
-abbrev pub AreMatches : Asked → List ℕ → List MatchValue → Type 0
+abbrev pub AreMatches : Task → List ℕ → List MatchValue → Type 0
 AreMatches (all_matches query) input matches = IsGreedy query false input 0 matches
 AreMatches (leftmost_match query ignore_case) input matches = IsLeftmostList query ignore_case input matches
 
@@ -29,13 +29,13 @@ line_of found = decimal found.pattern ++ codes " " ++ decimal found.start ++ cod
     "\n"
 
 -- the text is a line for each match of the input that is asked for
-pub record AreLinesOf (asked : Asked) (input text : List ℕ) : Type 0 where
+pub record AreLinesOf (asked : Task) (input text : List ℕ) : Type 0 where
   pub matches : List MatchValue
   pub found : AreMatches asked input matches
   pub lines : text ≡ flat_map line_of matches
 
 -- the text is a line for each match of the input that the words ask for
 pub record AreLines (words : List (List ℕ)) (input text : List ℕ) : Type 0 where
-  pub asked : Asked
+  pub asked : Task
   pub ask : words_ask words ≡ Some asked
   pub lines : AreLinesOf asked input text

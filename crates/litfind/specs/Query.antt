@@ -7,13 +7,13 @@ use Rattle.literal_packed.specs.BuilderValue.{BuilderValue, builder_of, searcher
 use Rattle.literal_packed.specs.ConfigValue.{default_config}
 use Rattle.literal_prefilters.specs.ConfirmingValue.{confirming_of, prefilter_builder}
 
--- what is asked for: all matches of some patterns, or the leftmost one, with ASCII case ignored or not
-pub data Asked : Type 0 where
-  all_matches : Query → Asked
-  leftmost_match : Query → Bool → Asked
+-- what the words may ask for: all matches of some patterns, or the leftmost one, with ASCII case ignored or not
+pub data Task : Type 0 where
+  all_matches : Query → Task
+  leftmost_match : Query → Bool → Task
 
 -- what the name of a mode and some patterns ask for, and None if the name is unknown
-abbrev pub mode_asks : List ℕ → List (List ℕ) → Option Asked
+abbrev pub mode_asks : List ℕ → List (List ℕ) → Option Task
 mode_asks name patterns =
     let first : Query = record { kind = LeftmostFirst; patterns = patterns } in
     let longest : Query = record { kind = LeftmostLongest; patterns = patterns } in
@@ -26,7 +26,7 @@ mode_asks name patterns =
     else None
 
 -- what the words ask for. They have to be the name of a mode and at least one pattern; otherwise they ask for nothing
-abbrev pub words_ask : List (List ℕ) → Option Asked
+abbrev pub words_ask : List (List ℕ) → Option Task
 words_ask [] = None
 words_ask (mode ∷ []) = None
 words_ask (mode ∷ (first ∷ more)) = mode_asks mode (first ∷ more)
@@ -36,13 +36,13 @@ abbrev pub builder_for : Query → BuilderValue
 builder_for query = builder_of (record default_config { kind = query.kind }) query.patterns
 
 -- there is no searcher for what is asked: a packed search or a confirming one cannot be built
-abbrev pub IsWithoutSearcher : Asked → Type 0
+abbrev pub IsWithoutSearcher : Task → Type 0
 IsWithoutSearcher (all_matches query) = searcher_of (builder_for query) ≡ None
 IsWithoutSearcher (leftmost_match query ignore_case) =
     confirming_of query.kind (prefilter_builder query.kind ignore_case query.patterns) ≡ None
 
 -- the words ask for something, and there is no searcher for it
 pub record HasNoSearcher (words : List (List ℕ)) : Type 0 where
-  pub asked : Asked
+  pub asked : Task
   pub ask : words_ask words ≡ Some asked
   pub none : IsWithoutSearcher asked

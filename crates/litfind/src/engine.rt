@@ -1,11 +1,12 @@
 //! The engine: the words and the whole input in, the whole text out.
 ghost use Rattle.std.specs.Prelude.{◌≡◌, ◌≢◌, ◌⊎◌, ◌↔◌, true, false, map, Some, None, IfOk, IfErr, OnOk, OnErr};
-ghost use Rattle.std.specs.Prelude.{MatchOption, IsErrOf, List, [], ℕ, option_map, string_bytes};
+ghost use Rattle.std.specs.Prelude.{MatchOption, IfSome, IsErrOf, List, [], ℕ, option_map, string_bytes};
 ghost use Rattle.std.specs.Io.KnownBytes.{Appends};
 ghost use Rattle.literal_packed.specs.BuilderValue.{searcher_of};
 ghost use Rattle.litfind.specs.Lines.{AreLinesOf};
 ghost use Rattle.litfind.specs.Inside.{asked_of, searches_for};
-ghost use Rattle.litfind.specs.Query.{HasNoSearcher, all_matches, builder_for, leftmost_match, mode_asks, words_ask};
+ghost use Rattle.litfind.specs.Query.{HasNoSearcher, IsWithoutSearcher, all_matches, builder_for, leftmost_match};
+ghost use Rattle.litfind.specs.Query.{mode_asks, words_ask};
 ghost use Rattle.literal_prefilters.specs.ConfirmingValue.{confirming_of, prefilter_builder};
 ghost use Rattle.litfind.specs.Run.{HasLine, IsFront, IsWhole, ReadBytes, ReadSome, WroteFront, WroteLines};
 
@@ -27,17 +28,17 @@ struct Request<'w> {
     patterns: &'w [String],
 }
 
-/// How to search: for which kind of match; for all of them, or for the leftmost one by a confirming
-/// search.
+/// How to search, as the first word says: for which kind of match; for all of them, or for the leftmost
+/// one by a confirming search.
 #[derive(Clone, Copy)]
 enum Mode {
     All(MatchKind),
     Leftmost { kind: MatchKind, ignore_case: bool },
 }
 
-/// A searcher of one of the modes.
+/// What a mode searches by, once it is built of the patterns.
 #[derive(Drop)]
-enum Searching {
+enum ModeSearcher {
     All(Searcher),
     Leftmost(ConfirmingSearch),
 }
@@ -97,19 +98,35 @@ fn build_confirming(
     ignore_case: bool,
     patterns: &[String],
 ) -> Result<Option<ConfirmingSearch>, AllocError>
-    ensures { IfOk result (λ built. built ≡ confirming_of kind
+    ensures built { IfOk result (λ built. built ≡ confirming_of kind
         (prefilter_builder kind ignore_case (map string_bytes patterns.now))) }
+    ensures for_these { IfOk result (λ built. IfSome built (λ search.
+        (search.query ≡ record { kind = kind; patterns = map string_bytes patterns.now })
+        × (search.ignore_case ≡ ignore_case))) }
 {
-    let mut bytes = Vec::new(alloc);
-    for pattern in patterns {
-        bytes.push(pattern.as_bytes())?;
-    }
+    let bytes = patterns.iter().map(|pattern| pattern.as_bytes());
     ConfirmingSearch::build(alloc, kind, ignore_case, bytes)
 }
 
+/// A searcher for what is asked, where one can be built.
+fn built(alloc: Global, request: &Request<'_>) -> Result<Option<ModeSearcher>, AllocError>
+    ensures asked { IfOk result (λ built. IfSome built (λ searcher.
+        searches_for searcher ≡ asked_of (map string_bytes request.now.patterns.now) request.now.mode)) }
+    ensures none { IfOk result (λ built. built ≡ None
+        ↔ IsWithoutSearcher (asked_of (map string_bytes request.now.patterns.now) request.now.mode)) }
+{
+    match request.mode {
+        Mode::All(kind) => Ok(build(alloc, kind, request.patterns)?.map(ModeSearcher::All)),
+        Mode::Leftmost { kind, ignore_case } => {
+            let search = build_confirming(alloc, kind, ignore_case, request.patterns)?;
+            Ok(search.map(ModeSearcher::Leftmost))
+        }
+    }
+}
+
 /// A searcher for what the words ask for.
-fn searcher(alloc: Global, words: &[String]) -> Result<Searching, Fault>
-    ensures asked { IfOk result (λ searching. words_ask (map string_bytes words.now) ≡ Some (searches_for searching)) }
+fn searcher(alloc: Global, words: &[String]) -> Result<ModeSearcher, Fault>
+    ensures asked { IfOk result (λ searcher. words_ask (map string_bytes words.now) ≡ Some (searches_for searcher)) }
     ensures usage { IsErrOf result Fault.Usage ↔ (words_ask (map string_bytes words.now) ≡ None) }
     ensures no_searcher { IsErrOf result Fault.NoSearcher → HasNoSearcher (map string_bytes words.now) }
     ensures not_buildable { HasNoSearcher (map string_bytes words.now)
@@ -120,22 +137,16 @@ fn searcher(alloc: Global, words: &[String]) -> Result<Searching, Fault>
     let Some(request) = parse(words) else {
         return Err(Fault::Usage);
     };
-    match request.mode {
-        Mode::All(kind) => match build(alloc, kind, request.patterns)? {
-            Some(searcher) => Ok(Searching::All(searcher)),
-            None => Err(Fault::NoSearcher),
-        },
-        Mode::Leftmost { kind, ignore_case } => {
-            match build_confirming(alloc, kind, ignore_case, request.patterns)? {
-                Some(search) => Ok(Searching::Leftmost(search)),
-                None => Err(Fault::NoSearcher),
-            }
-        }
-    }
+    let Some(searcher) = built(alloc, &request)? else {
+        return Err(Fault::NoSearcher);
+    };
+    Ok(searcher)
 }
 
 /// A line for each match, all of which are searched for. It stays out of line, by which the loop of the
-/// search comes to lie in the program where no jump of it crosses 32 bytes (docs/DECISIONS.md).
+/// search comes to lie in the program where no jump of it crosses 32 bytes (docs/DECISIONS.md). An edit
+/// of what lies before that loop may move it, and then a search with few patterns takes 25 to 40 percent
+/// more time, as `checks/speed` shows.
 #[inline(never)]
 fn all_lines(alloc: Global, searcher: &Searcher, input: &[u8]) -> Result<String, AllocError>
     ensures lines { IfOk result (λ text. AreLinesOf (all_matches searcher.now) input.now (string_bytes text)) }
@@ -173,7 +184,7 @@ fn leftmost_line(
     Ok(text)
 }
 
-impl Searching {
+impl ModeSearcher {
     /// The lines of the matches in the whole input that the searcher is for. Memory is asked for only where
     /// there is one.
     fn lines(&self, alloc: Global, input: &[u8]) -> Result<String, AllocError>
@@ -181,8 +192,8 @@ impl Searching {
         ensures no_memory { OnErr result (¬ AreLinesOf (searches_for self.now) input.now []) }
     {
         match self {
-            Searching::All(searcher) => all_lines(alloc, searcher, input),
-            Searching::Leftmost(search) => leftmost_line(alloc, search, input),
+            ModeSearcher::All(searcher) => all_lines(alloc, searcher, input),
+            ModeSearcher::Leftmost(search) => leftmost_line(alloc, search, input),
         }
     }
 }

@@ -8,6 +8,8 @@
 #![tactic(auto)]
 
 #[cfg(test)]
+mod automata;
+#[cfg(test)]
 mod builders;
 #[cfg(test)]
 mod confirming;

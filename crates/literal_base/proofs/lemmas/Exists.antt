@@ -68,7 +68,7 @@ module _ (query : Query) (ignore_case : Bool) (haystack : List ℕ) (span : Span
         ]
       ]
 
-  -- of the first n query.patterns b is the best that occurs at a place
+  -- of the first n patterns b is the best that occurs at a place of the span: a step towards the best of all
   record IsBestOf (n at b : ℕ) : Type 0 where
     pub below : b < n
     pub occurs : OccursAt b at

@@ -6,7 +6,7 @@ use Rattle.literal_base.specs.declared.packed.MatchKind.TheVariants.{LeftmostFir
 use Rattle.literal_base.specs.declared.search.Span.{Span}
 use Rattle.literal_base.specs.MatchValue.{MatchValue}
 use Rattle.literal_base.specs.Query.{Query}
-use Rattle.literal_base.specs.Occurs.{pattern_at, Occurs, Same}
+use Rattle.literal_base.specs.Occurs.{pattern_at, Occurs, AreEqualBytes}
 use Rattle.literal_base.specs.Leftmost.{IsLeftmostMatch}
 
 -- where a pattern occurs, an equal one does
@@ -17,7 +17,8 @@ occurs-equal patterns ignore_case haystack span i j at is_pattern same o = recor
   is_pattern = is_pattern;
   after_start = o.after_start;
   before_end = subst (λ (p : List ℕ). at + length p ≤ span.end) (sym same) o.before_end;
-  same = subst (λ (p : List ℕ). Same ignore_case (slice_range haystack at (at + length p)) p) (sym same) o.same;
+  same = subst (λ (p : List ℕ). AreEqualBytes ignore_case (slice_range haystack at (at + length p)) p) (sym same)
+      o.same;
 }
 
 pub longest_first_of_equal : (query : Query) (ignore_case : Bool) (haystack : List ℕ) (span : Span) (found : MatchValue)

@@ -2,8 +2,8 @@
 use Rattle.std.specs.Prelude.{ℕ, ℤ, List}
 use Rattle.literal_search.specs.SearchValue.{CanBeSearched}
 use Rattle.literal_c.specs.declared.TheConstants.{LITERAL_BAD_ARGUMENTS, LITERAL_NO_SEARCHER, LITERAL_OUT_OF_MEMORY}
-use Rattle.literal_c.specs.declared.asked.Refusal.{Refusal}
-use Rattle.literal_c.specs.declared.asked.Refusal.TheVariants.{BadArguments, NoSearcher, OutOfMemory}
+use Rattle.literal_c.specs.declared.arguments.Refusal.{Refusal}
+use Rattle.literal_c.specs.declared.arguments.Refusal.TheVariants.{BadArguments, NoSearcher, OutOfMemory}
 
 -- a refusal says what holds: the arguments do not agree; or they do, and the patterns can't be searched for; or they
 -- can

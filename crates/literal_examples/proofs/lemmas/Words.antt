@@ -74,7 +74,7 @@ module _ (patterns : List (List ℕ)) where
   longest_of_more byte more is = cond-false (begins_one patterns (byte ∷ more)) _ _ is
 
   -- one byte more: the longest end depends on that of the text before it alone
-  longest_push : (text : List ℕ) (byte : ℕ)
+  pub longest_push : (text : List ℕ) (byte : ℕ)
       → longest_begun patterns (longest_begun patterns text ++ byte ∷ []) ≡ longest_begun patterns (text ++ byte ∷ [])
   longest_push [] byte = refl
   longest_push (first ∷ more) byte = by_test (begins_one patterns (first ∷ more)) refl (longest_push more byte)

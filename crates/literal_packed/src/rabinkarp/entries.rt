@@ -1,9 +1,12 @@
 //! The entries of all buckets. What holds them is private here, so that nobody reads one but by `entry`, which
 //! counts it.
-ghost use Rattle.std.specs.Prelude.{◌≡◌, ◌≢◌, ◌↔◌, ◌≤◌, ◌<◌, ◌+◌, ◌%◌, List, [], length, nat_lt, if◌then◌else◌};
+ghost use Rattle.std.specs.Prelude.{◌≡◌, ◌≢◌, ◌↔◌, ◌≤◌, ◌<◌, ◌+◌, ◌%◌, ℕ, List, [], ◌∷◌, ◌++◌, length, map, replicate};
+ghost use Rattle.std.specs.Prelude.{nat_lt, if◌then◌else◌};
 ghost use Rattle.std.specs.Prelude.{IfOk, IsTrue, Some, slice_get, slice_index_or};
+ghost use Rattle.std.specs.List.{range_with_len};
 ghost use Rattle.std.specs.List.Sorted.{IsNonDecreasingBy};
 ghost use Rattle.literal_packed.specs.Inside.Entries.{bucket_number, AreBucketsOf, AreStarts, AreHeads, AreLonger};
+ghost use Rattle.literal_packed.specs.Inside.Entries.{buckets_of, start_at};
 
 use literal_base::count::Tally;
 use literal_ids::PatternID;
@@ -156,35 +159,11 @@ fn longer_of(starts: &[usize; BUCKETS + 1]) -> u64
     longer
 }
 
-#[cfg(test)]
-mod tests {
-    use super::*;
-    use crate::pattern::Patterns;
-    use crate::rabinkarp::RabinKarp;
-    use std::test::Fail;
-
-    #[test]
-    fn lays_out_the_buckets(rt: HostRuntime) -> Result<(), Fail> {
-        let mut patterns = Patterns::new(rt.alloc());
-        patterns.add(b"ab")?;
-        patterns.add(b"ba")?;
-        patterns.add(b"ab")?;
-        let searched = RabinKarp::new(&patterns, &mut Tally::new())?;
-        let made = &searched.entries;
-        let rows = [(292, 0), (292, 2), (293, 1)];
-        assert_eq!(rt; made.list.len(), rows.len());
-        for k in 0..rows.len() {
-            let (sum, id) = made.list.as_slice().get(k).ok_or("an entry is missing")?;
-            assert_eq!(rt; (*sum, id.as_usize()), rows[k], "entry {k}");
-        }
-        for bucket in 0..BUCKETS + 1 {
-            let start = match bucket {
-                0..=36 => 0,
-                37 => 2,
-                _ => 3,
-            };
-            assert_eq!(rt; made.starts[bucket], start, "bucket {bucket}");
-        }
-        Ok(())
-    }
-}
+/// Where the entries of three patterns stand, worked out by hand: `ab`, `ba` and `ab` have the sums 292, 293 and 292,
+/// of the buckets 36 and 37.
+fn worked_layout()
+    ensures { (starts : List ℕ) (entries : List (ℕ × ℕ)) → AreStarts starts entries
+        → AreBucketsOf ((292, 0) ∷ (293, 1) ∷ (292, 2) ∷ []) (buckets_of starts entries)
+        → (entries ≡ (292, 0) ∷ (292, 2) ∷ (293, 1) ∷ [])
+        × (map (start_at starts) (range_with_len 0 65) ≡ replicate 37 0 ++ 2 ∷ replicate 27 3) }
+{}

@@ -18,9 +18,9 @@ use Rattle.literal_packed.proofs.lemmas.Callers.{GivesList, items_are}
 use Rattle.literal_prefilters.specs.Choice.{pick}
 use Rattle.literal_prefilters.specs.ConfirmingValue.{BuildsConfirming, ConfirmingValue, confirming_of}
 use Rattle.literal_prefilters.specs.ConfirmingValue.{prefilter_builder}
-use Rattle.literal_prefilters.specs.PrefilterBuilderValue.{PrefilterBuilderValue, pattern_limit}
+use Rattle.literal_prefilters.specs.PrefilterBuilderValue.{PrefilterBuilderValue, prefilter_limit}
 use Rattle.literal_prefilters.specs.PrefilterValue.{PrefilterValue}
-use Rattle.literal_prefilters.specs.Table.{IsFirst, is_in, first, step, step_back}
+use Rattle.literal_prefilters.specs.Table.{IsFirst, is_in, first_place, proposed_place, step_back}
 use Rattle.literal_prefilters.proofs.lemmas.Lists.{position_is, position_none, position-None}
 
 -- a confirming search that is built is for the patterns that were added, with their kind and case
@@ -52,7 +52,7 @@ module _ (kind : MatchKind) (ignore_case : Bool) (added : List (List ℕ)) where
       → IfSome built (λ search. (search.query ≡ record { kind = kind; patterns = added })
       × (search.ignore_case ≡ ignore_case))
   confirms_for built is =
-      let may = may_keep pattern_limit added in
+      let may = may_keep prefilter_limit added in
       subst IsForAdded (sym is) (⊎_elim
       (λ kept. subst IsForState (sym (cond-true may (Some added) None kept))
       (some_search (pick (at_state (Some added)))))
@@ -120,7 +120,7 @@ module _ (table : List (Option ℕ)) (haystack : List ℕ) (span : Span) (valid 
       ap (is_in table) (get_or-part (k - span.start) (omega arith) ∙ ap (slice_index haystack) e)
 
   -- the first place that has a byte of the table is the answer
-  pub first_is : (place : ℕ) → IsFirst table haystack span place → first table haystack span ≡ Some place
+  pub first_is : (place : ℕ) → IsFirst table haystack span place → first_place table haystack span ≡ Some place
   first_is place f =
       let e : span.start + (place - span.start) ≡ place = omega (arith, f.after_start) in
       let found : position (is_in table) part ≡ Some (place - span.start) =
@@ -132,14 +132,14 @@ module _ (table : List (Option ℕ)) (haystack : List ℕ) (span : Span) (valid 
       ap (option_map (λ k. span.start + k)) found ∙ ap Some e
 
   -- where there is none the answer is None
-  pub first_none : IsFree table haystack span.start span.end → first table haystack span ≡ None
+  pub first_none : IsFree table haystack span.start span.end → first_place table haystack span ≡ None
   first_none free =
       ap (option_map (λ k. span.start + k)) (position_none (is_in table) part
       (λ k below. let inside : span.start + k < span.end = omega (arith, length-part) in
       ap (is_in table) (get_or-part k inside) ∙ free.none (span.start + k) (omega arith) inside))
 
   -- and the answer tells that
-  pub free_from_first : first table haystack span ≡ None → IsFree table haystack span.start span.end
+  pub free_from_first : first_place table haystack span ≡ None → IsFree table haystack span.start span.end
   free_from_first e =
       let none : position (is_in table) part ≡ None = shifted_none (position (is_in table) part) e in
       record {
@@ -151,7 +151,7 @@ module _ (table : List (Option ℕ)) (haystack : List ℕ) (span : Span) (valid 
       shifted_none None h = refl
       shifted_none (Some x) h = cc
 
-  pub is_first_from : (place : ℕ) → first table haystack span ≡ Some place → IsFirst table haystack span place
+  pub is_first_from : (place : ℕ) → first_place table haystack span ≡ Some place → IsFirst table haystack span place
   is_first_from place e = from (position (is_in table) part) refl e
     where
       from : (o : Option ℕ) → position (is_in table) part ≡ o → option_map (λ k. span.start + k) o ≡ Some place
@@ -171,10 +171,10 @@ module _ (table : List (Option ℕ)) (haystack : List ℕ) (span : Span) (valid 
 
 -- a step proposes nothing exactly if the span is free
 pub none-is-free : (table : List (Option ℕ)) (haystack : List ℕ) (span : Span) → IsValidSpan haystack span
-    → (step table haystack span ≡ None) ↔ ((place : ℕ) → span.start ≤ place → place < span.end
+    → (proposed_place table haystack span ≡ None) ↔ ((place : ℕ) → span.start ≤ place → place < span.end
     → is_in table (slice_index haystack place) ≡ false)
 none-is-free table haystack span valid = (
-  λ e. (free_from_first table haystack span valid (stepped_none (first table haystack span) e)).none,
+  λ e. (free_from_first table haystack span valid (stepped_none (first_place table haystack span) e)).none,
   λ free. ap (option_map (step_back table haystack span.start))
       (first_none table haystack span valid (record { none = free })),
 )

@@ -1,7 +1,7 @@
 -- What is picked in the cases where the search needs a hint.
 -- For `build`, `start_table` and `rare_table` of the builder of prefilters, and `ConfirmingSearch::of_builder`.
-use Rattle.std.proofs.Common.{◌≡◌, ◌==◌, ◌&&◌, ◌||◌, not, ℕ, Bool, true, false, List, [], length, Option, Some, None}
-use Rattle.std.proofs.Common.{is_some, IsSomeAnd, IsTrue, Result, Ok, Err, OnErr}
+use Rattle.std.proofs.Common.{◌≡◌, ◌==◌, ◌&&◌, ◌||◌, not, ℕ, Bool, true, false, List, [], ◌∷◌, length, Option, Some}
+use Rattle.std.proofs.Common.{None, is_some, IsSomeAnd, IsTrue, Result, Ok, Err, OnErr}
 use Rattle.std.proofs.Common.{◌<◌, ◌≤◌, nat_lt, get_or, option_map, cond, sym, refl, ap, ◌∙◌, arith}
 use Rattle.std.specs.Option.{option_or}
 use Rattle.std.proofs.lemmas.Bool.{and_parts, ltb-true}
@@ -13,7 +13,8 @@ use Rattle.literal_base.specs.Kinds.{packed_kind_of}
 use Rattle.literal_base.specs.Occurs.{NoneIsEmpty, pattern_at}
 use Rattle.literal_prefilters.specs.Choice.{has_fewer_start_bytes, is_last_resort, is_one_pattern, is_short_list}
 use Rattle.literal_prefilters.specs.Choice.{is_start_nearly_as_rare, packed_search, pick, suits_packed}
-use Rattle.literal_prefilters.specs.PrefilterBuilderValue.{PrefilterBuilderValue, pattern_limit}
+use Rattle.literal_prefilters.specs.Exact.{CoversPattern}
+use Rattle.literal_prefilters.specs.PrefilterBuilderValue.{PrefilterBuilderValue, prefilter_limit}
 use Rattle.literal_prefilters.specs.Inside.Prefilter.{builder_value, IsSound}
 use Rattle.literal_prefilters.specs.declared.prefilter.Builder.TheInside.{Inside}
 use Rattle.literal_prefilters.specs.PrefilterValue.{PrefilterValue, TakesMemory, by_table, by_pattern, by_search}
@@ -44,16 +45,34 @@ pub pick_last : (b : PrefilterBuilderValue) → IsByTables b None None false →
     → pick b ≡ packed_search b
 pick_last b at last = rw (at.some, at.several, at.start_is, at.rare_is, at.short_is, last) refl
 
--- no pattern of a builder is empty
+-- the patterns that a builder keeps are those of its list
+pub kept_of_list : (b : Inside) (v : PrefilterBuilderValue) → IsSound b → builder_value b ≡ v
+    → kept_of v.state ≡ b.patterns.patterns
+kept_of_list b v sound view =
+    sym (ap (λ (w : PrefilterBuilderValue). kept_of w.state) view)
+    ∙ kept_is b.enabled b.patterns.patterns sound.emptied
+
+-- none of them is empty
 pub kept_not_empty : (b : Inside) (v : PrefilterBuilderValue) → IsSound b → builder_value b ≡ v
     → NoneIsEmpty (kept_of v.state)
 kept_not_empty b v sound view =
     let ps = b.patterns.patterns in
-    let kept : kept_of v.state ≡ ps = sym (ap (λ (w : PrefilterBuilderValue). kept_of w.state) view)
-    ∙ kept_is b.enabled ps sound.emptied in
-    let may = (cond_some (may_keep pattern_limit ps) ps ps sound.allowed).0 in
+    let may = (cond_some (may_keep prefilter_limit ps) ps ps sound.allowed).0 in
     let pass = AllPass-from_list_all (λ bytes. nat_lt 0 (length bytes)) ps (and_parts _ _ may).0 in
-    rw kept (λ k d below. ltb-true 0 (length (get_or ps k d)) (pass k d below))
+    rw (kept_of_list b v sound view) (λ k d below. ltb-true 0 (length (get_or ps k d)) (pass k d below))
+
+-- where case is kept and there is one pattern, a search for the first is one for all
+pub covers_one : (b : PrefilterBuilderValue) (kind : MatchKind) (pattern : List ℕ) → is_one_pattern b ≡ true
+    → pattern ≡ pattern_at (kept_of b.state) 0
+    → CoversPattern pattern (record { kind = kind; patterns = kept_of b.state }) b.ignore_case
+covers_one b kind pattern = from b.ignore_case (kept_of b.state)
+  where
+    from : (ignore_case : Bool) (ps : List (List ℕ)) → (not ignore_case && length ps == 1) ≡ true
+        → pattern ≡ pattern_at ps 0 → CoversPattern pattern (record { kind = kind; patterns = ps }) ignore_case
+    from false (p ∷ []) one is = record { patterns = ap (λ q. q ∷ []) (sym is); case_kept = refl }
+    from false [] one is = absurd cc
+    from false (p ∷ (q ∷ ps)) one is = absurd (grind (arith, one))
+    from true ps one is = absurd cc
 
 -- what the tests and the tables say together
 pub tables_of : (b : PrefilterBuilderValue) (empty one short is_short : Bool)

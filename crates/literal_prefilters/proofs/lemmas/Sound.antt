@@ -8,12 +8,12 @@ use Rattle.std.proofs.lemmas.Bool.{cases_lt}
 use Rattle.std.proofs.lemmas.List.Edits.{length-between, get_or-between}
 use Rattle.std.proofs.lemmas.List.Quantifiers.{position-Some}
 use Rattle.literal_base.specs.declared.search.Span.{Span}
-use Rattle.literal_base.specs.Occurs.{Same, pattern_at, IsValidSpan, Occurs, NothingOccurs}
+use Rattle.literal_base.specs.Occurs.{AreEqualBytes, pattern_at, IsValidSpan, Occurs, NothingOccurs}
 use Rattle.literal_base.specs.Bytes.{AreBytes}
 use Rattle.literal_base.specs.declared.packed.MatchKind.{MatchKind}
 use Rattle.literal_prefilters.specs.Answers.{candidate_of}
 use Rattle.literal_prefilters.specs.Sound.{Sound}
-use Rattle.literal_prefilters.specs.Table.{IsFirst, distance_of, is_in, first, step_back, step, Covers}
+use Rattle.literal_prefilters.specs.Table.{IsFirst, distance_of, is_in, first_place, step_back, proposed_place, Covers}
 use Rattle.literal_prefilters.proofs.lemmas.Callers.{IsFree, is_first_from, free_from_first}
 
 -- the earliest offset at which the text has a byte of the table, with its distance
@@ -24,7 +24,7 @@ record EarliestOffset (table : List (Option ℕ)) (text : List ℕ) : Type 0 whe
   before : (k : ℕ) → k < offset → is_in table (slice_index text k) ≡ false
   far : IfSome (distance_of table (slice_index text offset)) (λ d. offset ≤ d)
 
-earliest : (table : List (Option ℕ)) (c : Bool) (p v : List ℕ) → Covers table c p → AreBytes v → Same c v p
+earliest : (table : List (Option ℕ)) (c : Bool) (p v : List ℕ) → Covers table c p → AreBytes v → AreEqualBytes c v p
     → EarliestOffset table v
 earliest table c p v covers bytes same = from (position (is_in table) v) refl (covers v bytes same)
   where
@@ -124,10 +124,10 @@ module _ (table : List (Option ℕ)) (patterns : List (List ℕ)) (c : Bool) (co
       let no = free.none (at + r.offset) (omega arith) r.before_end in let yes = r.here in cc
 
   pub step-sound : (kind : MatchKind) → Sound (record { kind = kind; patterns = patterns }) c haystack span
-      (candidate_of (step table haystack span))
-  step-sound kind = from (first table haystack span) refl
+      (candidate_of (proposed_place table haystack span))
+  step-sound kind = from (first_place table haystack span) refl
     where
-      from : (o : Option ℕ) → first table haystack span ≡ o
+      from : (o : Option ℕ) → first_place table haystack span ≡ o
           → Sound (record { kind = kind; patterns = patterns }) c haystack span
           (candidate_of (option_map (step_back table haystack span.start) o))
       from None e = nothing_from_free (free_from_first table haystack span valid e)

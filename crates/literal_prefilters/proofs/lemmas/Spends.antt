@@ -13,14 +13,14 @@ use Rattle.literal_base.specs.Query.{Query}
 use Rattle.literal_packed.specs.Spending.{SpendsAtMost}
 use Rattle.literal_packed.proofs.lemmas.Spending.{rest_is, spends_found, spends_last, spends_within}
 use Rattle.literal_prefilters.specs.Confirming.{SpendsConfirming, SpendsTries, compared_by_tries, scanned_once}
-use Rattle.literal_prefilters.specs.Confirming.{counts_after_confirming, counts_after_tries, tried_places}
+use Rattle.literal_prefilters.specs.Confirming.{counts_after_confirming, counts_after_tries, tried_count}
 use Rattle.literal_prefilters.specs.Exact.{CoversPattern, query_of_one}
-use Rattle.literal_prefilters.specs.Near.{near_count}
+use Rattle.literal_prefilters.specs.Reached.{reached_count}
 use Rattle.literal_prefilters.specs.PrefilterValue.{PrefilterValue, CoveredBy, by_table, by_pattern, by_search}
 use Rattle.literal_prefilters.specs.PrefilterValue.{prefilter_table}
-use Rattle.literal_prefilters.specs.Table.{Covers, first}
+use Rattle.literal_prefilters.specs.Table.{Covers, first_place}
 use Rattle.literal_prefilters.proofs.lemmas.Callers.{free_from_first, is_first_from}
-use Rattle.literal_prefilters.proofs.lemmas.Near.{near_count-joined}
+use Rattle.literal_prefilters.proofs.lemmas.Reached.{reached_count-joined}
 use Rattle.literal_prefilters.proofs.lemmas.Sound.{first_in_occurrence, nothing_from_free}
 use Rattle.literal_prefilters.proofs.lemmas.Tries.{counts_are}
 
@@ -29,8 +29,8 @@ module _ (table : List (Option ℕ)) (query : Query) (ignore_case : Bool)
     (span : Span) (valid : IsValidSpan haystack span) where
   -- the first byte of the table from a match's start on lies in the match
   pub first_in_match : (found : MatchValue) → IsLeftmostMatch query ignore_case haystack span found
-      → (place : ℕ) × (first table haystack (between found.start span.end) ≡ Some place) × (place < found.end)
-  first_in_match found leftmost = from (first table haystack behind) refl
+      → (place : ℕ) × (first_place table haystack (between found.start span.end) ≡ Some place) × (place < found.end)
+  first_in_match found leftmost = from (first_place table haystack behind) refl
     where
       behind : Span
       behind = between found.start span.end
@@ -49,7 +49,7 @@ module _ (table : List (Option ℕ)) (query : Query) (ignore_case : Bool)
         in_haystack = valid.in_haystack;
       }
 
-      from : (o : Option ℕ) → first table haystack behind ≡ o
+      from : (o : Option ℕ) → first_place table haystack behind ≡ o
           → (place : ℕ) × (o ≡ Some place) × (place < found.end)
       from None e = absurd (nothing_from_free table query.patterns ignore_case covers haystack bytes behind behind_valid
           (free_from_first table haystack behind behind_valid e) found.pattern found.start occurs)
@@ -63,7 +63,7 @@ module _ (table : List (Option ℕ)) (query : Query) (ignore_case : Bool)
       → scanned_once table haystack span (Some found) ≤ found.end - span.start
   scan_ends_in_match found leftmost =
       let last = first_in_match found leftmost in
-      let is : unwrap_or (first table haystack (between found.start span.end)) 0 ≡ last.0 =
+      let is : unwrap_or (first_place table haystack (between found.start span.end)) 0 ≡ last.0 =
       ap (λ o. unwrap_or o 0) last.1 in
       omega (arith, is, last.2)
 
@@ -81,15 +81,15 @@ tries_more : (table : List (Option ℕ)) (query : Query) (haystack : List ℕ) (
     → new ≡ counts_after_tries mid table query haystack span answer
     → new.compared ≤ mid.compared + (new.tried - mid.tried) * length query.patterns
     → scanned_once table haystack span answer ≤ to - span.start → span.start ≤ to
-    → near_count table haystack (rest_from haystack 0) span.start + (new.tried - mid.tried)
-    ≤ near_count table haystack (rest_from haystack 0) to
+    → reached_count table haystack (rest_from haystack 0) span.start + (new.tried - mid.tried)
+    ≤ reached_count table haystack (rest_from haystack 0) to
     → SpendsTries table query.patterns haystack to old new
 tries_more table query haystack span to answer old mid new so_far is most once after near =
     let Set : Counts → Counts = λ t. record t { compared = new.compared; scanned = new.scanned; tried = new.tried } in
     let n = length query.patterns in
     let compared : new.compared ≡ mid.compared + compared_by_tries table query haystack span answer =
     ap (λ (c : Counts). c.compared) is in
-    let tried : new.tried ≡ mid.tried + tried_places table haystack span answer = ap (λ (c : Counts). c.tried) is in
+    let tried : new.tried ≡ mid.tried + tried_count table haystack span answer = ap (λ (c : Counts). c.tried) is in
     let scanned : new.scanned ≡ mid.scanned + scanned_once table haystack span answer =
     ap (λ (c : Counts). c.scanned) is in
     let others : new ≡ Set mid = is ∙ counts_are _ _ refl refl (sym compared) (sym scanned) (sym tried) in
@@ -121,7 +121,7 @@ pub spends_whole : (pre : PrefilterValue) (patterns : List (List ℕ)) (haystack
     → to ≤ length haystack → SpendsTo pre patterns haystack to old new
     → SpendsConfirming pre patterns haystack old new
 spends_whole (by_table table) patterns haystack to old new within s =
-    let joined = near_count-joined table haystack to (length haystack) within in
+    let joined = reached_count-joined table haystack to (length haystack) within in
     record {
       scanned = omega (arith, s.scanned);
       tried = omega (arith, s.tried);
@@ -164,9 +164,9 @@ module _ (query : Query) (ignore_case : Bool) (haystack : List ℕ) (bytes : Are
   valid = record { ordered = omega (arith, to_end); in_haystack = omega (arith, to_end) }
 
   -- the near places of the rest as those of the span
-  near_rest : (table : List (Option ℕ)) (to : ℕ)
-      → near_count table haystack span to ≡ near_count table haystack (rest_from haystack span.start) to
-  near_rest table to = ap (λ (s : Span). near_count table haystack s to) (rest_is haystack span to_end)
+  reached_rest : (table : List (Option ℕ)) (to : ℕ)
+      → reached_count table haystack span to ≡ reached_count table haystack (rest_from haystack span.start) to
+  reached_rest table to = ap (λ (s : Span). reached_count table haystack s to) (rest_is haystack span to_end)
 
   -- a match more
   pub spends_match : (pre : PrefilterValue) → CoveredBy pre query ignore_case → (found : MatchValue)
@@ -177,14 +177,14 @@ module _ (query : Query) (ignore_case : Bool) (haystack : List ℕ) (bytes : Are
       (λ _. new.compared ≤ mid.compared + (new.tried - mid.tried) * length query.patterns)
       → SpendsTo pre query.patterns haystack found.end old new
   spends_match (by_table table) covers found some so_far leftmost once most =
-      let tried : new.tried ≡ mid.tried + near_count table haystack span (found.start + 1) =
+      let tried : new.tried ≡ mid.tried + reached_count table haystack span (found.start + 1) =
       ap (λ (c : Counts). c.tried) once in
       let after = leftmost.occurs.after_start in
-      let here = near_count-joined table haystack span.start (found.start + 1) (omega arith) in
-      let on = near_count-joined table haystack (found.start + 1) found.end (omega arith) in
+      let here = reached_count-joined table haystack span.start (found.start + 1) (omega arith) in
+      let on = reached_count-joined table haystack (found.start + 1) found.end (omega arith) in
       tries_more table query haystack span found.end (Some found) old mid new so_far once most
       (scan_ends_in_match table query ignore_case covers haystack bytes span valid found leftmost) (omega arith)
-      (omega (arith, tried, near_rest table (found.start + 1)))
+      (omega (arith, tried, reached_rest table (found.start + 1)))
   spends_match (by_pattern pattern) covers found some so_far leftmost once most =
       spends_found (query_of_one pattern) haystack span old mid new found to_end within some so_far
       (one_found pattern query ignore_case haystack span found covers leftmost) once
@@ -202,11 +202,12 @@ module _ (query : Query) (ignore_case : Bool) (haystack : List ℕ) (bytes : Are
       (λ _. new.compared ≤ mid.compared + (new.tried - mid.tried) * length query.patterns)
       → SpendsTo pre query.patterns haystack (length haystack) old new
   spends_end (by_table table) covers so_far nothing once most =
-      let tried : new.tried ≡ mid.tried + near_count table haystack span span.end = ap (λ (c : Counts). c.tried) once in
-      let joined = near_count-joined table haystack span.start (length haystack) within in
-      let ends = ap (near_count table haystack span) to_end in
+      let tried : new.tried ≡ mid.tried + reached_count table haystack span span.end =
+      ap (λ (c : Counts). c.tried) once in
+      let joined = reached_count-joined table haystack span.start (length haystack) within in
+      let ends = ap (reached_count table haystack span) to_end in
       tries_more table query haystack span (length haystack) None old mid new so_far once most
-      (omega (arith, to_end)) within (omega (arith, tried, near_rest table (length haystack)))
+      (omega (arith, to_end)) within (omega (arith, tried, reached_rest table (length haystack)))
   spends_end (by_pattern pattern) covers so_far nothing once most =
       spends_last (query_of_one pattern) haystack span old mid new to_end within so_far
       (one_nothing pattern query ignore_case haystack span covers nothing) once

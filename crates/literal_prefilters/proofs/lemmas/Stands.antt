@@ -6,7 +6,7 @@ use Rattle.std.proofs.lemmas.Bool.{cases_Bool, cases_lt, cases_eq, cond-true, co
 use Rattle.std.proofs.lemmas.List.{length-set, get_or-set_same, get_or-set_other, get_or_default}
 use Rattle.std.proofs.lemmas.List.Folds.{Any-from_list_any, list_any_at}
 use Rattle.std.proofs.lemmas.Option.{slice_get-get_or, slice_get_within, get_or_from_slice_get}
-use Rattle.literal_base.specs.Occurs.{NoneIsEmpty, Same, same_byte, pattern_at}
+use Rattle.literal_base.specs.Occurs.{NoneIsEmpty, AreEqualBytes, same_byte, pattern_at}
 use Rattle.literal_prefilters.specs.Tables.{largest_offset, offset_below}
 use Rattle.literal_prefilters.specs.Variants.{StandsIn, StartsVariants, IsLargestOffset}
 use Rattle.literal_prefilters.proofs.lemmas.Offsets.{offset-le-offset_below}
@@ -16,7 +16,7 @@ use Rattle.literal_prefilters.proofs.lemmas.Variants.{same_length, same_byte_at,
 
 -- the pattern with one byte in the other case
 same_with : (c : Bool) (p : List ℕ) (k b : ℕ) → k < length p → same_byte c b (slice_index p k) ≡ true
-    → Same c (set p k b) p
+    → AreEqualBytes c (set p k b) p
 same_with c p k b below same =
     same_from_bytes c (set p k b) p (length-set p k b) (λ j inside.
     ⊎_elim

@@ -15,14 +15,14 @@ use Rattle.literal_base.specs.declared.search.Span.{Span}
 use Rattle.literal_prefilters.specs.declared.prefilter.byte_table.TableByte.{TableByte}
 use Rattle.literal_base.specs.Bytes.{AreBytes}
 use Rattle.literal_base.specs.Occurs.{IsValidSpan, Occurs}
-use Rattle.literal_prefilters.specs.Near.{near_count}
+use Rattle.literal_prefilters.specs.Reached.{reached_count}
 use Rattle.literal_prefilters.specs.Inside.Confirming.{IsKept, read_to}
 use Rattle.literal_base.specs.Occurs.{NothingOccurs}
-use Rattle.literal_prefilters.specs.Table.{distance_of, first, step_back, Covers}
+use Rattle.literal_prefilters.specs.Table.{distance_of, first_place, step_back, Covers}
 use Rattle.literal_prefilters.specs.Table.{IsFirst}
 use Rattle.literal_prefilters.proofs.lemmas.Callers.{IsFree, is_first_from, first_is}
 use Rattle.literal_prefilters.proofs.lemmas.Asks.{in_rest}
-use Rattle.literal_prefilters.proofs.lemmas.Near.{valid_rest, first_later, near_count-before, near_count-tried}
+use Rattle.literal_prefilters.proofs.lemmas.Reached.{valid_rest, first_later, reached_count-before, reached_count-tried}
 use Rattle.literal_prefilters.proofs.lemmas.Sound.{none_before_step, nothing_from_free}
 
 module _ (table : List (Option ℕ)) (haystack : List ℕ) (span : Span) where
@@ -85,16 +85,16 @@ pub record Try (table : List (Option ℕ)) (haystack : List ℕ) (span : Span) (
   pub tried : start ≡ step_back table haystack at found.place
   pub from : at ≤ start
   pub to : start ≤ found.place
-  pub first_from_start : first table haystack (rest table haystack span start) ≡ Some found.place
-  pub before : near_count table haystack span start ≡ near_count table haystack span at
-  pub counted : near_count table haystack span (start + 1) ≡ near_count table haystack span at + 1
+  pub first_from_start : first_place table haystack (rest table haystack span start) ≡ Some found.place
+  pub before : reached_count table haystack span start ≡ reached_count table haystack span at
+  pub counted : reached_count table haystack span (start + 1) ≡ reached_count table haystack span at + 1
   pub read : read_to span.start kept ≤ found.place + 1
   pub next : IsKept table haystack span.start (start + 1) span.end (Some found)
 
 pub one_try : (table : List (Option ℕ)) (haystack : List ℕ) (span : Span) → IsValidSpan haystack span
     → (at : ℕ) (kept : Option TableByte) (found : TableByte) (less start : ℕ)
     → IsKept table haystack span.start at span.end kept
-    → Some found.place ≡ first table haystack (record { start = at; end = span.end })
+    → Some found.place ≡ first_place table haystack (record { start = at; end = span.end })
     → distance_of table (slice_index haystack found.place) ≡ Some found.distance → less ≡ found.place - found.distance
     → start ≡ max at less → Try table haystack span at kept found start
 one_try table haystack span valid at kept found less start k place far back up =
@@ -116,10 +116,10 @@ one_try table haystack span valid at kept found less start k place far back up =
       first_from_start = first_is table haystack (rest table haystack span start)
           (valid_rest table haystack span valid start (omega arith)) found.place
           (first_later table haystack span valid at found.place start f from to);
-      before = ap (near_count table haystack span) tried
-          ∙ near_count-before table haystack span valid at found.place after f;
-      counted = ap (λ s. near_count table haystack span (s + 1)) tried
-          ∙ near_count-tried table haystack span valid at found.place after f;
+      before = ap (reached_count table haystack span) tried
+          ∙ reached_count-before table haystack span valid at found.place after f;
+      counted = ap (λ s. reached_count table haystack span (s + 1)) tried
+          ∙ reached_count-tried table haystack span valid at found.place after f;
       read = read_to-le table haystack span at found.place kept k f;
       next = kept_on table haystack span at start found after f far from to;
     }
@@ -168,13 +168,13 @@ compared_at_most query (Some j) =
 -- so a search compares at most as often as there are patterns for each place that it tries
 pub compared_by_tries_at_most : (old new : Counts) (table : List (Option ℕ)) (query : Query) (haystack : List ℕ)
     (span : Span) (found : MatchValue)
-    → near_count table haystack span (found.start + 1) ≡ near_count table haystack span found.start + 1
+    → reached_count table haystack span (found.start + 1) ≡ reached_count table haystack span found.start + 1
     → new ≡ counts_after_tries old table query haystack span (Some found)
     → new.compared ≤ old.compared + (new.tried - old.tried) * length query.patterns
 compared_by_tries_at_most old new table query haystack span found one is =
     let n = length query.patterns in
-    let before = near_count table haystack span found.start in
-    let tried : new.tried ≡ old.tried + near_count table haystack span (found.start + 1) =
+    let before = reached_count table haystack span found.start in
+    let tried : new.tried ≡ old.tried + reached_count table haystack span (found.start + 1) =
     ap (λ (c : Counts). c.tried) is in
     let compared : new.compared ≡ old.compared + (before * n + compared_at query (Some found.pattern)) =
     ap (λ (c : Counts). c.compared) is in

@@ -5,13 +5,13 @@ use Rattle.std.proofs.Common.{arith}
 use Rattle.std.specs.Char.{to_ascii_lowercase}
 use Rattle.std.proofs.lemmas.Bool.{eq-eqb, eqb-true}
 use Rattle.std.proofs.lemmas.List.{length-map, get_or-map, ext_get_or}
-use Rattle.literal_base.specs.Occurs.{Same, same_byte}
+use Rattle.literal_base.specs.Occurs.{AreEqualBytes, same_byte}
 
-pub same_length : (c : Bool) (a b : List ℕ) → Same c a b → length a ≡ length b
+pub same_length : (c : Bool) (a b : List ℕ) → AreEqualBytes c a b → length a ≡ length b
 same_length true a b s = sym (length-map a to_ascii_lowercase) ∙ (ap length s ∙ length-map b to_ascii_lowercase)
 same_length false a b s = ap length s
 
-pub same_byte_at : (c : Bool) (a b : List ℕ) → Same c a b → (k : ℕ) → k < length a
+pub same_byte_at : (c : Bool) (a b : List ℕ) → AreEqualBytes c a b → (k : ℕ) → k < length a
     → same_byte c (slice_index a k) (slice_index b k) ≡ true
 same_byte_at true a b s k below =
     let long = same_length true a b s in
@@ -28,7 +28,7 @@ same_byte_turned true a b x = eq-eqb _ _ (sym (eqb-true _ _ x))
 same_byte_turned false a b x = eq-eqb _ _ (sym (eqb-true _ _ x))
 
 pub same_from_bytes : (c : Bool) (a b : List ℕ) → length a ≡ length b
-    → ((k : ℕ) → k < length a → same_byte c (slice_index a k) (slice_index b k) ≡ true) → Same c a b
+    → ((k : ℕ) → k < length a → same_byte c (slice_index a k) (slice_index b k) ≡ true) → AreEqualBytes c a b
 same_from_bytes true a b long each =
     ext_get_or 0 (map to_ascii_lowercase a) (map to_ascii_lowercase b)
     (length-map a to_ascii_lowercase ∙ (long ∙ sym (length-map b to_ascii_lowercase))) (λ k below.

@@ -10,7 +10,7 @@ use Rattle.literal_prefilters.specs.declared.prefilter.Finder.TheVariants.{RareB
 use Rattle.literal_prefilters.specs.declared.prefilter.Builder.TheInside.{Inside}
 use Rattle.literal_packed.specs.State.{state_of}
 use Rattle.literal_prefilters.specs.Inside.Running.{IsRunning}
-use Rattle.literal_prefilters.specs.PrefilterBuilderValue.{PrefilterBuilderValue, pattern_limit}
+use Rattle.literal_prefilters.specs.PrefilterBuilderValue.{PrefilterBuilderValue, prefilter_limit}
 use Rattle.literal_prefilters.specs.PrefilterValue.{PrefilterValue, by_table, by_pattern, by_search}
 
 -- what a caller sees of a `Prefilter`, whichever of the eight kinds it is
@@ -36,7 +36,7 @@ builder_value b = record {
 -- are in order, and the running state is that of the patterns
 pub record IsSound (b : Inside) : Type 0 where
   pub emptied : b.enabled ≡ false → b.patterns.patterns ≡ []
-  pub allowed : state_of pattern_limit b.patterns.patterns ≡ Some b.patterns.patterns
+  pub allowed : state_of prefilter_limit b.patterns.patterns ≡ Some b.patterns.patterns
   pub first : b.patterns.kind ≡ LeftmostFirst
   pub in_order : IsInOrder b.patterns
   pub running : IsRunning b.ascii_case_insensitive b.patterns.patterns b.running

@@ -3,25 +3,11 @@ use Rattle.std.specs.Prelude.{◌≡◌, ◌<◌, ◌≤◌, ℕ, Bool, false, n
 use Rattle.std.specs.Prelude.{slice_index, if◌then◌else◌}
 use Rattle.std.specs.List.{list_all, take_while}
 use Rattle.literal_base.specs.Bytes.{contains}
-use Rattle.literal_prefilters.specs.declared.prefilter.running.Came.{Came}
-use Rattle.literal_prefilters.specs.declared.prefilter.running.Came.TheVariants.{Nothing, One, Several}
 use Rattle.literal_prefilters.specs.declared.prefilter.running.Running.{Running}
 use Rattle.literal_prefilters.specs.declared.prefilter.running.RunningRare.{RunningRare}
 use Rattle.literal_prefilters.specs.declared.prefilter.running.RunningStart.{RunningStart}
 use Rattle.literal_prefilters.specs.Table.{size}
 use Rattle.literal_prefilters.specs.Tables.{of_set, is_start_byte, is_rare_byte, largest_offset}
-
--- whether no pattern came, one, or several
-abbrev pub came_of : List (List ℕ) → Came
-came_of [] = Nothing
-came_of (pattern ∷ []) = One
-came_of (first ∷ second ∷ patterns) = Several
-
--- one pattern more came
-abbrev pub one_more : Came → Came
-one_more Nothing = One
-one_more One = Several
-one_more Several = Several
 
 -- no pattern is longer than a rare table allows
 abbrev pub are_short : List (List ℕ) → Bool
@@ -67,13 +53,11 @@ pub record IsRunningRare (ignore_case : Bool) (patterns : List (List ℕ)) (rare
 
 -- what is kept of the patterns
 pub record IsRunning (ignore_case : Bool) (patterns : List (List ℕ)) (running : Running) : Type 0 where
-  pub came : running.came ≡ came_of patterns
   pub start : IsRunningStart ignore_case patterns running.start
   pub rare : IsRunningRare ignore_case patterns running.rare
 
--- two states are the same: what came, the same bytes, and the same offsets
+-- two states are the same: the same bytes, and the same offsets
 pub record AreSame (a b : Running) : Type 0 where
-  pub came : a.came ≡ b.came
   pub start : (byte : ℕ) → contains a.start.set byte ≡ contains b.start.set byte
   pub long : a.rare.has_long ≡ b.rare.has_long
   pub rare : (byte : ℕ) → contains a.rare.set byte ≡ contains b.rare.set byte

@@ -5,7 +5,7 @@ ghost use Rattle.literal_base.specs.Bytes.{contains};
 ghost use Rattle.literal_base.specs.Occurs.{IsValidSpan};
 ghost use Rattle.literal_prefilters.specs.Kinds.{CoversAll, IsStep};
 ghost use Rattle.literal_prefilters.specs.Sound.{PassesOverNone, KeepsReach};
-ghost use Rattle.literal_prefilters.specs.Table.{Covers, size, rank_sum_of, distance_of, reach_of, first};
+ghost use Rattle.literal_prefilters.specs.Table.{Covers, size, rank_sum_of, distance_of, reach_of, first_place};
 ghost use Rattle.literal_prefilters.specs.Table.{bytes_scanned};
 ghost use Rattle.literal_prefilters.specs.Tables.{if_low, if_small, of_set, start_table, rare_table, table_of};
 
@@ -159,7 +159,7 @@ impl ByteTable {
     /// whole span where there is none.
     pub fn scan(&self, haystack: &[u8], span: Span, tally: &mut Tally) -> Option<usize>
         requires { IsValidSpan haystack.now span }
-        ensures place { result ≡ first self.now haystack.now span }
+        ensures place { result ≡ first_place self.now haystack.now span }
         ensures scanned { tally.new ≡ record tally.old { scanned = tally.old.scanned + bytes_scanned span result } }
     {
         let found = self.find(haystack, span, tally)?;
@@ -169,7 +169,7 @@ impl ByteTable {
     /// The first place of the span whose byte is in the table, with the byte's distance.
     pub(super) fn find(&self, haystack: &[u8], span: Span, tally: &mut Tally) -> Option<TableByte>
         requires { IsValidSpan haystack.now span }
-        ensures place { option_map (λ f. f.place) result ≡ first self.now haystack.now span }
+        ensures place { option_map (λ f. f.place) result ≡ first_place self.now haystack.now span }
         ensures distance { IfSome result (λ f. distance_of self.now (slice_index haystack.now f.place)
             ≡ Some f.distance) }
         ensures scanned { tally.new ≡ record tally.old

@@ -10,20 +10,22 @@ ghost use Rattle.literal_packed.specs.PatternsValue.{IsInOrder, query_of};
 ghost use Rattle.literal_prefilters.specs.Confirming.{SpendsConfirming, answer_end, compared_at};
 ghost use Rattle.literal_prefilters.specs.Confirming.{RefusesList, answers_of, counts_after_answers};
 ghost use Rattle.literal_prefilters.specs.Confirming.{counts_after_confirming, counts_after_tries};
-ghost use Rattle.literal_prefilters.specs.PrefilterValue.{CoveredBy, prefilter_table};
+ghost use Rattle.literal_prefilters.specs.PrefilterValue.{CoveredBy, by_table, prefilter_table};
 ghost use Rattle.literal_packed.specs.Lending.{CanBeTaken};
-ghost use Rattle.literal_prefilters.specs.Choice.{pick};
+ghost use Rattle.literal_prefilters.specs.Choice.{IsBuiltFor, pick};
 ghost use Rattle.literal_base.specs.Kinds.{root_kind_of};
-ghost use Rattle.literal_prefilters.specs.ConfirmingValue.{BuildsConfirming, RefusesConfirming, confirming_of};
-ghost use Rattle.literal_prefilters.specs.Inside.Confirming.{IsKept, read_to};
-ghost use Rattle.literal_prefilters.specs.Table.{Covers, distance_of, first};
+ghost use Rattle.literal_prefilters.specs.ConfirmingValue.{BuildsConfirming, RefusesConfirming};
+ghost use Rattle.literal_prefilters.specs.ConfirmingValue.{confirming_by, confirming_of};
+ghost use Rattle.literal_prefilters.specs.Inside.Confirming.{IsReady, IsKept, read_to, value_of_way};
+ghost use Rattle.literal_prefilters.specs.Table.{Covers, distance_of, first_place};
 
 use super::byte_table::TableByte;
-use crate::prefilter::{Builder, ByteTable, Candidate, Prefilter, PrefilterI};
+use crate::prefilter::{Builder, ByteTable, Candidate, Finder, Memmem, Prefilter, PrefilterI};
 use literal_base::count::Tally;
 use literal_base::packed;
 use literal_base::search::{Match, MatchKind, Span};
 use literal_ids::PatternID;
+use literal_packed::Searcher;
 use literal_packed::pattern::Patterns;
 use std::alloc::{AllocError, Global};
 use std::marker::Model;
@@ -94,7 +96,7 @@ pub fn confirm<P: PrefilterI>(
         + P.reach pre.now * (tally.new.tried - tally.old.tried) }
 {
     let mut from = span.start;
-    'asks: loop {
+    loop {
         let rest = Span {
             start: from,
             end: span.end,
@@ -126,7 +128,7 @@ fn next_byte(
 ) -> Option<TableByte>
     requires valid { IsValidSpan haystack.now rest }
     requires kept { IsKept table.now haystack.now start rest.start rest.end kept }
-    ensures place { option_map (λ f. f.place) result ≡ first table.now haystack.now rest }
+    ensures place { option_map (λ f. f.place) result ≡ first_place table.now haystack.now rest }
     ensures distance { IfSome result (λ f. distance_of table.now (slice_index haystack.now f.place) ≡ Some f.distance) }
     ensures scanned { tally.new ≡ record tally.old
         { scanned = tally.old.scanned + (read_to rest.end result - read_to start kept) } }
@@ -153,6 +155,8 @@ fn confirm_by_table(
     ensures leftmost { IsLeftmost (query_of patterns.now) ignore_case haystack.now span result }
     ensures counted { tally.new
         ≡ counts_after_tries tally.old table.now (query_of patterns.now) haystack.now span result }
+
+    // What follows of the counts for whoever adds up searches.
     ensures within { tally.new.scanned ≤ tally.old.scanned + (answer_end span result - span.start) }
     ensures compared { tally.new.compared ≤ tally.old.compared
         + (tally.new.tried - tally.old.tried) * length patterns.now.patterns }
@@ -195,9 +199,24 @@ fn confirm_by_table(
 #[derive(Drop)]
 pub struct ConfirmingSearch {
     alloc: Global,
+    way: Way,
+}
+
+/// How a confirming search goes. An exact prefilter answers the match itself, and holds the patterns.
+#[derive(Drop)]
+enum Way {
+    /// By one pattern. The kind of match makes no difference to it, and contracts alone see the kind.
+    Pattern(Memmem, packed::MatchKind),
+    Packed(Searcher),
+    Table(Tries),
+}
+
+/// A table, and the patterns that are tried where it proposes a place.
+#[derive(Drop)]
+struct Tries {
+    table: ByteTable,
     patterns: Patterns,
     ignore_case: bool,
-    prefilter: Prefilter,
 }
 
 impl Model for ConfirmingSearch {
@@ -205,12 +224,56 @@ impl Model for ConfirmingSearch {
 
     ghost Value = { ConfirmingValue };
 
-    ghost use Rattle.literal_packed.specs.PatternsValue.{IsInOrder, query_of};
-    ghost use Rattle.literal_prefilters.specs.PrefilterValue.{CoveredBy};
+    ghost use Rattle.literal_prefilters.specs.Inside.Confirming.{IsReady, value_of_way};
 
-    ghost view = { λ s. record { query = query_of s.patterns; ignore_case = s.ignore_case; prefilter = s.prefilter } };
+    ghost view = { λ s. value_of_way s.way };
 
-    ghost invariant = { λ s. IsInOrder s.patterns × CoveredBy s.prefilter (query_of s.patterns) s.ignore_case };
+    ghost invariant = { λ s. IsReady s.way };
+}
+
+impl Way {
+    /// The way of a search by the prefilter of a builder, which is for the match kind of this name.
+    fn of(
+        prefilter: Prefilter,
+        builder: Builder,
+        kind: packed::MatchKind,
+    ) -> Result<Way, AllocError>
+        requires kind { builder.kind ≡ root_kind_of kind }
+        requires built { IsBuiltFor builder prefilter }
+        ensures value { IfOk result (λ way. value_of_way way ≡ confirming_by kind builder prefilter) }
+        ensures keeps { IfOk result IsReady }
+    {
+        match prefilter.finder {
+            Finder::Memmem(memmem) => Ok(Way::Pattern(memmem, kind)),
+            Finder::Packed(packed) => Ok(Way::Packed(packed.searcher)),
+            Finder::StartBytesOne(pre) => Way::by_table(pre.0, builder, kind),
+            Finder::StartBytesTwo(pre) => Way::by_table(pre.0, builder, kind),
+            Finder::StartBytesThree(pre) => Way::by_table(pre.0, builder, kind),
+            Finder::RareBytesOne(pre) => Way::by_table(pre.0, builder, kind),
+            Finder::RareBytesTwo(pre) => Way::by_table(pre.0, builder, kind),
+            Finder::RareBytesThree(pre) => Way::by_table(pre.0, builder, kind),
+        }
+    }
+
+    /// By a table, and by the patterns of the builder in the order of the kind.
+    fn by_table(
+        table: ByteTable,
+        builder: Builder,
+        kind: packed::MatchKind,
+    ) -> Result<Way, AllocError>
+        requires kind { builder.kind ≡ root_kind_of kind }
+        requires built { IsBuiltFor builder (by_table table) }
+        ensures value { IfOk result (λ way. value_of_way way ≡ confirming_by kind builder (by_table table)) }
+        ensures keeps { IfOk result IsReady }
+    {
+        let ignore_case = builder.ascii_case_insensitive;
+        let patterns = builder.into_patterns(kind)?;
+        Ok(Way::Table(Tries {
+            table,
+            patterns,
+            ignore_case,
+        }))
+    }
 }
 
 impl ConfirmingSearch {
@@ -252,14 +315,8 @@ impl ConfirmingSearch {
             return Ok(None);
         };
         let alloc = builder.alloc;
-        let ignore_case = builder.ascii_case_insensitive;
-        let patterns = builder.into_patterns(kind)?;
-        Ok(Some(ConfirmingSearch {
-            alloc,
-            patterns,
-            ignore_case,
-            prefilter,
-        }))
+        let way = Way::of(prefilter, builder, kind)?;
+        Ok(Some(ConfirmingSearch { alloc, way }))
     }
 
     /// The leftmost match in a span of the haystack, which has to be a valid span of it: as
@@ -286,22 +343,13 @@ impl ConfirmingSearch {
             + (tally.new.tried - tally.old.tried) * length self.now.query.patterns) }
         ensures within { tally.new.scanned ≤ tally.old.scanned + (answer_end span result - span.start) }
     {
-        match self.prefilter.table() {
-            Some(table) => {
-                confirm_by_table(
-                    table,
-                    &self.patterns,
-                    self.ignore_case,
-                    haystack,
-                    span,
-                    tally,
-                )
+        match &self.way {
+            Way::Pattern(memmem, _) => memmem.find(haystack, span, tally),
+            Way::Packed(searcher) => searcher.find_in_counted(haystack, span, tally),
+            Way::Table(tries) => {
+                let (patterns, ignore_case) = (&tries.patterns, tries.ignore_case);
+                confirm_by_table(&tries.table, patterns, ignore_case, haystack, span, tally)
             }
-            // An exact prefilter answers the match itself.
-            None => self
-                .prefilter
-                .find_in_counted(haystack, span, tally)
-                .into_match(),
         }
     }
 
@@ -321,7 +369,7 @@ impl ConfirmingSearch {
         ensures counted { SpendsConfirming self.now.prefilter self.now.query.patterns haystack.now
             tally.old tally.new }
     {
-        self.covers_its_patterns();
+        self.covers_its_patterns(); // (for the proof alone)
         let mut all = Vec::new(self.alloc);
         let mut rest = Span {
             start: 0,
@@ -334,12 +382,13 @@ impl ConfirmingSearch {
         Ok(all)
     }
 
-    /// The prefilter covers the patterns, none of which is empty.
+    /// The prefilter covers the patterns, none of which is empty: what every value keeps, for the law that says
+    /// so and for proofs.
     pub(crate) fn covers_its_patterns(&self)
         ensures covered { CoveredBy self.now.prefilter self.now.query self.now.ignore_case }
         ensures not_empty { NoneIsEmpty self.now.query.patterns }
     {
-        let _ = self.patterns.len(); // (its contract says that no pattern is empty)
+        let _ = &self.way; // (a read, after which the proof has what the fields keep)
     }
 }
 

@@ -70,7 +70,7 @@ impl Memmem {
     }
 
     /// The first place in the span where the pattern occurs whole.
-    fn find(&self, haystack: &[u8], span: Span, tally: &mut Tally) -> Option<Match>
+    pub(super) fn find(&self, haystack: &[u8], span: Span, tally: &mut Tally) -> Option<Match>
         requires { IsValidSpan haystack.now span }
         ensures leftmost { IsLeftmost (query_of_one self.now) false haystack.now span result }
         ensures exact { tally.new ≡ counts_after tally.old (query_of_one self.now) haystack.now span result }
@@ -103,7 +103,7 @@ impl PrefilterI for Memmem {
 /// Finds some patterns, by a packed search. Contracts see what is searched for.
 #[derive(Drop)]
 pub struct Packed {
-    searcher: Searcher,
+    pub(super) searcher: Searcher,
 }
 
 impl Model for Packed {

@@ -1,8 +1,7 @@
 //! What a builder keeps of its patterns beside them, so that it makes their tables without a walk over
 //! the list.
-ghost use Rattle.std.specs.Prelude.{◌≡◌, ◌==◌, ◌<◌, ◌≤◌, ◌++◌, ◌∷◌, [], ℕ, Bool, List, length, slice_index};
+ghost use Rattle.std.specs.Prelude.{◌≡◌, ◌<◌, ◌≤◌, ◌++◌, ◌∷◌, [], ℕ, Bool, List, length, slice_index};
 ghost use Rattle.literal_prefilters.specs.Inside.Running.{AreSame, IsRunning, IsRunningRare, IsRunningStart};
-ghost use Rattle.literal_prefilters.specs.Inside.Running.{came_of, one_more};
 ghost use Rattle.literal_prefilters.specs.Tables.{start_table, rare_table};
 
 use super::ByteTable;
@@ -12,7 +11,6 @@ use super::tables::{LONGEST, add_rarest, add_start, raise_all};
 /// What is kept of the patterns so far.
 #[derive(Drop)]
 pub(super) struct Running {
-    came: Came,
     start: RunningStart,
     rare: RunningRare,
 }
@@ -23,7 +21,6 @@ impl Running {
         ensures { (ignore_case : Bool) → IsRunning ignore_case [] result }
     {
         Running {
-            came: Came::Nothing,
             start: RunningStart::new(),
             rare: RunningRare::new(),
         }
@@ -35,31 +32,8 @@ impl Running {
         ensures { (patterns : List (List ℕ)) → IsRunning ignore_case patterns self.old
             → IsRunning ignore_case (patterns ++ pattern.now ∷ []) self.new }
     {
-        self.came = self.came.one_more();
         self.start.add(pattern, ignore_case);
         self.rare.add(pattern, ignore_case);
-    }
-
-    /// No pattern came.
-    pub(super) fn is_empty(&self) -> bool
-        ensures { (ignore_case : Bool) (patterns : List (List ℕ)) → IsRunning ignore_case patterns self.now
-            → result ≡ (length patterns == 0) }
-    {
-        match self.came {
-            Came::Nothing => true,
-            Came::One | Came::Several => false,
-        }
-    }
-
-    /// Just one pattern came.
-    pub(super) fn is_one(&self) -> bool
-        ensures { (ignore_case : Bool) (patterns : List (List ℕ)) → IsRunning ignore_case patterns self.now
-            → result ≡ (length patterns == 1) }
-    {
-        match self.came {
-            Came::One => true,
-            Came::Nothing | Came::Several => false,
-        }
     }
 
     /// The start table of the patterns.
@@ -88,25 +62,6 @@ pub(super) fn patterns_determine_what_is_kept()
         → IsRunning ignore_case patterns b
         → AreSame a b }
 {}
-
-/// How many patterns came.
-#[derive(Clone, Copy, Drop)]
-enum Came {
-    Nothing,
-    One,
-    Several,
-}
-
-impl Came {
-    fn one_more(self) -> Came
-        ensures { result ≡ one_more self }
-    {
-        match self {
-            Came::Nothing => Came::One,
-            Came::One | Came::Several => Came::Several,
-        }
-    }
-}
 
 /// The bytes with which patterns begin. Once they are too many for a table no more are added.
 #[derive(Drop)]

@@ -26,7 +26,7 @@ pub packed_of : (kind : MatchKind) (words : List (Bor (List ℕ))) (builder : Bu
 packed_of kind words builder n can all is =
     ap searcher_of (is ∙ ap (λ ws. builder_of (record default_config { kind = kind }) (bytes_of_all ws))
     (take_all n words all))
-    ∙ builds_if (record default_config { kind = kind }) (bytes_of_all words) can.some can.few can.not_empty
+    ∙ builds_if (record default_config { kind = kind }) (bytes_of_all words) can
 
 -- each of the words has a byte
 pub has_a_byte : (words : List (Bor (List ℕ))) (i : ℕ) (d : Bor (List ℕ)) → CanBeSearched (bytes_of_all words)
@@ -71,9 +71,8 @@ module _ (kept all : List (List ℕ)) (suits : Bool) (is_kept : suits ≡ true)
 
   pub kept_can : 0 < length kept → CanBeSearched kept
   kept_can some =
-      let limits = builds_only_if default_config all
-      (subst (λ state. 0 < length (kept_of state)) some_kept some) in
-      subst CanBeSearched (sym kept_is_all) (record { some = limits.0; few = limits.1; not_empty = limits.2 })
+      subst CanBeSearched (sym kept_is_all)
+      (builds_only_if default_config all (subst (λ state. 0 < length (kept_of state)) some_kept some))
 
   pub kept_is_searched : (kind : MatchKind) (ignore_case : Bool) → 0 < length kept
       → Some (search_for kind ignore_case kept) ≡ search_of kind ignore_case all

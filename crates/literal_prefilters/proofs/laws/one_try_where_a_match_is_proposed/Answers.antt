@@ -8,34 +8,34 @@ use Rattle.literal_base.specs.declared.search.Span.{Span}
 use Rattle.literal_base.specs.Bytes.{by_byte}
 use Rattle.literal_base.specs.MatchValue.{MatchValue}
 use Rattle.literal_base.specs.Occurs.{IsValidSpan, between}
-use Rattle.literal_prefilters.specs.Confirming.{scanned_once, tried_places}
-use Rattle.literal_prefilters.specs.Near.{is_near, near_count}
-use Rattle.literal_prefilters.specs.Table.{IsFirst, distance_of, first, is_in, step_back}
+use Rattle.literal_prefilters.specs.Confirming.{scanned_once, tried_count}
+use Rattle.literal_prefilters.specs.Reached.{is_reached, reached_count}
+use Rattle.literal_prefilters.specs.Table.{IsFirst, distance_of, first_place, is_in, step_back}
 use Rattle.literal_prefilters.specs.Tables.{table_of}
 use Rattle.literal_prefilters.proofs.lemmas.Callers.{first_is, is_first_from}
-use Rattle.literal_prefilters.proofs.lemmas.Near.{first_later, near_count-tried, valid_rest}
+use Rattle.literal_prefilters.proofs.lemmas.Reached.{first_later, reached_count-tried, valid_rest}
 use Rattle.literal_prefilters.proofs.laws.one_try_where_a_match_is_proposed.Goals as goal
 
 -- by the first place of the table
 one_try : (table : List (Option ℕ)) (haystack : List ℕ) (span : Span) (place : ℕ) (found : MatchValue)
     → IsValidSpan haystack span → IsFirst table haystack span place
     → step_back table haystack span.start place ≡ found.start
-    → (tried_places table haystack span (Some found) ≡ 1)
+    → (tried_count table haystack span (Some found) ≡ 1)
     × (scanned_once table haystack span (Some found) ≡ place + 1 - span.start)
 one_try table haystack span place found valid f e =
     let none : span.start - span.start ≡ 0 = omega arith in
-    let empty : near_count table haystack span span.start ≡ 0 =
-    ap (λ k. count_by (is_near table haystack span.end) (range_with_len span.start k)) none in
-    let tried : near_count table haystack span (step_back table haystack span.start place + 1)
-    ≡ near_count table haystack span span.start + 1 =
-    near_count-tried table haystack span valid span.start place (omega arith) f in
+    let empty : reached_count table haystack span span.start ≡ 0 =
+    ap (λ k. count_by (is_reached table haystack span.end) (range_with_len span.start k)) none in
+    let tried : reached_count table haystack span (step_back table haystack span.start place + 1)
+    ≡ reached_count table haystack span span.start + 1 =
+    reached_count-tried table haystack span valid span.start place (omega arith) f in
     let from : span.start ≤ found.start = omega (arith, e) in
     let to : found.start ≤ place = omega (arith, e, f.after_start) in
-    let again : first table haystack (between found.start span.end) ≡ Some place =
+    let again : first_place table haystack (between found.start span.end) ≡ Some place =
     first_is table haystack (between found.start span.end)
     (valid_rest table haystack span valid found.start (omega (arith, f.before_end))) place
     (first_later table haystack span valid span.start place found.start f from to) in (
-      ap (λ s. near_count table haystack span (s + 1)) (sym e) ∙ omega (arith, tried, empty),
+      ap (λ s. reached_count table haystack span (s + 1)) (sym e) ∙ omega (arith, tried, empty),
       ap (λ o. unwrap_or o 0 + 1 - span.start) again,
     )
 

@@ -1,26 +1,27 @@
-use Rattle.std.proofs.Common.{◌≡◌, ◌∙◌, Global, List, ℕ, Option, length, map, sym, ap, string_bytes, rules, vec_len}
-use Rattle.std.specs.Borrow.{Bor}
-use Rattle.std.specs.Iterator.{Drains}
-use Rattle.std.proofs.lemmas.List.{map-id, take_all}
+use Rattle.std.proofs.Common.{◌∙◌, map, rules, ap, refl, string_bytes}
+use Rattle.std.specs.Iterator.Adapters.{map_source, map_callee}
+use Rattle.std.specs.Slice.Iter.{iter_rest}
+use Rattle.std.proofs.lemmas.Iterator.{YieldsList-from_map_by, YieldsList-from_slice, items_from_drains}
 use Rattle.std.proofs.lemmas.Result.{IfOk-weaker}
-use Rattle.std.proofs.lemmas.Iterator.{YieldsList, items_from_drains}
-use Rattle.std.proofs.lemmas.Iterator.Adapters.{YieldsList-from_vec}
 use Rattle.literal_prefilters.specs.ConfirmingValue.{confirming_of, prefilter_builder}
+use Rattle.literal_prefilters.proofs.lemmas.Callers.{confirms_for}
 use Rattle.litfind.proofs.engine.build_confirming.Goals as goal
 
--- an iterator that was drained gave its list
-drained_list : {S A : Type 0} {steps : S → Option A → S → Type 0} {it : S} {xs all : List A} → Drains steps it xs
-    → YieldsList steps (λ x. x) it all → xs ≡ all
-drained_list {xs = xs} d gives = sym (map-id xs) ∙ items_from_drains xs (d.1.0, d.1.1, λ _. (d.0, d.1.2)) gives
-
-pub returns : goal.returns
-returns c =
-    let all = c.loop-pattern.bytes.items in
+pub returns-clause-built : goal.returns-clause-built
+returns-clause-built c =
+    let kind = c.args.kind in
+    let ignore_case = c.args.ignore_case in
     IfOk-weaker c.build.result _ _
-    (λ built b.
-    let long : length all ≡ vec_len c.loop-pattern.bytes = search rules in
-    let items : b.1 ≡ all = drained_list b.3 (YieldsList-from_vec {Z = Global} all b.2.0 (b.2.1 ∙ sym long)) in
-    b.4 ∙ ap (λ added. confirming_of c.args.kind (prefilter_builder c.args.kind c.args.ignore_case added))
-    (ap (map (λ (p : Bor (List ℕ)). p.now)) items ∙ (c.loop-pattern.invariant
-    ∙ ap (map string_bytes) (take_all c.loop-pattern.pattern-index c.args.patterns.now c.loop-pattern-test.false))))
+    (λ built builds.
+    let texts = items_from_drains builds.1 (builds.3.1.0, builds.3.1.1, λ _. (builds.3.0, builds.3.1.2))
+    (YieldsList-from_map_by _ (λ r. r.now) string_bytes
+    (YieldsList-from_slice {s = map_source builds.0} c.args.patterns.now
+    (ap (λ m. iter_rest (map_source m)) builds.2 ∙ (ap iter_rest c.map-bytes.ensures.source ∙ c.iter.ensures.rest)))
+    (ap map_callee builds.2 ∙ c.map-bytes.ensures.closure) (λ x r q called. (refl, search rules))) in
+    builds.4 ∙ ap (λ added. confirming_of kind (prefilter_builder kind ignore_case added)) texts)
     c.build.ensures.ok
+
+pub returns-clause-for_these : goal.returns-clause-for_these
+returns-clause-for_these c =
+    IfOk-weaker c.build.result _ _ (confirms_for c.args.kind c.args.ignore_case (map string_bytes c.args.patterns.now))
+    (returns-clause-built c)

@@ -34,7 +34,7 @@ use Rattle.std.specs.declared.alloc.AllocError.{AllocError}
 use Rattle.std.specs.contracts.alloc.AllocError.{the_row as E}
 use Rattle.std.proofs.alloc.AllocError.TheLaws.{the_row_laws as refusal_laws}
 use Rattle.literal_packed.specs.BuilderValue.{BuilderValue}
-use Rattle.literal_packed.specs.Lending.{LentRestsAtErr, HoldsAll, HoldsTaken}
+use Rattle.literal_packed.specs.Lending.{LentHoldsAfterErr, HoldsAll, HoldsTaken}
 use Rattle.literal_packed.specs.declared.api.Lent.{Lent}
 use Rattle.literal_packed.specs.contracts.api.Builder.{the_row as R}
 use Rattle.literal_packed.specs.contracts.api.Lent.{the_row as lent_row}
@@ -85,7 +85,7 @@ extend_spec 𝓤 𝓛 𝓜 𝓡 wired I T LI LT gi di gt dt dd P mi mt md =
     (and_then ! (get ! refl) (and_then ! (get ! refl) (no_more !))) (λ v.
     use1 𝓛 (later (some (λ (r : Result Lent AllocError). ((κ ⊛ others) ⊛ ‵ (X.own_val r (v ∷ [])))
     ⊛ some (λ (ws : Lasts (g.ended I T gi di gt dt dd P) κs a). ‵ (lasts (g.ended I T gi di gt dt dd P) κs a ws) ⊛ ‵
-    (LentRestsAtErr Taken a.0 r) ⊛ raw (fact 𝓤 (IfOk r (λ x. Named x.builder))) ⊛ raw
+    (LentHoldsAfterErr Taken a.0 r) ⊛ raw (fact 𝓤 (IfOk r (λ x. Named x.builder))) ⊛ raw
     (fact 𝓤 (IfOk r (λ x. Added x.builder))))))) (id⊢ 𝓤 _) $
     await ! tt $ pick ! (λ r. split ! $ split ! $ split ! $
     -- [the token; the others; the first answer; what the first call ensures]

@@ -1,6 +1,8 @@
 use Rattle.std.proofs.Common.{◌∙◌, Some, None, true, false, sym, ap, subst}
 use Rattle.std.specs.Option.{option_copied}
-use Rattle.literal_prefilters.proofs.lemmas.Choice.{IsByTables, tables_of, pick_short, pick_start, pick_last}
+use Rattle.literal_base.specs.Occurs.{pattern_at}
+use Rattle.literal_prefilters.proofs.lemmas.Choice.{IsByTables, covers_one, kept_of_list, tables_of, pick_short}
+use Rattle.literal_prefilters.proofs.lemmas.Choice.{pick_start, pick_last}
 use Rattle.literal_prefilters.proofs.prefilter.Builder.build.Goals as goal
 
 pub packed-requires-clause-picked : goal.packed-requires-clause-picked
@@ -36,3 +38,9 @@ returns-in-Some-None-clause-pick c =
     ap Some c.start.ensures ∙ sym (pick_start c.args.self.now c.in-Some-None.start
     (subst (λ s. IsByTables c.args.self.now s None false) c.in-Some-None.is-0
     (subst (λ r. IsByTables c.args.self.now start r false) c.in-Some-None.is-1 at)))
+
+pub returns-then-is_one_pattern-clause-covers : goal.returns-then-is_one_pattern-clause-covers
+returns-then-is_one_pattern-clause-covers c kind serves =
+    covers_one c.args.self.now kind c.in_ok-memmem.memmem (sym c.is_one_pattern.ensures ∙ c.if-is_one_pattern.true)
+    (c.in_ok-memmem.ensures ∙ ap (λ ps. pattern_at ps 0)
+    (sym (kept_of_list c.self.inside c.args.self.now c.self.invariant c.self.view_is)))

@@ -15,15 +15,15 @@ returns-in-Some-clause-leftmost g c =
     let s = c.in-PossibleStartOfMatch.start in
     let possible = c.in-PossibleStartOfMatch.ensures.sound.each (query_of c.args.patterns.now) ic c.requires.covered in
     let after = possible.after_start in
-    let from = c.asks.invariant.after_start in
-    let before = none_before_possible ps ic h span c.asks.from s c.asks.invariant.none possible in
+    let from = c.loop-found.invariant.after_start in
+    let before = none_before_possible ps ic h span c.loop-found.from s c.loop-found.invariant.none possible in
     let found : ℕ → MatchValue = λ n. record { pattern = c.in-Some.id; start = s; end = s + n } in
     subst (IsLeftmostMatch (query_of c.args.patterns.now) ic h span)
     (sym (c.new.ensures ∙ ap found (c.len.ensures ∙ ap length c.get.ensures.bytes)))
     (leftmost_here ps ic h span c.requires.valid kind s c.in-Some.id (omega arith) before c.in-Some.ensures.best)
 
-pub asks-preserved : goal.asks-preserved
-asks-preserved g c =
+pub loop-found-preserved : goal.loop-found-preserved
+loop-found-preserved g c =
     let ps = c.args.patterns.now.patterns in
     let kind = c.args.patterns.now.kind in
     let ic = c.args.ignore_case in
@@ -33,8 +33,8 @@ asks-preserved g c =
     let possible = c.in-PossibleStartOfMatch.ensures.sound.each (query_of c.args.patterns.now) ic c.requires.covered in
     let after = possible.after_start in
     let inside = possible.before_end in
-    let from = c.asks.invariant.after_start in
-    let before = none_before_possible ps ic h span c.asks.from s c.asks.invariant.none possible in
+    let from = c.loop-found.invariant.after_start in
+    let before = none_before_possible ps ic h span c.loop-found.from s c.loop-found.invariant.none possible in
     let d = g.P.PrefilterI.reach c.args.pre.now in
     let old = c.args.tally.now in
     let reach = c.in-PossibleStartOfMatch.ensures.reach in
@@ -44,11 +44,11 @@ asks-preserved g c =
     let ticked_scanned = ap (λ t. t.scanned) c.tick_tried.ensures in
     let best_tried = ap (λ t. t.tried) c.best_at.ensures.counted in
     let best_scanned = ap (λ t. t.scanned) c.best_at.ensures.counted in
-    let grows = c.asks.invariant.grows in
-    let tried = c.asks.invariant.tried in
-    let scanned = c.asks.invariant.scanned in
-    let one_more : c.best_at.new.tally.tried - old.tried ≡ (c.asks.tally.tried - old.tried) + 1 = omega arith in
-    let times : d * (c.best_at.new.tally.tried - old.tried) ≡ d * (c.asks.tally.tried - old.tried) + d = ap
+    let grows = c.loop-found.invariant.grows in
+    let tried = c.loop-found.invariant.tried in
+    let scanned = c.loop-found.invariant.scanned in
+    let one_more : c.best_at.new.tally.tried - old.tried ≡ (c.loop-found.tally.tried - old.tried) + 1 = omega arith in
+    let times : d * (c.best_at.new.tally.tried - old.tried) ≡ d * (c.loop-found.tally.tried - old.tried) + d = ap
     (λ n. d * n) one_more ∙ omega arith in
     record {
       after_start = omega arith;

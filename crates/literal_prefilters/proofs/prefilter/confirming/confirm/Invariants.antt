@@ -2,8 +2,8 @@ use Rattle.std.proofs.Common.{◌≤◌, ◌-◌, ◌+◌, ◌*◌}
 use Rattle.literal_prefilters.proofs.lemmas.Asks.{NoneBefore}
 use Rattle.literal_prefilters.proofs.prefilter.confirming.confirm.Given as goal
 
-abbrev pub invariant-asks : goal.invariant-asks
-invariant-asks g l = record {
+abbrev pub invariant-loop-found : goal.invariant-loop-found
+invariant-loop-found g l = record {
   after_start : l.span.start ≤ l.from;
   before_end : l.from ≤ l.span.end;
   none : NoneBefore l.patterns.patterns l.ignore_case l.haystack l.span l.from;
@@ -13,5 +13,5 @@ invariant-asks g l = record {
       (l.tally.tried - l.initial.tally.tried);
 }
 
-abbrev pub decreases-asks : goal.decreases-asks
-decreases-asks g l = l.span.end - l.from
+abbrev pub decreases-loop-found : goal.decreases-loop-found
+decreases-loop-found g l = l.span.end - l.from

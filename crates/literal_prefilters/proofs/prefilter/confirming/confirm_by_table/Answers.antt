@@ -6,14 +6,14 @@ use Rattle.literal_base.specs.MatchValue.{MatchValue}
 use Rattle.literal_base.specs.Leftmost.{IsLeftmostMatch}
 use Rattle.literal_base.specs.Occurs.{between}
 use Rattle.literal_prefilters.specs.Confirming.{compared_at, counts_after_tries}
-use Rattle.literal_prefilters.specs.Table.{first}
-use Rattle.literal_prefilters.specs.Near.{near_count}
+use Rattle.literal_prefilters.specs.Table.{first_place}
+use Rattle.literal_prefilters.specs.Reached.{reached_count}
 use Rattle.literal_prefilters.specs.Inside.Confirming.{read_to}
 use Rattle.literal_prefilters.proofs.lemmas.Callers.{are_bytes}
 use Rattle.literal_prefilters.proofs.lemmas.Callers.{free_from_first}
 use Rattle.literal_packed.specs.PatternsValue.{query_of}
 use Rattle.literal_prefilters.proofs.lemmas.Asks.{none_before_next, leftmost_here}
-use Rattle.literal_prefilters.proofs.lemmas.Near.{valid_rest, near_count-free}
+use Rattle.literal_prefilters.proofs.lemmas.Reached.{valid_rest, reached_count-free}
 use Rattle.literal_prefilters.proofs.lemmas.Spends.{scan_ends_in_match}
 use Rattle.literal_prefilters.proofs.lemmas.Tries.{compared_by_tries_at_most, counts_are, counts_of_try, one_try}
 use Rattle.literal_prefilters.proofs.lemmas.Tries.{none_before_tried, nothing_from_rest}
@@ -56,16 +56,16 @@ returns-in-Some-best_at-clause-counted c =
     let k = c.loop-found.invariant.kept in
     let y = one_try t h span c.requires.valid c.loop-found.at c.loop-found.kept found c.saturating_sub.result start k
     c.in-Some.ensures.place c.in-Some.ensures.distance c.saturating_sub.ensures c.max-start.ensures in
-    let scanned : ℕ = unwrap_or (first t h (between start span.end)) 0 + 1 - span.start in
-    let place : unwrap_or (first t h (between start span.end)) 0 ≡ found.place =
+    let scanned : ℕ = unwrap_or (first_place t h (between start span.end)) 0 + 1 - span.start in
+    let place : unwrap_or (first_place t h (between start span.end)) 0 ≡ found.place =
     ap (λ o. unwrap_or o 0) y.first_from_start in
     let last = compared_at query (Some c.in-Some-best_at.id) in
     subst (λ f. c.best_at.new.tally ≡ counts_after_tries c.args.tally.now t query h span (Some f)) (sym c.new.ensures)
     (counts_of_try c.args.tally.now c.loop-found.tally c.next_byte.new.tally c.tick_tried.new.self c.best_at.new.tally
-    (near_count t h span c.loop-found.at * n) (read_to span.start c.loop-found.kept - span.start)
-    (near_count t h span c.loop-found.at) (found.place + 1 - read_to span.start c.loop-found.kept)
-    last (near_count t h span start * n + last) scanned
-    (near_count t h span (start + 1)) c.loop-found.invariant.counts c.in-Some.ensures.scanned c.tick_tried.ensures
+    (reached_count t h span c.loop-found.at * n) (read_to span.start c.loop-found.kept - span.start)
+    (reached_count t h span c.loop-found.at) (found.place + 1 - read_to span.start c.loop-found.kept)
+    last (reached_count t h span start * n + last) scanned
+    (reached_count t h span (start + 1)) c.loop-found.invariant.counts c.in-Some.ensures.scanned c.tick_tried.ensures
     c.in-Some-best_at.ensures.counted (ap (λ m. m * n + last) (sym y.before))
     (omega (arith, place, k.after_start, k.behind, y.read)) (sym y.counted))
 
@@ -88,7 +88,7 @@ returns-in-Some-best_at-clause-compared c =
     c.saturating_sub.result c.max-start.result k c.in-Some.ensures.place c.in-Some.ensures.distance
     c.saturating_sub.ensures c.max-start.ensures in
     compared_by_tries_at_most c.args.tally.now c.best_at.new.tally t (query_of c.args.patterns.now) h span c.new.result
-    (subst (λ (f : MatchValue). near_count t h span (f.start + 1) ≡ near_count t h span f.start + 1)
+    (subst (λ (f : MatchValue). reached_count t h span (f.start + 1) ≡ reached_count t h span f.start + 1)
     (sym c.new.ensures) (y.counted ∙ ap (λ m. m + 1) (sym y.before)))
     (returns-in-Some-best_at-clause-counted c)
 
@@ -116,9 +116,9 @@ loop-found-preserved c =
       none_before = λ i s o. ⊎_elim (λ (early : s < start + 1). absurd (next i s early o))
           (λ (late : start + 1 ≤ s). late) (cases_lt s (start + 1));
       counts = counts_of_try c.args.tally.now c.loop-found.tally c.next_byte.new.tally c.tick_tried.new.self
-          c.best_at.new.tally (near_count t h span at * n) (read_to span.start c.loop-found.kept - span.start)
-          (near_count t h span at) (found.place + 1 - read_to span.start c.loop-found.kept) n
-          (near_count t h span (start + 1) * n) (found.place + 1 - span.start) (near_count t h span (start + 1))
+          c.best_at.new.tally (reached_count t h span at * n) (read_to span.start c.loop-found.kept - span.start)
+          (reached_count t h span at) (found.place + 1 - read_to span.start c.loop-found.kept) n
+          (reached_count t h span (start + 1) * n) (found.place + 1 - span.start) (reached_count t h span (start + 1))
           c.loop-found.invariant.counts c.in-Some.ensures.scanned c.tick_tried.ensures
           c.in_default-best_at.ensures.counted (rw y.counted (omega arith))
           (omega (arith, k.after_start, k.behind, y.read)) (sym y.counted);
@@ -149,7 +149,7 @@ returns-clause-counted c =
     let below : at ≤ span.end = omega (arith, k.behind, k.within) in
     let free = free_from_first t h (record { start = at; end = span.end })
     (valid_rest t h span c.requires.valid at below) (sym c.in_default.ensures.place) in
-    let count = near_count-free t h span c.requires.valid at k.after_start below free in
+    let count = reached_count-free t h span c.requires.valid at k.after_start below free in
     c.in_default.ensures.scanned
     ∙ (ap (λ (m : Counts). record m { scanned = m.scanned + (span.end - read_to span.start c.loop-found.kept) })
     c.loop-found.invariant.counts

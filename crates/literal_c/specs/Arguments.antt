@@ -1,0 +1,37 @@
+-- What C asks for, and what a status says of it.
+use Rattle.std.specs.Prelude.{◌≡◌, ◌⊎◌, ◌↔◌, ◌==◌, ℕ, ℤ, ◌≤◌, List, length, if◌then◌else◌}
+use Rattle.literal_base.specs.declared.packed.MatchKind.{MatchKind}
+use Rattle.literal_base.specs.declared.packed.MatchKind.TheVariants.{LeftmostFirst, LeftmostLongest}
+use Rattle.literal_base.specs.Query.{Query}
+use Rattle.literal_search.specs.SearchValue.{CanBeSearched}
+use Rattle.literal_c.specs.declared.TheConstants.{LITERAL_BAD_ARGUMENTS, LITERAL_LEFTMOST_FIRST}
+use Rattle.literal_c.specs.declared.TheConstants.{LITERAL_LEFTMOST_LONGEST}
+use Rattle.literal_c.specs.declared.TheConstants.{LITERAL_NONE, LITERAL_NO_SEARCHER, LITERAL_OK}
+use Rattle.literal_c.specs.declared.TheConstants.{LITERAL_OUT_OF_MEMORY}
+use Rattle.literal_c.specs.Pieces.{AreEnds, pieces}
+
+-- a number stands for a kind of match: 0 for `LeftmostFirst`, and 1 for `LeftmostLongest`
+abbrev pub IsKind : ℕ → Type 0
+IsKind number = number ≤ LITERAL_LEFTMOST_LONGEST
+
+-- the kind that a number stands for
+abbrev pub kind_of : ℕ → MatchKind
+kind_of number = if number == LITERAL_LEFTMOST_FIRST then LeftmostFirst else LeftmostLongest
+
+-- what is searched for: by the kind of a number, the pieces of a buffer
+abbrev pub argument_query : ℕ → List ℕ → List ℕ → Query
+argument_query kind patterns ends = record { kind = kind_of kind; patterns = pieces patterns 0 ends }
+
+-- the arguments agree: the number stands for a kind, and the buffer can be cut at the ends
+pub record Agree (kind : ℕ) (patterns ends : List ℕ) : Type 0 where
+  pub is_kind : IsKind kind
+  pub are_ends : AreEnds (length patterns) 0 ends
+
+-- what the status says of a call that has to search for the patterns: it is `LITERAL_BAD_ARGUMENTS` exactly if the
+-- arguments do not agree, `LITERAL_NO_SEARCHER` exactly if they agree and the patterns can't be searched for, and one
+-- of the other three exactly if they agree and the patterns can be searched for
+pub record IsStatus (agree : Type 0) (patterns : List (List ℕ)) (status : ℤ) : Type 0 where
+  pub bad_arguments : (status ≡ LITERAL_BAD_ARGUMENTS) ↔ ¬ agree
+  pub no_searcher : (status ≡ LITERAL_NO_SEARCHER) ↔ (agree × ¬ CanBeSearched patterns)
+  pub searched : ((status ≡ LITERAL_OK) ⊎ ((status ≡ LITERAL_NONE) ⊎ (status ≡ LITERAL_OUT_OF_MEMORY)))
+      ↔ (agree × CanBeSearched patterns)

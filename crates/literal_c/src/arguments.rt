@@ -1,0 +1,92 @@
+//! What C asks for: a kind of match by its number, and patterns.
+ghost use Rattle.std.specs.Prelude.{◌≡◌, ◌↔◌, IsTrue, MatchOption, MatchResult, length};
+ghost use Rattle.literal_search.specs.SearchValue.{CanBeSearched, search_for as search_value};
+ghost use Rattle.literal_c.specs.Arguments.{Agree, IsKind, kind_of};
+ghost use Rattle.literal_c.specs.Inside.Refusal.{IsRefused, status_of};
+ghost use Rattle.literal_c.specs.Pieces.{AreEnds, pieces};
+
+use crate::pieces::{Pieces, are_ends};
+use crate::{
+    LITERAL_BAD_ARGUMENTS, LITERAL_LEFTMOST_FIRST, LITERAL_LEFTMOST_LONGEST, LITERAL_NO_SEARCHER,
+    LITERAL_OUT_OF_MEMORY,
+};
+use literal_search::laws::lists_have_a_search;
+use literal_search::{MatchKind, Search};
+use std::alloc::Global;
+
+/// Why there is no search.
+#[derive(Clone, Copy)]
+pub enum Refusal {
+    /// The arguments contradict each other.
+    BadArguments,
+    /// The patterns can't be searched for.
+    NoSearcher,
+    /// A request for memory was refused.
+    OutOfMemory,
+}
+
+impl Refusal {
+    /// The status that stands for it.
+    pub fn status(self) -> i32
+        ensures { result ≡ status_of self }
+    {
+        match self {
+            Refusal::BadArguments => LITERAL_BAD_ARGUMENTS,
+            Refusal::NoSearcher => LITERAL_NO_SEARCHER,
+            Refusal::OutOfMemory => LITERAL_OUT_OF_MEMORY,
+        }
+    }
+}
+
+/// The kind of match that a number stands for, and `None` where it stands for none.
+fn match_kind(number: u32) -> Option<MatchKind>
+    ensures { MatchOption result (¬ IsKind number) (λ kind. IsKind number × (kind ≡ kind_of number)) }
+{
+    match number {
+        LITERAL_LEFTMOST_FIRST => Some(MatchKind::LeftmostFirst),
+        LITERAL_LEFTMOST_LONGEST => Some(MatchKind::LeftmostLongest),
+        _ => None,
+    }
+}
+
+/// The search that C asks for, or why there is none. Memory is asked for only where the patterns can be searched for.
+pub fn search_for(
+    alloc: Global,
+    kind: u32,
+    ignore_case: bool,
+    patterns: &[u8],
+    ends: &[usize],
+) -> Result<Search, Refusal>
+    ensures { MatchResult result
+        (λ search. Agree kind patterns.now ends.now × CanBeSearched (pieces patterns.now 0 ends.now)
+        × (search ≡ search_value (kind_of kind) ignore_case (pieces patterns.now 0 ends.now)))
+        (IsRefused (Agree kind patterns.now ends.now) (pieces patterns.now 0 ends.now)) }
+{
+    let Some(kind) = match_kind(kind) else {
+        return Err(Refusal::BadArguments);
+    };
+    if !are_ends(patterns.len(), ends) {
+        return Err(Refusal::BadArguments);
+    }
+    if !can_be_searched(patterns, ends) {
+        return Err(Refusal::NoSearcher);
+    }
+    lists_have_a_search();
+    match Search::new(alloc, kind, ignore_case, Pieces::new(patterns, ends)) {
+        Ok(built) => Ok(built.unwrap()),
+        Err(_) => Err(Refusal::OutOfMemory),
+    }
+}
+
+/// Whether the pieces of a buffer can be searched for.
+pub fn can_be_searched(patterns: &[u8], ends: &[usize]) -> bool
+    requires { AreEnds (length patterns.now) 0 ends.now }
+    ensures { IsTrue result ↔ CanBeSearched (pieces patterns.now 0 ends.now) }
+{
+    for pattern in Pieces::new(patterns, ends) {
+        if pattern.is_empty() {
+            return false;
+        }
+    }
+    1 <= ends.len() && ends.len() <= Search::PATTERN_LIMIT
+}

@@ -1,0 +1,98 @@
+//! Each part does what its reader expects.
+ghost use Rattle.std.specs.Prelude.{◌≤◌, IfOk, length};
+
+use literal_examples::frequencies::frequencies;
+use literal_examples::keywords::{find_from, is_clean};
+use literal_examples::replace::replace_all;
+use literal_examples::tokens::{Token, tokens};
+use literal_prefilters::packed::{Builder, Searcher};
+use literal_prefilters::{PatternID, Span};
+use std::alloc::Global;
+use std::test::Fail;
+
+#[tactic(auto, using(literal_packed::proofs::lemmas::Callers::added_two))]
+fn searcher(alloc: Global, a: &[u8], b: &[u8]) -> Result<Searcher, Fail>
+    ensures { IfOk result (λ s. length s.patterns ≤ 2) }
+{
+    let built = Builder::new(alloc).add(a)?.add(b)?.build()?;
+    Ok(built.ok_or("nothing is built")?)
+}
+
+const SENTENCE: &[u8] = b"Nobody likes maple in their apple flavored Snapple.";
+
+#[test]
+fn filters_lines(rt: HostRuntime) -> Result<(), Fail> {
+    let keywords = searcher(rt.alloc(), b"error", b"warning")?;
+    assert!(rt; is_clean(&keywords, b"all is well"));
+    assert!(rt; !is_clean(&keywords, b"a warning: too late"));
+    Ok(())
+}
+
+#[test]
+fn finds_from_an_offset_on(rt: HostRuntime) -> Result<(), Fail> {
+    let fruits = searcher(rt.alloc(), b"apple", b"maple")?;
+    let found = find_from(&fruits, SENTENCE, 14).map(|it| it.span());
+    assert!(rt; found == Some(Span { start: 28, end: 33 }));
+    assert!(rt; find_from(&fruits, SENTENCE, 46).is_none());
+    Ok(())
+}
+
+#[test]
+fn replaces_words(rt: HostRuntime) -> Result<(), Fail> {
+    let words = searcher(rt.alloc(), b"apple", b"maple")?;
+    let replacements: [&[u8]; 2] = [b"pear", b"oak"];
+    let text = replace_all(rt.alloc(), &words, SENTENCE, &replacements)?;
+    assert!(rt; text.as_slice() == b"Nobody likes oak in their pear flavored Snpear.".as_slice());
+    Ok(())
+}
+
+#[test]
+fn cuts_into_tokens(rt: HostRuntime) -> Result<(), Fail> {
+    let signs = searcher(rt.alloc(), b"==", b"=")?;
+    let all = tokens(rt.alloc(), &signs, b"a==b")?;
+    let (first, second, third) = (
+        Span { start: 0, end: 1 },
+        Span { start: 1, end: 3 },
+        Span { start: 3, end: 4 },
+    );
+    let wanted = [
+        Token {
+            span: first,
+            pattern: None,
+        },
+        Token {
+            span: second,
+            pattern: Some(PatternID::ZERO),
+        },
+        Token {
+            span: third,
+            pattern: None,
+        },
+    ];
+    assert!(rt; all.as_slice() == wanted.as_slice());
+    Ok(())
+}
+
+#[test]
+fn counts_words(rt: HostRuntime) -> Result<(), Fail> {
+    let words = searcher(rt.alloc(), b"to", b"be")?;
+    let counts = frequencies(rt.alloc(), &words, 2, b"to be, or not to be")?;
+    assert!(rt; counts.as_slice() == [2, 2].as_slice());
+    Ok(())
+}
+
+#[test]
+fn finds_three_words_in_turn(rt: HostRuntime) -> Result<(), Fail> {
+    let alloc = rt.alloc();
+    let built = Searcher::new(alloc, [b"apple".as_slice(), b"maple", b"Snapple"])?;
+    let searcher = built.ok_or("no searcher for these patterns")?;
+    let haystack = b"Nobody likes maple in their apple flavored Snapple.";
+    let first = searcher.find(haystack).map(|found| found.span());
+    assert!(rt; first == Some(Span { start: 13, end: 18 }));
+    let mut patterns = Vec::new(alloc);
+    for found in searcher.find_iter(haystack) {
+        patterns.push(found.pattern().as_usize())?;
+    }
+    assert!(rt; patterns.as_slice() == [1, 0, 2].as_slice());
+    Ok(())
+}
