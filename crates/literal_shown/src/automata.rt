@@ -128,12 +128,12 @@ fn finds_the_earliest_of_one(rt: HostRuntime) -> Result<(), Fail> {
 
 /// A prefilter that counts how often it is asked.
 #[derive(Drop)]
-struct Asked {
+struct AskCounter {
     prefilter: Prefilter,
     times: Cell<u32>,
 }
 
-impl PrefilterI for Asked {
+impl PrefilterI for AskCounter {
     ghost use Rattle.literal_prefilters.specs.PrefilterValue.{CoveredBy, IsCountedAnswer, prefilter_reach};
 
     ghost covers = { λ asked. CoveredBy asked.prefilter };
@@ -152,7 +152,7 @@ impl PrefilterI for Asked {
 #[test]
 fn asks_in_the_start_state(rt: HostRuntime) -> Result<(), Fail> {
     let (automaton, prefilter) = for_both(rt.alloc())?;
-    let asked = Asked {
+    let asked = AskCounter {
         prefilter,
         times: Cell::new(0),
     };

@@ -296,12 +296,12 @@ fn builds_nothing_without_a_prefilter(rt: HostRuntime) -> Result<(), Fail> {
 
 /// A prefilter that counts how often it is asked.
 #[derive(Drop)]
-struct Asked {
+struct AskCounter {
     prefilter: Prefilter,
     times: Cell<u32>,
 }
 
-impl PrefilterI for Asked {
+impl PrefilterI for AskCounter {
     ghost use Rattle.literal_prefilters.specs.PrefilterValue.{CoveredBy, IsCountedAnswer, prefilter_reach};
 
     ghost covers = { λ asked. CoveredBy asked.prefilter };
@@ -325,7 +325,7 @@ fn times_asked(covered: Covered, ignore_case: bool, haystack: &[u8], span: Span)
         patterns,
         prefilter,
     } = covered;
-    let asked = Asked {
+    let asked = AskCounter {
         prefilter,
         times: Cell::new(0),
     };
