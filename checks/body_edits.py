@@ -4,7 +4,7 @@ import re
 
 from rattle_source import functions_in
 
-LINE = re.compile(r"(file|in|old|new|breaks|shape):(?: (.*))?")
+LINE = re.compile(r"(edit|file|in|old|new|breaks|shape):(?: (.*))?")
 BREAKS = re.compile(r"(\S+)(?: of (\S+))?")
 
 
@@ -42,9 +42,17 @@ class Crate:
         return text
 
 
+def edits_in(path, crate):
+    """Returns the edits in a file: what stands before the first line `edit:` holds for each."""
+    head, *blocks = re.split(r"^(?=edit:)", path.read_text("utf-8"), flags=re.M)
+    module = "/".join(path.relative_to(crate.folder / "wrong-bodies").with_suffix("").parts)
+    return [Edit(module, head + block, crate) for block in blocks]
+
+
 class Edit:
     """An edit of a crate.
 
+    name        the file that it stands in, and its own name
     texts       each file that it changes, by path, as it makes it
     bodies      each body that it changes, by path and number in that file
     is_loose    whether it changes more than bodies, as a constant or a contract
@@ -54,12 +62,12 @@ class Edit:
     fault       why it cannot be applied, or an empty text
     """
 
-    def __init__(self, file, crate):
-        self.name = "/".join(file.relative_to(crate.folder).parts[1:])
+    def __init__(self, module, lines, crate):
+        self.name = module
         self.texts, self.bodies, self.functions = {}, {}, []
         self.is_loose, self.clause, self.shape, self.fault = False, "", "", ""
         try:
-            breaker = self.read(file.read_text("utf-8"), crate)
+            breaker = self.read(lines, crate)
             for path, text in self.texts.items():
                 self.compare(path, text, crate)
             if not self.is_loose and not self.functions:
@@ -80,7 +88,9 @@ class Edit:
             if not found:
                 raise BadEdit(f"a line is none of an edit: {line}")
             head, text = found.groups("")
-            if head == "file":
+            if head == "edit":
+                self.name = f"{self.name}/{text.strip()}"
+            elif head == "file":
                 path, function = text.strip(), ""
                 if path not in crate.texts:
                     raise BadEdit(f"there is no file {path}")
