@@ -96,7 +96,7 @@ REPOSITORY = [
     ("handles_missing", "handles", [remove("HANDLES")]),
     ("crate_of_the_kit", "crates", [append("crates.txt", "literal_ids: memchr\n")]),
     ("crate_unlisted", "crates", [write("crates/another/src/lib.rt", "")]),
-    ("crate_on_tests", "crates", [append("crates.txt", "litfind: literal_tests\n")]),
+    ("crate_on_tests", "crates", [append("crates.txt", "litfind: literal_calls\n")]),
     ("walk_elsewhere", "walks", [write("crates/literal_packed/proofs/api/Searcher/find/Proof.antt", "")]),
     ("paper_cited", "citations", [append("README.md", "as the theorem " + "T" + "3 says\n")]),
     ("hole_left", "holes", [append(UNIQUE, "\nopen_goal = ?\n")]),
@@ -113,7 +113,7 @@ REPOSITORY = [
     ("definition_said_otherwise", "definitions", [replace(
         "crates/literal_base/specs/Occurs.antt", "-- no pattern is empty\n", "-- some pattern is not empty\n")]),
     ("definitions_of_a_file_unnamed", "definitions", [
-        replace("docs/DEFINITIONS.md", "### `literal_tests` (`specs/Best.antt`)", "### `literal_tests`")]),
+        replace("docs/DEFINITIONS.md", "### `literal_compared` (`specs/Best.antt`)", "### `literal_compared`")]),
     ("definition_of_another_crate", "definitions", [
         replace("docs/DEFINITIONS.md", "## Steps (`literal_base`,", "## Steps (`literal_ids`,")]),
     ("example_in_no_test", "examples", [append("README.md", "\n```rust\nlet search = built;\n```\n")]),
@@ -123,9 +123,9 @@ REPOSITORY = [
     ("example_changed_in_its_test", "examples", [
         replace("crates/literal_shown/src/types.rt", "span.contains(5)", "span.contains(6)")]),
     ("example_in_a_plain_function", "examples", [
-        replace("crates/literal_shown/src/types.rt", "#[test]\nfn shows_spans", "fn shows_spans")]),
+        replace("crates/literal_shown/src/types.rt", "#[test]\nfn shows_plain", "fn shows_plain")]),
     ("example_changed_in_its_caller", "examples", [
-        replace("crates/literal_tests/src/inputs.rt", "return &[];", "return &[][..];")]),
+        replace("crates/literal_callers/src/inputs.rt", "return &[];", "return &[][..];")]),
     ("example_changed_in_its_proof", "examples", [
         replace(CALLING, "take l.word-index l.words", "take l.index l.words")]),
     ("example_within_the_program", None, [replace(CALLING, "marks.push(b'[')?;", "marks.push(b'{')?;")]),
@@ -161,7 +161,7 @@ REPOSITORY = [
         replace(CALLING, "PatternID, and StateID likewise", "PatternID, and SmallIndex likewise")]),
     ("quote_with_a_clause_less", None, [
         replace(CALLING, "    ensures ordered { self.now.start ≤ self.now.end }\n", "")]),
-    ("tests_without_a_row", "strays", [replace("crates/literal_tests/src/lib.rt", "| `rows` |", "| `row` |")]),
+    ("tests_without_a_row", "strays", [replace("crates/literal_calls/src/lib.rt", "| `paths` |", "| `path` |")]),
     ("stray_build_file", "strays", [write("BUILD.bazel", "")]),
     ("code_in_another_file", "strays", [write("crates/literal_packed/src/peek.inc", "")]),
     ("source_elsewhere", "strays", [write("crates/literal_packed/proofs/peek.rt", "")]),

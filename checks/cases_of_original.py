@@ -1,4 +1,5 @@
-"""Random cases for `checks/original`, in the words that crates/answers reads.
+"""Random cases for `checks/original`, in the words that the original's program reads, and as crates/worked_cases has
+them.
 
 They are made where searches for literals are known to go wrong: patterns over few letters, bytes whose sums or
 buckets are the same, letters beside the bytes that are no letters but stand as far apart as the two cases,
@@ -43,6 +44,23 @@ def hexadecimal(data):
 def patterns_of(word):
     """The patterns that a word of a case says."""
     return [] if word == "." else [b"" if each == "_" else bytes.fromhex(each) for each in word.split(",")]
+
+
+def text_of(data):
+    """Bytes as crates/worked_cases reads and writes them."""
+    plain = (chr(byte) if 0x20 < byte < 0x7F and chr(byte) not in "\\,._{|}" else f"\\x{byte:02x}" for byte in data)
+    return "".join(plain) or "_"
+
+
+def row_of(case):
+    """A case in the fields that crates/worked_cases reads."""
+    words = case.split(" ")
+    if words[0] == "opposite":
+        words[1] = text_of(bytes.fromhex(words[1]))
+    elif words[0] != "span_contains" and len(words) > 3:
+        words[3] = ",".join(map(text_of, patterns_of(words[3]))) or "."
+        words[4:5] = [text_of(b"".join(patterns_of(word))) for word in words[4:5]]
+    return " | ".join(words)
 
 
 def span_of(words):

@@ -42,8 +42,9 @@ WIDE = re.compile(rf"^.{{{WIDEST_LINE + 1},}}")
 HOLE = re.compile(r"^(?:(?!--).)*?(?:^|[ (=])\?(?:$|[ );]|--)")
 
 # Where an example on the page for callers, of code or of a proof, may stand.
+TABLES_OF_MODULES = [f"crates/literal_{name}/src/lib.rt" for name in ("callers", "calls", "compared")]
 EXAMPLES = {
-    "rust": re.compile(r"crates/\w+/src/(?:\w+/)*tests\.rt|crates/literal_(?:tests|examples)/src/\w+\.rt"),
+    "rust": re.compile(r"crates/\w+/src/(?:\w+/)*tests\.rt|crates/literal_(?:callers|examples)/src/\w+\.rt"),
     "antt": re.compile(r"crates/\w+/proofs/.*\.antt"),
 }
 
@@ -168,15 +169,16 @@ def modules_in(text):
 
 def strays(repository):
     """No file of another kind, no link, no source outside of the folders of sources, and none that no module names. The
-    comment of `literal_tests` has a row for each of its modules."""
+    comment of each crate of tests that has a table of its modules has a row for each."""
     modules = {f"{re.sub('(/lib|/main)?[.]rt$', '', path)}/{name}.rt" for path, text in repository.texts.items()
                if path.endswith(".rt") for name in modules_in(text)}
     for path in repository.texts:
         if path.endswith(".rt") and not re.search(r"/src/(?:lib|main)\.rt$", path) and path not in modules:
             yield f"{path} is named by no module"
-    tests = repository.texts["crates/literal_tests/src/lib.rt"]
-    for name in set(modules_in(tests)) ^ set(re.findall(r"^//! \| `(\w+)` \|", tests, re.M)):
-        yield f"crates/literal_tests/src/lib.rt: `{name}` is a module or has a row above, and not both"
+    for path in TABLES_OF_MODULES:
+        tests = repository.texts[path]
+        for name in set(modules_in(tests)) ^ set(re.findall(r"^//! \| `(\w+)` \|", tests, re.M)):
+            yield f"{path}: `{name}` is a module or has a row above, and not both"
     for path in repository.links:
         yield f"{path} is a link"
     for path in repository.texts:

@@ -16,7 +16,8 @@ from rattle_source import (
 
 # Crates of callers, tests and examples, which no crate of another sort stands on and no rule here reads.
 TEST_CRATES = (
-    "literal_promise", "literal_tests", "literal_examples", "literal_shown", "litscan", "refused_memory", "answers"
+    "literal_promise", "literal_callers", "literal_calls", "literal_compared", "literal_examples", "literal_shown",
+    "litscan", "refused_memory", "worked_cases",
 )
 
 # Crates whose code may have a haystack in hand.

@@ -25,17 +25,12 @@ fn assert_match(rt: &impl Abort, found: &LiteralMatch, wanted: (usize, usize, us
 }
 
 #[test]
-fn tells_what_can_be_searched(rt: HostRuntime) -> Result<(), Fail> {
+fn finds_in_a_span(rt: HostRuntime) -> Result<(), Fail> {
     assert!(rt; literal_can_search(WORDS, &ENDS) == LITERAL_OK);
     assert!(rt; literal_can_search(WORDS, &[]) == LITERAL_NO_SEARCHER);
     assert!(rt; literal_can_search(WORDS, &[5, 5]) == LITERAL_NO_SEARCHER);
     assert!(rt; literal_can_search(WORDS, &[5, 4]) == LITERAL_BAD_ARGUMENTS);
     assert!(rt; literal_can_search(WORDS, &[18]) == LITERAL_BAD_ARGUMENTS);
-    Ok(())
-}
-
-#[test]
-fn finds_in_a_span(rt: HostRuntime) -> Result<(), Fail> {
     let (alloc, kind) = (rt.alloc(), LITERAL_LEFTMOST_FIRST);
     let mut found = BEFORE;
     let status = literal_find(alloc, kind, false, WORDS, &ENDS, TEXT, 14, 51, &mut found);

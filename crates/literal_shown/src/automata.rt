@@ -14,6 +14,7 @@ use literal_prefilters::prefilter::{Builder, Candidate, Prefilter, PrefilterI};
 use literal_prefilters::{MatchKind, Span, StateID};
 use std::alloc::{AllocError, Global};
 use std::cell::Cell;
+use std::process::Abort;
 use std::test::Fail;
 
 /// Bytes below `a`, `a`, `b`, and bytes above `b`: four classes.
@@ -104,7 +105,7 @@ fn both_find(automaton: &Dense, pre: &Prefilter, haystack: &[u8], wanted: Option
 }
 
 #[test]
-fn finds_the_earliest_of_two(rt: HostRuntime) -> Result<(), Fail> {
+fn finds_the_earliest(rt: HostRuntime) -> Result<(), Fail> {
     let (automaton, pre) = for_both(rt.alloc())?;
     let found = [
         both_find(&automaton, &pre, b"xxaxxabx", Some(7)),
@@ -112,11 +113,6 @@ fn finds_the_earliest_of_two(rt: HostRuntime) -> Result<(), Fail> {
         both_find(&automaton, &pre, b"acaca", None),
     ];
     assert!(rt; found == [true; 3]);
-    Ok(())
-}
-
-#[test]
-fn finds_the_earliest_of_one(rt: HostRuntime) -> Result<(), Fail> {
     let (automaton, pre) = for_one(rt.alloc())?;
     let found = [
         both_find(&automaton, &pre, b"bbabab", Some(4)),
@@ -178,7 +174,7 @@ fn refuses_other_words(rt: HostRuntime) -> Result<(), Fail> {
 }
 
 #[test]
-fn reads_bytes(rt: HostRuntime) -> Result<(), Fail> {
+fn reads_bytes_and_refuses_what_is_no_automaton(rt: HostRuntime) -> Result<(), Fail> {
     let automaton = automaton(rt.alloc(), [false, false, true, true])?.ok_or("no automaton")?;
     let start = automaton.start_state();
     let a = automaton.next_state(start, b'a');
@@ -188,14 +184,14 @@ fn reads_bytes(rt: HostRuntime) -> Result<(), Fail> {
     assert!(rt; states == [0, 1, 3, 0]);
     assert!(rt; [automaton.is_match(a), automaton.is_match(ab)] == [false, true]);
     assert!(rt; [automaton.state_len(), automaton.stride2()] == [4, 2]);
-    Ok(())
+    assert_refuses(&rt, rt.alloc())
 }
 
-#[test]
-fn refuses_what_is_no_automaton(rt: HostRuntime) -> Result<(), Fail> {
+/// What is no automaton.
+fn assert_refuses(rt: &impl Abort, alloc: Global) -> Result<(), Fail> {
     let (none, far) = (StateID::ZERO, StateID::from(1u8));
     let built = |start, rows: &[&[StateID]], matches: &[bool]| {
-        Dense::new(rt.alloc(), classes(), start, rows, matches).map(|it| it.is_some())
+        Dense::new(alloc, classes(), start, rows, matches).map(|it| it.is_some())
     };
     let row = [none; 4];
     let known = [

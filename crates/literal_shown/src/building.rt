@@ -12,6 +12,7 @@ use literal_prefilters::packed::{Config, Searcher};
 use literal_prefilters::prefilter::{Builder, Prefilter};
 use literal_prefilters::{MatchKind, PatternID, Span};
 use std::alloc::{AllocError, Global};
+use std::process::Abort;
 use std::test::Fail;
 
 /// Numbers that look random, always the same.
@@ -102,34 +103,38 @@ fn hits(
 /// 100,000 small cases: 1,000 lists of up to four patterns, each over 100 haystacks.
 #[test]
 fn agrees_in_small_cases(rt: HostRuntime) -> Result<(), Fail> {
+    let alloc = rt.alloc();
     let mut dice = Dice(1);
     let mut all = 0u32;
     for _ in 0..1000 {
         let (count, letters) = (1 + dice.roll(4) % 4, 2 + dice.roll(2) % 2);
-        let made = made(rt.alloc(), &mut dice, count, (1, 5), letters)?;
-        let found = hits(rt.alloc(), &mut dice, &made, 100, 12, letters)?;
+        let made = made(alloc, &mut dice, count, (1, 5), letters)?;
+        let found = hits(alloc, &mut dice, &made, 100, 12, letters)?;
         all = all.saturating_add(found);
     }
-    assert!(rt; all > 20000 && all < 80000, "{all}");
+    assert!(rt; all > 20000 && all < 80000);
+    Ok(())
+}
+
+/// 500 cases of so many patterns, their lengths from the first number on, so many of them.
+fn assert_agrees(
+    rt: &impl Abort,
+    alloc: Global,
+    seed: u32,
+    count: u32,
+    lens: (u32, u32),
+) -> Result<(), Fail> {
+    let mut dice = Dice(seed);
+    let made = made(alloc, &mut dice, count, lens, 26)?;
+    let found = hits(alloc, &mut dice, &made, 500, 20, 26)?;
+    assert!(rt; found > 50 && found < 500);
     Ok(())
 }
 
 #[test]
-fn agrees_for_128_patterns(rt: HostRuntime) -> Result<(), Fail> {
-    let mut dice = Dice(2);
-    let made = made(rt.alloc(), &mut dice, 128, (2, 6), 26)?;
-    let found = hits(rt.alloc(), &mut dice, &made, 500, 20, 26)?;
-    assert!(rt; found > 50 && found < 500, "{found}");
-    Ok(())
-}
-
-#[test]
-fn agrees_for_2000_patterns(rt: HostRuntime) -> Result<(), Fail> {
-    let mut dice = Dice(3);
-    let made = made(rt.alloc(), &mut dice, 2000, (2, 3), 26)?;
-    let found = hits(rt.alloc(), &mut dice, &made, 500, 20, 26)?;
-    assert!(rt; found > 50 && found < 500, "{found}");
-    Ok(())
+fn agrees_for_128_patterns_and_2000(rt: HostRuntime) -> Result<(), Fail> {
+    assert_agrees(&rt, rt.alloc(), 2, 128, (2, 6))?;
+    assert_agrees(&rt, rt.alloc(), 3, 2000, (2, 3))
 }
 
 /// The patterns `she` and `he`.
@@ -179,9 +184,10 @@ fn both_end(
         && automaton.earliest_end_by(pre, haystack, span) == wanted
 }
 
-/// In the whole haystack, behind the `s`, before the end of the first, and from within it.
+/// In the whole haystack, behind the `s`, before the end of the first, and from within it. `she` and `he` end at 4, in
+/// a span that begins behind the `s` only `he`, and at 5 none does.
 #[test]
-fn tells_the_earliest_end(rt: HostRuntime) -> Result<(), Fail> {
+fn tells_the_earliest_end_and_which_patterns_end(rt: HostRuntime) -> Result<(), Fail> {
     let (automaton, pre) = both_for_she_and_he(rt.alloc())?;
     let found = [
         both_end(
@@ -214,14 +220,6 @@ fn tells_the_earliest_end(rt: HostRuntime) -> Result<(), Fail> {
         ),
     ];
     assert!(rt; found == [true; 4]);
-    Ok(())
-}
-
-/// `she` and `he` end at 4, in a span that begins behind the `s` only `he`, and at 5 none does.
-#[test]
-fn tells_which_patterns_end(rt: HostRuntime) -> Result<(), Fail> {
-    let patterns = she_and_he(rt.alloc())?;
-    let automaton = Automaton::build(rt.alloc(), &patterns)?;
     let all = automaton.patterns_at_end(rt.alloc(), b"ushers", Span { start: 0, end: 4 })?;
     assert!(rt; all.iter().map(|id| id.as_usize()).eq([0, 1].into_iter()));
     let short = automaton.patterns_at_end(rt.alloc(), b"ushers", Span { start: 2, end: 4 })?;

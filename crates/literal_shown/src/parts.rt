@@ -21,15 +21,10 @@ fn searcher(alloc: Global, a: &[u8], b: &[u8]) -> Result<Searcher, Fail>
 const SENTENCE: &[u8] = b"Nobody likes maple in their apple flavored Snapple.";
 
 #[test]
-fn filters_lines(rt: HostRuntime) -> Result<(), Fail> {
+fn filters_lines_and_finds_from_an_offset(rt: HostRuntime) -> Result<(), Fail> {
     let keywords = searcher(rt.alloc(), b"error", b"warning")?;
     assert!(rt; is_clean(&keywords, b"all is well"));
     assert!(rt; !is_clean(&keywords, b"a warning: too late"));
-    Ok(())
-}
-
-#[test]
-fn finds_from_an_offset_on(rt: HostRuntime) -> Result<(), Fail> {
     let fruits = searcher(rt.alloc(), b"apple", b"maple")?;
     let found = find_from(&fruits, SENTENCE, 14).map(|it| it.span());
     assert!(rt; found == Some(Span { start: 28, end: 33 }));

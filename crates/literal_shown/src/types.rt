@@ -8,24 +8,16 @@ use literal_prefilters::{Input, MatchKind, Span};
 use std::test::Fail;
 
 #[test]
-fn shows_spans(rt: HostRuntime) -> Result<(), Fail> {
+fn shows_plain_values(rt: HostRuntime) -> Result<(), Fail> {
     let span = Span { start: 5, end: 9 };
     assert!(rt; span.of(b"I am here") == b"here".as_slice());
     assert!(rt; span.contains(5) && !span.contains(9));
-    Ok(())
-}
 
-#[test]
-fn shows_inputs(rt: HostRuntime) -> Result<(), Fail> {
     let mut input = Input::new(b"abcabc").range(1..4);
     assert!(rt; input.get_span().of(input.haystack()) == b"bca".as_slice());
     input.set_start(input.end() + 1);
     assert!(rt; input.is_done());
-    Ok(())
-}
 
-#[test]
-fn shows_classes(rt: HostRuntime) -> Result<(), Fail> {
     let mut set = ByteClassSet::empty();
     set.set_range(b'0', b'9');
     let classes = set.byte_classes();
@@ -48,19 +40,14 @@ fn shows_packed_search(rt: HostRuntime) -> Result<(), Fail> {
 }
 
 #[test]
-fn shows_configurations(rt: HostRuntime) -> Result<(), Fail> {
+fn shows_configurations_and_builders(rt: HostRuntime) -> Result<(), Fail> {
     let alloc = rt.alloc();
     let mut builder = Config::new().pattern_limit(1).builder(alloc);
     builder.add(b"foo")?;
     assert!(rt; builder.build()?.is_some());
     builder.add(b"bar")?;
     assert!(rt; builder.build()?.is_none());
-    Ok(())
-}
 
-#[test]
-fn shows_builders(rt: HostRuntime) -> Result<(), Fail> {
-    let alloc = rt.alloc();
     let mut builder = Builder::new(alloc);
     builder.extend([b"foo".as_slice(), b"quux"])?;
     assert!(rt; builder.len() == 2 && builder.minimum_len() == 3);
@@ -117,18 +104,14 @@ fn shows_tables(rt: HostRuntime) -> Result<(), Fail> {
 }
 
 #[test]
-fn shows_confirming_searches(rt: HostRuntime) -> Result<(), Fail> {
+fn shows_confirming(rt: HostRuntime) -> Result<(), Fail> {
     let alloc = rt.alloc();
     let (kind, words) = (packed::MatchKind::LeftmostFirst, [b"watson".as_slice()]);
     let built = ConfirmingSearch::build(alloc, kind, true, words)?;
     let search = built.ok_or("no prefilter for these patterns")?;
     let found = search.find_in(b"Dr. WATSON", Span { start: 0, end: 10 });
     assert!(rt; found.map(|it| it.range()) == Some(4..10));
-    Ok(())
-}
 
-#[test]
-fn shows_confirming(rt: HostRuntime) -> Result<(), Fail> {
     let (alloc, tally) = (rt.alloc(), &mut Tally::new());
     let mut builder = prefilter::Builder::new(alloc, MatchKind::LeftmostFirst);
     builder.add(b"lockjaw")?;

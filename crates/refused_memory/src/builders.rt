@@ -49,17 +49,12 @@ fn adds(rt: &impl Abort, builder: &mut Builder, kept: usize) {
     assert!(rt; builder.len() == kept + 1);
 }
 
+/// The first pattern, and the second.
 #[test]
-fn first_add_of_builder(rt: HostRuntime) {
-    adds(&rt, &mut Builder::new(rt.alloc()), 0);
-}
-
-#[test]
-fn second_add_of_builder(rt: HostRuntime) -> Result<(), AllocError> {
+fn add_of_builder(rt: HostRuntime) {
     let mut builder = Builder::new(rt.alloc());
-    builder.add(three()[0])?;
+    adds(&rt, &mut builder, 0);
     adds(&rt, &mut builder, 1);
-    Ok(())
 }
 
 /// Extends a builder that keeps some words by all three, after which it finds the last of these.
@@ -109,16 +104,10 @@ fn build(rt: HostRuntime) -> Result<(), AllocError> {
 #[test]
 fn try_clone_of_builder(rt: HostRuntime) -> Result<(), AllocError> {
     let mut builder = Builder::new(rt.alloc());
-    adds_two(&mut builder)?;
+    builder.extend([three()[0], three()[1]])?;
     match builder.try_clone() {
         Ok(copy) => assert!(rt; copy.len() == 2),
         Err(_) => assert_keeps_still(&rt, &builder, 2),
     }
-    Ok(())
-}
-
-/// Adds the first two words.
-fn adds_two(builder: &mut Builder) -> Result<(), AllocError> {
-    builder.extend([three()[0], three()[1]])?;
     Ok(())
 }

@@ -50,22 +50,15 @@ fn lists(rt: &impl Abort, alloc: Global, by_table: bool) -> Result<(), AllocErro
     Ok(())
 }
 
+/// By a table, and by a search.
 #[test]
-fn build_of_confirming_by_a_table(rt: HostRuntime) {
+fn build_of_confirming(rt: HostRuntime) {
     builds(&rt, rt.alloc(), true);
-}
-
-#[test]
-fn build_of_confirming_by_a_search(rt: HostRuntime) {
     builds(&rt, rt.alloc(), false);
 }
 
 #[test]
-fn find_all_by_a_table(rt: HostRuntime) -> Result<(), AllocError> {
-    lists(&rt, rt.alloc(), true)
-}
-
-#[test]
-fn find_all_by_a_search(rt: HostRuntime) -> Result<(), AllocError> {
+fn find_all_of_confirming(rt: HostRuntime) -> Result<(), AllocError> {
+    lists(&rt, rt.alloc(), true)?;
     lists(&rt, rt.alloc(), false)
 }

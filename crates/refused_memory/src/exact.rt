@@ -52,22 +52,15 @@ fn clones(rt: &impl Abort, alloc: Global, count: usize) -> Result<(), AllocError
     Ok(())
 }
 
+/// For one pattern, and for many.
 #[test]
-fn build_of_memmem(rt: HostRuntime) -> Result<(), AllocError> {
-    builds(&rt, rt.alloc(), 1)
-}
-
-#[test]
-fn build_of_packed(rt: HostRuntime) -> Result<(), AllocError> {
+fn build_of_exact(rt: HostRuntime) -> Result<(), AllocError> {
+    builds(&rt, rt.alloc(), 1)?;
     builds(&rt, rt.alloc(), 24)
 }
 
 #[test]
-fn try_clone_of_memmem(rt: HostRuntime) -> Result<(), AllocError> {
-    clones(&rt, rt.alloc(), 1)
-}
-
-#[test]
-fn try_clone_of_packed(rt: HostRuntime) -> Result<(), AllocError> {
+fn try_clone_of_exact(rt: HostRuntime) -> Result<(), AllocError> {
+    clones(&rt, rt.alloc(), 1)?;
     clones(&rt, rt.alloc(), 24)
 }

@@ -1,4 +1,4 @@
-//! Requests for memory that are refused: a test for each call that takes memory, and one for calls that take
+//! Requests for memory that are refused: tests of the calls that take memory, and of those that take
 //! none. `checks/refusals` runs each again and again, each time with another request refused, until a run has
 //! none refused.
 //!

@@ -41,12 +41,11 @@ fn patterns_take_no_memory(rt: HostRuntime) -> Result<(), AllocError> {
     assert!(rt; pattern.bytes() == b"bc".as_slice());
     patterns.reset();
     assert!(rt; patterns.is_empty());
-    Ok(())
+    assert_finds_at(&rt, alloc)
 }
 
-#[test]
-fn rabin_karp_takes_no_memory(rt: HostRuntime) -> Result<(), AllocError> {
-    let alloc = rt.alloc();
+/// Sums, and a search by buckets.
+fn assert_finds_at(rt: &impl Abort, alloc: Global) -> Result<(), AllocError> {
     let (patterns, tally) = (patterns(alloc)?, &mut Tally::new());
     let made = RabinKarp::new(&patterns, tally)?;
     let mut rolling = Rolling::new(2);
@@ -73,23 +72,19 @@ fn builders_take_no_memory(rt: HostRuntime) -> Result<(), AllocError> {
     assert!(rt; (builder.len(), builder.minimum_len()) == (1, 2));
     assert!(rt; Searcher::builder(alloc).len() == 0);
     assert!(rt; Searcher::config().builder(alloc).minimum_len() == usize::MAX);
+    assert_inert(&rt, builder);
     Ok(())
 }
 
 /// An empty pattern makes a builder inert. Then it takes any pattern, and builds nothing.
-#[test]
-fn inert_builders_take_no_memory(rt: HostRuntime) -> Result<(), AllocError> {
-    let alloc = rt.alloc();
-    let mut builder = packed::Builder::new(alloc);
-    builder.add(b"ab")?;
+fn assert_inert(rt: &impl Abort, mut builder: packed::Builder) {
     for pattern in [b"".as_slice(), b"more", b""] {
         assert!(rt; builder.add(pattern).is_ok());
         assert!(rt; builder.extend([pattern, b"more"]).is_ok());
         assert!(rt; (builder.len(), builder.minimum_len()) == (0, usize::MAX));
-        let built = builder.build().expect(&rt, "an inert builder took memory");
+        let built = builder.build().expect(rt, "an inert builder took memory");
         assert!(rt; built.is_none());
     }
-    Ok(())
 }
 
 /// All calls of a searcher for `ab` and `bc`.
@@ -111,15 +106,14 @@ fn searchers_take_no_memory(rt: HostRuntime) -> Result<(), AllocError> {
     Ok(())
 }
 
-#[test]
-fn tables_take_no_memory(rt: HostRuntime) -> Result<(), AllocError> {
-    let alloc = rt.alloc();
+/// All calls of both tables of two patterns.
+fn assert_tells(rt: &impl Abort, alloc: Global) -> Result<(), AllocError> {
     let patterns = patterns(alloc)?;
     for table in [
         ByteTable::start(&patterns, false),
         ByteTable::rare(&patterns, false),
     ] {
-        let table = table.expect(&rt, "there is no table");
+        let table = table.expect(rt, "there is no table");
         assert!(rt; table.count() > 0 && table.rank_sum() > 0);
         assert!(rt; table.distance(b'b').is_some());
         let span = Span { start: 1, end: 4 };
@@ -134,24 +128,17 @@ fn built(rt: &impl Abort, builder: &prefilter::Builder, note: &str) -> Option<Pr
 }
 
 /// An empty pattern disables a builder. Then it takes any pattern, and builds nothing.
-#[test]
-fn disabled_builders_take_no_memory(rt: HostRuntime) -> Result<(), AllocError> {
-    let alloc = rt.alloc();
-    let kind = literal_prefilters::MatchKind::LeftmostFirst;
-    let mut builder = prefilter::Builder::new(alloc, kind).ascii_case_insensitive(false);
-    assert!(rt; built(&rt, &builder, "an empty builder took memory").is_none());
-    builder.add(b"ab")?;
+fn assert_disabled(rt: &impl Abort, mut builder: prefilter::Builder) {
     for pattern in [b"".as_slice(), b"more", b""] {
         assert!(rt; builder.add(pattern).is_ok());
-        assert!(rt; built(&rt, &builder, "a disabled builder took memory").is_none());
+        assert!(rt; built(rt, &builder, "a disabled builder took memory").is_none());
     }
-    Ok(())
 }
 
 /// A builder of prefilters that keeps some patterns.
 fn builder(alloc: Global, list: &[&[u8]]) -> Result<prefilter::Builder, AllocError> {
     let kind = literal_prefilters::MatchKind::Standard;
-    let mut builder = prefilter::Builder::new(alloc, kind);
+    let mut builder = prefilter::Builder::new(alloc, kind).ascii_case_insensitive(false);
     for bytes in list {
         builder.add(bytes)?;
     }
@@ -168,12 +155,15 @@ fn by_table(
 }
 
 #[test]
-fn builds_of_tables_take_no_memory(rt: HostRuntime) -> Result<(), AllocError> {
+fn tables_take_no_memory(rt: HostRuntime) -> Result<(), AllocError> {
     let alloc = rt.alloc();
+    assert_tells(&rt, alloc)?;
     let by_starts = by_table(&rt, alloc, &[b"foo", b"bar"])?;
     let by_rare_bytes = by_table(&rt, alloc, &[b"Sherlock", b"lockjaw"])?;
     assert!(rt; by_starts.is_some() && by_rare_bytes.is_some());
     assert!(rt; by_table(&rt, alloc, &[b"a", b"b", b"c", b"d"])?.is_none());
+    assert!(rt; by_table(&rt, alloc, &[])?.is_none());
+    assert_disabled(&rt, builder(alloc, &[b"ab"])?);
     Ok(())
 }
 

@@ -110,17 +110,12 @@ fn adds(rt: &impl Abort, patterns: &mut Patterns, before: &Told, after: &Told) {
     assert_tells(rt, patterns, after);
 }
 
+/// The first pattern, and the second.
 #[test]
-fn first_add_of_patterns(rt: HostRuntime) {
-    adds(&rt, &mut Patterns::new(rt.alloc()), &OF_NONE, &OF_ONE);
-}
-
-#[test]
-fn second_add_of_patterns(rt: HostRuntime) -> Result<(), AllocError> {
+fn add_of_patterns(rt: HostRuntime) {
     let mut patterns = Patterns::new(rt.alloc());
-    patterns.add(word(0))?;
+    adds(&rt, &mut patterns, &OF_NONE, &OF_ONE);
     adds(&rt, &mut patterns, &OF_ONE, &OF_TWO);
-    Ok(())
 }
 
 /// 21 words, as they were added.
@@ -172,29 +167,29 @@ fn assert_finds(rt: &impl Abort, made: &RabinKarp, patterns: &Patterns)
     assert_place(rt, found, 2, (2, 5));
 }
 
+/// What was made for these patterns is copied.
+fn clones(rt: &impl Abort, made: &RabinKarp, patterns: &Patterns)
+    requires { IsMadeFor patterns.now made.now }
+{
+    if let Ok(copy) = made.try_clone() {
+        assert_finds(rt, &copy, patterns);
+        return;
+    }
+    assert_finds(rt, made, patterns);
+    let copy = made.try_clone().expect(rt, "it was refused again");
+    assert_finds(rt, &copy, patterns);
+}
+
+/// `RabinKarp::new`, and `try_clone` of what it makes.
 #[test]
-fn new_of_rabin_karp(rt: HostRuntime) -> Result<(), AllocError> {
+fn new_and_try_clone_of_rabin_karp(rt: HostRuntime) -> Result<(), AllocError> {
     let patterns = longest_first(&rt, rt.alloc())?;
     if let Ok(made) = RabinKarp::new(&patterns, &mut Tally::new()) {
-        assert_finds(&rt, &made, &patterns);
+        clones(&rt, &made, &patterns);
         return Ok(());
     }
     assert_tells_still(&rt, &patterns, &LONGEST_FIRST);
     let made = RabinKarp::new(&patterns, &mut Tally::new());
     assert_finds(&rt, &made.expect(&rt, "it was refused again"), &patterns);
-    Ok(())
-}
-
-#[test]
-fn try_clone_of_rabin_karp(rt: HostRuntime) -> Result<(), AllocError> {
-    let patterns = longest_first(&rt, rt.alloc())?;
-    let made = RabinKarp::new(&patterns, &mut Tally::new())?;
-    if let Ok(copy) = made.try_clone() {
-        assert_finds(&rt, &copy, &patterns);
-        return Ok(());
-    }
-    assert_finds(&rt, &made, &patterns);
-    let copy = made.try_clone().expect(&rt, "it was refused again");
-    assert_finds(&rt, &copy, &patterns);
     Ok(())
 }

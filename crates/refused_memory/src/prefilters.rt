@@ -1,7 +1,7 @@
 //! Calls of the prefilter's `Builder`.
 use literal_prefilters::prefilter::Builder;
 use literal_prefilters::{MatchKind, Span};
-use std::alloc::{AllocError, Global};
+use std::alloc::Global;
 use std::process::Abort;
 
 /// The places that are proposed in `xxfoo` and `oxof` for no word, for `foo`, and for `foo` and `of`.
@@ -37,15 +37,10 @@ fn of_none(alloc: Global) -> Builder {
     Builder::new(alloc, MatchKind::Standard).ascii_case_insensitive(true)
 }
 
+/// The first pattern, and the second.
 #[test]
-fn first_add_of_prefilter_builder(rt: HostRuntime) {
-    adds(&rt, &mut of_none(rt.alloc()), 0, b"foo");
-}
-
-#[test]
-fn second_add_of_prefilter_builder(rt: HostRuntime) -> Result<(), AllocError> {
+fn add_of_prefilter_builder(rt: HostRuntime) {
     let mut builder = of_none(rt.alloc());
-    builder.add(b"foo")?;
+    adds(&rt, &mut builder, 0, b"foo");
     adds(&rt, &mut builder, 1, b"of");
-    Ok(())
 }

@@ -28,25 +28,19 @@ fn made(rt: &impl Abort, alloc: Global) -> Result<Searcher, AllocError> {
     Ok(Searcher::new(alloc, words())?.expect(rt, "patterns make nothing"))
 }
 
+/// `Searcher::new`, and `try_clone` of what it makes.
 #[test]
-fn new(rt: HostRuntime) {
-    let made = match made(&rt, rt.alloc()) {
+fn new_and_try_clone_of_searcher(rt: HostRuntime) {
+    let searcher = match made(&rt, rt.alloc()) {
         Ok(made) => made,
         Err(_) => made(&rt, rt.alloc()).expect(&rt, "it was refused again"),
     };
-    assert_searches(&rt, &made);
-}
-
-#[test]
-fn try_clone_of_searcher(rt: HostRuntime) -> Result<(), AllocError> {
-    let searcher = made(&rt, rt.alloc())?;
     let copy = match searcher.try_clone() {
         Ok(copy) => copy,
         Err(_) => searcher.try_clone().expect(&rt, "it was refused again"),
     };
     assert_searches(&rt, &searcher);
     assert_searches(&rt, &copy);
-    Ok(())
 }
 
 #[test]

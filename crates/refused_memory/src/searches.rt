@@ -38,18 +38,11 @@ fn builds(rt: &impl Abort, alloc: Global, ignore_case: bool, has_table: bool) {
     assert_finds(rt, &search, has_table);
 }
 
+/// A packed one, one by a table, and one at every place.
 #[test]
-fn new_of_a_packed_search(rt: HostRuntime) {
+fn new_of_a_search(rt: HostRuntime) {
     builds(&rt, rt.alloc(), false, false);
-}
-
-#[test]
-fn new_of_a_search_by_a_table(rt: HostRuntime) {
     builds(&rt, rt.alloc(), true, true);
-}
-
-#[test]
-fn new_of_a_search_at_every_place(rt: HostRuntime) {
     builds(&rt, rt.alloc(), true, false);
 }
 

@@ -241,13 +241,6 @@ fn answer_to(
     )
 }
 
-#[test]
-fn asks_for_a_mode(rt: HostRuntime) {
-    let mut writer = SlowWriter::new(64);
-    let answer = answer_to(rt.alloc(), &[], INPUT, &mut writer);
-    assert_ends(&rt, answer, Err(Fault::Usage), &writer, b"", "no word");
-}
-
 /// A mode, and so many times `foo`.
 fn of_foos(alloc: Global, mode: &str, count: usize) -> Result<Vec<String>, AllocError> {
     let mut words = Vec::new(alloc);
@@ -282,6 +275,9 @@ fn takes_128_patterns(rt: HostRuntime) -> Result<(), Fail> {
 
 #[test]
 fn takes_no_empty_pattern(rt: HostRuntime) -> Result<(), Fail> {
+    let mut writer = SlowWriter::new(64);
+    let answer = answer_to(rt.alloc(), &[], INPUT, &mut writer);
+    assert_ends(&rt, answer, Err(Fault::Usage), &writer, b"", "no word");
     for words in [
         "first  foo bar",
         "first foo  bar",
@@ -342,15 +338,15 @@ fn reports_a_failed_write(rt: HostRuntime) -> Result<(), Fail> {
         writer.failing_flush = failing_flush;
         assert_reports_write(&rt, rt.alloc(), writer, front, case)?;
     }
-    Ok(())
+    assert_flushes_an_empty_text(&rt, rt.alloc())
 }
 
-#[test]
-fn flushes_an_empty_text(rt: HostRuntime) -> Result<(), Fail> {
+/// Where there is no line the flush fails too.
+fn assert_flushes_an_empty_text(rt: &impl Abort, alloc: Global) -> Result<(), Fail> {
     let mut writer = SlowWriter::new(64);
     writer.failing_flush = 1;
     let reader = one_byte_a_call(b"none here", 0);
-    let answer = answer(rt.alloc(), WORDS, reader, &mut writer)?;
+    let answer = answer(alloc, WORDS, reader, &mut writer)?;
     assert_eq!(rt; answer, Err(Fault::WriteFailed));
     Ok(())
 }
@@ -374,7 +370,7 @@ fn readers_remember_their_end_and_a_failure(rt: HostRuntime) {
 }
 
 #[test]
-fn writers_have_not_failed_at_first(rt: HostRuntime) {
+fn writers_remember_a_failure(rt: HostRuntime) {
     let mut writer = Checked::new(SlowWriter::new(5));
     assert!(rt; writer.write(b"abcdefg") == Ok(5));
     assert!(rt; !writer.has_failed());
@@ -382,15 +378,9 @@ fn writers_have_not_failed_at_first(rt: HostRuntime) {
     assert!(rt; !writer.has_failed());
     assert!(rt; writer.flush() == Ok(()));
     assert!(rt; !writer.has_failed());
-    assert!(rt; writer.into_inner().flushes == 1);
-}
-
-#[test]
-fn writers_remember_a_failure(rt: HostRuntime) {
-    let mut writer = Checked::new(SlowWriter::new(5));
-    assert!(rt; writer.write(b"abcdefg") == Ok(5));
     let mut writer = writer.into_inner();
-    writer.refusing = 2;
+    assert!(rt; writer.flushes == 1);
+    writer.refusing = 3;
     let mut writer = Checked::new(writer);
     assert!(rt; writer.write(b"abcdefg") == Err(Failed));
     assert!(rt; writer.has_failed());
@@ -430,26 +420,14 @@ fn assert_runs(
     Ok(())
 }
 
+/// For all matches, and for the leftmost by a table and by a search.
 #[test]
-fn refused_run_for_all_matches(rt: HostRuntime) -> Result<(), AllocError> {
-    assert_runs(&rt, rt.alloc(), WORDS, INPUT, OUTPUT)
-}
-
-#[test]
-fn refused_run_by_a_table(rt: HostRuntime) -> Result<(), AllocError> {
+fn refused_runs(rt: HostRuntime) -> Result<(), AllocError> {
+    assert_runs(&rt, rt.alloc(), WORDS, INPUT, OUTPUT)?;
     let words = "nocase-first apple maple snapple";
-    assert_runs(&rt, rt.alloc(), words, INPUT, b"1 13 18\n")
-}
-
-#[test]
-fn refused_run_by_a_search(rt: HostRuntime) -> Result<(), AllocError> {
-    assert_runs(
-        &rt,
-        rt.alloc(),
-        "confirm-longest a ab b c d",
-        b"zab",
-        b"1 1 3\n",
-    )
+    assert_runs(&rt, rt.alloc(), words, INPUT, b"1 13 18\n")?;
+    let words = "confirm-longest a ab b c d";
+    assert_runs(&rt, rt.alloc(), words, b"zab", b"1 1 3\n")
 }
 
 /// What is written for an input, over memory, where both ends tell their bytes.

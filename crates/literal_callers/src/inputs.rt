@@ -1,0 +1,70 @@
+//! Callers of inputs that rely on contracts alone.
+ghost use Rattle.std.specs.Prelude.{◌≡◌, ◌+◌, ◌≤◌, ◌<◌, ◌↔◌, IfSome, IsSome, IsTrue, slice_range};
+
+use literal_prefilters::Input;
+
+/// The bytes that are to be searched, none where the search is done.
+pub fn bytes_to_search<'h>(input: &Input<'h>) -> &'h [u8]
+    ensures { result.now ≡ slice_range input.now.haystack input.now.start input.now.end }
+{
+    if input.is_done() {
+        return &[];
+    }
+    input.get_span().of(input.haystack())
+}
+
+/// The same search from one byte further on, and None where it is done.
+pub fn from_next_byte<'h>(input: &Input<'h>) -> Option<Input<'h>>
+    ensures some { IsSome result ↔ (input.now.start ≤ input.now.end) }
+    ensures next { IfSome result (λ next. next ≡ record input.now { start = input.now.start + 1 }) }
+{
+    if input.is_done() {
+        return None;
+    }
+    let mut next = input.clone().ok()?;
+    next.set_start(input.start() + 1);
+    Some(next)
+}
+
+/// Moves the start of the search one byte on, unless the search is done, and tells whether it did.
+pub fn step_on(input: &mut Input<'_>) -> bool
+    ensures stepped { IsTrue result ↔ (input.old.start ≤ input.old.end) }
+    ensures next { input.old.start ≤ input.old.end → input.new ≡ record input.old { start = input.old.start + 1 } }
+    ensures done { input.old.end < input.old.start → input.new ≡ input.old }
+{
+    if input.is_done() {
+        return false;
+    }
+    input.set_start(input.start() + 1);
+    true
+}
+
+#[cfg(test)]
+mod tests {
+    use super::*;
+    use std::process::Abort;
+    use std::test::Fail;
+
+    #[test]
+    fn goes_over_an_input(rt: HostRuntime) -> Result<(), Fail> {
+        let input = Input::new(b"foobar").range_inclusive(4, 5);
+        assert!(rt; bytes_to_search(&input) == b"ar".as_slice());
+        let at_last = from_next_byte(&input).ok_or("done at the first byte")?;
+        assert!(rt; bytes_to_search(&at_last) == b"r".as_slice());
+        let at_end = from_next_byte(&at_last).ok_or("done at the last byte")?;
+        assert!(rt; bytes_to_search(&at_end).is_empty() && !at_end.is_done());
+        let done = from_next_byte(&at_end).ok_or("done at the end")?;
+        assert!(rt; bytes_to_search(&done).is_empty() && done.is_done());
+        assert!(rt; from_next_byte(&done).is_none());
+        assert_steps_on(&rt);
+        Ok(())
+    }
+
+    /// The same in place.
+    fn assert_steps_on(rt: &impl Abort) {
+        let mut input = Input::new(b"ab");
+        assert!(rt; step_on(&mut input) && step_on(&mut input));
+        assert!(rt; input.start() == 2 && step_on(&mut input) && input.is_done());
+        assert!(rt; !step_on(&mut input) && input.start() == 3 && input.end() == 2);
+    }
+}

@@ -1,0 +1,263 @@
+//! Callers of identifiers and conversions that rely on contracts alone.
+ghost use Rattle.std.specs.Prelude.{◌≡◌, ◌<◌, ◌≤◌, ◌/◌, ◌%◌, ◌^◌, ◌↔◌, [], length, slice_index};
+ghost use Rattle.std.specs.Prelude.{IsTrue, IfOk, IfSome, IsNone};
+ghost use Rattle.std.specs.List.{enumerate_from, range_with_len};
+ghost use Rattle.literal_ids.specs.Identifier.{IsCheckedNumber};
+
+use literal_ids::int::{I8, I32, I64, U8, U16, U32, U64, Usize};
+use literal_ids::{
+    PatternID, PatternIDIter, SmallIndex, SmallIndexIter, StateID, StateIDError, WithStateIDIter,
+    with_pattern_ids, with_state_ids,
+};
+use std::alloc::{AllocError, Global};
+use std::hash::{Hash, Hasher};
+
+/// A byte as an index, through its bound.
+pub fn index_of<N: U8>(n: N) -> usize
+    ensures { result ≡ N.number n }
+{
+    n.as_usize()
+}
+
+/// The two halves of a number of 16 bits, the high one first, through its bound.
+pub fn halves_of_u16<N: U16 + Copy>(n: N) -> (u8, u8)
+    ensures { result ≡ (N.number n / 2 ^ 8, N.number n % 2 ^ 8) }
+{
+    (n.high_u8(), n.low_u8())
+}
+
+/// The two halves of a number of 32 bits, the high one first, through its bound.
+pub fn halves_of_u32<N: U32 + Copy>(n: N) -> (u16, u16)
+    ensures { result ≡ (N.number n / 2 ^ 16, N.number n % 2 ^ 16) }
+{
+    (n.high_u16(), n.low_u16())
+}
+
+/// The two halves of a number of 64 bits, the high one first, through its bound.
+pub fn halves_of_u64<N: U64 + Copy>(n: N) -> (u32, u32)
+    ensures { result ≡ (N.number n / 2 ^ 32, N.number n % 2 ^ 32) }
+{
+    (n.high_u32(), n.low_u32())
+}
+
+/// A number to its 8 bits and back, through its bound.
+pub fn there_and_back_by_i8<N: I8>(n: N) -> i8
+    ensures { result ≡ N.number n }
+{
+    i8::from_bits(n.to_bits())
+}
+
+/// A number to its 32 bits and back, through its bound.
+pub fn there_and_back_by_i32<N: I32>(n: N) -> i32
+    ensures { result ≡ N.number n }
+{
+    i32::from_bits(n.to_bits())
+}
+
+/// A number to its 64 bits and back, through its bound.
+pub fn there_and_back_by_i64<N: I64>(n: N) -> i64
+    ensures { result ≡ N.number n }
+{
+    i64::from_bits(n.to_bits())
+}
+
+/// 8 bits to their number and back.
+pub fn back_and_there_by_i8(bits: u8) -> u8
+    ensures { result ≡ bits }
+{
+    i8::from_bits(bits).to_bits()
+}
+
+/// 32 bits to their number and back.
+pub fn back_and_there_by_i32(bits: u32) -> u32
+    ensures { result ≡ bits }
+{
+    i32::from_bits(bits).to_bits()
+}
+
+/// 64 bits to their number and back.
+pub fn back_and_there_by_i64(bits: u64) -> u64
+    ensures { result ≡ bits }
+{
+    i64::from_bits(bits).to_bits()
+}
+
+/// An index as 16 bits, through its bound.
+pub fn short_of<N: Usize>(n: N) -> u16
+    requires { N.number n < 2 ^ 16 }
+    ensures { result ≡ N.number n }
+{
+    n.as_u16()
+}
+
+/// The state of a number, by a conversion that says what it refuses.
+pub fn state_of(number: u64) -> Result<StateID, StateIDError>
+    ensures { IsCheckedNumber number result }
+{
+    number.try_into()
+}
+
+/// The pattern with the number of a state.
+pub fn pattern_of(state: StateID) -> PatternID
+    ensures { result ≡ state }
+{
+    SmallIndex::from(state).into()
+}
+
+/// Whether a state comes before another.
+pub fn is_before(state: StateID, other: StateID) -> bool
+    ensures { IsTrue result ↔ (state < other) }
+{
+    state < other
+}
+
+/// Whether two patterns are the same.
+pub fn is_same(pattern: PatternID, other: PatternID) -> bool
+    ensures { IsTrue result ↔ (pattern ≡ other) }
+{
+    pattern == other
+}
+
+/// Feeds equal patterns to hashers that stand alike: so they stand afterwards.
+pub fn hash_alike<H: Hasher>(pattern: PatternID, other: PatternID, one: &mut H, two: &mut H)
+    requires same { pattern ≡ other }
+    requires alike { one.old ≡ two.old }
+    ensures { one.new ≡ two.new }
+{
+    pattern.hash(one);
+    other.hash(two);
+}
+
+/// The numbers of the patterns that a `for` takes.
+pub fn numbers_in_turn(alloc: Global, len: usize) -> Result<Vec<u32>, AllocError>
+    requires { len ≤ PatternID.LIMIT }
+    ensures { IfOk result (λ all. all.items ≡ range_with_len 0 len) }
+{
+    let mut all = Vec::new(alloc);
+    for id in PatternID::iter(len) {
+        all.push(id.as_u32())?;
+    }
+    Ok(all)
+}
+
+/// The states that are collected.
+pub fn states_collected(alloc: Global, len: usize) -> Result<Vec<StateID>, AllocError>
+    requires { len ≤ StateID.LIMIT }
+    ensures { IfOk result (λ all. all.items ≡ range_with_len 0 len) }
+{
+    StateID::iter(len).collect(alloc)
+}
+
+/// How many small indices an iteration gives.
+pub fn count_of(len: usize) -> usize
+    requires { len ≤ SmallIndex.LIMIT }
+    ensures { result ≡ len }
+{
+    SmallIndexIter::new(len).count()
+}
+
+/// The words with their states, which a `for` takes in turn.
+pub fn words_with_states(alloc: Global, words: &[u16]) -> Result<Vec<(StateID, u16)>, AllocError>
+    requires { length words.now ≤ StateID.LIMIT }
+    ensures { IfOk result (λ all. all.items ≡ enumerate_from 0 words.now) }
+{
+    let mut all = Vec::new(alloc);
+    for (id, word) in with_state_ids(words) {
+        all.push((id, *word))?;
+    }
+    Ok(all)
+}
+
+/// The identifier of a place where this word stands. Each place is looked up by its identifier.
+pub fn place_of(words: &[u16], word: u16) -> Option<PatternID>
+    requires { length words.now ≤ PatternID.LIMIT }
+    ensures { IfSome result (λ id. (id < length words.now) × (slice_index words.now id ≡ word)) }
+{
+    for id in PatternID::iter(words.len()) {
+        if words[id.as_usize()] == word {
+            return Some(id);
+        }
+    }
+    None
+}
+
+/// The number of pairs of patterns and elements.
+pub fn count_of_pairs<T>(items: &[T]) -> usize
+    requires { length items.now ≤ PatternID.LIMIT }
+    ensures { result ≡ length items.now }
+{
+    with_pattern_ids(items).count()
+}
+
+/// One pattern more of an iteration that has ended: there is none, and it stays so.
+pub fn next_at_end(ids: &mut PatternIDIter) -> Option<PatternID>
+    requires { ids.old ≡ [] }
+    ensures none { IsNone result }
+    ensures ended { ids.new ≡ [] }
+{
+    ids.next()
+}
+
+/// One pair more of an iteration that has ended: there is none, and it stays so.
+pub fn next_pair_at_end<'a, T>(pairs: &mut WithStateIDIter<'a, T>) -> Option<(StateID, &'a T)>
+    requires { pairs.old ≡ [] }
+    ensures none { IsNone result }
+    ensures ended { pairs.new ≡ [] }
+{
+    pairs.next()
+}
+
+#[cfg(test)]
+mod tests {
+    use super::*;
+    use std::hash::DefaultHasher;
+    use std::test::Fail;
+
+    #[test]
+    fn converts_integers(rt: HostRuntime) {
+        assert!(rt; index_of(255u8) == 255 && short_of(65535usize) == 65535);
+        assert!(rt; halves_of_u16(0x1234u16) == (0x12, 0x34));
+        assert!(rt; halves_of_u32(0x12345678u32) == (0x1234, 0x5678));
+        assert!(rt; halves_of_u64(0x0123456789abcdefu64) == (0x01234567, 0x89abcdef));
+        assert!(rt; there_and_back_by_i8(-1i8) == -1 && there_and_back_by_i32(-1i32) == -1);
+        assert!(rt; there_and_back_by_i64(-1i64) == -1 && back_and_there_by_i8(255) == 255);
+        assert!(rt; back_and_there_by_i32(0xffffffff) == 0xffffffff);
+        assert!(rt; back_and_there_by_i64(u64::MAX) == u64::MAX);
+    }
+
+    #[test]
+    fn compares_identifiers(rt: HostRuntime) -> Result<(), Fail> {
+        let state = state_of(2147483646)?;
+        assert!(rt; state_of(2147483647).is_err());
+        assert!(rt; is_before(StateID::ZERO, state));
+        assert!(rt; is_same(pattern_of(state), PatternID::MAX));
+        let (mut one, mut two) = (DefaultHasher::new(), DefaultHasher::new());
+        hash_alike(PatternID::MAX, pattern_of(state), &mut one, &mut two);
+        assert!(rt; one.finish() == two.finish());
+        Ok(())
+    }
+
+    #[test]
+    fn numbers_words(rt: HostRuntime) -> Result<(), Fail> {
+        let numbers = numbers_in_turn(rt.alloc(), 3)?;
+        assert!(rt; numbers.as_slice() == [0, 1, 2].as_slice());
+        let states = [StateID::ZERO, StateID::must(1)];
+        assert!(rt; states_collected(rt.alloc(), 2)?.as_slice() == states.as_slice());
+        let words = words_with_states(rt.alloc(), &[10, 20])?;
+        assert!(rt; words.as_slice() == [(StateID::ZERO, 10), (StateID::must(1), 20)].as_slice());
+        Ok(())
+    }
+
+    #[test]
+    fn counts_identifiers(rt: HostRuntime) {
+        assert!(rt; count_of(7) == 7 && count_of_pairs(&[10, 20]) == 2);
+        assert!(rt; place_of(&[10, 20], 20) == Some(PatternID::must(1)));
+        assert!(rt; place_of(&[10, 20], 30).is_none());
+        let mut ids = PatternID::iter(0);
+        assert!(rt; next_at_end(&mut ids).is_none() && next_at_end(&mut ids).is_none());
+        let nothing: [u16; 0] = [];
+        let mut pairs = with_state_ids(&nothing);
+        assert!(rt; next_pair_at_end(&mut pairs).is_none());
+        assert!(rt; next_pair_at_end(&mut pairs).is_none());
+    }
+}

@@ -1,0 +1,88 @@
+//! Callers of prefilters that rely on contracts alone.
+ghost use Rattle.std.specs.Prelude.{◌≡◌, ◌≤◌, ℕ, Bool, MatchOption, IfOk, IfSome, is_some};
+ghost use Rattle.literal_base.specs.declared.packed.MatchKind.{MatchKind};
+ghost use Rattle.literal_base.specs.Occurs.{IsValidSpan, Occurs, NothingOccurs};
+ghost use Rattle.literal_base.specs.Query.{Query};
+ghost use Rattle.literal_packed.specs.State.{kept_of};
+ghost use Rattle.literal_prefilters.specs.Choice.{Serves, pick};
+ghost use Rattle.literal_prefilters.specs.Sound.{Sound};
+
+use literal_prefilters::Span;
+use literal_prefilters::count::Tally;
+use literal_prefilters::prefilter::{Builder, Candidate, PrefilterI};
+use std::alloc::AllocError;
+
+/// From where on the span has to be searched, by a prefilter of any kind: no occurrence of what it
+/// covers begins before that place, and none at all where there is no such place.
+pub fn search_from<P: PrefilterI>(
+    pre: &P,
+    haystack: &[u8],
+    span: Span,
+    tally: &mut Tally,
+) -> Option<usize>
+    requires { IsValidSpan haystack.now span }
+    ensures { (query : Query) (ignore_case : Bool)
+        → P.covers pre.now query ignore_case
+        → MatchOption result
+        (NothingOccurs query.patterns ignore_case haystack.now span)
+        (λ start. (i at : ℕ) → Occurs query.patterns ignore_case haystack.now span i at → start ≤ at) }
+{
+    pre.find_in(haystack, span, tally).into_option()
+}
+
+/// What the prefilter of a builder says of a span: it passes over no occurrence of the builder's
+/// patterns, for each kind of match that it serves. `None` exactly where no prefilter suits them.
+pub fn candidate_of(
+    builder: &Builder,
+    haystack: &[u8],
+    span: Span,
+) -> Result<Option<Candidate>, AllocError>
+    requires { IsValidSpan haystack.now span }
+    ensures sound { IfOk result (λ answer. IfSome answer (λ candidate. (kind : MatchKind)
+        → Serves builder.now.kind kind
+        → Sound (record { kind = kind; patterns = kept_of builder.now.state }) builder.now.ignore_case haystack.now span
+        candidate)) }
+    ensures picked { IfOk result (λ answer. is_some answer ≡ is_some (pick builder.now)) }
+{
+    match builder.build()? {
+        Some(pre) => Ok(Some(pre.find_in(haystack, span))),
+        None => Ok(None),
+    }
+}
+
+#[cfg(test)]
+mod tests {
+    use super::{candidate_of, search_from};
+    use literal_prefilters::count::Tally;
+    use literal_prefilters::prefilter::Builder;
+    use literal_prefilters::{MatchKind, Span};
+    use std::process::Abort;
+    use std::test::Fail;
+
+    /// From where on the rest of a haystack of two words is searched, by what a builder makes.
+    fn assert_begins(
+        rt: &impl Abort,
+        builder: &Builder,
+        start: usize,
+        wanted: Option<usize>,
+    ) -> Result<(), Fail>
+        requires { start ≤ 12 }
+    {
+        let (haystack, span) = (b"I am lockjaw", Span { start, end: 12 });
+        let pre = builder.build()?.ok_or("there is no prefilter")?;
+        assert!(rt; search_from(&pre, haystack, span, &mut Tally::new()) == wanted);
+        let candidate = candidate_of(builder, haystack, span)?;
+        assert!(rt; candidate.is_some_and(|it| it.into_option() == wanted));
+        Ok(())
+    }
+
+    #[test]
+    fn searches_from_the_first_candidate(rt: HostRuntime) -> Result<(), Fail> {
+        let mut builder = Builder::new(rt.alloc(), MatchKind::LeftmostLongest);
+        builder.add(b"Sherlock")?;
+        builder.add(b"lockjaw")?;
+        assert_begins(&rt, &builder, 0, Some(1))?;
+        assert_begins(&rt, &builder, 3, Some(3))?;
+        assert_begins(&rt, &builder, 9, None)
+    }
+}

@@ -1,0 +1,35 @@
+//! Rolling sums, and the search by buckets at their own paths.
+use literal_prefilters::Span;
+use literal_prefilters::count::Tally;
+use literal_prefilters::packed::pattern::Patterns;
+use literal_prefilters::packed::rabinkarp::{RabinKarp, Rolling};
+use std::process::Abort;
+use std::test::Fail;
+
+/// Of more bytes than the window is to have, and of a window that is none.
+fn assert_rolls_on(rt: &impl Abort) {
+    let mut tally = Tally::new();
+    let mut rolling = Rolling::new(1);
+    rolling.push(10, &mut tally);
+    rolling.push(5, &mut tally);
+    assert!(rt; rolling.value() == 25);
+    rolling.roll(5, 7, &mut tally);
+    assert!(rt; rolling.value() == 47);
+}
+
+#[test]
+fn rolls_and_finds_at(rt: HostRuntime) -> Result<(), Fail> {
+    assert_rolls_on(&rt);
+    let mut tally = Tally::new();
+    let mut patterns = Patterns::new(rt.alloc());
+    patterns.add(b"ab")?;
+    let rabin_karp = RabinKarp::new(&patterns, &mut tally)?.try_clone()?;
+    let found = rabin_karp.find_at(&patterns, b"b`ab", 0, &mut tally);
+    assert!(rt; found.map(|it| it.span()) == Some(Span { start: 2, end: 4 }));
+    assert!(rt;
+        rabin_karp
+            .find_at(&patterns, b"b`ab", 3, &mut tally)
+            .is_none()
+    );
+    Ok(())
+}

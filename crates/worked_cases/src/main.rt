@@ -1,0 +1,58 @@
+//! Worked cases of the public calls. Each is a row of a file in `data/`, with the answer that is wanted. For each
+//! file that an argument names, the program prints how many rows agree, and of each other row what came instead. For
+//! the argument `-` it prints an answer for each line of standard input: so `checks/original` compares these calls
+//! with the original. It is no part of what users take.
+//!
+//! A row is a case, then ` = `, then the wanted answer. A line that is empty or begins with `#` is no row. A row that
+//! has no wanted answer, or whose case is none or breaks a condition of the call, agrees with nothing. A case has
+//! fields with `|` between them, each without spaces at its ends. The first field is the call; most others have:
+//!
+//! - the kind of match, `standard`, `first` or `longest`; or `leftmost`, which is both `first` and `longest`, or
+//!   `any`, which is all three: then each kind has to give the answer;
+//! - whether ASCII case is `kept` or ignored, `nocase`; for the packed search `kept`, or how many patterns its builder
+//!   is to keep at most;
+//! - the patterns, with commas between them, `.` for none;
+//! - the haystack;
+//! - the span, `START..END`, in bytes of the haystack.
+//!
+//! Bytes are text, but `_` alone is no byte, `\xNN` a byte by two hexadecimal digits, and `{N}` behind a byte says that
+//! it stands there N times in all. The bytes ``\ , | { }`` and `#` at the start of a line are written as `\xNN`.
+//!
+//! A match is the pattern's number and the offsets at which it starts and ends. Calls that have to answer the same are
+//! all made: where one answers otherwise, its answer follows behind ` / `.
+#![tactic(auto)]
+
+mod answers;
+mod bytes;
+mod case;
+mod classes;
+mod identifiers;
+mod numbers;
+mod packed_search;
+mod pattern_lists;
+mod prefilters;
+mod refusal;
+mod rows;
+mod searches;
+mod spans;
+mod tables;
+mod told;
+
+use answers::push_answers;
+use rows::push_report;
+use std::{env, fs, io};
+
+fn main(rt: HostRuntime) -> io::Result<()> {
+    for name in env::args(&rt)?.skip(1) {
+        let mut text = String::new(rt.alloc());
+        if name.as_str() == "-" {
+            let lines = io::read_to_string(rt.alloc(), rt.reader())?;
+            push_answers(&mut text, rt.alloc(), lines.as_str())?;
+        } else {
+            let rows = fs::read_to_string(&rt, name.as_str())?;
+            push_report(&mut text, rt.alloc(), name.as_str(), rows.as_str())?;
+        }
+        rt.print(text.as_str())?;
+    }
+    Ok(())
+}

@@ -1,0 +1,45 @@
+//! Files of rows.
+use crate::answers::push_answer;
+use crate::refusal::Refusal;
+use std::alloc::{AllocError, Global};
+
+/// What stands between a case and the wanted answer.
+const WANTS: &str = " = ";
+
+/// Writes how many rows of a file agree, and what came of the others.
+pub fn push_report(
+    text: &mut String,
+    alloc: Global,
+    name: &str,
+    file: &str,
+) -> Result<(), AllocError> {
+    let mut others = String::new(alloc);
+    let (mut rows, mut agree) = (0u32, 0u32);
+    for (number, line) in file.lines().enumerate() {
+        if line.is_empty() || line.starts_with('#') {
+            continue;
+        }
+        rows = rows.saturating_add(1);
+        if agrees(&mut others, alloc, number.saturating_add(1), line)? {
+            agree = agree.saturating_add(1);
+        }
+    }
+    writeln!(text, "{name}: {agree} of {rows} rows agree")?;
+    text.push_str(others.as_str())
+}
+
+/// Whether the row of a line agrees. Where it does not, writes what came.
+fn agrees(text: &mut String, alloc: Global, number: usize, line: &str) -> Result<bool, AllocError> {
+    let Some((case, wanted)) = line.split_once(WANTS) else {
+        writeln!(text, "  line {number}: {line}\n    no answer is wanted")?;
+        return Ok(false);
+    };
+    let mut came = String::new(alloc);
+    let refused = push_answer(&mut came, alloc, case)?;
+    if refused.is_none() && came.as_str() == wanted {
+        return Ok(true);
+    }
+    writeln!(text, "  line {number}: {case}\n    wanted {wanted}")?;
+    writeln!(text, "    came   {came}")?;
+    Ok(false)
+}

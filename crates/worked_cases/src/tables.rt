@@ -1,0 +1,91 @@
+//! Answers of tables of bytes.
+use crate::bytes::push_byte;
+use crate::case::Case;
+use crate::pattern_lists::patterns_of;
+use crate::refusal::Refusal;
+use crate::told::{NONE, push_word};
+use literal_prefilters::count::Tally;
+use literal_prefilters::packed::pattern::Patterns;
+use literal_prefilters::prefilter::ByteTable;
+use std::alloc::{AllocError, Global};
+
+/// The patterns of the case, in the order in which its kind of match tries them.
+fn patterns_in_order(alloc: Global, case: &Case<'_>) -> Result<Patterns, Refusal> {
+    let mut patterns = patterns_of(alloc, case)?;
+    if let Some(kind) = case.kind()?.as_packed() {
+        patterns.set_match_kind(kind)?;
+    }
+    Ok(patterns)
+}
+
+/// The table of start bytes and that of rare bytes.
+pub fn tables(text: &mut String, alloc: Global, case: &Case<'_>) -> Result<(), Refusal> {
+    let ignore_case = case.ignores_case()?;
+    let patterns = patterns_in_order(alloc, case)?;
+    push_word(text, "start=")?;
+    push_table(text, ByteTable::start(&patterns, ignore_case), false)?;
+    push_word(text, "; rare=")?;
+    Ok(push_table(text, ByteTable::rare(&patterns, ignore_case), true)?)
+}
+
+/// Writes whether there is a table, and of one its bytes, with their distances where these are asked for,
+/// their number, and the sum of their ranks.
+fn push_table(
+    text: &mut String,
+    table: Option<ByteTable>,
+    with_distances: bool,
+) -> Result<(), AllocError> {
+    let Some(table) = table else {
+        return text.push_str("no");
+    };
+    push_entries(text, &table, with_distances)?;
+    let count = table.count();
+    let rank_sum = table.rank_sum();
+    write!(text, " {count} {rank_sum}")
+}
+
+/// Writes that there is a table, and its bytes. A start table has no distance but 0.
+fn push_entries(
+    text: &mut String,
+    table: &ByteTable,
+    with_distances: bool,
+) -> Result<(), AllocError> {
+    let mut before = "yes ";
+    for byte in 0..=255u8 {
+        let Some(distance) = table.distance(byte) else {
+            continue;
+        };
+        text.push_str(before)?;
+        push_byte(text, byte)?;
+        if with_distances || distance > 0 {
+            write!(text, ":{distance}")?;
+        }
+        before = ",";
+    }
+    Ok(())
+}
+
+/// The first place in a span of a byte of the rare table.
+pub fn scan(text: &mut String, alloc: Global, case: &Case<'_>) -> Result<(), Refusal> {
+    let ignore_case = case.ignores_case()?;
+    let patterns = patterns_in_order(alloc, case)?;
+    match ByteTable::rare(&patterns, ignore_case) {
+        Some(table) => push_place(text, alloc, case, &table),
+        None => push_word(text, "no-table"),
+    }
+}
+
+/// Writes the first place in the span of the case of a byte of a table.
+fn push_place(
+    text: &mut String,
+    alloc: Global,
+    case: &Case<'_>,
+    table: &ByteTable,
+) -> Result<(), Refusal> {
+    let haystack = case.haystack(alloc)?;
+    let span = case.span(haystack.as_slice())?;
+    match table.scan(haystack.as_slice(), span, &mut Tally::new()) {
+        Some(place) => Ok(write!(text, "{place}")?),
+        None => push_word(text, NONE),
+    }
+}
