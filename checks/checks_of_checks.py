@@ -1,3 +1,4 @@
+#!/usr/bin/env python3
 """The tests of the checks, which the gate of a merge runs where a check was changed since they last passed.
 
   checks/checks_of_checks.py    runs them, and notes in checks/tested that they passed with the checks as they stand

@@ -21,7 +21,7 @@ TEST_CRATES = (
 )
 
 # Crates whose code may have a haystack in hand.
-SEARCH_CRATES = ("literal_packed", "literal_prefilters")
+SEARCH_CRATES = ("literal_packed", "literal_prefilters", "literal_automaton")
 
 HERE = " (checks/search_rules.py)"
 
@@ -33,7 +33,8 @@ ENTRIES = "crates/literal_packed/src/rabinkarp/entries.rt"
 PREFILTER = "crates/literal_prefilters/src/prefilter.rt"
 BYTE_TABLE = "crates/literal_prefilters/src/prefilter/byte_table.rt"
 CONFIRMING = "crates/literal_prefilters/src/prefilter/confirming.rt"
-PLAIN = "crates/literal_search/src/plain.rt"
+AUTOMATON = "crates/literal_automaton/src/lib.rt"
+WALK = "crates/literal_automaton/src/walk.rt"
 ENGINE = "crates/litfind/src/engine.rt"
 
 # The functions that may make a tally, each one: for the hashes of patterns, or for a search that is given none.
@@ -41,7 +42,7 @@ TALLY_MAKERS = {
     API: ("Builder::build", "Searcher::find", "Searcher::find_in", "Searcher::find_iter"),
     PREFILTER: ("Builder::build", "Prefilter::find_in"),
     CONFIRMING: ("ConfirmingSearch::find_in",),
-    PLAIN: ("PlainSearch::find_in",),
+    AUTOMATON: ("Dfa::find_in", "Dfa::find_all"),
     ENGINE: ("run",),
 }
 
@@ -50,7 +51,7 @@ TICKS = {
     "tick_hashed": ((RABIN_KARP, "Rolling::push"), (RABIN_KARP, "Rolling::roll")),
     "tick_entries": ((ENTRIES, "BucketEntries::entry"),),
     "tick_compared": ((PATTERN, "Patterns::matches_at"),),
-    "tick_scanned": ((BYTE_TABLE, "ByteTable::find"),),
+    "tick_scanned": ((BYTE_TABLE, "ByteTable::find"), (WALK, "last_ended")),
     "tick_tried": ((CONFIRMING, "confirm"), (CONFIRMING, "confirm_by_table")),
 }
 
@@ -58,11 +59,11 @@ TICKS = {
 TRY = re.compile(r"tally\.tick_tried\(\);\s*if let Some\(\w+\) = best_at\(")
 
 # The functions that read bytes of a haystack. In `find_at` they are read as they are handed to the rolling sum.
-READERS = ((PATTERN, "Patterns::matches_at"), (BYTE_TABLE, "ByteTable::find"))
+READERS = ((PATTERN, "Patterns::matches_at"), (BYTE_TABLE, "ByteTable::find"), (WALK, "last_ended"))
 HASHES = ((RABIN_KARP, "RabinKarp::find_at"),)
 
 # What parameters are called that hold bytes of patterns, one or all.
-PATTERN_NAMES = ("pattern", "bytes", "by_id", "lists")
+PATTERN_NAMES = ("pattern", "patterns", "bytes", "by_id", "lists", "classes")
 BYTES = re.compile(r"\[u8\]|\bVec<u8>|\bstr\b")
 
 # The types that may keep a slice of bytes: three a haystack, one a pattern, and one what C hands over of either.
@@ -251,7 +252,7 @@ def odd_use(code, place, takers, may_hash):
             "a byte of a haystack is read in `matches_at`, in the scan of `ByteTable`, and in `find_at` as an argument "
             "of `push` or `roll` alone: call one of these, with the tally")
     is_bound = re.search(r"\bhaystack\s*=$", before) and after.startswith(";")
-    if is_bound or owner.lstrip(".") in takers or owner == "FindIter {":
+    if is_bound or owner.lstrip(".") in takers or owner in ("FindIter {", "Matches {"):
         return ""
     return (
         "a haystack is asked for its `len()`, cut by a range into another `haystack`, or handed whole to a function "

@@ -5,12 +5,13 @@
 #include <stdio.h>
 #include <string.h>
 
-enum { ROOM = 65535, WORDS = LITERAL_PATTERN_LIMIT, MATCHES = 100 };
+enum { ROOM = 65535, WORDS = 1000, MATCHES = 100 };
 
 int main(int count, char **words) {
     static char patterns[ROOM], text[ROOM];
     static literal_match found[MATCHES];
-    size_t ends[WORDS], end = 0, len;
+    static size_t ends[WORDS];
+    size_t end = 0, len;
     literal_page page = {0, 0, 0};
 
     for (int i = 1; i < count; i++) {

@@ -4,8 +4,8 @@
  * its pieces: piece i is the bytes from ends[i - 1] (for the first, from 0) up to and not including ends[i]. The ends
  * must not fall, and the last must not pass the buffer. Bytes behind the last end belong to no piece.
  *
- * A list of patterns can be searched for if it has 1 to LITERAL_PATTERN_LIMIT patterns and none of them is empty.
- * Patterns are numbered from 0. Of the patterns that match at one place, the kind says which one is taken:
+ * A list of patterns can be searched for if none of them is empty and there are fewer than 2^31; in a list without
+ * patterns nothing is found. Patterns are numbered from 0. Of the patterns that match at one place, the kind says which one is taken:
  *
  *   LITERAL_LEFTMOST_FIRST     the one that stands first in the list
  *   LITERAL_LEFTMOST_LONGEST   the longest, and of several equally long ones the one that stands first
@@ -13,7 +13,8 @@
  * With ignore_case A to Z are the same as a to z, in patterns and haystacks; other bytes are themselves.
  *
  * Each call checks its arguments and answers one of the statuses below. The checks come in their order: first
- * LITERAL_BAD_ARGUMENTS, then LITERAL_NO_SEARCHER, then LITERAL_OUT_OF_MEMORY. What a call writes, it writes only
+ * LITERAL_BAD_ARGUMENTS, then LITERAL_NO_SEARCHER, then the two that come while the search is built,
+ * LITERAL_OUT_OF_MEMORY and LITERAL_TOO_LARGE. What a call writes, it writes only
  * where it answers LITERAL_OK: after any other status the memory that it was lent is as it was.
  *
  * No call keeps anything after it returns. There is nothing to free, and any thread may call at any time.
@@ -37,15 +38,13 @@
 extern "C" {
 #endif
 
-/* How many patterns a list may have at most. */
-#define LITERAL_PATTERN_LIMIT 128
-
 /* Statuses. */
 #define LITERAL_OK 0             /* done: found, or what was asked for is written, or the patterns can be searched for */
 #define LITERAL_NONE 1           /* no pattern occurs */
-#define LITERAL_NO_SEARCHER 2    /* the patterns can't be searched for: none, too many, or an empty one */
+#define LITERAL_NO_SEARCHER 2    /* the patterns can't be searched for: one is empty, or there are 2^31 or more */
 #define LITERAL_OUT_OF_MEMORY 3  /* malloc or realloc refused a request; the patterns can be searched for */
 #define LITERAL_BAD_ARGUMENTS 4  /* the arguments contradict each other, as each function says */
+#define LITERAL_TOO_LARGE 5      /* the table of the search would have 2^31 places or more; so may a call that finds */
 
 /* Kinds of match. */
 #define LITERAL_LEFTMOST_FIRST 0

@@ -48,7 +48,7 @@ class Find(unittest.TestCase):
         self.assertEqual(run(find, "a"), (0, ""))
         many = "".join(f"0 {at} {at + 1}\n" for at in range(250))
         self.assertEqual(run(find, "a", text=250 * "a"), (0, many))
-        self.assertEqual(run(find), refused)
+        self.assertEqual(run(find), (0, ""))
         self.assertEqual(run(find, "a", "", text=TEXT), refused)
 
     @unittest.skipUnless("refuse" in REFUSER, "run by bindings/test")

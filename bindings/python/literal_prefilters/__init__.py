@@ -17,9 +17,9 @@ from typing import Any, Callable, Generator, Iterable, Iterator, List, NamedTupl
 from typing import Union
 
 from . import _library
-from ._library import LiteralAnswer, LiteralMatch, LiteralPage, Lent, PATTERN_LIMIT
+from ._library import LiteralAnswer, LiteralMatch, LiteralPage, Lent
 
-__all__ = ["Kind", "Match", "PATTERN_LIMIT", "Searcher"]
+__all__ = ["Kind", "Match", "Searcher"]
 
 # What lends its bytes: bytes, bytearray, memoryview, mmap and others (before Python 3.12 there is no name for it).
 Buffer = Any
@@ -56,7 +56,7 @@ class Match(NamedTuple):
 
 
 class Searcher:
-    """Searches for patterns, of which there are 1 to 128, none of them empty.
+    """Searches for any number of patterns, none of them empty. Without a pattern it finds nothing.
 
     With `ignore_case` A to Z are the same as a to z, and other bytes are themselves. A searcher never changes, so
     threads may share one; while the library searches, other threads run. Each call builds its search anew, so give
@@ -68,10 +68,10 @@ class Searcher:
     Match(pattern=1, start=1, end=5)
     >>> Searcher([b"secret"], ignore_case=True).is_match(b"My Secret.")
     True
-    >>> Searcher([])
+    >>> Searcher([b""])
     Traceback (most recent call last):
     ...
-    ValueError: no search for these patterns: there have to be 1 to 128, none of them empty
+    ValueError: no search for these patterns: one of them is empty
     """
 
     __slots__ = ("_patterns", "_how")
@@ -245,7 +245,9 @@ def _check(status: int) -> None:
 
 def _refuse(status: int) -> NoReturn:
     if status == _library.NO_SEARCHER:
-        raise ValueError(f"no search for these patterns: there have to be 1 to {PATTERN_LIMIT}, none of them empty")
+        raise ValueError("no search for these patterns: one of them is empty")
     if status == _library.OUT_OF_MEMORY:
         raise MemoryError("no memory for a search")
+    if status == _library.TOO_LARGE:
+        raise OverflowError("the table of a search for these patterns would be too large")
     raise RuntimeError(f"the library answers the status {status}")  # (none of the calls above can)

@@ -6,13 +6,12 @@ import ctypes
 from ctypes import POINTER, c_bool, c_int32, c_size_t, c_ssize_t, c_uint32, c_void_p, py_object
 from pathlib import Path
 
-PATTERN_LIMIT = 128
-
 OK = 0
 NONE = 1
 NO_SEARCHER = 2
 OUT_OF_MEMORY = 3
 BAD_ARGUMENTS = 4
+TOO_LARGE = 5
 
 NAME = "libliteral_prefilters.so"
 

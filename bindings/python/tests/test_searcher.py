@@ -135,17 +135,20 @@ class Texts(unittest.TestCase):
 
 class Refusals(unittest.TestCase):
     def test_lists(self):
-        for patterns in ([], [b""], [b"a", b""], [b"a"] * 129):
+        for patterns in ([b""], [b"a", b""], [b""] * 129):
             for kind in Kind:
                 for ignore_case in (False, True):
-                    with self.assertRaisesRegex(ValueError, "1 to 128"):
+                    with self.assertRaisesRegex(ValueError, "one of them is empty"):
                         Searcher(patterns, kind, ignore_case)
 
-    def test_the_limit(self):
-        words = [b"%03d" % i for i in range(128)]
+    def test_lists_of_any_length(self):
         for kind in Kind:
             for ignore_case in (False, True):
-                self.assertEqual(Searcher(words, kind, ignore_case).find(b"x127"), Match(127, 1, 4))
+                self.assertIsNone(Searcher([], kind, ignore_case).find(b"abc"))
+                for count in (1, 128, 129, 2000):
+                    words = [b"%04d" % i for i in range(count)]
+                    found = Searcher(words, kind, ignore_case).find(b"x%04d" % (count - 1))
+                    self.assertEqual(found, Match(count - 1, 1, 5))
 
     def test_text_of_type_str(self):
         searcher = Searcher([b"a"])
@@ -195,7 +198,7 @@ class Statuses(unittest.TestCase):
         starts = [0, *ends]
         if not agree or any(a > b for a, b in zip(starts, ends)) or max(starts) > len(patterns):
             return _library.BAD_ARGUMENTS
-        if not 1 <= len(ends) <= 128 or any(a == b for a, b in zip(starts, ends)):
+        if any(a == b for a, b in zip(starts, ends)):
             return _library.NO_SEARCHER
         return _library.OK
 

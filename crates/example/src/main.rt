@@ -6,8 +6,8 @@ use std::io;
 fn main(rt: HostRuntime) -> io::Result<()> {
     let words = [b"apple".as_slice(), b"maple", b"Snapple"];
     let text = b"Nobody likes maple in their apple flavored Snapple.";
-    // There is no search for an empty list, for an empty pattern, or for more than 128 of them.
-    let Some(search) = Search::new(rt.alloc(), MatchKind::LeftmostFirst, false, words)? else {
+    // There is no search where a pattern is empty, or memory is refused.
+    let Ok(search) = Search::new(rt.alloc(), MatchKind::LeftmostFirst, false, words) else {
         return Ok(());
     };
     for found in search.find_iter(text) {

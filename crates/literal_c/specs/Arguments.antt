@@ -3,11 +3,11 @@ use Rattle.std.specs.Prelude.{◌≡◌, ◌⊎◌, ◌↔◌, ◌==◌, ℕ, �
 use Rattle.literal_base.specs.declared.packed.MatchKind.{MatchKind}
 use Rattle.literal_base.specs.declared.packed.MatchKind.TheVariants.{LeftmostFirst, LeftmostLongest}
 use Rattle.literal_base.specs.Query.{Query}
-use Rattle.literal_search.specs.SearchValue.{CanBeSearched}
+use Rattle.literal_automaton.specs.DfaValue.{CanBeKept}
 use Rattle.literal_c.specs.declared.TheConstants.{LITERAL_BAD_ARGUMENTS, LITERAL_LEFTMOST_FIRST}
 use Rattle.literal_c.specs.declared.TheConstants.{LITERAL_LEFTMOST_LONGEST}
 use Rattle.literal_c.specs.declared.TheConstants.{LITERAL_NONE, LITERAL_NO_SEARCHER, LITERAL_OK}
-use Rattle.literal_c.specs.declared.TheConstants.{LITERAL_OUT_OF_MEMORY}
+use Rattle.literal_c.specs.declared.TheConstants.{LITERAL_OUT_OF_MEMORY, LITERAL_TOO_LARGE}
 use Rattle.literal_c.specs.Pieces.{AreEnds, pieces}
 
 -- a number stands for a kind of match: 0 for `LeftmostFirst`, and 1 for `LeftmostLongest`
@@ -29,9 +29,9 @@ pub record Agree (kind : ℕ) (patterns ends : List ℕ) : Type 0 where
 
 -- what the status says of a call that has to search for the patterns: it is `LITERAL_BAD_ARGUMENTS` exactly if the
 -- arguments do not agree, `LITERAL_NO_SEARCHER` exactly if they agree and the patterns can't be searched for, and one
--- of the other three exactly if they agree and the patterns can be searched for
+-- of the other four exactly if they agree and the patterns can be searched for
 pub record IsStatus (agree : Type 0) (patterns : List (List ℕ)) (status : ℤ) : Type 0 where
   pub bad_arguments : (status ≡ LITERAL_BAD_ARGUMENTS) ↔ ¬ agree
-  pub no_searcher : (status ≡ LITERAL_NO_SEARCHER) ↔ (agree × ¬ CanBeSearched patterns)
-  pub searched : ((status ≡ LITERAL_OK) ⊎ ((status ≡ LITERAL_NONE) ⊎ (status ≡ LITERAL_OUT_OF_MEMORY)))
-      ↔ (agree × CanBeSearched patterns)
+  pub no_searcher : (status ≡ LITERAL_NO_SEARCHER) ↔ (agree × ¬ CanBeKept patterns)
+  pub searched : ((status ≡ LITERAL_OK) ⊎ ((status ≡ LITERAL_NONE) ⊎ ((status ≡ LITERAL_OUT_OF_MEMORY)
+      ⊎ (status ≡ LITERAL_TOO_LARGE)))) ↔ (agree × CanBeKept patterns)

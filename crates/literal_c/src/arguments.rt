@@ -1,6 +1,6 @@
 //! What C asks for: a kind of match by its number, and patterns.
 ghost use Rattle.std.specs.Prelude.{◌≡◌, ◌↔◌, IsTrue, MatchOption, MatchResult, length};
-ghost use Rattle.literal_search.specs.SearchValue.{CanBeSearched, search_for as search_value};
+ghost use Rattle.literal_automaton.specs.DfaValue.{CanBeKept, dfa_for};
 ghost use Rattle.literal_c.specs.Arguments.{Agree, IsKind, kind_of};
 ghost use Rattle.literal_c.specs.Inside.Refusal.{IsRefused, status_of};
 ghost use Rattle.literal_c.specs.Pieces.{AreEnds, pieces};
@@ -8,10 +8,9 @@ ghost use Rattle.literal_c.specs.Pieces.{AreEnds, pieces};
 use crate::pieces::{Pieces, are_ends};
 use crate::{
     LITERAL_BAD_ARGUMENTS, LITERAL_LEFTMOST_FIRST, LITERAL_LEFTMOST_LONGEST, LITERAL_NO_SEARCHER,
-    LITERAL_OUT_OF_MEMORY,
+    LITERAL_OUT_OF_MEMORY, LITERAL_TOO_LARGE,
 };
-use literal_search::laws::lists_have_a_search;
-use literal_search::{MatchKind, Search};
+use literal_search::{BuildError, MatchKind, PatternID, Search};
 use std::alloc::Global;
 
 /// Why there is no search.
@@ -23,6 +22,8 @@ pub enum Refusal {
     NoSearcher,
     /// A request for memory was refused.
     OutOfMemory,
+    /// The patterns need more states than there are identifiers.
+    TooLarge,
 }
 
 impl Refusal {
@@ -34,6 +35,7 @@ impl Refusal {
             Refusal::BadArguments => LITERAL_BAD_ARGUMENTS,
             Refusal::NoSearcher => LITERAL_NO_SEARCHER,
             Refusal::OutOfMemory => LITERAL_OUT_OF_MEMORY,
+            Refusal::TooLarge => LITERAL_TOO_LARGE,
         }
     }
 }
@@ -58,8 +60,8 @@ pub fn search_for(
     ends: &[usize],
 ) -> Result<Search, Refusal>
     ensures { MatchResult result
-        (λ search. Agree kind patterns.now ends.now × CanBeSearched (pieces patterns.now 0 ends.now)
-        × (search ≡ search_value (kind_of kind) ignore_case (pieces patterns.now 0 ends.now)))
+        (λ search. Agree kind patterns.now ends.now × CanBeKept (pieces patterns.now 0 ends.now)
+        × (search ≡ dfa_for (kind_of kind) ignore_case (pieces patterns.now 0 ends.now)))
         (IsRefused (Agree kind patterns.now ends.now) (pieces patterns.now 0 ends.now)) }
 {
     let Some(kind) = match_kind(kind) else {
@@ -71,22 +73,22 @@ pub fn search_for(
     if !can_be_searched(patterns, ends) {
         return Err(Refusal::NoSearcher);
     }
-    lists_have_a_search();
     match Search::new(alloc, kind, ignore_case, Pieces::new(patterns, ends)) {
-        Ok(built) => Ok(built.unwrap()),
-        Err(_) => Err(Refusal::OutOfMemory),
+        Ok(search) => Ok(search),
+        Err(BuildError::OutOfMemory) => Err(Refusal::OutOfMemory),
+        Err(_) => Err(Refusal::TooLarge),
     }
 }
 
 /// Whether the pieces of a buffer can be searched for.
 pub fn can_be_searched(patterns: &[u8], ends: &[usize]) -> bool
     requires { AreEnds (length patterns.now) 0 ends.now }
-    ensures { IsTrue result ↔ CanBeSearched (pieces patterns.now 0 ends.now) }
+    ensures { IsTrue result ↔ CanBeKept (pieces patterns.now 0 ends.now) }
 {
     for pattern in Pieces::new(patterns, ends) {
         if pattern.is_empty() {
             return false;
         }
     }
-    1 <= ends.len() && ends.len() <= Search::PATTERN_LIMIT
+    ends.len() <= PatternID::LIMIT
 }

@@ -9,7 +9,7 @@ ghost use Rattle.std.specs.Prelude.{◌≡◌, ◌⊎◌, ◌↔◌, ◌≤◌, 
 ghost use Rattle.std.specs.List.{AllZip};
 ghost use Rattle.literal_base.specs.Leftmost.{IsLeftmostMatch};
 ghost use Rattle.literal_base.specs.Occurs.{IsValidSpan, NothingOccurs, between};
-ghost use Rattle.literal_search.specs.SearchValue.{CanBeSearched};
+ghost use Rattle.literal_automaton.specs.DfaValue.{CanBeKept};
 ghost use Rattle.literal_c.specs.Answers.{IsAnswer, IsPage, match_of};
 ghost use Rattle.literal_c.specs.Arguments.{Agree, IsStatus, argument_query};
 ghost use Rattle.literal_c.specs.Pieces.{AreEnds, pieces};
@@ -31,12 +31,14 @@ use std::alloc::Global;
 pub const LITERAL_OK: i32 = 0;
 /// Status: no pattern occurs.
 pub const LITERAL_NONE: i32 = 1;
-/// Status: the patterns can't be searched for, since there are none or too many, or one of them is empty.
+/// Status: the patterns can't be searched for, since one of them is empty, or there are 2^31 or more.
 pub const LITERAL_NO_SEARCHER: i32 = 2;
 /// Status: a request for memory was refused.
 pub const LITERAL_OUT_OF_MEMORY: i32 = 3;
 /// Status: the arguments contradict each other.
 pub const LITERAL_BAD_ARGUMENTS: i32 = 4;
+/// Status: the patterns need more states than there are numbers for them, some billions of bytes.
+pub const LITERAL_TOO_LARGE: i32 = 5;
 
 /// Kind of match: of the patterns that match at one place, the one that stands first in the list.
 pub const LITERAL_LEFTMOST_FIRST: u32 = 0;
@@ -76,9 +78,9 @@ pub struct LiteralAnswer {
 pub extern "C" fn literal_can_search(patterns: &[u8], ends: &[usize]) -> i32
     ensures bad_arguments { (result ≡ LITERAL_BAD_ARGUMENTS) ↔ ¬ AreEnds (length patterns.now) 0 ends.now }
     ensures no_searcher { (result ≡ LITERAL_NO_SEARCHER)
-        ↔ (AreEnds (length patterns.now) 0 ends.now × ¬ CanBeSearched (pieces patterns.now 0 ends.now)) }
+        ↔ (AreEnds (length patterns.now) 0 ends.now × ¬ CanBeKept (pieces patterns.now 0 ends.now)) }
     ensures ok { (result ≡ LITERAL_OK)
-        ↔ (AreEnds (length patterns.now) 0 ends.now × CanBeSearched (pieces patterns.now 0 ends.now)) }
+        ↔ (AreEnds (length patterns.now) 0 ends.now × CanBeKept (pieces patterns.now 0 ends.now)) }
 {
     if !are_ends(patterns.len(), ends) {
         LITERAL_BAD_ARGUMENTS

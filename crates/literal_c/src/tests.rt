@@ -27,7 +27,7 @@ fn assert_match(rt: &impl Abort, found: &LiteralMatch, wanted: (usize, usize, us
 #[test]
 fn finds_in_a_span(rt: HostRuntime) -> Result<(), Fail> {
     assert!(rt; literal_can_search(WORDS, &ENDS) == LITERAL_OK);
-    assert!(rt; literal_can_search(WORDS, &[]) == LITERAL_NO_SEARCHER);
+    assert!(rt; literal_can_search(WORDS, &[]) == LITERAL_OK);
     assert!(rt; literal_can_search(WORDS, &[5, 5]) == LITERAL_NO_SEARCHER);
     assert!(rt; literal_can_search(WORDS, &[5, 4]) == LITERAL_BAD_ARGUMENTS);
     assert!(rt; literal_can_search(WORDS, &[18]) == LITERAL_BAD_ARGUMENTS);

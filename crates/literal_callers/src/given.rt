@@ -1,5 +1,5 @@
 //! Searches for the words that a caller has: as an array, a slice or a vector.
-ghost use Rattle.std.specs.Prelude.{◌≡◌, ◌∷◌, [], IfOk, IfSome, IsSomeAnd, OnOk, false, is_some, map};
+ghost use Rattle.std.specs.Prelude.{◌≡◌, ◌∷◌, [], IfOk, IfSome, OnOk, false, is_some, map};
 ghost use Rattle.literal_base.specs.Leftmost.{IsLeftmost};
 ghost use Rattle.literal_base.specs.Occurs.{IsValidSpan, whole_of};
 ghost use Rattle.literal_base.specs.declared.packed.MatchKind.TheVariants.{LeftmostFirst};
@@ -12,7 +12,7 @@ use literal_base::laws::greedy_is_unique;
 use literal_prefilters::packed::{self, Builder, Searcher};
 use literal_prefilters::prefilter::ConfirmingSearch;
 use literal_prefilters::{Match, Span};
-use literal_search::Search;
+use literal_search::{BuildError, Search};
 use std::alloc::{AllocError, Global};
 
 /// What a search found.
@@ -113,20 +113,18 @@ pub fn add_all(builder: &mut Builder, words: &[&[u8]]) -> Result<(), AllocError>
 }
 
 /// All matches of README's example, in their order.
-pub fn found_in_readme(alloc: Global) -> Result<Option<Vec<Match>>, AllocError>
-    ensures { IfOk result (λ answer. IsSomeAnd answer (λ all. all.items
+pub fn found_in_readme(alloc: Global) -> Result<Vec<Match>, BuildError>
+    ensures { IfOk result (λ all. all.items
         ≡ record { pattern = 1; start = 13; end = 18 }
         ∷ record { pattern = 0; start = 28; end = 33 }
-        ∷ record { pattern = 2; start = 43; end = 50 } ∷ [])) }
+        ∷ record { pattern = 2; start = 43; end = 50 } ∷ []) }
 {
     greedy_is_unique();
     let words = [b"apple".as_slice(), b"maple", b"Snapple"];
-    let Some(search) = Search::new(alloc, packed::MatchKind::LeftmostFirst, false, words)? else {
-        return Ok(None);
-    };
+    let search = Search::new(alloc, packed::MatchKind::LeftmostFirst, false, words)?;
     let text = b"Nobody likes maple in their apple flavored Snapple.";
     let all = search.find_all(text)?;
-    Ok(Some(all))
+    Ok(all)
 }
 
 #[cfg(test)]
@@ -138,17 +136,22 @@ mod tests {
     const WORDS: [&[u8]; 3] = [b"ab", b"a", b"b"];
 
     /// Of these words `ab` is found in `xab`.
-    fn assert_finds_ab(rt: &impl Abort, answer: Option<Found>) {
-        let ab = Match::must(0, Span { start: 1, end: 3 });
-        assert!(rt; answer.is_some_and(|found| found.first == Some(ab)));
+    fn assert_is_ab(rt: &impl Abort, first: Option<Match>) {
+        assert!(rt; first == Some(Match::must(0, Span { start: 1, end: 3 })));
     }
 
     #[test]
     fn finds_words_of_each_list(rt: HostRuntime) -> Result<(), Fail> {
-        assert_finds_ab(&rt, first_of_array(rt.alloc(), WORDS, b"xab")?);
-        assert_finds_ab(&rt, first_of_slice(rt.alloc(), WORDS.as_slice(), b"xab")?);
+        let answer = first_of_array(rt.alloc(), WORDS, b"xab")?.ok_or("no searcher")?;
+        let first: Option<Match> = answer.first;
+        assert_is_ab(&rt, first);
+        let answer = first_of_slice(rt.alloc(), WORDS.as_slice(), b"xab")?.ok_or("no searcher")?;
+        let first: Option<Match> = answer.first;
+        assert_is_ab(&rt, first);
         let words = Vec::from_array(rt.alloc(), WORDS)?;
-        assert_finds_ab(&rt, first_of_vec(rt.alloc(), words, b"xab")?);
+        let answer = first_of_vec(rt.alloc(), words, b"xab")?.ok_or("no searcher")?;
+        let first: Option<Match> = answer.first;
+        assert_is_ab(&rt, first);
         Ok(())
     }
 
@@ -158,7 +161,8 @@ mod tests {
         let words = [b"ab".as_slice()];
         let span = Span { start: 0, end: 3 };
         let answer = first_confirmed(rt.alloc(), kind, true, words.as_slice(), b"xAB", span)?;
-        assert_finds_ab(&rt, answer);
+        let first: Option<Match> = answer.ok_or("no prefilter")?.first;
+        assert_is_ab(&rt, first);
         let mut builder = Builder::new(rt.alloc());
         add_all(&mut builder, WORDS.as_slice())?;
         assert!(rt; builder.len() == 3);
@@ -167,7 +171,7 @@ mod tests {
 
     #[test]
     fn finds_the_example(rt: HostRuntime) -> Result<(), Fail> {
-        let all = found_in_readme(rt.alloc())?.ok_or("no searcher")?;
+        let all = found_in_readme(rt.alloc())?;
         let spans = all.iter().map(|it| it.range());
         assert!(rt; spans.eq([13..18, 28..33, 43..50].into_iter()));
         Ok(())

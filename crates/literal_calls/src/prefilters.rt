@@ -35,20 +35,27 @@ fn assert_proposes(rt: &impl Abort, pre: &Prefilter, wanted: usize) {
     assert!(rt; by_trait.into_option() == Some(wanted));
 }
 
+/// What is built of these patterns, and a copy of it.
+fn assert_copy_proposes(
+    rt: &impl Abort,
+    alloc: Global,
+    kind: MatchKind,
+    patterns: &[&[u8]],
+) -> Result<(), Fail> {
+    let pre = prefilter(alloc, kind, patterns)?;
+    assert_proposes(rt, &pre, 2);
+    assert_proposes(rt, &pre.try_clone()?, 2);
+    Ok(())
+}
+
+const THREE: [&[u8]; 3] = [b"ax", b"by", b"cz"];
+
 /// By a packed search, by a table, and by one pattern.
 #[test]
 fn copies_propose_the_same(rt: HostRuntime) -> Result<(), Fail> {
-    for (kind, patterns) in [
-        (MatchKind::LeftmostFirst, &[b"ax".as_slice(), b"by", b"cz"]),
-        (MatchKind::Standard, &[b"ax", b"by", b"cz"]),
-    ] {
-        let pre = prefilter(rt.alloc(), kind, patterns)?;
-        assert_proposes(&rt, &pre, 2);
-        assert_proposes(&rt, &pre.try_clone()?, 2);
-    }
-    let one = prefilter(rt.alloc(), MatchKind::Standard, &[b"by"])?;
-    assert_proposes(&rt, &one.try_clone()?, 2);
-    Ok(())
+    assert_copy_proposes(&rt, rt.alloc(), MatchKind::LeftmostFirst, &THREE)?;
+    assert_copy_proposes(&rt, rt.alloc(), MatchKind::Standard, &THREE)?;
+    assert_copy_proposes(&rt, rt.alloc(), MatchKind::Standard, &[b"by"])
 }
 
 /// An empty pattern leaves a builder without a prefilter.

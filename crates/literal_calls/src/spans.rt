@@ -3,6 +3,16 @@ use literal_base::search::{Anchored, Input, Match, MatchKind, Span, StartKind};
 use literal_ids::PatternID;
 use literal_packed as packed;
 use std::ops::Range;
+use std::process::Abort;
+
+/// Inputs that are made with other bounds than those of their haystack.
+fn assert_is_made_with_its_bounds(rt: &impl Abort) {
+    assert!(rt; !Input::new(b"").is_done() && Input::new(b"").range(1..0).is_done());
+    let input = Input::new(b"foobar").range_inclusive(5, 5);
+    assert!(rt; input.get_range() == (5..6));
+    let input = input.range(1..3).span(Span { start: 2, end: 6 });
+    assert!(rt; input.get_range() == (2..6) && input.haystack() == b"foobar".as_slice());
+}
 
 #[test]
 fn an_input_takes_its_bounds(rt: HostRuntime) {
@@ -20,11 +30,7 @@ fn an_input_takes_its_bounds(rt: HostRuntime) {
     assert!(rt; input.get_range() == (7..6));
     input.set_range(0..0);
     assert!(rt; input.get_range() == (0..0) && !input.is_done());
-    assert!(rt; !Input::new(b"").is_done() && Input::new(b"").range(1..0).is_done());
-    let input = Input::new(b"foobar").range_inclusive(5, 5);
-    assert!(rt; input.get_range() == (5..6));
-    let input = input.range(1..3).span(Span { start: 2, end: 6 });
-    assert!(rt; input.get_range() == (2..6) && input.haystack() == b"foobar".as_slice());
+    assert_is_made_with_its_bounds(&rt);
 }
 
 #[test]

@@ -5,7 +5,7 @@
 use crate::asserted::{assert_holds, assert_same};
 use crate::made::searcher;
 use crate::plain::leftmost_plainly;
-use crate::{confirming, exact, stepping};
+use crate::{automaton, confirming, exact, stepping};
 use literal_prefilters::Span;
 use literal_prefilters::packed::{MatchKind, Searcher};
 use std::alloc::Global;
@@ -142,7 +142,7 @@ fn assert_list(
     Ok(())
 }
 
-/// Both kinds of match of a list, then prefilters, exact ones, and confirming searches.
+/// Both kinds of match of a list, then prefilters, exact ones, confirming searches, and the automaton.
 #[test]
 fn finds_what_is_found_plainly(rt: HostRuntime) -> Result<(), Fail> {
     for list in &LISTS {
@@ -151,5 +151,6 @@ fn finds_what_is_found_plainly(rt: HostRuntime) -> Result<(), Fail> {
     }
     stepping::assert_lists(&rt, rt.alloc())?;
     exact::assert_lists(&rt, rt.alloc())?;
-    confirming::assert_lists(&rt, rt.alloc())
+    confirming::assert_lists(&rt, rt.alloc())?;
+    automaton::assert_lists(&rt, rt.alloc())
 }

@@ -9,6 +9,7 @@
 //! | `stepping` | the steps of prefilters, compared with those that are found plainly |
 //! | `exact` | exact prefilters, compared with the plain search |
 //! | `confirming` | both confirming searches, compared with the plain search |
+//! | `automaton` | the automaton, compared with the plain search |
 //! | `asking` | how often `confirm` asks its prefilter |
 //! | `running_tables` | that a builder of prefilters keeps up the tables of all patterns so far |
 //! | `chosen` | each distance that a table may have |
@@ -21,6 +22,8 @@
 mod asking;
 #[cfg(test)]
 mod asserted;
+#[cfg(test)]
+mod automaton;
 #[cfg(test)]
 mod chosen;
 #[cfg(test)]

@@ -3,10 +3,6 @@
 #![tactic(auto)]
 
 #[cfg(test)]
-mod automata;
-#[cfg(test)]
-mod building;
-#[cfg(test)]
 mod parts;
 #[cfg(test)]
 mod types;

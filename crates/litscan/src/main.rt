@@ -1,73 +1,70 @@
-//! Counts the lines of standard input in which a word stands: `litscan WORD...`.
+//! Counts the lines of standard input in which a word stands: `litscan [-i] [-v] WORD...`.
 #![tactic(auto)]
 
-ghost use Rattle.std.specs.Prelude.{◌≡◌, IfOk, map, string_bytes};
+mod fault;
+mod request;
 
-use literal_examples::automaton::{Automaton, BuildError};
-use literal_prefilters::PatternID;
-use literal_prefilters::packed::pattern::Patterns;
+use fault::Fault;
+use literal_search::{BuildError, MatchKind, Search};
+use request::Request;
 use std::alloc::Global;
+use std::env;
 use std::io::Read;
-use std::{env, fmt};
+use std::process::ExitCode;
 
-/// Why nothing was counted.
-#[derive(Clone, Copy, Debug, PartialEq, Eq)]
-pub enum Fault {
-    /// No automaton: memory was refused, or what was made did not pass its check.
-    Build(BuildError),
-    /// A word is empty, or there are too many.
-    Words,
-    /// The words or the text could not be read.
-    Input,
-    /// The count could not be written.
-    Output,
-}
-
-impl fmt::Display for Fault {
-    fn fmt<W: fmt::Write>(&self, f: &mut fmt::Formatter<W>) -> fmt::Result {
-        match self {
-            Fault::Build(_) => write!(f, "litscan: no automaton"),
-            Fault::Words => write!(f, "litscan: usage: litscan WORD..."),
-            Fault::Input => write!(f, "litscan: read failed"),
-            Fault::Output => write!(f, "litscan: write failed"),
+fn main(rt: HostRuntime) -> ExitCode {
+    match run(&rt) {
+        Ok(0) => ExitCode::from(1),
+        Ok(_) => ExitCode::from(0),
+        Err(fault) => {
+            let _ = eprintln!(rt; "{fault}");
+            ExitCode::from(2)
         }
     }
 }
 
-impl From<BuildError> for Fault {
-    fn from(error: BuildError) -> Fault {
-        Fault::Build(error)
-    }
-}
-
-fn main(rt: HostRuntime) -> Result<(), Fault> {
-    let args = env::args(&rt).or(Err(Fault::Input))?;
+/// Prints how many lines count, and says it.
+fn run(rt: &HostRuntime) -> Result<usize, Fault> {
+    let args = env::args(rt).or(Err(Fault::NoText))?;
     let words = args
         .skip(1)
         .collect::<Vec<String>>(rt.alloc())
-        .or(Err(Fault::Input))?;
-    let automaton = automaton_for(rt.alloc(), &words)?;
+        .or(Err(Fault::OutOfMemory))?;
+    let request = Request::of(words.as_slice())?;
+    let search = search_for(rt.alloc(), &request)?;
     let mut text = Vec::new(rt.alloc());
-    rt.stdin().read_to_end(&mut text).or(Err(Fault::Input))?;
-    let count = text
-        .split(|byte| *byte == b'\n')
-        .filter(|line| automaton.is_match(line))
-        .count();
-    println!(rt; "{count}").or(Err(Fault::Output))
+    rt.stdin()
+        .read_to_end(&mut text)
+        .or(Err(Fault::ReadFailed))?;
+    let count = lines_that_count(&search, request.others, text.as_slice());
+    println!(rt; "{count}").or(Err(Fault::WriteFailed))?;
+    Ok(count)
 }
 
-/// The automaton for the words.
-fn automaton_for(alloc: Global, words: &[String]) -> Result<Automaton, Fault>
-    ensures { IfOk result (λ built. built ≡ map string_bytes words.now) }
-{
-    let mut patterns = Patterns::new(alloc);
-    for word in words {
-        if word.is_empty() || patterns.len() >= PatternID::LIMIT {
-            return Err(Fault::Words);
-        }
-        patterns
-            .add(word.as_bytes())
-            .or(Err(BuildError::OutOfMemory))?;
+/// The search for the words of a request.
+fn search_for(alloc: Global, request: &Request<'_>) -> Result<Search, Fault> {
+    let mut bytes = Vec::new(alloc);
+    for word in request.words {
+        bytes.push(word.as_bytes()).or(Err(Fault::OutOfMemory))?;
     }
-    Ok(Automaton::build(alloc, &patterns)?)
+    let words = bytes.iter().copied();
+    match Search::new(alloc, MatchKind::LeftmostFirst, request.ignore_case, words) {
+        Ok(search) => Ok(search),
+        Err(BuildError::EmptyPattern(number)) => Err(Fault::EmptyWord(number)),
+        Err(BuildError::OutOfMemory) => Err(Fault::OutOfMemory),
+        Err(_) => Err(Fault::TooManyWords),
+    }
+}
+
+/// How many lines have a word, or how many have none where the others are asked for. What stands behind the last line
+/// feed is a line if it is not empty.
+fn lines_that_count(search: &Search, others: bool, text: &[u8]) -> usize {
+    let ended = text.strip_suffix(b"\n").unwrap_or(text);
+    if text.is_empty() {
+        return 0;
+    }
+    ended
+        .split(|byte| *byte == b'\n')
+        .filter(|line| search.is_match(line) != others)
+        .count()
 }

@@ -8,8 +8,6 @@
 #![tactic(auto)]
 
 #[cfg(test)]
-mod automata;
-#[cfg(test)]
 mod builders;
 #[cfg(test)]
 mod confirming;

@@ -6,7 +6,7 @@ use literal_prefilters::Match;
 use literal_prefilters::count::Tally;
 use literal_prefilters::packed::MatchKind;
 use literal_prefilters::prefilter::ConfirmingSearch;
-use literal_search::Search;
+use literal_search::{BuildError, Search};
 use std::alloc::{AllocError, Global};
 
 /// What is answered where there is no `Search`.
@@ -26,7 +26,7 @@ fn search_for(alloc: Global, case: &Case<'_>) -> Result<Option<Search>, Refusal>
     let kind = case.packed_kind()?;
     let ignore_case = case.ignores_case()?;
     let patterns = case.patterns(alloc)?;
-    Ok(build_search(alloc, kind, ignore_case, patterns.as_slice())?)
+    build_search(alloc, kind, ignore_case, patterns.as_slice())
 }
 
 /// A search for these patterns.
@@ -35,9 +35,13 @@ fn build_search(
     kind: MatchKind,
     ignore_case: bool,
     patterns: &[Vec<u8>],
-) -> Result<Option<Search>, AllocError> {
+) -> Result<Option<Search>, Refusal> {
     let bytes = lent(alloc, patterns)?;
-    Search::new(alloc, kind, ignore_case, bytes.iter().copied())
+    match Search::new(alloc, kind, ignore_case, bytes.iter().copied()) {
+        Ok(search) => Ok(Some(search)),
+        Err(BuildError::OutOfMemory) => Err(Refusal::OutOfMemory),
+        Err(_) => Ok(None),
+    }
 }
 
 /// All matches, by all calls of a `Search`.

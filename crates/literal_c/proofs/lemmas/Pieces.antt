@@ -11,7 +11,7 @@ use Rattle.std.specs.Iterator.{Drains, YieldsFirstRef}
 use Rattle.std.specs.List.{AllZip}
 use Rattle.literal_base.specs.declared.packed.MatchKind.{MatchKind}
 use Rattle.literal_base.specs.Occurs.{NoneIsEmpty}
-use Rattle.literal_search.specs.SearchValue.{BuildsSearch, SearchValue, search_of}
+use Rattle.literal_automaton.specs.DfaValue.{BuildsDfa, DfaValue, dfa_for}
 use Rattle.literal_c.specs.declared.LiteralAnswer.{LiteralAnswer}
 use Rattle.literal_c.specs.Pieces.{AreEnds, pieces}
 
@@ -53,11 +53,11 @@ drained left (item ∷ more) run =
     ap (λ ps. item.now ∷ ps) rest ∙ sym run.1.1.1
 
 -- what is built for pieces that are handed over one after another
-pub built_for : (kind : MatchKind) (ignore_case : Bool) (left : List (List ℕ)) (built : Option SearchValue)
-    → BuildsSearch (λ (patterns it : List (List ℕ)). it ≡ patterns) (YieldsFirstRef (λ (s : List (List ℕ)). s)) kind
-    ignore_case left built → built ≡ search_of kind ignore_case left
-built_for kind ignore_case left built run =
-    run.4 ∙ ap (search_of kind ignore_case) (drained run.0 run.1 run.3 ∙ run.2)
+pub built_for : (kind : MatchKind) (ignore_case : Bool) (left : List (List ℕ)) (built : DfaValue)
+    → BuildsDfa (λ (patterns it : List (List ℕ)). it ≡ patterns) (YieldsFirstRef (λ (s : List (List ℕ)). s)) left kind
+    ignore_case built → built ≡ dfa_for kind ignore_case left
+built_for kind ignore_case left built (patterns, (it, items, is_iterator, drains, are, can), is) =
+    is ∙ ap (dfa_for kind ignore_case) (are ∙ (drained it items drains ∙ is_iterator))
 
 -- whether a pattern is empty, among those that are left and those behind the first of these
 pub tail_not_empty : (first : List ℕ) (more : List (List ℕ)) → NoneIsEmpty (first ∷ more) → NoneIsEmpty more

@@ -1,19 +1,22 @@
 -- Why there is no search.
 use Rattle.std.specs.Prelude.{ℕ, ℤ, List}
-use Rattle.literal_search.specs.SearchValue.{CanBeSearched}
+use Rattle.literal_automaton.specs.DfaValue.{CanBeKept}
 use Rattle.literal_c.specs.declared.TheConstants.{LITERAL_BAD_ARGUMENTS, LITERAL_NO_SEARCHER, LITERAL_OUT_OF_MEMORY}
+use Rattle.literal_c.specs.declared.TheConstants.{LITERAL_TOO_LARGE}
 use Rattle.literal_c.specs.declared.arguments.Refusal.{Refusal}
-use Rattle.literal_c.specs.declared.arguments.Refusal.TheVariants.{BadArguments, NoSearcher, OutOfMemory}
+use Rattle.literal_c.specs.declared.arguments.Refusal.TheVariants.{BadArguments, NoSearcher, OutOfMemory, TooLarge}
 
 -- a refusal says what holds: the arguments do not agree; or they do, and the patterns can't be searched for; or they
 -- can
 abbrev pub IsRefused : Type 0 → List (List ℕ) → Refusal → Type 0
 IsRefused agree patterns BadArguments = ¬ agree
-IsRefused agree patterns NoSearcher = agree × ¬ CanBeSearched patterns
-IsRefused agree patterns OutOfMemory = agree × CanBeSearched patterns
+IsRefused agree patterns NoSearcher = agree × ¬ CanBeKept patterns
+IsRefused agree patterns OutOfMemory = agree × CanBeKept patterns
+IsRefused agree patterns TooLarge = agree × CanBeKept patterns
 
 -- the status of a refusal
 abbrev pub status_of : Refusal → ℤ
 status_of BadArguments = LITERAL_BAD_ARGUMENTS
 status_of NoSearcher = LITERAL_NO_SEARCHER
 status_of OutOfMemory = LITERAL_OUT_OF_MEMORY
+status_of TooLarge = LITERAL_TOO_LARGE

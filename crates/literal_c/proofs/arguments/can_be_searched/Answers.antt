@@ -17,15 +17,11 @@ loop-pattern-preserved c =
       λ all. c.loop-pattern.invariant.1 (step.1 all),
     )
 
-pub returns-then-ends-ge1 : goal.returns-then-ends-ge1
-returns-then-ends-ge1 c =
+pub returns : goal.returns
+returns c =
     let all : NoneIsEmpty (pieces c.args.patterns.now 0 c.args.ends.now) = c.loop-pattern.invariant.1
     (subst NoneIsEmpty (sym c.in-None.ensures.steps.0) (All-nil (λ bytes. 0 < length bytes))) in
     let count = pieces_are_as_many c.args.patterns.now 0 c.args.ends.now in (
-      λ few. let within = leb-true _ _ few in record {
-        some = omega arith;
-        few = omega arith;
-        not_empty = all;
-      },
+      λ few. let within = leb-true _ _ few in record { some = all; few = omega arith },
       λ can. le-leb _ _ (omega (arith, can.few)),
     )

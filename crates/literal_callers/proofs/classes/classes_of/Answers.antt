@@ -3,8 +3,8 @@ use Rattle.std.proofs.lemmas.List.{take_more, take_all}
 use Rattle.literal_base.specs.Bytes.{by_byte}
 use Rattle.literal_base.specs.Classes.{class_of, marks_of, with_range_marked}
 use Rattle.literal_base.proofs.lemmas.Callers.{marks_of-push}
-use Rattle.literal_compared.proofs.lemmas.Shared.{share_by_byte}
-use Rattle.literal_compared.proofs.classes.classes_of.Goals as goal
+use Rattle.literal_callers.proofs.lemmas.Shared.{share_by_byte}
+use Rattle.literal_callers.proofs.classes.classes_of.Goals as goal
 
 pub loop-start-preserved : goal.loop-start-preserved
 loop-start-preserved c =

@@ -3,7 +3,7 @@ use Rattle.std.proofs.lemmas.Iterator.Consumers.{count_from_yields_List, YieldsL
 use Rattle.std.proofs.lemmas.List.FromFn.{length-range_with_len}
 use Rattle.std.specs.List.{range_with_len}
 use Rattle.literal_base.specs.Classes.{alphabet_len_of}
-use Rattle.literal_compared.proofs.classes.count_of_classes.Goals as goal
+use Rattle.literal_callers.proofs.classes.count_of_classes.Goals as goal
 
 pub returns : goal.returns
 returns c =

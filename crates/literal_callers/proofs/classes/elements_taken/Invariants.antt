@@ -1,6 +1,6 @@
 use Rattle.std.proofs.Common.{◌≡◌, ◌++◌}
 use Rattle.literal_base.specs.Classes.{elements_of}
-use Rattle.literal_compared.proofs.classes.elements_taken.Given as goal
+use Rattle.literal_callers.proofs.classes.elements_taken.Given as goal
 
 abbrev pub invariant-loop-byte : goal.invariant-loop-byte
 invariant-loop-byte l = record {

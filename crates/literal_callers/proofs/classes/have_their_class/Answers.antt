@@ -1,6 +1,6 @@
 use Rattle.std.proofs.Common.{◌∙◌}
 use Rattle.literal_base.proofs.lemmas.Callers.{element_has_class}
-use Rattle.literal_compared.proofs.classes.have_their_class.Goals as goal
+use Rattle.literal_callers.proofs.classes.have_their_class.Goals as goal
 
 pub returns-then-get-class : goal.returns-then-get-class
 returns-then-get-class c =

@@ -3,7 +3,7 @@ use Rattle.literal_packed.proofs.lemmas.Callers.{slice_gives}
 use Rattle.literal_prefilters.specs.ConfirmingValue.{prefilter_builder}
 use Rattle.literal_prefilters.proofs.lemmas.Callers.{confirming_built_of, confirming_searches_for}
 use Rattle.literal_prefilters.proofs.lemmas.Callers.{confirms_where_picked}
-use Rattle.literal_compared.proofs.given.first_confirmed.Goals as goal
+use Rattle.literal_callers.proofs.given.first_confirmed.Goals as goal
 
 pub returns-in_default-clause-built : goal.returns-in_default-clause-built
 returns-in_default-clause-built c =

@@ -3,7 +3,7 @@ use Rattle.std.proofs.lemmas.Result.{IfOk-weaker}
 use Rattle.literal_base.specs.MatchValue.{MatchValue}
 use Rattle.literal_base.specs.Greedy.{IsGreedy}
 use Rattle.literal_packed.proofs.lemmas.Callers.{greedy_from_run}
-use Rattle.literal_compared.proofs.uses.collected.Goals as goal
+use Rattle.literal_callers.proofs.uses.collected.Goals as goal
 
 pub returns : goal.returns
 returns c =

@@ -2,7 +2,7 @@ use Rattle.std.proofs.Common.{ℕ, List, ◌∙◌}
 use Rattle.std.proofs.lemmas.Iterator.Consumers.{count_from_yields_List, YieldsList-from_first}
 use Rattle.literal_packed.specs.PatternsValue.{in_order}
 use Rattle.literal_packed.proofs.lemmas.Callers.{length_in_order}
-use Rattle.literal_compared.proofs.uses.count_of.Goals as goal
+use Rattle.literal_callers.proofs.uses.count_of.Goals as goal
 
 pub returns : goal.returns
 returns c =

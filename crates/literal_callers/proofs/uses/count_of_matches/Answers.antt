@@ -1,5 +1,5 @@
 use Rattle.literal_packed.proofs.lemmas.Callers.{greedy_from_run}
-use Rattle.literal_compared.proofs.uses.count_of_matches.Goals as goal
+use Rattle.literal_callers.proofs.uses.count_of_matches.Goals as goal
 
 pub returns : goal.returns
 returns c =

@@ -1,7 +1,7 @@
 use Rattle.std.proofs.Common.{◌≡◌, ◌++◌, ℕ, List, map, append-nil, sym, ap, ◌∙◌}
 use Rattle.literal_packed.specs.PatternsValue.{in_order}
 use Rattle.literal_packed.proofs.lemmas.Callers.{map_in_order}
-use Rattle.literal_compared.proofs.uses.order_of.Goals as goal
+use Rattle.literal_callers.proofs.uses.order_of.Goals as goal
 
 pub returns : goal.returns
 returns c =

@@ -1,6 +1,6 @@
 use Rattle.std.proofs.Common.{◌≡◌, ◌++◌, map}
 use Rattle.literal_packed.specs.PatternsValue.{in_order}
-use Rattle.literal_compared.proofs.uses.order_of.Given as goal
+use Rattle.literal_callers.proofs.uses.order_of.Given as goal
 
 abbrev pub invariant-loop-id : goal.invariant-loop-id
 invariant-loop-id l = record {

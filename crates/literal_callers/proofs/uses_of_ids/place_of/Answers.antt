@@ -1,6 +1,6 @@
 use Rattle.std.proofs.Common.{length, slice_index, sym, ap, ◌∙◌, arith}
 use Rattle.literal_ids.proofs.lemmas.Callers.{id_below}
-use Rattle.literal_compared.proofs.uses_of_ids.place_of.Goals as goal
+use Rattle.literal_callers.proofs.uses_of_ids.place_of.Goals as goal
 
 pub bounds-words-as_usize : goal.bounds-words-as_usize
 bounds-words-as_usize c =

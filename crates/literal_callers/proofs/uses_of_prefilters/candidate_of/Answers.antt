@@ -2,7 +2,7 @@ use Rattle.std.proofs.Common.{Option, IfSome, subst}
 use Rattle.literal_packed.specs.State.{kept_of}
 use Rattle.literal_prefilters.specs.Choice.{IsBuiltFor}
 use Rattle.literal_prefilters.specs.PrefilterValue.{PrefilterValue}
-use Rattle.literal_compared.proofs.uses_of_prefilters.candidate_of.Goals as goal
+use Rattle.literal_callers.proofs.uses_of_prefilters.candidate_of.Goals as goal
 
 pub returns-in-Some-clause-sound : goal.returns-in-Some-clause-sound
 returns-in-Some-clause-sound c = λ kind serves.

@@ -1,0 +1,61 @@
+use Rattle.std.proofs.Common.{◌++◌, ◌∷◌, [], sym, subst, List, length, arith, rules}
+use Rattle.literal_base.specs.declared.search.Span.{Span}
+use Rattle.literal_base.specs.MatchValue.{MatchValue}
+use Rattle.literal_base.specs.Occurs.{NothingOccurs}
+use Rattle.literal_base.specs.Leftmost.{IsLeftmostMatch}
+use Rattle.literal_packed.proofs.lemmas.GreedyLists.{IsGreedyBefore, found_occurs, greedy_all, greedy_more}
+use Rattle.literal_packed.proofs.lemmas.Spending.{rest_is}
+use Rattle.literal_automaton.specs.Inside.Dfa.{ScansTo}
+use Rattle.literal_automaton.proofs.lemmas.Iterations.{scans_all, scans_more}
+use Rattle.literal_automaton.proofs.Dfa.find_all_counted.Goals as goal
+
+pub returns-in_err-push-clause-no_memory : goal.returns-in_err-push-clause-no_memory
+returns-in_err-push-clause-no_memory c =
+    let occurs = found_occurs c.args.self.now.query c.args.self.now.ignore_case c.args.haystack.now c.loop-found.rest
+    c.in-Some.found c.loop-found.invariant.to_end c.in-Some.ensures.leftmost in
+    search (rules, occurs)
+
+pub loop-found-preserved : goal.loop-found-preserved
+loop-found-preserved c =
+    let query = c.args.self.now.query in
+    let ignore_case = c.args.self.now.ignore_case in
+    let haystack = c.args.haystack.now in
+    let found = c.in-Some.found in
+    let so_far = c.loop-found.invariant in
+    let span_is = rest_is haystack c.loop-found.rest so_far.to_end in
+    let leftmost = subst (λ (s : Span). IsLeftmostMatch query ignore_case haystack s found) span_is
+    c.in-Some.ensures.leftmost in
+    let end_is = c.end.ensures.end in
+    let inside = c.in-Some.ensures.leftmost.occurs.before_end in
+    let whole = c.in-Some.ensures.leftmost.whole in
+    record {
+      within = omega (arith, inside, whole, end_is, so_far.to_end);
+      to_end = so_far.to_end;
+      greedy = subst (λ (xs : List MatchValue). IsGreedyBefore query ignore_case haystack xs c.end.result)
+          (sym c.in_ok-push.ensures.items)
+          (subst (λ e. IsGreedyBefore query ignore_case haystack (c.loop-found.all.items ++ found ∷ []) e) (sym end_is)
+          (greedy_more query ignore_case haystack c.loop-found.all.items c.loop-found.rest.start found so_far.greedy
+          leftmost));
+      scanned = subst (λ (xs : List MatchValue). ScansTo query.patterns c.end.result (length xs) c.args.tally.now
+          c.find_in_counted.new.tally) (sym c.in_ok-push.ensures.items)
+          (subst (λ e. ScansTo query.patterns e (length (c.loop-found.all.items ++ found ∷ [])) c.args.tally.now
+          c.find_in_counted.new.tally) (sym end_is)
+          (scans_more query.patterns c.loop-found.all.items c.args.tally.now c.loop-found.tally
+          c.find_in_counted.new.tally c.loop-found.rest found so_far.scanned c.in-Some.ensures.scanned
+          c.in-Some.ensures.not_empty));
+    }
+
+pub returns-clause-greedy : goal.returns-clause-greedy
+returns-clause-greedy c =
+    let query = c.args.self.now.query in
+    let ignore_case = c.args.self.now.ignore_case in
+    let haystack = c.args.haystack.now in
+    greedy_all query ignore_case haystack c.loop-found.all.items c.loop-found.rest.start c.loop-found.invariant.greedy
+    (subst (λ (s : Span). NothingOccurs query.patterns ignore_case haystack s)
+    (rest_is haystack c.loop-found.rest c.loop-found.invariant.to_end) c.in_default.ensures.leftmost)
+
+pub returns-clause-scanned : goal.returns-clause-scanned
+returns-clause-scanned c =
+    scans_all c.args.self.now.query.patterns c.args.haystack.now (length c.loop-found.all.items) c.args.tally.now
+    c.loop-found.tally c.find_in_counted.new.tally c.loop-found.rest c.loop-found.invariant.within
+    c.loop-found.invariant.to_end c.loop-found.invariant.scanned c.in_default.ensures.scanned

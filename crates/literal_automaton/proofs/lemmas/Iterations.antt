@@ -1,0 +1,45 @@
+-- Searches for all matches, one after another.
+use Rattle.std.proofs.Common.{◌≡◌, ℕ, ◌+◌, ◌*◌, ◌<◌, ◌≤◌, List, [], ◌∷◌, ◌++◌, length, Some, None, ap, ◌∙◌, arith}
+use Rattle.std.proofs.Common.{length-append}
+use Rattle.literal_base.specs.declared.search.Span.{Span}
+use Rattle.literal_base.specs.Counts.{Counts}
+use Rattle.literal_base.specs.MatchValue.{MatchValue}
+use Rattle.literal_automaton.specs.DfaValue.{ScansAtMost, ScansListAtMost}
+use Rattle.literal_automaton.specs.Inside.Dfa.{ScansTo}
+
+-- only one count changes
+scanned_on : (old now new : Counts) → now ≡ record old { scanned = now.scanned }
+    → new ≡ record now { scanned = new.scanned } → new ≡ record old { scanned = new.scanned }
+scanned_on old now new before is =
+    is ∙ ap (λ (t : Counts). let t' : Counts = record t { scanned = new.scanned } in t') before
+
+one_more : (n longest : ℕ) → (n + 1) * longest ≡ n * longest + longest
+one_more n longest = grind arith
+
+-- after one match more
+pub scans_more : (patterns : List (List ℕ)) (done : List MatchValue) (old now new : Counts) (rest : Span)
+    (found : MatchValue) → ScansTo patterns rest.start (length done) old now
+    → ScansAtMost patterns rest (Some found) now new → found.start < found.end
+    → ScansTo patterns found.end (length (done ++ found ∷ [])) old new
+scans_more patterns done old now new rest found before more some = record {
+  others = scanned_on old now new before.others more.others;
+  near = λ longest each.
+      let last = before.near longest each in
+      let next = more.near longest each in
+      let count = length-append done (found ∷ []) in
+      let product : length (done ++ found ∷ []) * longest ≡ length done * longest + longest =
+      ap (λ n. n * longest) count ∙ one_more (length done) longest in
+      omega (arith, last, next, product);
+}
+
+-- and behind the last one
+pub scans_all : (patterns : List (List ℕ)) (haystack : List ℕ) (matches : ℕ) (old now new : Counts) (rest : Span)
+    → rest.start ≤ length haystack → rest.end ≡ length haystack → ScansTo patterns rest.start matches old now
+    → ScansAtMost patterns rest None now new → ScansListAtMost patterns haystack matches old new
+scans_all patterns haystack matches old now new rest within to_end before more = record {
+  others = scanned_on old now new before.others more.others;
+  near = λ longest each.
+      let last = before.near longest each in
+      let once = more.once in
+      omega (arith, last, once);
+}

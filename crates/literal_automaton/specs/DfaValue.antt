@@ -1,0 +1,106 @@
+-- An automaton as contracts see it, and what it is built from.
+use Rattle.std.specs.Prelude.{◌≡◌, ◌+◌, ◌-◌, ◌*◌, ◌<◌, ◌≤◌, ◌⊎◌, ℕ, Bool, List, length, Option, Some, IfSome, map}
+use Rattle.std.specs.Borrow.{Bor}
+use Rattle.std.specs.Iterator.{Drains, Yields}
+use Rattle.std.specs.List.{All}
+use Rattle.literal_base.specs.Counts.{Counts}
+use Rattle.literal_base.specs.MatchValue.{MatchValue}
+use Rattle.literal_base.specs.Kinds.{root_kind_of}
+use Rattle.literal_base.specs.Occurs.{NoneIsEmpty}
+use Rattle.literal_base.specs.Query.{Query}
+use Rattle.literal_base.specs.declared.packed.MatchKind.{MatchKind}
+use Rattle.literal_base.specs.declared.search.Span.{Span}
+use Rattle.literal_ids.specs.declared.primitives.pattern_id.TheConstants.PatternID
+use Rattle.literal_automaton.specs.Inside.Classes.{AreClasses, Tells, symbols_in}
+use Rattle.literal_automaton.specs.States.{HasTooManyStates}
+use Rattle.literal_automaton.specs.declared.BuildError.{BuildError}
+use Rattle.literal_automaton.specs.declared.BuildError.TheVariants.{EmptyPattern, OutOfMemory, TooManyPatterns}
+use Rattle.literal_automaton.specs.declared.BuildError.TheVariants.{TooManyStates}
+
+-- a `Dfa` as contracts see it: the kind and the patterns, and whether ASCII case is ignored
+pub record DfaValue : Type 0 where
+  pub query : Query
+  pub ignore_case : Bool
+
+-- the automaton for the patterns
+abbrev pub dfa_for : MatchKind → Bool → List (List ℕ) → DfaValue
+dfa_for kind ignore_case patterns =
+    record { query = record { kind = kind; patterns = patterns }; ignore_case = ignore_case }
+
+-- the patterns can be kept: none is empty, and there are identifiers for all
+pub record CanBeKept (patterns : List (List ℕ)) : Type 0 where
+  pub some : NoneIsEmpty patterns
+  pub few : length patterns ≤ PatternID.LIMIT
+
+module _ {U T : Type 0} (becomes : U → T → Type 0) (steps : T → Option (Bor (List ℕ)) → T → Type 0) (given : U) where
+  -- these are all the items of an iterator, and can be kept
+  abbrev pub GivesAll : List (List ℕ) → Type 0
+  GivesAll patterns = (it : T) × (items : List (Bor (List ℕ))) × becomes given it × Drains steps it items
+      × (patterns ≡ map (λ p. p.now) items) × CanBeKept patterns
+
+  -- an iterator gives these items, which can be kept, and then one more
+  pub record GivesNext (patterns : List (List ℕ)) (next : List ℕ) : Type 0 where
+    pub iterator : T
+    pub items : List (Bor (List ℕ))
+    pub item : Bor (List ℕ)
+    pub before : T
+    pub after : T
+    pub is_iterator : becomes given iterator
+    pub gave : Yields steps iterator items before
+    pub gives : steps before (Some item) after
+    pub patterns_are : patterns ≡ map (λ p. p.now) items
+    pub next_is : next ≡ item.now
+    pub can_be_kept : CanBeKept patterns
+
+  -- the answer is the automaton for all the items of an iterator, which can be kept
+  abbrev pub BuildsDfa : MatchKind → Bool → DfaValue → Type 0
+  BuildsDfa kind ignore_case answer =
+      (patterns : List (List ℕ)) × GivesAll patterns × (answer ≡ dfa_for kind ignore_case patterns)
+
+  -- why there is none: an item is the first that is empty, it is not empty and one too many, all items need too many
+  -- states; or memory was refused, for an item that is kept, or after all items
+  abbrev pub RefusesDfa : (List (List ℕ) → Type 0) → BuildError → Type 0
+  RefusesDfa NeedTooMany (EmptyPattern number) =
+      (patterns : List (List ℕ)) × (next : List ℕ) × GivesNext patterns next × (length next ≡ 0)
+      × (number ≡ length patterns)
+  RefusesDfa NeedTooMany TooManyPatterns =
+      (patterns : List (List ℕ)) × (next : List ℕ) × GivesNext patterns next × (0 < length next)
+      × (length patterns ≡ PatternID.LIMIT)
+  RefusesDfa NeedTooMany TooManyStates = (patterns : List (List ℕ)) × GivesAll patterns × NeedTooMany patterns
+  RefusesDfa NeedTooMany OutOfMemory =
+      ((patterns : List (List ℕ)) × (next : List ℕ) × GivesNext patterns next × (0 < length next)
+      × (length patterns < PatternID.LIMIT))
+      ⊎ ((patterns : List (List ℕ)) × GivesAll patterns)
+
+-- what holds of the patterns' texts in some classes of bytes by which the patterns' bytes are told from others
+abbrev pub HoldsInClasses : (List (List ℕ) → ℕ → Type 0) → Bool → List (List ℕ) → Type 0
+HoldsInClasses P ignore_case patterns =
+    (classes : List ℕ) × (width : ℕ) × AreClasses classes width × Tells ignore_case classes patterns
+    × P (map (symbols_in classes) patterns) width
+
+-- the automaton for the patterns has more states than the numbers in its rows reach
+abbrev pub NeedTooManyStates : MatchKind → Bool → List (List ℕ) → Type 0
+NeedTooManyStates kind ignore_case patterns =
+    HoldsInClasses (HasTooManyStates (root_kind_of kind)) ignore_case patterns
+
+-- the numbers in its rows reach all its states
+abbrev pub NeedFewStates : MatchKind → Bool → List (List ℕ) → Type 0
+NeedFewStates kind ignore_case patterns =
+    HoldsInClasses (λ texts width. ¬ HasTooManyStates (root_kind_of kind) texts width) ignore_case patterns
+
+-- what a search in a span scans: each of its bytes at most once, and with a match, from the span's start on, at most
+-- one byte more than those before the match and those of the longest pattern
+pub record ScansAtMost (patterns : List (List ℕ)) (span : Span) (answer : Option MatchValue) (old new : Counts)
+    : Type 0 where
+  pub others : new ≡ record old { scanned = new.scanned }
+  pub once : new.scanned ≤ old.scanned + (span.end - span.start)
+  pub near : (longest : ℕ) → All (λ (bytes : List ℕ). length bytes ≤ longest) patterns
+      → IfSome answer (λ found. new.scanned + span.start ≤ old.scanned + found.start + longest + 1)
+
+-- what the searches for all matches scan, one after another: at most the bytes of the haystack, and for each match as
+-- many as the longest pattern has
+pub record ScansListAtMost (patterns : List (List ℕ)) (haystack : List ℕ) (matches : ℕ) (old new : Counts)
+    : Type 0 where
+  pub others : new ≡ record old { scanned = new.scanned }
+  pub near : (longest : ℕ) → All (λ (bytes : List ℕ). length bytes ≤ longest) patterns
+      → new.scanned ≤ old.scanned + length haystack + matches * longest

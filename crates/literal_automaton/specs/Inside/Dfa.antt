@@ -1,0 +1,41 @@
+-- The fields of a `Dfa`.
+use Rattle.std.specs.Prelude.{◌≡◌, ◌+◌, ◌*◌, ◌≤◌, ℕ, List, length, map}
+use Rattle.std.specs.List.{All}
+use Rattle.literal_base.specs.Counts.{Counts}
+use Rattle.literal_base.specs.Kinds.{root_kind_of}
+use Rattle.literal_automaton.specs.DfaValue.{CanBeKept, DfaValue, dfa_for}
+use Rattle.literal_automaton.specs.Inside.Classes.{AreClasses, Tells, symbols_in}
+use Rattle.literal_automaton.specs.Table.{Recognises}
+use Rattle.literal_automaton.specs.declared.BuildError.{BuildError}
+use Rattle.literal_automaton.specs.declared.BuildError.TheVariants.{OutOfMemory, TooManyStates}
+use Rattle.literal_automaton.specs.declared.Dfa.TheInside.{Inside}
+use Rattle.literal_automaton.specs.declared.grow.GrowError.{GrowError}
+use Rattle.literal_automaton.specs.declared.grow.GrowError.TheVariants as grow_error
+
+-- the patterns
+abbrev pub patterns_in : Inside → List (List ℕ)
+patterns_in a = map (λ pattern. pattern.items) a.patterns.items
+
+-- what a caller sees of a `Dfa`
+abbrev pub dfa_value : Inside → DfaValue
+dfa_value a = dfa_for a.kind a.ignore_case (patterns_in a)
+
+-- what the fields keep: each byte has a class, by which those of the patterns are told from others, and the rows
+-- recognise the classes of the patterns, none of which is empty
+pub record IsSound (a : Inside) : Type 0 where
+  pub classes : AreClasses a.classes.table a.classes.width
+  pub tells : Tells a.ignore_case a.classes.table (patterns_in a)
+  pub recognises : Recognises (root_kind_of a.kind) (map (symbols_in a.classes.table) (patterns_in a)) a.classes.width
+      a.rows.items
+  pub kept : CanBeKept (patterns_in a)
+
+-- the error of the same name
+abbrev pub IsErrorOf : GrowError → BuildError → Type 0
+IsErrorOf grow_error.OutOfMemory error = error ≡ OutOfMemory
+IsErrorOf grow_error.TooManyStates error = error ≡ TooManyStates
+
+-- what searches one after another scan up to the place from which the next one goes on
+pub record ScansTo (patterns : List (List ℕ)) (at matches : ℕ) (old now : Counts) : Type 0 where
+  pub others : now ≡ record old { scanned = now.scanned }
+  pub near : (longest : ℕ) → All (λ (bytes : List ℕ). length bytes ≤ longest) patterns
+      → now.scanned ≤ old.scanned + at + matches * longest

@@ -1,0 +1,6 @@
+pub mod DfaValue
+pub mod Inside
+pub mod MatchesValue
+pub mod States
+pub mod Table
+pub mod Words

@@ -1,0 +1,16 @@
+-- How many states an automaton has.
+use Rattle.std.specs.Prelude.{◌≡◌, ◌≢◌, ◌⊎◌, ℕ, ◌*◌, ◌-◌, ◌<◌, ◌^◌, true, List, [], length}
+use Rattle.std.specs.List.{All, AllPairs}
+use Rattle.literal_base.specs.declared.search.MatchKind.{MatchKind}
+use Rattle.literal_automaton.specs.Table.{stride_of}
+use Rattle.literal_automaton.specs.Words.{begins_one}
+
+-- different texts, each of which is empty, or a pattern that may be the match begins with it
+pub record AreStates (kind : MatchKind) (patterns texts : List (List ℕ)) : Type 0 where
+  pub apart : AllPairs (λ (a b : List ℕ). a ≢ b) texts
+  pub begun : All (λ text. (text ≡ []) ⊎ (begins_one kind patterns text ≡ true)) texts
+
+-- there are so many of these that the numbers in rows do not reach all
+abbrev pub HasTooManyStates : MatchKind → List (List ℕ) → ℕ → Type 0
+HasTooManyStates kind patterns width =
+    (texts : List (List ℕ)) × AreStates kind patterns texts × (2 ^ 31 - 1 < length texts * stride_of width)

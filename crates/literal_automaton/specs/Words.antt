@@ -1,0 +1,62 @@
+-- Texts of symbols, one for each byte, and the ends of them that an automaton holds. A pattern begins with a text where
+-- the text is a front of the pattern; it stands in front of a text where the pattern is a front of the text.
+use Rattle.std.specs.Prelude.{ℕ, ◌+◌, ◌&&◌, Bool, false, List, [], ◌∷◌, if◌then◌else◌, nat_eq, take}
+use Rattle.std.specs.Prelude.{Option, None, Some, slice_index_or}
+use Rattle.std.specs.List.{list_any, position, position_or_len, starts_with}
+use Rattle.std.specs.Option.{option_or}
+use Rattle.literal_base.specs.declared.search.MatchKind.{MatchKind}
+use Rattle.literal_base.specs.declared.search.MatchKind.TheVariants.{LeftmostFirst, LeftmostLongest, Standard}
+
+-- whether a pattern stands in front of a text
+abbrev pub one_stands : List (List ℕ) → List ℕ → Bool
+one_stands patterns text = list_any (λ pattern. starts_with nat_eq text pattern) patterns
+
+-- the elements up to the first that passes a test, and that one
+abbrev pub up_to_first : {X : Type 0} → (X → Bool) → List X → List X
+up_to_first p xs = take (position_or_len p xs + 1) xs
+
+-- of elements with patterns those whose patterns may be the match where a text stands: with `LeftmostFirst` none behind
+-- the first that stands in front of the text
+abbrev pub in_question : {E : Type 0} → MatchKind → (E → List ℕ) → List ℕ → List E → List E
+in_question Standard pattern text all = all
+in_question LeftmostFirst pattern text all = up_to_first (λ e. starts_with nat_eq text (pattern e)) all
+in_question LeftmostLongest pattern text all = all
+
+-- whether a pattern that may be the match begins with the text
+abbrev pub begins_one : MatchKind → List (List ℕ) → List ℕ → Bool
+begins_one kind patterns text =
+    list_any (λ pattern. starts_with nat_eq pattern text) (in_question kind (λ pattern. pattern) text patterns)
+
+-- whether the match is known to begin where the text does, or before: the leftmost one is wanted, and a pattern stands
+-- in front of the text
+abbrev pub is_settled : MatchKind → List (List ℕ) → List ℕ → Bool
+is_settled Standard patterns text = false
+is_settled LeftmostFirst patterns text = one_stands patterns text
+is_settled LeftmostLongest patterns text = one_stands patterns text
+
+-- the longest end of a text with which a pattern begins that may be the match. None where the match is known to begin
+-- before any such end, so that no more of the text matters
+abbrev pub held : MatchKind → List (List ℕ) → List ℕ → Option (List ℕ)
+held kind patterns [] = Some []
+held kind patterns (symbol ∷ more) =
+    if begins_one kind patterns (symbol ∷ more) then Some (symbol ∷ more)
+    else if is_settled kind patterns (symbol ∷ more) then None
+    else held kind patterns more
+
+-- the number of the first pattern that is the text, of those that may be the match
+abbrev pub first_equal : MatchKind → List (List ℕ) → List ℕ → Option ℕ
+first_equal kind patterns text =
+    position (λ pattern. starts_with nat_eq pattern text && starts_with nat_eq text pattern)
+    (in_question kind (λ pattern. pattern) text patterns)
+
+-- the number of the pattern that is the best match in a text, where that ends with the text: the first that is an end
+-- of the text, from the longest end down to the one where the match is known to begin
+abbrev pub ending : MatchKind → List (List ℕ) → List ℕ → Option ℕ
+ending kind patterns [] = None
+ending kind patterns (symbol ∷ more) =
+    option_or (first_equal kind patterns (symbol ∷ more))
+    (if is_settled kind patterns (symbol ∷ more) then None else ending kind patterns more)
+
+-- the word of a state, and the empty text where there is none
+abbrev pub word_of : List (List ℕ) → ℕ → List ℕ
+word_of words state = slice_index_or words state []

@@ -1,0 +1,20 @@
+//! What follows from the definitions, for callers: call a law where its fact is needed.
+ghost use Rattle.std.specs.Prelude.{◌≡◌, List, length, IsNone, Option, None};
+ghost use Rattle.std.specs.Iterator.{Yields};
+ghost use Rattle.literal_base.specs.Greedy.{IsGreedy};
+ghost use Rattle.literal_base.specs.MatchValue.{MatchValue};
+ghost use Rattle.literal_automaton.specs.MatchesValue.{GivesMatch, MatchesValue};
+
+/// An iterator that answers `None` stands at the end of the haystack then, and there it answers `None` and stays.
+pub fn none_is_for_good()
+    ensures ends { (old new : MatchesValue) → GivesMatch old None new → new.at ≡ length new.haystack }
+    ensures stays { (old new : MatchesValue) (answer : Option MatchValue) → old.at ≡ length old.haystack
+        → GivesMatch old answer new → IsNone answer × (new ≡ old) }
+{}
+
+/// What an iterator gives up to its first `None` is the greedy list from where it stood.
+pub fn iterations_are_greedy()
+    ensures { (first last ended : MatchesValue) (all : List MatchValue) → Yields GivesMatch first all last
+        → GivesMatch last None ended
+        → IsGreedy first.search.query first.search.ignore_case first.haystack first.at all }
+{}

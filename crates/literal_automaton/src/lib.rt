@@ -1,0 +1,346 @@
+//! An automaton that finds any number of literals: the leftmost match, by both kinds of match, with ASCII case kept or
+//! ignored, in one look-up a byte.
+#![tactic(auto)]
+
+ghost use Rattle.std.specs.Prelude.{◌≡◌, ◌<◌, ◌↔◌, ◌++◌, ◌∷◌, [], ℕ, length, map, IfErr, IfOk, IfSome, IsTrue, OnErr};
+ghost use Rattle.literal_base.specs.Greedy.{IsGreedy};
+ghost use Rattle.literal_base.specs.Kinds.{root_kind_of};
+ghost use Rattle.literal_base.specs.Leftmost.{IsLeftmost};
+ghost use Rattle.literal_base.specs.Occurs.{IsValidSpan, NothingOccurs, Occurs, whole_of};
+ghost use Rattle.literal_packed.specs.Lending.{CanBeTaken};
+ghost use Rattle.literal_automaton.specs.DfaValue.{BuildsDfa, CanBeKept, GivesAll, NeedFewStates};
+ghost use Rattle.literal_automaton.specs.DfaValue.{NeedTooManyStates, RefusesDfa};
+ghost use Rattle.literal_automaton.specs.DfaValue.{ScansAtMost, ScansListAtMost};
+ghost use Rattle.literal_automaton.specs.MatchesValue.{GivesMatch, most_to_come};
+
+mod classes;
+mod grow;
+pub mod laws;
+mod walk;
+
+use classes::{Classes, classes_for};
+use grow::{GrowError, grow};
+use literal_base::count::Tally;
+pub use literal_base::packed::MatchKind;
+use literal_base::search;
+pub use literal_base::{Match, Span};
+pub use literal_ids::PatternID;
+use std::alloc::{AllocError, Global};
+use std::error::Error;
+use std::fmt;
+use std::marker::Model;
+use walk::last_ended;
+
+/// Why there is no automaton for some patterns.
+#[derive(Clone, Copy, Debug, PartialEq, Eq, Drop)]
+pub enum BuildError {
+    /// The pattern of this number is empty, and none before it.
+    EmptyPattern(usize),
+    /// Memory was refused.
+    OutOfMemory,
+    /// There are more patterns than [`PatternID::LIMIT`].
+    TooManyPatterns,
+    /// The rows of all states would be longer than the numbers in them reach.
+    TooManyStates,
+}
+
+/// What is wrong, in a few words.
+impl fmt::Display for BuildError {
+    fn fmt<W: fmt::Write>(&self, f: &mut fmt::Formatter<W>) -> fmt::Result {
+        match self {
+            BuildError::EmptyPattern(number) => write!(f, "pattern {number} is empty"),
+            BuildError::OutOfMemory => write!(f, "out of memory"),
+            BuildError::TooManyPatterns => write!(f, "too many patterns"),
+            BuildError::TooManyStates => write!(f, "the patterns need too many states"),
+        }
+    }
+}
+
+impl Error for BuildError {}
+
+/// [`BuildError::OutOfMemory`].
+impl From<AllocError> for BuildError {
+    ghost use Rattle.std.specs.Prelude.{◌≡◌};
+    ghost use Rattle.literal_automaton.specs.declared.BuildError.TheVariants.{OutOfMemory};
+
+    ghost from_gives = { λ _ error. error ≡ OutOfMemory };
+
+    fn from(_: AllocError) -> BuildError {
+        BuildError::OutOfMemory
+    }
+}
+
+/// The error of the same name.
+impl From<GrowError> for BuildError {
+    ghost use Rattle.literal_automaton.specs.Inside.Dfa.{IsErrorOf};
+
+    ghost from_gives = { IsErrorOf };
+
+    fn from(error: GrowError) -> BuildError {
+        match error {
+            GrowError::OutOfMemory => BuildError::OutOfMemory,
+            GrowError::TooManyStates => BuildError::TooManyStates,
+        }
+    }
+}
+
+/// Searches for any number of patterns at once. Contracts see the kind of match, the patterns, and whether
+/// ASCII case is ignored.
+///
+/// A search looks each byte up once, however many patterns there are, and stops as soon as the match is
+/// known. The automaton has a state for each front of a pattern, and a row of numbers for each state: one for
+/// each byte that stands in a pattern, and two more. `literal_search` has it under the name `Search`.
+///
+/// ```rust
+/// let words = [b"password".as_slice(), b"secret"];
+/// let search = Search::new(alloc, MatchKind::LeftmostFirst, true, words)?;
+/// let found = search.find(b"My Secret.").ok_or("nothing is found")?;
+/// assert!(rt; found.pattern().as_usize() == 1 && found.range() == (3..9));
+/// ```
+#[derive(Drop)]
+pub struct Dfa {
+    kind: MatchKind,
+    ignore_case: bool,
+    patterns: Vec<Vec<u8>>,
+    classes: Classes,
+    rows: Vec<u32>,
+}
+
+impl Model for Dfa {
+    ghost use Rattle.literal_automaton.specs.DfaValue.{DfaValue};
+    ghost use Rattle.literal_automaton.specs.Inside.Dfa.{IsSound, dfa_value};
+
+    ghost Value = { DfaValue };
+
+    ghost view = { dfa_value };
+
+    ghost invariant = { IsSound };
+}
+
+impl Dfa {
+    /// The automaton for the patterns that the iterator gives, by this kind of match, and with ASCII case
+    /// ignored or not. The iterator has to end; the first empty pattern stops it. There may be no pattern:
+    /// then nothing is found. Memory is asked for only for a pattern that is kept, and behind the last of
+    /// them.
+    pub fn new<'a, I: IntoIterator<Item = &'a [u8]>>(
+        alloc: Global,
+        kind: MatchKind,
+        ignore_case: bool,
+        patterns: I,
+    ) -> Result<Dfa, BuildError>
+        requires { CanBeTaken I.into_iter_gives I.IntoIter.can_next I.IntoIter.remaining patterns }
+        ensures ok { IfOk result
+            (BuildsDfa I.into_iter_gives I.IntoIter.next_gives patterns kind ignore_case) }
+        ensures few { IfOk result (λ dfa. NeedFewStates kind ignore_case dfa.query.patterns) }
+        ensures error { IfErr result (RefusesDfa I.into_iter_gives I.IntoIter.next_gives patterns
+            (NeedTooManyStates kind ignore_case)) }
+    {
+        let patterns = copies(alloc, patterns)?;
+        let classes = classes_for(ignore_case, &patterns);
+        let rows = grow(
+            alloc,
+            root_kind(kind),
+            &classes.table,
+            classes.width,
+            &patterns,
+        )?;
+        Ok(Dfa {
+            kind,
+            ignore_case,
+            patterns,
+            classes,
+            rows,
+        })
+    }
+
+    /// The leftmost match in the haystack: [`Dfa::find_in`] of all of it.
+    pub fn find(&self, haystack: &[u8]) -> Option<Match>
+        ensures leftmost { IsLeftmost self.now.query self.now.ignore_case haystack.now (whole_of haystack.now) result }
+        ensures not_empty { IfSome result (λ found. found.start < found.end) }
+    {
+        let end = haystack.len();
+        self.find_in(haystack, Span { start: 0, end })
+    }
+
+    /// The leftmost match in a span of the haystack: of the occurrences of patterns that lie whole in the span the one
+    /// that begins first, and of those that begin there the one that the match kind prefers. Offsets, in the answer
+    /// too, are in bytes of the whole haystack. The span has to be valid: its `start` at most its `end`, and that at
+    /// most the haystack's length.
+    pub fn find_in(&self, haystack: &[u8], span: Span) -> Option<Match>
+        requires { IsValidSpan haystack.now span }
+        ensures leftmost { IsLeftmost self.now.query self.now.ignore_case haystack.now span result }
+        ensures not_empty { IfSome result (λ found. found.start < found.end) }
+    {
+        self.find_in_counted(haystack, span, &mut Tally::new())
+    }
+
+    /// Answers as [`Dfa::find_in`], and adds each byte that it looks up to a tally, as scanned: each byte of
+    /// the span at most once, and with a match none that is further behind its start than the longest pattern
+    /// is long.
+    pub fn find_in_counted(&self, haystack: &[u8], span: Span, tally: &mut Tally) -> Option<Match>
+        requires { IsValidSpan haystack.now span }
+        ensures leftmost { IsLeftmost self.now.query self.now.ignore_case haystack.now span result }
+        ensures not_empty { IfSome result (λ found. found.start < found.end) }
+        ensures scanned { ScansAtMost self.now.query.patterns span result tally.old tally.new }
+    {
+        let (table, width) = (&self.classes.table, self.classes.width);
+        let Some(ended) = last_ended(table, &self.rows, width, haystack, span, tally) else {
+            return None;
+        };
+        let pattern = ended.pattern as usize;
+        let start = ended.end - self.patterns[pattern].len();
+        let end = ended.end;
+        Some(Match::must(pattern, Span { start, end }))
+    }
+
+    /// All matches in the haystack, from the left, none of which overlaps another: first the leftmost match of the
+    /// haystack, and after each match the leftmost one of what is left behind it. The iterator borrows the haystack,
+    /// and ends with the first `None`.
+    pub fn find_iter<'s, 'h>(&'s self, haystack: &'h [u8]) -> Matches<'s, 'h>
+        ensures { result ≡ record { search = self.now; haystack = haystack.now; at = 0 } }
+    {
+        Matches {
+            search: self,
+            haystack,
+            at: 0,
+        }
+    }
+
+    /// The list of what [`Dfa::find_iter`] gives. Memory is asked for only where there is a match.
+    pub fn find_all(&self, haystack: &[u8]) -> Result<Vec<Match>, AllocError>
+        ensures greedy { IfOk result
+            (λ all. IsGreedy self.now.query self.now.ignore_case haystack.now 0 all.items) }
+        ensures no_memory { OnErr result (¬ NothingOccurs self.now.query.patterns self.now.ignore_case haystack.now
+            (whole_of haystack.now)) }
+    {
+        self.find_all_counted(haystack, &mut Tally::new())
+    }
+
+    /// Answers as [`Dfa::find_all`], and adds each byte that it looks up to a tally, as scanned: at most the
+    /// bytes of the haystack, and for each match as many as the longest pattern has.
+    pub fn find_all_counted(
+        &self,
+        haystack: &[u8],
+        tally: &mut Tally,
+    ) -> Result<Vec<Match>, AllocError>
+        ensures greedy { IfOk result
+            (λ all. IsGreedy self.now.query self.now.ignore_case haystack.now 0 all.items) }
+        ensures scanned { IfOk result (λ all. ScansListAtMost self.now.query.patterns haystack.now (length all.items)
+            tally.old tally.new) }
+        ensures no_memory { OnErr result (¬ NothingOccurs self.now.query.patterns self.now.ignore_case haystack.now
+            (whole_of haystack.now)) }
+    {
+        let mut all = Vec::new(*self.patterns.allocator());
+        let mut rest = Span {
+            start: 0,
+            end: haystack.len(),
+        };
+        while let Some(found) = self.find_in_counted(haystack, rest, tally) {
+            all.push(found)?;
+            rest.start = found.end();
+        }
+        Ok(all)
+    }
+
+    /// Whether a pattern occurs in the haystack.
+    pub fn is_match(&self, haystack: &[u8]) -> bool
+        ensures { IsTrue result ↔ ((i : ℕ) × (at : ℕ)
+            × Occurs self.now.query.patterns self.now.ignore_case haystack.now (whole_of haystack.now) i at) }
+    {
+        self.find(haystack).is_some()
+    }
+
+    /// How many patterns there are, none of them empty.
+    pub fn patterns_len(&self) -> usize
+        ensures len { result ≡ length self.now.query.patterns }
+        ensures patterns { CanBeKept self.now.query.patterns }
+    {
+        self.patterns.len()
+    }
+}
+
+/// Copies of the patterns that an iterator gives.
+fn copies<'a, I: IntoIterator<Item = &'a [u8]>>(
+    alloc: Global,
+    patterns: I,
+) -> Result<Vec<Vec<u8>>, BuildError>
+    requires { CanBeTaken I.into_iter_gives I.IntoIter.can_next I.IntoIter.remaining patterns }
+    ensures ok { IfOk result (λ all. GivesAll I.into_iter_gives I.IntoIter.next_gives patterns
+        (map (λ pattern. pattern.items) all.items)) }
+    ensures error { IfErr result (RefusesDfa I.into_iter_gives I.IntoIter.next_gives patterns (λ _. ⊥)) }
+{
+    let mut all = Vec::new(alloc);
+    for bytes in patterns {
+        if bytes.is_empty() {
+            return Err(BuildError::EmptyPattern(all.len()));
+        }
+        if all.len() == PatternID::LIMIT {
+            return Err(BuildError::TooManyPatterns);
+        }
+        push_copy(alloc, &mut all, bytes)?;
+    }
+    Ok(all)
+}
+
+/// Adds a copy of a pattern. Without memory the list stays as it was.
+fn push_copy(alloc: Global, lists: &mut Vec<Vec<u8>>, bytes: &[u8]) -> Result<(), AllocError>
+    ensures { IfOk result (λ _. map (λ pattern. pattern.items) lists.new.items
+        ≡ map (λ pattern. pattern.items) lists.old.items ++ bytes.now ∷ []) }
+{
+    let mut copy = Vec::new(alloc);
+    copy.extend_from_slice(bytes)?;
+    lists.push(copy)?;
+    Ok(())
+}
+
+/// The match kind of the same name.
+fn root_kind(kind: MatchKind) -> search::MatchKind
+    ensures { result ≡ root_kind_of kind }
+{
+    match kind {
+        MatchKind::LeftmostFirst => search::MatchKind::LeftmostFirst,
+        MatchKind::LeftmostLongest => search::MatchKind::LeftmostLongest,
+    }
+}
+
+/// What [`Dfa::find_iter`] goes over. Contracts see the search, the haystack, and the place from which the search goes
+/// on, in bytes from the beginning of the haystack. After its first `None` it keeps answering `None`.
+#[derive(Drop)]
+pub struct Matches<'s, 'h> {
+    search: &'s Dfa,
+    haystack: &'h [u8],
+    at: usize,
+}
+
+impl<'s, 'h> Model for Matches<'s, 'h> {
+    ghost use Rattle.std.specs.Prelude.{◌≤◌, length};
+    ghost use Rattle.literal_automaton.specs.MatchesValue.{MatchesValue};
+
+    ghost Value = { MatchesValue };
+
+    ghost view = { λ m. record { search = m.search.now; haystack = m.haystack.now; at = m.at } };
+
+    ghost invariant = { λ m. m.at ≤ length m.haystack.now };
+}
+
+impl<'s, 'h> Iterator for Matches<'s, 'h> {
+    type Item = Match;
+
+    ghost next_gives = { GivesMatch };
+
+    ghost remaining = { most_to_come };
+
+    fn next(&mut self) -> Option<Match> {
+        let end = self.haystack.len();
+        let rest = Span {
+            start: self.at,
+            end,
+        };
+        let Some(found) = self.search.find_in(self.haystack, rest) else {
+            self.at = end;
+            return None;
+        };
+        self.at = found.end();
+        Some(found)
+    }
+}

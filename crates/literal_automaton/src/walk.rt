@@ -1,0 +1,58 @@
+//! A walk through the rows of an automaton.
+ghost use Rattle.std.specs.Prelude.{◌≡◌, ◌+◌, ◌-◌, ◌<◌, ◌≤◌};
+ghost use Rattle.literal_base.specs.Occurs.{IsValidSpan};
+ghost use Rattle.literal_automaton.specs.Inside.Classes.{AreClasses};
+ghost use Rattle.literal_automaton.specs.Inside.Walk.{FindsIn, IsTable, StopsNear, text_of};
+
+use literal_base::Span;
+use literal_base::count::Tally;
+
+/// What stands in a row where there is no state, or no pattern.
+pub const NOTHING: u32 = u32::MAX;
+
+/// What a row's number for a state has more where a match ends with the state's word.
+pub const ENDS: u32 = 1 << 31;
+
+/// A pattern, and where it ends in the haystack.
+#[derive(Clone, Copy)]
+pub struct Ended {
+    pub pattern: u32,
+    pub end: usize,
+}
+
+/// The leftmost match in a span of the haystack, by the rows of an automaton: it goes from state to
+/// state until no more bytes matter, and answers the last pattern that ended.
+pub fn last_ended(
+    classes: &[u8],
+    rows: &[u32],
+    width: usize,
+    haystack: &[u8],
+    span: Span,
+    tally: &mut Tally,
+) -> Option<Ended>
+    requires classes { AreClasses classes.now width }
+    requires table { IsTable width rows.now }
+    requires valid { IsValidSpan haystack.now span }
+    ensures found { FindsIn width rows.now span.start (text_of classes.now haystack.now span) result }
+    ensures counted { tally.new ≡ record tally.old { scanned = tally.new.scanned } }
+    ensures scanned { tally.new.scanned ≤ tally.old.scanned + (span.end - span.start) }
+    ensures near { StopsNear width rows.now (span.start + (tally.new.scanned - tally.old.scanned) - 1) result }
+{
+    let mut last = None;
+    let mut place = 0;
+    for at in span.start..span.end {
+        tally.tick_scanned();
+        let code = rows[place + classes[haystack[at] as usize] as usize];
+        if code < ENDS {
+            place = code as usize;
+        } else if code == NOTHING {
+            return last;
+        } else {
+            place = (code - ENDS) as usize;
+            let pattern = rows[place + width];
+            let end = at + 1;
+            last = Some(Ended { pattern, end });
+        }
+    }
+    last
+}

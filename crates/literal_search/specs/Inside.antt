@@ -1,2 +1,0 @@
--- What models and private functions alone cite.
-pub mod Search
