@@ -6,7 +6,7 @@ ghost use Rattle.std.specs.Prelude.{◌≡◌, ◌<◌, ◌↔◌, ◌++◌, ◌
 ghost use Rattle.literal_base.specs.Greedy.{IsGreedy};
 ghost use Rattle.literal_base.specs.Kinds.{root_kind_of};
 ghost use Rattle.literal_base.specs.Leftmost.{IsLeftmost};
-ghost use Rattle.literal_base.specs.Occurs.{IsValidSpan, NothingOccurs, Occurs, whole_of};
+ghost use Rattle.literal_base.specs.Occurs.{IsValidSpan, NothingOccurs, Occurs, one_occurs, whole_of};
 ghost use Rattle.literal_packed.specs.Lending.{CanBeTaken};
 ghost use Rattle.literal_automaton.specs.DfaValue.{BuildsDfa, CanBeKept, GivesAll, NeedFewStates};
 ghost use Rattle.literal_automaton.specs.DfaValue.{NeedTooManyStates, RefusesDfa};
@@ -244,8 +244,9 @@ impl Dfa {
 
     /// Whether a pattern occurs in the haystack.
     pub fn is_match(&self, haystack: &[u8]) -> bool
-        ensures { IsTrue result ↔ ((i : ℕ) × (at : ℕ)
+        ensures occurs { IsTrue result ↔ ((i : ℕ) × (at : ℕ)
             × Occurs self.now.query.patterns self.now.ignore_case haystack.now (whole_of haystack.now) i at) }
+        ensures told { result ≡ one_occurs self.now.query.patterns self.now.ignore_case haystack.now }
     {
         self.find(haystack).is_some()
     }
