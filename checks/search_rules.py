@@ -35,15 +35,13 @@ BYTE_TABLE = "crates/literal_prefilters/src/prefilter/byte_table.rt"
 CONFIRMING = "crates/literal_prefilters/src/prefilter/confirming.rt"
 AUTOMATON = "crates/literal_automaton/src/lib.rt"
 WALK = "crates/literal_automaton/src/walk.rt"
-ENGINE = "crates/litfind/src/engine.rt"
 
 # The functions that may make a tally, each one: for the hashes of patterns, or for a search that is given none.
 TALLY_MAKERS = {
-    API: ("Builder::build", "Searcher::find", "Searcher::find_in", "Searcher::find_iter"),
+    API: ("Builder::build", "Searcher::find_in", "Searcher::find_iter"),
     PREFILTER: ("Builder::build", "Prefilter::find_in"),
     CONFIRMING: ("ConfirmingSearch::find_in",),
     AUTOMATON: ("Dfa::find_in", "Dfa::find_all"),
-    ENGINE: ("run",),
 }
 
 # Where each step ticks, once in each function.
@@ -73,23 +71,6 @@ KEEPERS = ("FindIter", "Matches", "Input", "Pattern", "Pieces")
 # reads an entry, and those that make and copy it.
 PLAIN_FIELDS = ("starts", "longer")
 ENTRY_READERS = ("BucketEntries::entry", "BucketEntries::new", "BucketEntries::try_clone")
-
-# The code of the counts, whole.
-TALLY_CODE = """
-use std::marker::Model;
-#[derive(Drop)] pub struct Tally { }
-const _: () = prove!(size_of::<Tally>() == 0);
-impl Model for Tally { }
-impl Tally {
-    pub fn new() -> Tally { Tally {} }
-    pub fn tick_hashed(&mut self) { *self = self.plus(1, 0, 0, 0, 0); }
-    pub fn tick_entries(&mut self) { *self = self.plus(0, 1, 0, 0, 0); }
-    pub fn tick_compared(&mut self) { *self = self.plus(0, 0, 1, 0, 0); }
-    pub fn tick_scanned(&mut self) { *self = self.plus(0, 0, 0, 1, 0); }
-    pub fn tick_tried(&mut self) { *self = self.plus(0, 0, 0, 0, 1); }
-    fn plus(&self, hashed: u64, entries: u64, compared: u64, scanned: u64, tried: u64) -> Tally { Self {} }
-}
-"""
 
 # The bodies that count what they read, word for word.
 BODIES = {
@@ -333,8 +314,6 @@ def keepers(sources):
 def held(sources):
     """What counts stands word for word as it is held here."""
     for source in sources:
-        if source.path == COUNT and words_of(source.code) != words_of(TALLY_CODE):
-            yield source.at(0, f"`Tally` stands as TALLY_CODE{HERE} holds it: review what is counted, and change both")
         for (path, name), body in BODIES.items():
             for function in source.functions if path == source.path else ():
                 code = source.code[function.start : function.end]
