@@ -1,8 +1,11 @@
 -- Lemmas that several proofs share, by topic.
+pub mod Ascending
 pub mod Behind
 pub mod Built
 pub mod Callers
+pub mod Chains
 pub mod Classes
+pub mod EndLists
 pub mod Ends
 pub mod Found
 pub mod Growing
@@ -11,5 +14,7 @@ pub mod Held
 pub mod Iterations
 pub mod Links
 pub mod Lists
+pub mod Recognised
+pub mod Standard
 pub mod States
 pub mod Walk

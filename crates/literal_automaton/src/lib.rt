@@ -14,6 +14,7 @@ ghost use Rattle.literal_automaton.specs.DfaValue.{ScansAtMost, ScansListAtMost}
 ghost use Rattle.literal_automaton.specs.MatchesValue.{GivesMatch, most_to_come};
 
 mod classes;
+mod ends;
 mod grow;
 pub mod laws;
 mod walk;

@@ -1,7 +1,7 @@
 -- A walk through rows that recognise patterns.
 use Rattle.std.proofs.Common.{◌≡◌, ℕ, ◌+◌, ◌*◌, ◌-◌, ◌<◌, ◌≤◌, ◌^◌, List, [], ◌∷◌, ◌++◌, length, get_or}
 use Rattle.std.proofs.Common.{Option, Some, None, IfSome, MatchOption, inl, inr, ◌⊎◌, take, drop}
-use Rattle.std.proofs.Common.{IsSome, append-nil}
+use Rattle.std.proofs.Common.{Bool, IsSome, append-nil, false, true}
 use Rattle.std.proofs.Common.{append_assoc, length-append, mul-le-mul_right, refl, sym, ap, subst, ◌∙◌, arith}
 use Rattle.std.proofs.lemmas.Bool.{cases_lt, cond-false, cond-true, le-ltb, lt-ltb}
 use Rattle.std.proofs.lemmas.Bool.Decides.{Decides-eqb}
@@ -12,6 +12,7 @@ use Rattle.std.specs.List.{slice_range}
 use Rattle.std.specs.Option.{unwrap_or}
 use Rattle.literal_base.specs.declared.packed.MatchKind.{MatchKind}
 use Rattle.literal_base.specs.declared.search.MatchKind as search
+use Rattle.literal_base.specs.declared.search.MatchKind.TheVariants.{Standard}
 use Rattle.literal_base.specs.Kinds.{root_kind_of}
 use Rattle.literal_base.specs.declared.search.Span.{Span}
 use Rattle.literal_base.specs.Occurs.{NoneIsEmpty, between, pattern_at}
@@ -21,7 +22,7 @@ use Rattle.literal_automaton.specs.Inside.Walk.{FindsIn, IsAt, IsBehind, IsBest,
 use Rattle.literal_automaton.specs.Inside.Walk.{FindsEnd, GoesOn, IsFirstEnd, NoneEnds, StopsNear, from_match, place_of}
 use Rattle.literal_automaton.specs.Inside.Walk.{read_to, text_of}
 use Rattle.literal_automaton.specs.Table.{LeadsTo, Leads, Recognises, code_of, nothing, stride_of}
-use Rattle.literal_automaton.specs.Words.{ending, first_equal, held, word_of}
+use Rattle.literal_automaton.specs.Words.{begins_one, ending, first_equal, held, word_of}
 use Rattle.literal_automaton.specs.declared.walk.Ended.{Ended}
 use Rattle.literal_automaton.specs.declared.walk.Stop.{Stop}
 use Rattle.literal_automaton.proofs.lemmas.Behind.{ending_by_held}
@@ -335,7 +336,7 @@ slice_halves text from at to after before =
     ∙ (drop-take n (to - at) rest
     ∙ (ap (take (to - at)) (drop-drop n from text) ∙ ap (λ k. take (to - at) (drop k text)) at_is))))
 
-slice_push : (text : List ℕ) (from at : ℕ) → from ≤ at → at < length text
+pub slice_push : (text : List ℕ) (from at : ℕ) → from ≤ at → at < length text
     → slice_range text from (at + 1) ≡ slice_range text from at ++ get_or text at 0 ∷ []
 slice_push text from at after inside =
     let long : (at + 1) - from ≡ (at - from) + 1 = omega arith in
@@ -587,3 +588,17 @@ module _ (width : ℕ) (rows : List ℕ) (from : ℕ) (classes haystack : List �
   finds_no_end place span same goes = λ kind patterns recognises text begins.
       subst (λ first. NoneEnds kind patterns text classes haystack first span.end) (sym same)
       (goes.stands kind patterns recognises text begins).1
+
+-- where all occurrences are wanted something is always held
+pub always_held : (patterns : List (List ℕ)) (text : List ℕ) → ¬ (held Standard patterns text ≡ None)
+always_held patterns [] is = cc
+always_held patterns (symbol ∷ text) is =
+    by_begun (begins_one Standard patterns (symbol ∷ text)) refl (always_held patterns text)
+  where
+    by_begun : (b : Bool) → begins_one Standard patterns (symbol ∷ text) ≡ b
+        → ¬ (held Standard patterns text ≡ None) → ⊥
+    by_begun true begun further =
+        let some : held Standard patterns (symbol ∷ text) ≡ Some (symbol ∷ text) = cond-true _ _ _ begun in cc
+    by_begun false unbegun further =
+        let same : held Standard patterns (symbol ∷ text) ≡ held Standard patterns text = cond-false _ _ _ unbegun in
+        further (sym same ∙ is)
