@@ -132,9 +132,9 @@ impl Dfa {
         requires { CanBeTaken I.into_iter_gives I.IntoIter.can_next I.IntoIter.remaining patterns }
         ensures ok { IfOk result
             (BuildsDfa I.into_iter_gives I.IntoIter.next_gives patterns kind ignore_case) }
-        ensures few { IfOk result (λ dfa. NeedFewStates kind ignore_case dfa.query.patterns) }
+        ensures few { IfOk result (λ dfa. NeedFewStates (root_kind_of kind) ignore_case dfa.query.patterns) }
         ensures error { IfErr result (RefusesDfa I.into_iter_gives I.IntoIter.next_gives patterns
-            (NeedTooManyStates kind ignore_case)) }
+            (NeedTooManyStates (root_kind_of kind) ignore_case)) }
     {
         let patterns = copies(alloc, patterns)?;
         let classes = classes_for(ignore_case, &patterns);

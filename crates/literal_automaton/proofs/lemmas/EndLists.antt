@@ -12,10 +12,11 @@ use Rattle.literal_automaton.specs.Words.{ending}
 
 module _ (patterns : List (List ℕ)) where
   -- the same numbers in another list
-  pub ends_moved : (text : List ℕ) (from : ℕ) (list other : List ℕ) (begin end at : ℕ)
+  pub ends_moved : (text : List ℕ) (from : ℕ) (list other : List ℕ) (begin end at first last : ℕ)
+      → first ≡ at + begin → last ≡ at + end
       → ((k : ℕ) → begin ≤ k → k < end → get_or other (at + k) 0 ≡ get_or list k 0)
-      → AreEnds patterns text from list begin end → AreEnds patterns text from other (at + begin) (at + end)
-  ends_moved text from list other begin end at same are = record {
+      → AreEnds patterns text from list begin end → AreEnds patterns text from other first last
+  ends_moved text from list other begin end at first last first_is last_is same are = record {
     ascends = λ j k after before inside.
         let j_is = same (j - at) (omega arith) (omega arith) in
         let k_is = same (k - at) (omega arith) (omega arith) in
@@ -33,6 +34,10 @@ module _ (patterns : List (List ℕ)) where
         (at + one.0, omega (arith, one.1), omega (arith, one.2), same one.0 one.1 one.2 ∙ one.3);
   }
 
+  -- where lists begin, with one more
+  abbrev started : List ℕ → List ℕ → List ℕ → List ℕ
+  started ends starts list = starts ++ length (ends ++ list) ∷ []
+
   -- one list more
   pub lists_more : (ends starts list : List ℕ) (count : ℕ) → AreLists patterns ends starts count
       → (ending Standard patterns (pattern_at patterns count) ≡ Some count
@@ -46,8 +51,8 @@ module _ (patterns : List (List ℕ)) where
           let is : i ≡ count = omega arith in
           omega (
             arith,
-            ap (λ n. get_or longer n 0) is,
-            ap (λ n. get_or longer (n + 1) 0) is,
+            ap (λ n. get_or (started ends starts list) n 0) is,
+            ap (λ n. get_or (started ends starts list) (n + 1) 0) is,
             old count (omega arith),
             are.last,
             last,
@@ -58,7 +63,7 @@ module _ (patterns : List (List ℕ)) where
       | inl before ↦ omega (arith, old i before, are.inside i (omega arith), size)
       | inr past ↦
           let is : i ≡ count + 1 = omega arith in
-          omega (arith, ap (λ n. get_or longer n 0) is, last)
+          omega (arith, ap (λ n. get_or (started ends starts list) n 0) is, last)
     ];
     last = last;
     each = λ i below first. elim (cases_lt i count) [
@@ -66,43 +71,39 @@ module _ (patterns : List (List ℕ)) where
           let start = old i (omega arith) in
           let stop = old (i + 1) (omega arith) in
           let within = are.inside (i + 1) (omega arith) in
-          subst (λ n. AreEnds patterns (pattern_at patterns i) 0 (ends ++ list) n (get_or longer (i + 1) 0)) (sym start)
+          subst (λ n. AreEnds patterns (pattern_at patterns i) 0 (ends ++ list) n (get_or (started ends starts list) (i + 1) 0)) (sym start)
           (subst (λ n. AreEnds patterns (pattern_at patterns i) 0 (ends ++ list) (get_or starts i 0) n) (sym stop)
           (ends_moved (pattern_at patterns i) 0 ends (ends ++ list) (get_or starts i 0) (get_or starts (i + 1) 0) 0
-          (λ k after inside. get_or_append_left ends list 0 k (omega arith)) (are.each i before first)))
+          (get_or starts i 0) (get_or starts (i + 1) 0) (omega arith) (omega arith)
+          (λ k after inside.
+          let place : 0 + k ≡ k = omega arith in
+          ap (λ n. get_or (ends ++ list) n 0) place ∙ get_or_append_left ends list 0 k (omega arith))
+          (are.each i before first)))
       | inr past ↦
           let is : count ≡ i = omega arith in
-          subst (λ n. AreEnds patterns (pattern_at patterns n) 0 (ends ++ list) (get_or longer n 0)
-          (get_or longer (n + 1) 0)) is
+          subst (λ n. AreEnds patterns (pattern_at patterns n) 0 (ends ++ list) (get_or (started ends starts list) n 0)
+          (get_or (started ends starts list) (n + 1) 0)) is
           (added (subst (λ n. ending Standard patterns (pattern_at patterns n) ≡ Some n) (sym is) first))
     ];
   }
     where
-      longer : List ℕ
-      longer = starts ++ length (ends ++ list) ∷ []
-
       size : length (ends ++ list) ≡ length ends + length list
       size = length-append ends list
 
-      old : (i : ℕ) → i < count + 1 → get_or longer i 0 ≡ get_or starts i 0
-      unfolding longer
+      old : (i : ℕ) → i < count + 1 → get_or (started ends starts list) i 0 ≡ get_or starts i 0
       old i below = get_or_append_left starts (length (ends ++ list) ∷ []) 0 i (omega (arith, are.long))
 
-      last : get_or longer (count + 1) 0 ≡ length (ends ++ list)
-      unfolding longer
-      last = ap (λ n. get_or longer n 0) (sym are.long) ∙ get_or-append_seam starts (length (ends ++ list)) [] 0
+      last : get_or (started ends starts list) (count + 1) 0 ≡ length (ends ++ list)
+      last = ap (λ n. get_or (started ends starts list) n 0) (sym are.long) ∙ get_or-append_seam starts (length (ends ++ list)) [] 0
 
       added : ending Standard patterns (pattern_at patterns count) ≡ Some count
-          → AreEnds patterns (pattern_at patterns count) 0 (ends ++ list) (get_or longer count 0)
-          (get_or longer (count + 1) 0)
+          → AreEnds patterns (pattern_at patterns count) 0 (ends ++ list) (get_or (started ends starts list) count 0)
+          (get_or (started ends starts list) (count + 1) 0)
       added first =
-          let begin : length ends + 0 ≡ get_or longer count 0 = omega (arith, old count (omega arith), are.last) in
-          let stop : length ends + length list ≡ get_or longer (count + 1) 0 = omega (arith, last, size) in
-          subst (λ n. AreEnds patterns (pattern_at patterns count) 0 (ends ++ list) n (get_or longer (count + 1) 0))
-          begin
-          (subst (λ n. AreEnds patterns (pattern_at patterns count) 0 (ends ++ list) (length ends + 0) n) stop
-          (ends_moved (pattern_at patterns count) 0 list (ends ++ list) 0 (length list) (length ends)
+          ends_moved (pattern_at patterns count) 0 list (ends ++ list) 0 (length list) (length ends)
+          (get_or (started ends starts list) count 0) (get_or (started ends starts list) (count + 1) 0)
+          (omega (arith, old count (omega arith), are.last)) (omega (arith, last, size))
           (λ k after inside.
           let place : length ends + k - length ends ≡ k = omega arith in
           get_or-append_right ends list (length ends + k) 0 (omega arith) ∙ ap (λ n. get_or list n 0) place)
-          (here first)))
+          (here first)
