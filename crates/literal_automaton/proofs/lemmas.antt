@@ -16,5 +16,6 @@ pub mod Links
 pub mod Lists
 pub mod Recognised
 pub mod Standard
+pub mod Standing
 pub mod States
 pub mod Walk

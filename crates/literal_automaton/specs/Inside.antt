@@ -5,4 +5,5 @@ pub mod Ends
 pub mod Grown
 pub mod Growing
 pub mod Lists
+pub mod Standing
 pub mod Walk

@@ -17,6 +17,7 @@ mod classes;
 mod ends;
 mod grow;
 pub mod laws;
+mod overlapping;
 mod walk;
 
 use classes::{Classes, classes_for};
@@ -26,6 +27,7 @@ pub use literal_base::packed::MatchKind;
 use literal_base::search;
 pub use literal_base::{Match, Span};
 pub use literal_ids::PatternID;
+pub use overlapping::{Overlapping, OverlappingMatches};
 use std::alloc::{AllocError, Global};
 use std::error::Error;
 use std::fmt;

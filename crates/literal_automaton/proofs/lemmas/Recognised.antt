@@ -7,15 +7,13 @@ use Rattle.std.specs.Option.{unwrap_or}
 use Rattle.literal_base.specs.declared.search.MatchKind.TheVariants.{Standard}
 use Rattle.literal_base.specs.Occurs.{pattern_at}
 use Rattle.literal_automaton.specs.Inside.Classes.{symbols_in}
-use Rattle.literal_automaton.specs.Inside.Grown.{ending_held}
 use Rattle.literal_automaton.specs.Inside.Lists.{Recognise, StandsBehind, symbols_of}
 use Rattle.literal_automaton.specs.Inside.Walk.{IsAt}
-use Rattle.literal_automaton.specs.Table.{Recognises, nothing, stride_of}
+use Rattle.literal_automaton.specs.Table.{Recognises, nothing}
 use Rattle.literal_automaton.specs.Words.{ending}
 use Rattle.literal_automaton.specs.declared.ends.Recognised.{Recognised}
-use Rattle.literal_automaton.proofs.lemmas.Behind.{ending_by_held}
-use Rattle.literal_automaton.proofs.lemmas.Walk.{always_held, at_dead, at_start, at_with_end, at_without_end, row_at}
-use Rattle.literal_automaton.proofs.lemmas.Walk.{slice_push}
+use Rattle.literal_automaton.proofs.lemmas.Walk.{always_held, at_dead, at_start, at_with_end, at_without_end, ends_at}
+use Rattle.literal_automaton.proofs.lemmas.Walk.{row_at, slice_push}
 
 module _ (r : Recognised) (recognise : Recognise r) where
   -- the symbols of a pattern that was read
@@ -70,12 +68,8 @@ module _ (r : Recognised) (recognise : Recognise r) where
   pub ends_there : (text : List ℕ) (place : ℕ) → StandsBehind r place text
       → get_or r.rows.now (place + r.width) 0 ≡ unwrap_or (ending Standard (symbols_of r) text) nothing
   ends_there text place behind =
-      let recognises = recognise.recognises in
-      let at = behind.at recognises in
-      ap (λ p. get_or r.rows.now (p + r.width) 0) at.place_is
-      ∙ (recognises.ends at.state at.is_state
-      ∙ ap (λ o. unwrap_or o nothing)
-      (sym (ending_by_held Standard (symbols_of r) text ∙ ap (ending_held Standard (symbols_of r)) at.held)))
+      ends_at Standard (symbols_of r) r.width r.rows.now recognise.recognises text place
+      (behind.at recognise.recognises)
 
   -- a symbol more of a pattern that was read
   pub pattern_push : (pattern from at : ℕ) (read : Vec ℕ) → pattern < length r.patterns.now

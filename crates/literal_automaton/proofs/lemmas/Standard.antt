@@ -163,3 +163,51 @@ module _ (patterns : List (List ℕ)) (some : NoneIsEmpty patterns) where
   -- each pattern is an end of itself
   pub end_of_itself : (i : ℕ) → i < length patterns → IsEnd patterns (pattern_at patterns i) i
   end_of_itself i below = record { is_pattern = below; ends = record { front = []; split = refl } }
+
+  -- the first of the ends of a text is the first of its own
+  pub first_is_own : (text : List ℕ) (first : ℕ) → IsFirstOfEnds patterns text first
+      → ending Standard patterns (pattern_at patterns first) ≡ Some first
+  first_is_own text first is = by (ending Standard patterns (pattern_at patterns first)) refl
+    where
+      own : IsEnd patterns (pattern_at patterns first) first
+      own = end_of_itself first is.is.is_pattern
+
+      by : (o : Option ℕ) → ending Standard patterns (pattern_at patterns first) ≡ o → o ≡ Some first
+      by None none = absurd (none_ends (pattern_at patterns first) none first own)
+      by (Some other) found =
+          let one = first_ends (pattern_at patterns first) other found in
+          let end : IsEnd patterns text other = record {
+            is_pattern = one.is.is_pattern;
+            ends = ends_on text (pattern_at patterns first) (pattern_at patterns other) is.is.ends one.is.ends;
+          } in
+          elim (is.others other end) [
+            | inl same ↦ ap Some (sym same)
+            | inr later ↦ elim (one.others first own) [
+                | inl same ↦ ap Some same
+                | inr earlier ↦ elim later [
+                    | inl shorter ↦ elim earlier [
+                        | inl longer ↦ absurd (omega arith)
+                        | inr as_long ↦ absurd (omega (arith, as_long.0))
+                      ]
+                    | inr long ↦ elim earlier [
+                        | inl longer ↦ absurd (omega (arith, long.0))
+                        | inr as_long ↦ absurd (omega (arith, as_long.1, long.1))
+                      ]
+                  ]
+              ]
+          ]
+
+  -- the ends of a text are those of the first of them
+  pub ends_of_first : (text : List ℕ) (first : ℕ) → IsFirstOfEnds patterns text first → (i : ℕ)
+      → IsEnd patterns text i → IsEnd patterns (pattern_at patterns first) i
+  ends_of_first text first is i end = record {
+    is_pattern = end.is_pattern;
+    ends = ends_within text (pattern_at patterns i) (pattern_at patterns first) end.ends is.is.ends
+        (elim (is.others i end) [
+          | inl same ↦ omega (arith, ap (λ k. length (pattern_at patterns k)) same)
+          | inr later ↦ elim later [
+              | inl shorter ↦ omega arith
+              | inr as_long ↦ omega (arith, as_long.0)
+            ]
+        ]);
+  }

@@ -336,6 +336,14 @@ slice_halves text from at to after before =
     ∙ (drop-take n (to - at) rest
     ∙ (ap (take (to - at)) (drop-drop n from text) ∙ ap (λ k. take (to - at) (drop k text)) at_is))))
 
+-- and of the classes of a haystack's bytes
+pub text_halves : (classes haystack : List ℕ) (from at to : ℕ) → from ≤ at → at ≤ to
+    → text_of classes haystack (between from to)
+    ≡ text_of classes haystack (between from at) ++ text_of classes haystack (between at to)
+text_halves classes haystack from at to after before =
+    ap (symbols_in classes) (slice_halves haystack from at to after before)
+    ∙ map-append (λ byte. get_or classes byte 0) (slice_range haystack from at) (slice_range haystack at to)
+
 pub slice_push : (text : List ℕ) (from at : ℕ) → from ≤ at → at < length text
     → slice_range text from (at + 1) ≡ slice_range text from at ++ get_or text at 0 ∷ []
 slice_push text from at after inside =
@@ -360,12 +368,10 @@ module _ (classes haystack : List ℕ) (start at : ℕ) (after : start ≤ at) (
       ≡ text_of classes haystack (between start at)
       ++ get_or classes (get_or haystack at 0) 0 ∷ text_of classes haystack (between (at + 1) end)
   text_split end before =
-      ap (symbols_in classes) (slice_halves haystack start (at + 1) end (omega arith) (omega arith))
-      ∙ (map-append (λ byte. get_or classes byte 0) (slice_range haystack start (at + 1))
-      (slice_range haystack (at + 1) end)
+      text_halves classes haystack start (at + 1) end (omega arith) (omega arith)
       ∙ (ap (λ l. l ++ text_of classes haystack (between (at + 1) end)) text_push
       ∙ append_assoc (text_of classes haystack (between start at)) (get_or classes (get_or haystack at 0) 0 ∷ [])
-      (text_of classes haystack (between (at + 1) end))))
+      (text_of classes haystack (between (at + 1) end)))
 
 -- a walk that read nothing
 pub at_start : (kind : search.MatchKind) (patterns : List (List ℕ)) (width : ℕ) (rows : List ℕ)
@@ -571,10 +577,8 @@ module _ (width : ℕ) (rows : List ℕ) (from : ℕ) (classes haystack : List �
               let first = text_of classes haystack (between start (at + 1)) in
               let rest = text_of classes haystack (between (at + 1) end) in
               let split : read_to text classes haystack start end ≡ read_to text classes haystack start (at + 1) ++ rest =
-              ap (λ l. text ++ l)
-              (ap (symbols_in classes) (slice_halves haystack start (at + 1) end (omega arith) (omega arith))
-              ∙ map-append (λ byte. get_or classes byte 0) (slice_range haystack start (at + 1))
-              (slice_range haystack (at + 1) end)) ∙ sym (append_assoc text first rest) in
+              ap (λ l. text ++ l) (text_halves classes haystack start (at + 1) end (omega arith) (omega arith))
+              ∙ sym (append_assoc text first rest) in
               ap (ending kind patterns) split
               ∙ (ending_by_held kind patterns (read_to text classes haystack start (at + 1) ++ rest)
               ∙ ap (ending_held kind patterns)
@@ -602,3 +606,14 @@ always_held patterns (symbol ∷ text) is =
     by_begun false unbegun further =
         let same : held Standard patterns (symbol ∷ text) ≡ held Standard patterns text = cond-false _ _ _ unbegun in
         further (sym same ∙ is)
+
+-- what ends where a walk stands
+pub ends_at : (kind : search.MatchKind) (patterns : List (List ℕ)) (width : ℕ) (rows : List ℕ)
+    (recognises : Recognises kind patterns width rows) (text : List ℕ) (place : ℕ)
+    → IsAt kind patterns width rows recognises text place
+    → get_or rows (place + width) 0 ≡ unwrap_or (ending kind patterns text) nothing
+ends_at kind patterns width rows recognises text place at =
+    ap (λ p. get_or rows (p + width) 0) at.place_is
+    ∙ (recognises.ends at.state at.is_state
+    ∙ ap (λ o. unwrap_or o nothing)
+    (sym (ending_by_held kind patterns text ∙ ap (ending_held kind patterns) at.held)))
