@@ -14,6 +14,7 @@ pub mod Held
 pub mod Iterations
 pub mod Links
 pub mod Lists
+pub mod Overlapping
 pub mod Recognised
 pub mod Standard
 pub mod Standing

@@ -1,14 +1,16 @@
 //! A search for everything that occurs.
-ghost use Rattle.std.specs.Prelude.{◌≡◌, ◌+◌, ◌<◌, length, IfErr, IfOk, IfSome, MatchOption};
+ghost use Rattle.std.specs.Prelude.{◌≡◌, ◌+◌, ◌<◌, length, IfErr, IfOk, IfSome, MatchOption, None, Some};
 ghost use Rattle.literal_base.specs.MatchValue.{MatchValue};
 ghost use Rattle.literal_base.specs.Occurs.{IsValidSpan, whole_of};
 ghost use Rattle.literal_base.specs.declared.search.MatchKind.TheVariants.{Standard};
 ghost use Rattle.literal_packed.specs.Lending.{CanBeTaken};
 ghost use Rattle.literal_automaton.specs.DfaValue.{CanBeKept, NeedFewStates, NeedTooManyStates, RefusesDfa};
 ghost use Rattle.literal_automaton.specs.Overlapping.{BuildsOverlapping};
-ghost use Rattle.literal_automaton.specs.OverlappingMatchesValue.{GivesOverlapping, IsToCome, most_overlapping};
+ghost use Rattle.literal_automaton.specs.OverlappingMatchesValue.{GivesOverlapping, IsNextToCome, IsToCome};
+ghost use Rattle.literal_automaton.specs.OverlappingMatchesValue.{gone_on, most_overlapping};
+ghost use Rattle.literal_automaton.specs.declared.overlapping.Standing.{Standing};
 ghost use Rattle.literal_automaton.specs.Inside.Standing.{AreParts, HaveSameToCome, IsStanding, longest_at};
-ghost use Rattle.literal_automaton.specs.Inside.Standing.{standing_at, standing_value};
+ghost use Rattle.literal_automaton.specs.Inside.Standing.{overlapping_value, standing_at, standing_value};
 
 use crate::classes::{Classes, classes_for};
 use crate::ends::{Lists, Recognised};
@@ -103,11 +105,11 @@ impl Overlapping {
     /// Every occurrence in the haystack: [`Overlapping::find_overlapping_in`] of all of it.
     pub fn find_overlapping_iter<'s, 'h>(&'s self, haystack: &'h [u8]) -> OverlappingMatches<'s, 'h>
         ensures { result ≡ record {
-            search = self.now;
-            haystack = haystack.now;
-            span = whole_of haystack.now;
-            end = 0;
-            pattern = 0;
+          search = self.now;
+          haystack = haystack.now;
+          span = whole_of haystack.now;
+          end = 0;
+          pattern = 0;
         } }
     {
         let end = haystack.len();
@@ -125,24 +127,18 @@ impl Overlapping {
     ) -> OverlappingMatches<'s, 'h>
         requires { IsValidSpan haystack.now span }
         ensures { result ≡ record {
-            search = self.now;
-            haystack = haystack.now;
-            span = span;
-            end = span.start;
-            pattern = 0;
+          search = self.now;
+          haystack = haystack.now;
+          span = span;
+          end = span.start;
+          pattern = 0;
         } }
     {
         OverlappingMatches {
             parts: &self.parts,
             haystack,
             span,
-            standing: Standing {
-                at: span.start,
-                place: 0,
-                pattern: 0,
-                next: 0,
-                end: 0,
-            },
+            standing: self.parts.before_all(haystack, span),
         }
     }
 
@@ -212,6 +208,79 @@ impl Parts {
             end: self.lists.starts[longest + 1],
         }
     }
+
+    /// The next occurrence of those that end where a search stands, and where it then stands.
+    fn first_of(&self, haystack: &[u8], span: Span, here: Standing) -> (Match, Standing)
+        requires parts { AreParts self.now }
+        requires valid { IsValidSpan haystack.now span }
+        requires standing { IsStanding self.now haystack.now span here }
+        requires left { here.next < here.end }
+        ensures stands { IsStanding self.now haystack.now span result.1 }
+        ensures next { IsNextToCome (standing_value self.now haystack.now span here) result.0 }
+        ensures goes_on { standing_value self.now haystack.now span result.1
+            ≡ gone_on (standing_value self.now haystack.now span here) (Some result.0) }
+    {
+        let _ = haystack; // (its contract names it, and the span)
+        let _ = span;
+        let pattern = self.lists.ends[here.next] as usize;
+        let start = here.at - self.patterns[pattern].len();
+        let standing = Standing {
+            at: here.at,
+            place: here.place,
+            pattern: pattern + 1,
+            next: here.next + 1,
+            end: here.end,
+        };
+        let found = Match::must(
+            pattern,
+            Span {
+                start,
+                end: here.at,
+            },
+        );
+        (found, standing)
+    }
+
+    /// Where a search stands behind all that occurs in the span.
+    fn behind_all(&self, haystack: &[u8], span: Span) -> Standing
+        requires parts { AreParts self.now }
+        requires valid { IsValidSpan haystack.now span }
+        ensures stands { IsStanding self.now haystack.now span result }
+        ensures goes_on { (s : Standing) → standing_value self.now haystack.now span result
+            ≡ gone_on (standing_value self.now haystack.now span s) None }
+    {
+        let _ = haystack; // (its contract names it)
+        Standing {
+            at: span.end,
+            place: 0,
+            pattern: self.patterns.len(),
+            next: 0,
+            end: 0,
+        }
+    }
+
+    /// Where a search stands before all that occurs in the span.
+    fn before_all(&self, haystack: &[u8], span: Span) -> Standing
+        requires parts { AreParts self.now }
+        requires valid { IsValidSpan haystack.now span }
+        ensures stands { IsStanding self.now haystack.now span result }
+        ensures from_start { standing_value self.now haystack.now span result ≡ record {
+          search = overlapping_value self.now;
+          haystack = haystack.now;
+          span = span;
+          end = span.start;
+          pattern = 0;
+        } }
+    {
+        let _ = haystack; // (its contract names it)
+        Standing {
+            at: span.start,
+            place: 0,
+            pattern: 0,
+            next: 0,
+            end: 0,
+        }
+    }
 }
 
 /// What [`Overlapping::find_overlapping_in`] goes over. Contracts see the search, the haystack, the span, and from
@@ -246,22 +315,13 @@ impl<'s, 'h> Iterator for OverlappingMatches<'s, 'h> {
     ghost remaining = { most_overlapping };
 
     fn next(&mut self) -> Option<Match> {
-        let patterns = &self.parts.patterns;
-        let Some(here) = self
-            .parts
-            .next_end(self.haystack, self.span, self.standing)
-        else {
-            self.standing.at = self.span.end;
-            self.standing.pattern = patterns.len();
+        let next_end = self.parts.next_end(self.haystack, self.span, self.standing);
+        let Some(here) = next_end else {
+            self.standing = self.parts.behind_all(self.haystack, self.span);
             return None;
         };
-        let pattern = self.parts.lists.ends[here.next] as usize;
-        self.standing = Standing {
-            pattern: pattern + 1,
-            next: here.next + 1,
-            ..here
-        };
-        let start = here.at - patterns[pattern].len();
-        Some(Match::must(pattern, Span { start, end: here.at }))
+        let (found, standing) = self.parts.first_of(self.haystack, self.span, here);
+        self.standing = standing;
+        Some(found)
     }
 }

@@ -22,15 +22,15 @@ module _ (list : List ℕ) (at number : ℕ) (inside : at ≤ length list) where
   stands k = elim (cases_lt k at) [
     | inl below ↦ before below (get_or-insert_below list at number 0 k below inside)
     | inr past ↦ elim (cases_lt at k) [
-        | inl above ↦
-            let one : k - 1 + 1 ≡ k = omega arith in
-            let late : at ≤ k - 1 = omega arith in
-            behind above (subst (λ n. get_or (insert list at number) n 0 ≡ get_or list (k - 1) 0) one
-            (get_or-insert_above list at number 0 (k - 1) late inside))
-        | inr not ↦
-            let same : k ≡ at = omega arith in
-            here same (ap (λ n. get_or (insert list at number) n 0) same ∙ get_or-insert_at list at number 0 inside)
-      ]
+      | inl above ↦
+          let one : k - 1 + 1 ≡ k = omega arith in
+          let late : at ≤ k - 1 = omega arith in
+          behind above (subst (λ n. get_or (insert list at number) n 0 ≡ get_or list (k - 1) 0) one
+          (get_or-insert_above list at number 0 (k - 1) late inside))
+      | inr not ↦
+          let same : k ≡ at = omega arith in
+          here same (ap (λ n. get_or (insert list at number) n 0) same ∙ get_or-insert_at list at number 0 inside)
+    ]
   ]
 
   long : length (insert list at number) ≡ length list + 1
@@ -102,9 +102,9 @@ module _ (number : ℕ) where
   compares n = elim (cases_lt n number) [
     | inl below ↦ less below (is_less n below)
     | inr past ↦ elim (cases_lt number n) [
-        | inl above ↦ greater above (is_greater n above)
-        | inr not ↦ let equal : n ≡ number = omega arith in same equal (is_equal n equal)
-      ]
+      | inl above ↦ greater above (is_greater n above)
+      | inr not ↦ let equal : n ≡ number = omega arith in same equal (is_equal n equal)
+    ]
   ]
 
   pub less_if : (n : ℕ) → nat_cmp n number ≡ Less → n < number

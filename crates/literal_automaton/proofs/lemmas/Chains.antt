@@ -7,7 +7,7 @@ use Rattle.std.proofs.lemmas.List.{get_or-set_other, get_or-set_same, get_or_pas
 use Rattle.std.specs.Option.{unwrap_or}
 use Rattle.literal_base.specs.declared.search.MatchKind.TheVariants.{Standard}
 use Rattle.literal_base.specs.Occurs.{NoneIsEmpty, pattern_at}
-use Rattle.literal_automaton.specs.Inside.Ends.{AreEnds, Ascends, ComesLater, EndsWith, HasOneMore, HasUpTo, IsEnd, IsFirstOfEnds, IsIn, IsLink}
+use Rattle.literal_automaton.specs.Inside.Ends.{AreEnds, Ascends, ComesLater, EndsWith, HasOneMore, HasUpTo, IsEnd, IsIn, IsLink}
 use Rattle.literal_automaton.specs.Inside.Ends.{IsNextEqual, left_from}
 use Rattle.literal_automaton.specs.Inside.Lists.{AreHeads, AreLinks}
 use Rattle.literal_automaton.specs.Table.{nothing}
@@ -41,9 +41,9 @@ module _ (patterns : List (List ℕ)) (some : NoneIsEmpty patterns) (few : lengt
           elim (all.others pattern itself) [
             | inl equal ↦ omega (arith, ap (λ k. length (pattern_at patterns k)) equal)
             | inr later ↦ elim later [
-                | inl shorter ↦ omega arith
-                | inr as_long ↦ omega (arith, as_long.0)
-              ]
+              | inl shorter ↦ omega arith
+              | inr as_long ↦ omega (arith, as_long.0)
+            ]
           ] in
           let same : pattern_at patterns i ≡ pattern_at patterns pattern =
           ends_same (pattern_at patterns pattern) (pattern_at patterns i) (pattern_at patterns pattern) all.is.ends
@@ -92,17 +92,17 @@ module _ (patterns : List (List ℕ)) (some : NoneIsEmpty patterns) (few : lengt
                 inr (long, omega (arith, one.0)),
               );
               others = λ i end later. (
-                    found,
-                    elim later [
-                      | inl shorter ↦ inr (inl (omega (arith, long)))
-                      | inr long_too ↦
-                          let least = as_long i end long_too.0 long_too.1 in
-                          elim (cases_lt equal i) [
-                            | inl sooner ↦ inr (inr (omega (arith, long, long_too.0), sooner))
-                            | inr not ↦ inl (omega (arith, least.1))
-                          ]
-                    ],
-                  );
+                found,
+                elim later [
+                  | inl shorter ↦ inr (inl (omega (arith, long)))
+                  | inr long_too ↦
+                      let least = as_long i end long_too.0 long_too.1 in
+                      elim (cases_lt equal i) [
+                        | inl sooner ↦ inr (inr (omega (arith, long, long_too.0), sooner))
+                        | inr not ↦ inl (omega (arith, least.1))
+                      ]
+                ],
+              );
             }
       ]
 
@@ -182,9 +182,9 @@ module _ (patterns : List (List ℕ)) (some : NoneIsEmpty patterns) (few : lengt
       cases_ne a b = elim (cases_lt a b) [
         | inl less ↦ inr (λ same. omega arith)
         | inr not ↦ elim (cases_lt b a) [
-            | inl more ↦ inr (λ same. omega arith)
-            | inr neither ↦ inl (omega arith)
-          ]
+          | inl more ↦ inr (λ same. omega arith)
+          | inr neither ↦ inl (omega arith)
+        ]
       ]
 
   pub links_on : (links : List ℕ) (pattern link : ℕ) → AreLinks patterns links (pattern + 1)
@@ -209,9 +209,9 @@ pub heads_start : (patterns : List (List ℕ)) (heads : List ℕ) → length hea
 heads_start patterns heads long none = record {
   long = long;
   each = λ head is_head first_is. record {
-        is = inl (none head (omega arith));
-        others = λ i from inside equal. absurd (omega arith);
-      };
+    is = inl (none head (omega arith));
+    others = λ i from inside equal. absurd (omega arith);
+  };
 }
 
 pub links_start : (patterns : List (List ℕ)) (links : List ℕ) → length links ≡ length patterns
@@ -238,26 +238,26 @@ module _ (patterns : List (List ℕ)) (some : NoneIsEmpty patterns) (few : lengt
   up_to_more text list longer next link has go_on more ascends is = elim has.next_is [
     | inl none ↦ absurd (go_on none)
     | inr here ↦ record {
-        ascends = ascends;
-        each = λ k below. elim (more.only k below) [
-          | inl same ↦ subst (IsEnd patterns text) (sym same) here
-          | inr old ↦ subst (IsEnd patterns text) old.2 (has.each old.0 old.1)
-        ];
-        others = λ i end. elim (has.others i end) [
-          | inl in_list ↦ inl (more.keeps i in_list)
-          | inr rest ↦ elim rest.1 [
-              | inl same ↦ inl (subst (IsIn longer) same more.has)
-              | inr later ↦ inr (is.others i (within i here end later) later)
-            ]
-        ];
-        next_is = elim is.next [
-          | inl none ↦ inl none
-          | inr one ↦ inr (record {
-              is_pattern = one.0.is_pattern;
-              ends = ends_on text (pattern_at patterns next) (pattern_at patterns link) here.ends one.0.ends;
-            })
-        ];
-      }
+      ascends = ascends;
+      each = λ k below. elim (more.only k below) [
+        | inl same ↦ subst (IsEnd patterns text) (sym same) here
+        | inr old ↦ subst (IsEnd patterns text) old.2 (has.each old.0 old.1)
+      ];
+      others = λ i end. elim (has.others i end) [
+        | inl in_list ↦ inl (more.keeps i in_list)
+        | inr rest ↦ elim rest.1 [
+          | inl same ↦ inl (subst (IsIn longer) same more.has)
+          | inr later ↦ inr (is.others i (within i here end later) later)
+        ]
+      ];
+      next_is = elim is.next [
+        | inl none ↦ inl none
+        | inr one ↦ inr (record {
+          is_pattern = one.0.is_pattern;
+          ends = ends_on text (pattern_at patterns next) (pattern_at patterns link) here.ends one.0.ends;
+        })
+      ];
+    }
   ]
     where
       within : (i : ℕ) → IsEnd patterns text next → IsEnd patterns text i → ComesLater patterns next i
@@ -294,18 +294,18 @@ module _ (patterns : List (List ℕ)) (some : NoneIsEmpty patterns) (few : lengt
         ap (λ (l : List ℕ). length l * length patterns) past ∙ zero_times (length patterns) in
         omega (arith, nowhere, none)
     | inr one ↦ elim one.1 [
-        | inl shorter ↦
-            let most : (length (pattern_at patterns link) + 1) * length patterns
-            ≤ length (pattern_at patterns next) * length patterns =
-            mul-le-mul_right (length patterns)
-            (let less : length (pattern_at patterns link) + 1 ≤ length (pattern_at patterns next) = omega arith in less) in
-            let sum = one_more (length (pattern_at patterns link)) (length patterns) in
-            omega (arith, most, sum)
-        | inr as_long ↦
-            let same : length (pattern_at patterns link) * length patterns
-            ≡ length (pattern_at patterns next) * length patterns = ap (λ n. n * length patterns) as_long.0 in
-            omega (arith, same, as_long.1, one.0.is_pattern)
-      ]
+      | inl shorter ↦
+          let most : (length (pattern_at patterns link) + 1) * length patterns
+          ≤ length (pattern_at patterns next) * length patterns =
+          mul-le-mul_right (length patterns)
+          (let less : length (pattern_at patterns link) + 1 ≤ length (pattern_at patterns next) = omega arith in less) in
+          let sum = one_more (length (pattern_at patterns link)) (length patterns) in
+          omega (arith, most, sum)
+      | inr as_long ↦
+          let same : length (pattern_at patterns link) * length patterns
+          ≡ length (pattern_at patterns next) * length patterns = ap (λ n. n * length patterns) as_long.0 in
+          omega (arith, same, as_long.1, one.0.is_pattern)
+    ]
   ]
     where
       zero_times : (n : ℕ) → 0 * n ≡ 0

@@ -1,7 +1,7 @@
 -- Walks over the bytes of patterns, by rows for all that occurs of them.
-use Rattle.std.proofs.Common.{◌≡◌, ℕ, ◌+◌, ◌-◌, ◌<◌, ◌≤◌, ◌^◌, List, [], ◌∷◌, ◌++◌, length, get_or, map, take, drop}
-use Rattle.std.proofs.Common.{inl, inr, ◌⊎◌, refl, sym, ap, subst, ◌∙◌, arith}
-use Rattle.std.proofs.lemmas.List.{get_or-map, length-map, take_all}
+use Rattle.std.proofs.Common.{◌≡◌, ℕ, ◌+◌, ◌-◌, ◌<◌, ◌≤◌, ◌^◌, List, [], ◌∷◌, ◌++◌, length, get_or, take, drop}
+use Rattle.std.proofs.Common.{inl, inr, ◌⊎◌, sym, ap, subst, ◌∙◌, arith}
+use Rattle.std.proofs.lemmas.List.{get_or-map, length-map}
 use Rattle.std.specs.Global.{Vec}
 use Rattle.std.specs.Option.{unwrap_or}
 use Rattle.literal_base.specs.declared.search.MatchKind.TheVariants.{Standard}
@@ -27,7 +27,7 @@ module _ (r : Recognised) (recognise : Recognise r) where
   pub stands_start : (text : List ℕ) → text ≡ [] → StandsBehind r 0 text
   stands_start text none =
       let at : (recognises : Recognises Standard (symbols_of r) r.width r.rows.now)
-          → IsAt Standard (symbols_of r) r.width r.rows.now recognises text 0 =
+      → IsAt Standard (symbols_of r) r.width r.rows.now recognises text 0 =
       λ recognises. subst (λ t. IsAt Standard (symbols_of r) r.width r.rows.now recognises t 0) (sym none)
       (at_start Standard (symbols_of r) r.width r.rows.now recognises) in
       record {

@@ -7,11 +7,11 @@ use Rattle.std.proofs.Math.Seq.{drop-append_seam}
 use Rattle.std.proofs.lemmas.List.{drop-drop, take-append-drop}
 use Rattle.std.proofs.lemmas.List.Quantifiers.{position-Some}
 use Rattle.std.proofs.lemmas.Slice.Eq.{starts_is}
-use Rattle.std.specs.List.{position, starts_with}
+use Rattle.std.specs.List.{starts_with}
 use Rattle.std.specs.Option.{option_or}
 use Rattle.literal_base.specs.declared.search.MatchKind.TheVariants.{Standard}
 use Rattle.literal_base.specs.Occurs.{NoneIsEmpty, pattern_at}
-use Rattle.literal_automaton.specs.Inside.Ends.{ComesLater, EndsWith, IsEnd, IsFirstOfEnds}
+use Rattle.literal_automaton.specs.Inside.Ends.{EndsWith, IsEnd, IsFirstOfEnds}
 use Rattle.literal_automaton.specs.Words.{ending, first_equal}
 use Rattle.literal_automaton.proofs.lemmas.Ends.{equal_if, whole_if_long}
 use Rattle.literal_automaton.proofs.lemmas.Held.{none_any, none_position}
@@ -74,7 +74,7 @@ module _ (patterns : List (List ℕ)) (some : NoneIsEmpty patterns) where
         (record { front = symbol ∷ []; split = refl }) is.ends;
   }
 
-  no_end_of_nothing : (i : ℕ) → ¬ IsEnd patterns [] i
+  pub no_end_of_nothing : (i : ℕ) → ¬ IsEnd patterns [] i
   no_end_of_nothing i is =
       let long = some i [] is.is_pattern in
       omega (arith, long, ends_length [] (pattern_at patterns i) is.ends)
@@ -114,10 +114,10 @@ module _ (patterns : List (List ℕ)) (some : NoneIsEmpty patterns) where
                   elim (cases_lt first i) [
                     | inl later ↦ inr (inr (omega (arith, ap (λ (l : List ℕ). length l) equal, long), later))
                     | inr early ↦ elim (cases_lt i first) [
-                        | inl before ↦ absurd (false≢true (sym (one.2 i before)
-                            ∙ equal_if text (pattern_at patterns i) equal))
-                        | inr not ↦ inl (omega arith)
-                      ]
+                      | inl before ↦ absurd (false≢true (sym (one.2 i before)
+                          ∙ equal_if text (pattern_at patterns i) equal))
+                      | inr not ↦ inl (omega arith)
+                    ]
                   ]
             ];
       }
@@ -183,18 +183,18 @@ module _ (patterns : List (List ℕ)) (some : NoneIsEmpty patterns) where
           elim (is.others other end) [
             | inl same ↦ ap Some (sym same)
             | inr later ↦ elim (one.others first own) [
-                | inl same ↦ ap Some same
-                | inr earlier ↦ elim later [
-                    | inl shorter ↦ elim earlier [
-                        | inl longer ↦ absurd (omega arith)
-                        | inr as_long ↦ absurd (omega (arith, as_long.0))
-                      ]
-                    | inr long ↦ elim earlier [
-                        | inl longer ↦ absurd (omega (arith, long.0))
-                        | inr as_long ↦ absurd (omega (arith, as_long.1, long.1))
-                      ]
-                  ]
+              | inl same ↦ ap Some same
+              | inr earlier ↦ elim later [
+                | inl shorter ↦ elim earlier [
+                  | inl longer ↦ absurd (omega arith)
+                  | inr as_long ↦ absurd (omega (arith, as_long.0))
+                ]
+                | inr long ↦ elim earlier [
+                  | inl longer ↦ absurd (omega (arith, long.0))
+                  | inr as_long ↦ absurd (omega (arith, as_long.1, long.1))
+                ]
               ]
+            ]
           ]
 
   -- the ends of a text are those of the first of them
@@ -206,8 +206,8 @@ module _ (patterns : List (List ℕ)) (some : NoneIsEmpty patterns) where
         (elim (is.others i end) [
           | inl same ↦ omega (arith, ap (λ k. length (pattern_at patterns k)) same)
           | inr later ↦ elim later [
-              | inl shorter ↦ omega arith
-              | inr as_long ↦ omega (arith, as_long.0)
-            ]
+            | inl shorter ↦ omega arith
+            | inr as_long ↦ omega (arith, as_long.0)
+          ]
         ]);
   }

@@ -1,7 +1,7 @@
 -- Where a search for everything that occurs stands, and what is to come there.
-use Rattle.std.proofs.Common.{◌≡◌, ◌↔◌, ℕ, ◌+◌, ◌-◌, ◌<◌, ◌≤◌, ◌^◌, List, [], ◌∷◌, ◌++◌, length, get_or, map, take, drop}
-use Rattle.std.proofs.Common.{Option, Some, None, IsSome, inl, inr, ◌⊎◌, append-nil, refl, sym, ap, subst, ◌∙◌, arith}
-use Rattle.std.proofs.Common.{nat_eq, true}
+use Rattle.std.proofs.Common.{◌≡◌, ℕ, ◌+◌, ◌-◌, ◌<◌, ◌≤◌, List, [], ◌++◌, length, get_or, take, drop}
+use Rattle.std.proofs.Common.{Option, Some, None, IsSome, inl, inr, append-nil, refl, sym, ap, subst, ◌∙◌, arith}
+use Rattle.std.proofs.Common.{◌*◌, mul-le-mul_right, nat_eq, true}
 use Rattle.std.proofs.Math.Seq.{drop-append_seam}
 use Rattle.std.proofs.lemmas.Bool.{cases_lt}
 use Rattle.std.proofs.lemmas.Bool.Decides.{Decides-eqb}
@@ -9,18 +9,20 @@ use Rattle.std.proofs.lemmas.List.{length-drop, length-map, take-append-drop}
 use Rattle.std.proofs.lemmas.Slice.Eq.{starts_is}
 use Rattle.std.specs.List.{starts_with}
 use Rattle.std.specs.Global.{Vec}
+use Rattle.std.specs.Iterator.{size}
 use Rattle.std.specs.Option.{unwrap_or}
 use Rattle.literal_base.specs.declared.search.MatchKind.TheVariants.{Standard}
 use Rattle.literal_base.specs.declared.search.Span.{Span}
 use Rattle.literal_base.specs.MatchValue.{MatchValue}
-use Rattle.literal_base.specs.Occurs.{IsValidSpan, NoneIsEmpty, Occurs, between, pattern_at}
+use Rattle.literal_base.specs.Occurs.{IsValidSpan, NoneIsEmpty, between, pattern_at}
 use Rattle.literal_automaton.specs.Inside.Classes.{symbols_in}
 use Rattle.literal_automaton.specs.Inside.Ends.{AreEnds, IsEnd, IsFirstOfEnds}
-use Rattle.literal_automaton.specs.Inside.Standing.{AreParts, HaveSameToCome, IsStanding, overlapping_value, patterns_of}
+use Rattle.literal_automaton.specs.Inside.Standing.{AreParts, HaveSameToCome, IsStanding, patterns_of}
 use Rattle.literal_automaton.specs.Inside.Standing.{longest_at, read_of, standing_at, standing_value, texts_in}
-use Rattle.literal_automaton.specs.Inside.Walk.{FindsEnd, IsAt, IsFirstEnd, NoneEnds, read_to, text_of}
-use Rattle.literal_automaton.specs.Overlapping.{ComesBefore, IsOccurrence}
-use Rattle.literal_automaton.specs.OverlappingMatchesValue.{IsNextToCome, IsToCome, OverlappingMatchesValue}
+use Rattle.literal_automaton.specs.Inside.Walk.{FindsEnd, IsAt, IsFirstEnd, NoneEnds, read_to}
+use Rattle.literal_automaton.specs.Overlapping.{IsOccurrence}
+use Rattle.literal_automaton.specs.OverlappingMatchesValue.{GivesOverlapping, IsNextToCome, IsToCome, OverlappingMatchesValue}
+use Rattle.literal_automaton.specs.OverlappingMatchesValue.{most_overlapping}
 use Rattle.literal_automaton.specs.Table.{nothing}
 use Rattle.literal_automaton.specs.Words.{ending}
 use Rattle.literal_automaton.specs.declared.overlapping.Parts.{Parts}
@@ -29,8 +31,8 @@ use Rattle.literal_automaton.specs.declared.walk.Stop.{Stop}
 use Rattle.literal_automaton.proofs.lemmas.Ends.{whole_if_long}
 use Rattle.literal_automaton.proofs.lemmas.Found.{occurs_where, some_symbols, stands_where, symbols_length, text_long}
 use Rattle.literal_automaton.proofs.lemmas.Standard.{ends_length, ends_of_first, ends_on, first_ends, first_is_own}
-use Rattle.literal_automaton.proofs.lemmas.Standard.{end_of_itself, none_ends}
-use Rattle.literal_automaton.proofs.lemmas.Walk.{ends_at, row_at, text_halves}
+use Rattle.literal_automaton.proofs.lemmas.Standard.{end_of_itself, no_end_of_nothing, none_ends}
+use Rattle.literal_automaton.proofs.lemmas.Walk.{at_start, ends_at, row_at, text_halves}
 
 module _ (p : Parts) (parts : AreParts p) (haystack : List ℕ) (bytes : (i : ℕ) → get_or haystack i 0 < 256)
     (span : Span) (valid : IsValidSpan haystack span)
@@ -250,12 +252,12 @@ module _ (p : Parts) (parts : AreParts p) (haystack : List ℕ) (bytes : (i : �
                   ];
                 },
             λ is. record {
-                  occurrence = is.occurrence;
-                  after = elim is.after [
-                    | inl further ↦ inl (omega arith)
-                    | inr here ↦ inl (omega (arith, here.0))
-                  ];
-                },
+              occurrence = is.occurrence;
+              after = elim is.after [
+                | inl further ↦ inl (omega arith)
+                | inr here ↦ inl (omega (arith, here.0))
+              ];
+            },
           )
 
       -- where the list has more
@@ -284,23 +286,23 @@ module _ (p : Parts) (parts : AreParts p) (haystack : List ℕ) (bytes : (i : �
           };
           first = λ other is before. elim before [
             | inl earlier ↦ elim is.after [
-                | inl further ↦ omega arith
-                | inr at ↦ omega (arith, at.0)
-              ]
+              | inl further ↦ omega arith
+              | inr at ↦ omega (arith, at.0)
+            ]
             | inr less ↦ elim is.after [
-                | inl further ↦ omega (arith, less.0)
-                | inr at ↦
-                    let end = occurrence_ends other is.occurrence in
-                    let one = standing.left.every other.pattern
-                    (subst (λ n. IsEnd (texts_in p) (read_of p haystack span n) other.pattern) less.0 end) at.1 in
-                    elim (cases_lt s.next one.0) [
-                      | inl later ↦
-                          omega (arith, less.1, one.3, standing.left.ascends s.next one.0 (omega arith) later one.2)
-                      | inr not ↦
-                          let same : one.0 ≡ s.next = omega (arith, one.1) in
-                          omega (arith, less.1, one.3, ap (λ k. get_or p.lists.ends.items k 0) same)
-                    ]
-              ]
+              | inl further ↦ omega (arith, less.0)
+              | inr at ↦
+                  let end = occurrence_ends other is.occurrence in
+                  let one = standing.left.every other.pattern
+                  (subst (λ n. IsEnd (texts_in p) (read_of p haystack span n) other.pattern) less.0 end) at.1 in
+                  elim (cases_lt s.next one.0) [
+                    | inl later ↦
+                        omega (arith, less.1, one.3, standing.left.ascends s.next one.0 (omega arith) later one.2)
+                    | inr not ↦
+                        let same : one.0 ≡ s.next = omega (arith, one.1) in
+                        omega (arith, less.1, one.3, ap (λ k. get_or p.lists.ends.items k 0) same)
+                  ]
+            ]
           ];
         }
 
@@ -315,9 +317,9 @@ module _ (p : Parts) (parts : AreParts p) (haystack : List ℕ) (bytes : (i : �
           left = record {
             ascends = λ j k from before after. standing.left.ascends j k (omega arith) before after;
             each = λ k from before. (
-                  (standing.left.each k (omega arith) before).0,
-                  omega (arith, standing.left.ascends s.next k (omega arith) (omega arith) before),
-                );
+              (standing.left.each k (omega arith) before).0,
+              omega (arith, standing.left.ascends s.next k (omega arith) (omega arith) before),
+            );
             every = λ i end from.
                 let least = here.1 in
                 let one = standing.left.every i end (omega arith) in
@@ -330,6 +332,46 @@ module _ (p : Parts) (parts : AreParts p) (haystack : List ℕ) (bytes : (i : �
           };
         }
 
+    -- before all that occurs, and behind it
+    pub stands_before : IsStanding p haystack span
+        (record { at = span.start; place = 0; pattern = 0; next = 0; end = 0 })
+    stands_before = record {
+      after = omega arith;
+      inside = valid.ordered;
+      stands = λ before recognises. subst
+          (λ t. IsAt Standard (texts_in p) p.classes.width p.rows.items recognises t 0) (sym nothing_read)
+          (at_start Standard (texts_in p) p.classes.width p.rows.items recognises);
+      ordered = omega arith;
+      within = omega arith;
+      left = record {
+        ascends = λ j k from before after. absurd (omega arith);
+        each = λ k from before. absurd (omega arith);
+        every = λ i end from.
+            let none = subst (λ t. IsEnd (texts_in p) t i) nothing_read end in
+            absurd (no_end_of_nothing (texts_in p) some_texts i none);
+      };
+    }
+      where
+        nothing_read : read_of p haystack span span.start ≡ []
+        nothing_read =
+            let none : span.start - span.start ≡ 0 = omega arith in
+            ap (λ n. symbols_in p.classes.table (take n (drop span.start haystack))) none
+
+    pub stands_behind : (count : ℕ) → count ≡ length (patterns_of p)
+        → IsStanding p haystack span (record { at = span.end; place = 0; pattern = count; next = 0; end = 0 })
+    stands_behind count is = record {
+      after = valid.ordered;
+      inside = omega arith;
+      stands = λ before. absurd (omega arith);
+      ordered = omega arith;
+      within = omega arith;
+      left = record {
+        ascends = λ j k from before after. absurd (omega arith);
+        each = λ k from before. absurd (omega arith);
+        every = λ i end from. absurd (omega (arith, end.is_pattern, known, is));
+      };
+    }
+
 -- what is next stays next where the same is to come
 pub next_moved : (one other : OverlappingMatchesValue) (found : MatchValue) → HaveSameToCome one other
     → IsNextToCome other found → IsNextToCome one found
@@ -337,3 +379,32 @@ next_moved one other found same is = record {
   to_come = (same found).1 is.to_come;
   first = λ before to_come. is.first before ((same before).0 to_come);
 }
+
+-- each that is given takes of what is left
+takes_one : (m : OverlappingMatchesValue) (found : MatchValue) → IsNextToCome m found
+    → (m.span.end - found.end) * length m.search.patterns + (length m.search.patterns - (found.pattern + 1))
+    < (m.span.end - m.end) * length m.search.patterns + (length m.search.patterns - m.pattern)
+takes_one m found is =
+    let n = length m.search.patterns in
+    let below = is.to_come.occurrence.occurs.is_pattern in
+    let inside : found.end ≤ m.span.end =
+    omega (arith, is.to_come.occurrence.whole, is.to_come.occurrence.occurs.before_end) in
+    elim is.to_come.after [
+      | inl further ↦
+          let most : (m.span.end - found.end + 1) * n ≤ (m.span.end - m.end) * n =
+          mul-le-mul_right n (let less : m.span.end - found.end + 1 ≤ m.span.end - m.end = omega arith in less) in
+          omega (arith, most, one_more (m.span.end - found.end) n)
+      | inr here ↦
+          let same : (m.span.end - found.end) * n ≡ (m.span.end - m.end) * n =
+          ap (λ e. (m.span.end - e) * n) (sym here.0) in
+          omega (arith, same, here.1)
+    ]
+  where
+    one_more : (a b : ℕ) → (a + 1) * b ≡ a * b + b
+    one_more a b = grind arith
+
+pub falls : (old new : OverlappingMatchesValue) (found : MatchValue) → GivesOverlapping old (Some found) new
+    → size (most_overlapping new) < size (most_overlapping old)
+falls old new found gives =
+    subst (λ (m : OverlappingMatchesValue). size (most_overlapping m) < size (most_overlapping old))
+    (sym gives.goes_on) (takes_one old found gives.gives)

@@ -504,9 +504,9 @@ module _ (width : ℕ) (rows : List ℕ) (from : ℕ) (classes haystack : List �
   goes_start row = record {
     row = row;
     stands = λ kind patterns recognises text at. (
-          subst (λ t. IsAt kind patterns width rows recognises t from) (sym (read_nothing text)) at,
-          λ end after upto. absurd (omega arith),
-        );
+      subst (λ t. IsAt kind patterns width rows recognises t from) (sym (read_nothing text)) at,
+      λ end after upto. absurd (omega arith),
+    );
   }
 
   module _ (table : IsTable width rows) (at place : ℕ)

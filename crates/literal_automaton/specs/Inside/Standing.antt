@@ -1,9 +1,9 @@
 -- The fields of `Parts` and `Standing`.
-use Rattle.std.specs.Prelude.{◌≡◌, ◌↔◌, ℕ, ◌+◌, ◌<◌, ◌≤◌, List, length, map, slice_index}
+use Rattle.std.specs.Prelude.{◌↔◌, ℕ, ◌+◌, ◌<◌, ◌≤◌, List, length, map, slice_index}
 use Rattle.literal_base.specs.declared.search.MatchKind.TheVariants.{Standard}
 use Rattle.literal_base.specs.declared.search.Span.{Span}
 use Rattle.literal_base.specs.MatchValue.{MatchValue}
-use Rattle.literal_base.specs.Occurs.{IsValidSpan, between}
+use Rattle.literal_base.specs.Occurs.{between}
 use Rattle.literal_automaton.specs.DfaValue.{CanBeKept}
 use Rattle.literal_automaton.specs.Inside.Classes.{AreClasses, Tells, symbols_in}
 use Rattle.literal_automaton.specs.Inside.Ends.{AreEnds}

@@ -1,8 +1,8 @@
-use Rattle.std.proofs.Common.{◌≡◌, ◌<◌, ◌≤◌, ℕ, List, length, get_or, ap, arith, subst, sym}
+use Rattle.std.proofs.Common.{◌≡◌, ◌≤◌, ℕ, List, length, get_or, ap, arith, subst, sym}
 use Rattle.std.specs.Ordering.{nat_cmp}
 use Rattle.std.specs.declared.cmp.Ordering.TheVariants.{Greater, Less}
 use Rattle.literal_automaton.specs.Inside.Ends.{Ascends, HasOneMore}
-use Rattle.literal_automaton.proofs.lemmas.Ascending.{ascends_insert, equal_if, greater_if, less_if, more_insert, no_more}
+use Rattle.literal_automaton.proofs.lemmas.Ascending.{ascends_insert, greater_if, less_if, more_insert}
 use Rattle.literal_automaton.proofs.lemmas.Ascending.{rises_in}
 use Rattle.literal_automaton.proofs.ends.add.Goals as goal
 

@@ -1,7 +1,6 @@
-use Rattle.std.proofs.Common.{◌≡◌, ◌+◌, ◌-◌, ◌<◌, ◌≤◌, ◌^◌, ℕ, None, Option, Some, arith, get_or, length}
-use Rattle.std.proofs.Common.{refl, sym, subst}
-use Rattle.literal_automaton.specs.Inside.Walk.{FindsEnd, GoesOn}
-use Rattle.literal_automaton.specs.declared.walk.Stop.{Stop}
+use Rattle.std.proofs.Common.{◌≡◌, ◌<◌, ℕ, arith, get_or, length}
+use Rattle.std.proofs.Common.{refl, subst}
+use Rattle.literal_automaton.specs.Inside.Walk.{GoesOn}
 use Rattle.literal_automaton.proofs.lemmas.Walk.{finds_dead_end, finds_end, finds_no_end, goes_further, goes_start}
 use Rattle.literal_automaton.proofs.walk.first_ended.Goals as goal
 

@@ -1,12 +1,11 @@
-use Rattle.std.proofs.Common.{◌≡◌, ◌+◌, ◌-◌, ◌<◌, ◌≤◌, ◌^◌, ◌∙◌, ℕ, List, get_or, length, replicate, arith, refl, sym, ap, subst}
+use Rattle.std.proofs.Common.{◌≡◌, ◌+◌, ◌-◌, ◌<◌, ◌≤◌, ◌^◌, ◌∙◌, ℕ, List, get_or, length, arith, sym, ap, subst}
 use Rattle.std.proofs.lemmas.List.{get_or-replicate, get_or_default, length-map, length-replicate}
 use Rattle.std.specs.Global.{Vec}
-use Rattle.literal_base.specs.Occurs.{pattern_at}
 use Rattle.literal_automaton.specs.Inside.Classes.{symbols_in}
 use Rattle.literal_automaton.specs.Inside.Lists.{AreHeads, AreLinks, symbols_of}
 use Rattle.literal_automaton.specs.Inside.Ends.{IsLink, IsNextEqual}
 use Rattle.literal_automaton.specs.Table.{nothing}
-use Rattle.literal_automaton.proofs.lemmas.Chains.{IsFirstEqual, first_equal_of, heads_on, heads_start, link_to_equal}
+use Rattle.literal_automaton.proofs.lemmas.Chains.{first_equal_of, heads_on, heads_start, link_to_equal}
 use Rattle.literal_automaton.proofs.lemmas.Chains.{link_to_shorter, links_on, links_start}
 use Rattle.literal_automaton.proofs.ends.Recognised.links.Goals as goal
 use Rattle.literal_automaton.proofs.ends.Recognised.links.Goals.{then-equal, else-equal}

@@ -1,4 +1,4 @@
-use Rattle.std.proofs.Common.{◌≡◌, ◌+◌, ◌-◌, ◌<◌, ◌≤◌, ◌^◌, ◌∙◌, ◌++◌, ◌∷◌, [], ℕ, List, inl, inr, drop, take, get_or}
+use Rattle.std.proofs.Common.{◌≡◌, ◌+◌, ◌-◌, ◌<◌, ◌≤◌, ◌∙◌, ◌++◌, ◌∷◌, [], ℕ, List, inl, inr, drop, take, get_or}
 use Rattle.std.proofs.Common.{length, arith, refl, sym, ap, subst}
 use Rattle.std.specs.Global.{Vec}
 use Rattle.std.specs.Option.{unwrap_or}
@@ -53,8 +53,14 @@ returns c =
     let same = symbols_are r c.requires.recognise c.args.pattern read c.requires.is_pattern c.index-self-pattern.is in
     let size = length-map read.items (λ byte. get_or r.classes.now byte 0) in
     let long : length (drop c.args.from text) ≤ c.loop-at.at - c.args.from =
-    omega (arith, length-drop c.args.from text, c.loop-at-test.false, ap (λ (l : List ℕ). length l) is,
-    ap (λ (l : List ℕ). length l) same, size) in
+    omega (
+      arith,
+      length-drop c.args.from text,
+      c.loop-at-test.false,
+      ap (λ (l : List ℕ). length l) is,
+      ap (λ (l : List ℕ). length l) same,
+      size,
+    ) in
     ends_there r c.requires.recognise (take (c.loop-at.at - c.args.from) (drop c.args.from text)) c.loop-at.place
     c.loop-at.invariant
     ∙ ap (λ t. unwrap_or (ending Standard (symbols_of r) t) nothing) (take_all (c.loop-at.at - c.args.from) (drop c.args.from text) long)

@@ -1,14 +1,12 @@
-use Rattle.std.proofs.Common.{◌≡◌, ◌+◌, ◌<◌, ◌≤◌, ◌∙◌, ℕ, List, None, Some, Option, ap, arith, get_or, length, subst, sym}
+use Rattle.std.proofs.Common.{◌<◌, ℕ, List, None, Some, Option, arith, subst, sym}
 use Rattle.std.proofs.Common.{MatchOption}
-use Rattle.std.proofs.lemmas.List.{get_or_default}
 use Rattle.literal_base.specs.MatchValue.{MatchValue}
 use Rattle.literal_base.specs.Occurs.{between}
 use Rattle.literal_base.specs.declared.search.MatchKind.TheVariants.{Standard}
-use Rattle.literal_automaton.specs.Inside.Standing.{HaveSameToCome, IsStanding, standing_value, read_of, texts_in}
+use Rattle.literal_automaton.specs.Inside.Standing.{HaveSameToCome, IsStanding, standing_value, texts_in}
 use Rattle.literal_automaton.specs.Inside.Walk.{FindsEnd, IsRow, IsTable}
 use Rattle.literal_automaton.specs.OverlappingMatchesValue.{IsToCome}
 use Rattle.literal_automaton.specs.declared.overlapping.Standing.{Standing}
-use Rattle.literal_automaton.specs.declared.walk.Stop.{Stop}
 use Rattle.literal_automaton.proofs.lemmas.Standing.{longest_below, none_to_come, nothing_to_come, row_inside}
 use Rattle.literal_automaton.proofs.lemmas.Standing.{same_to_come, some_left, stands_there}
 use Rattle.literal_automaton.proofs.lemmas.Walk.{row_at, table_of}
@@ -48,7 +46,6 @@ returns-in_err-stop-clause-to_come c =
     c.requires.valid s c.requires.standing more
     (subst (λ (rows : List ℕ). FindsEnd p.classes.width rows s.place p.classes.table c.args.haystack.now
     (between s.at c.args.span.end) None) c.deref.ensures.value c.in_err-stop.ensures.first) c.if-standing.false)
-
 
 pub standing_at-requires-clause-row : goal.standing_at-requires-clause-row
 standing_at-requires-clause-row c =
