@@ -59,15 +59,16 @@ TICKS = {
 TRY = re.compile(r"tally\.tick_tried\(\);\s*if let Some\(\w+\) = best_at\(")
 
 # The functions that read bytes of a haystack. In `find_at` they are read as they are handed to the rolling sum.
-READERS = ((PATTERN, "Patterns::matches_at"), (BYTE_TABLE, "ByteTable::find"), (WALK, "last_ended"))
+READERS = ((PATTERN, "Patterns::matches_at"), (BYTE_TABLE, "ByteTable::find"), (WALK, "last_ended"),
+           (WALK, "first_ended"))
 HASHES = ((RABIN_KARP, "RabinKarp::find_at"),)
 
 # What parameters are called that hold bytes of patterns, one or all.
 PATTERN_NAMES = ("pattern", "patterns", "bytes", "by_id", "lists", "classes")
 BYTES = re.compile(r"\[u8\]|\bVec<u8>|\bstr\b")
 
-# The types that may keep a slice of bytes: three a haystack, one a pattern, and one what C hands over of either.
-KEEPERS = ("FindIter", "Matches", "Input", "Pattern", "Pieces")
+# The types that may keep a slice of bytes: four a haystack, one a pattern, and one what C hands over of either.
+KEEPERS = ("FindIter", "Matches", "OverlappingMatches", "Input", "Pattern", "Pieces")
 
 # The fields of `BucketEntries` that tell nothing of an entry, and the functions that may name the others: the one that
 # reads an entry, and those that make and copy it.
@@ -252,7 +253,7 @@ def odd_use(code, place, takers, may_hash):
             "a byte of a haystack is read in `matches_at`, in the scan of `ByteTable`, and in `find_at` as an argument "
             "of `push` or `roll` alone: call one of these, with the tally")
     is_bound = re.search(r"\bhaystack\s*=$", before) and after.startswith(";")
-    if is_bound or owner.lstrip(".") in takers or owner in ("FindIter {", "Matches {"):
+    if is_bound or owner.lstrip(".") in takers or owner in ("FindIter {", "Matches {", "OverlappingMatches {"):
         return ""
     return (
         "a haystack is asked for its `len()`, cut by a range into another `haystack`, or handed whole to a function "

@@ -22,8 +22,8 @@ pub fn iterations_are_greedy()
         → IsGreedy first.search.query first.search.ignore_case first.haystack first.at all }
 {}
 
-/// What an iteration over everything that occurs in a span gives up to its first `None` is every occurrence once, in the
-/// order of ends and, at one end, of identifiers.
+/// What an iteration over everything that occurs in a span gives up to its first `None` is every occurrence once, in
+/// the order of ends and, at one end, of identifiers.
 pub fn iterations_give_each_occurrence_once()
     ensures { (search : OverlappingValue) (haystack : List ℕ) (span : Span) (first last ended : OverlappingMatchesValue)
         (all : List MatchValue)

@@ -220,8 +220,7 @@ impl Parts {
         ensures goes_on { standing_value self.now haystack.now span result.1
             ≡ gone_on (standing_value self.now haystack.now span here) (Some result.0) }
     {
-        let _ = haystack; // (its contract names it, and the span)
-        let _ = span;
+        prove!(here.at <= span.end && span.end <= haystack.len());
         let pattern = self.lists.ends[here.next] as usize;
         let start = here.at - self.patterns[pattern].len();
         let standing = Standing {
@@ -249,7 +248,7 @@ impl Parts {
         ensures goes_on { (s : Standing) → standing_value self.now haystack.now span result
             ≡ gone_on (standing_value self.now haystack.now span s) None }
     {
-        let _ = haystack; // (its contract names it)
+        prove!(span.end <= haystack.len());
         Standing {
             at: span.end,
             place: 0,
@@ -272,7 +271,7 @@ impl Parts {
           pattern = 0;
         } }
     {
-        let _ = haystack; // (its contract names it)
+        prove!(span.end <= haystack.len());
         Standing {
             at: span.start,
             place: 0,

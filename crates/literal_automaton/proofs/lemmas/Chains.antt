@@ -3,11 +3,13 @@ use Rattle.std.proofs.Common.{mul-le-mul_right}
 use Rattle.std.proofs.Common.{◌≡◌, ◌≢◌, ℕ, ◌+◌, ◌*◌, ◌-◌, ◌<◌, ◌≤◌, ◌^◌, List, [], length, get_or, take, drop, set}
 use Rattle.std.proofs.Common.{Option, Some, None, inl, inr, ◌⊎◌, refl, sym, ap, subst, ◌∙◌, arith}
 use Rattle.std.proofs.lemmas.Bool.{cases_lt}
-use Rattle.std.proofs.lemmas.List.{get_or-set_other, get_or-set_same, get_or_past, length-drop, length-set, take-append-drop}
+use Rattle.std.proofs.lemmas.List.{get_or-set_other, get_or-set_same, get_or_past, length-drop, length-set}
+use Rattle.std.proofs.lemmas.List.{take-append-drop}
 use Rattle.std.specs.Option.{unwrap_or}
 use Rattle.literal_base.specs.declared.search.MatchKind.TheVariants.{Standard}
 use Rattle.literal_base.specs.Occurs.{NoneIsEmpty, pattern_at}
-use Rattle.literal_automaton.specs.Inside.Ends.{AreEnds, Ascends, ComesLater, EndsWith, HasOneMore, HasUpTo, IsEnd, IsIn, IsLink}
+use Rattle.literal_automaton.specs.Inside.Ends.{AreEnds, Ascends, ComesLater, EndsWith, HasOneMore, HasUpTo, IsEnd}
+use Rattle.literal_automaton.specs.Inside.Ends.{IsIn, IsLink}
 use Rattle.literal_automaton.specs.Inside.Ends.{IsNextEqual, left_from}
 use Rattle.literal_automaton.specs.Inside.Lists.{AreHeads, AreLinks}
 use Rattle.literal_automaton.specs.Table.{nothing}
@@ -298,7 +300,8 @@ module _ (patterns : List (List ℕ)) (some : NoneIsEmpty patterns) (few : lengt
           let most : (length (pattern_at patterns link) + 1) * length patterns
           ≤ length (pattern_at patterns next) * length patterns =
           mul-le-mul_right (length patterns)
-          (let less : length (pattern_at patterns link) + 1 ≤ length (pattern_at patterns next) = omega arith in less) in
+          (let less : length (pattern_at patterns link) + 1 ≤ length (pattern_at patterns next) = omega arith in
+          less) in
           let sum = one_more (length (pattern_at patterns link)) (length patterns) in
           omega (arith, most, sum)
       | inr as_long ↦

@@ -71,7 +71,8 @@ module _ (patterns : List (List ℕ)) where
           let start = old i (omega arith) in
           let stop = old (i + 1) (omega arith) in
           let within = are.inside (i + 1) (omega arith) in
-          subst (λ n. AreEnds patterns (pattern_at patterns i) 0 (ends ++ list) n (get_or (started ends starts list) (i + 1) 0)) (sym start)
+          subst (λ n. AreEnds patterns (pattern_at patterns i) 0 (ends ++ list) n (get_or (started ends starts list)
+          (i + 1) 0)) (sym start)
           (subst (λ n. AreEnds patterns (pattern_at patterns i) 0 (ends ++ list) (get_or starts i 0) n) (sym stop)
           (ends_moved (pattern_at patterns i) 0 ends (ends ++ list) (get_or starts i 0) (get_or starts (i + 1) 0) 0
           (get_or starts i 0) (get_or starts (i + 1) 0) (omega arith) (omega arith)
@@ -94,7 +95,8 @@ module _ (patterns : List (List ℕ)) where
       old i below = get_or_append_left starts (length (ends ++ list) ∷ []) 0 i (omega (arith, are.long))
 
       last : get_or (started ends starts list) (count + 1) 0 ≡ length (ends ++ list)
-      last = ap (λ n. get_or (started ends starts list) n 0) (sym are.long) ∙ get_or-append_seam starts (length (ends ++ list)) [] 0
+      last = ap (λ n. get_or (started ends starts list) n 0) (sym are.long) ∙ get_or-append_seam starts (length (ends
+          ++ list)) [] 0
 
       added : ending Standard patterns (pattern_at patterns count) ≡ Some count
           → AreEnds patterns (pattern_at patterns count) 0 (ends ++ list) (get_or (started ends starts list) count 0)

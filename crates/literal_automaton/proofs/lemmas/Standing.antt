@@ -21,7 +21,8 @@ use Rattle.literal_automaton.specs.Inside.Standing.{AreParts, HaveSameToCome, Is
 use Rattle.literal_automaton.specs.Inside.Standing.{longest_at, read_of, standing_at, standing_value, texts_in}
 use Rattle.literal_automaton.specs.Inside.Walk.{FindsEnd, IsAt, IsFirstEnd, NoneEnds, read_to}
 use Rattle.literal_automaton.specs.Overlapping.{IsOccurrence}
-use Rattle.literal_automaton.specs.OverlappingMatchesValue.{GivesOverlapping, IsNextToCome, IsToCome, OverlappingMatchesValue}
+use Rattle.literal_automaton.specs.OverlappingMatchesValue.{GivesOverlapping, IsNextToCome, IsToCome}
+use Rattle.literal_automaton.specs.OverlappingMatchesValue.{OverlappingMatchesValue}
 use Rattle.literal_automaton.specs.OverlappingMatchesValue.{most_overlapping}
 use Rattle.literal_automaton.specs.Table.{nothing}
 use Rattle.literal_automaton.specs.Words.{ending}
@@ -199,12 +200,15 @@ module _ (p : Parts) (parts : AreParts p) (haystack : List â„•) (bytes : (i : â„
 
           pub row_inside : stop.place + p.classes.width < length p.rows.items
           row_inside =
-              let row = row_at Standard (texts_in p) p.classes.width p.rows.items parts.recognises _ stop.place first.at in
+              let row = row_at Standard (texts_in p) p.classes.width p.rows.items parts.recognises _ stop.place
+              first.at in
               omega (arith, row.fits)
 
           list : AreEnds (texts_in p) (pattern_at (texts_in p) (longest_at p stop)) 0 p.lists.ends.items
-              (get_or p.lists.starts.items (longest_at p stop) 0) (get_or p.lists.starts.items ((longest_at p stop) + 1) 0)
-          list = parts.lists.each (longest_at p stop) longest_below (first_is_own (texts_in p) some_texts text (longest_at p stop) is_first)
+              (get_or p.lists.starts.items (longest_at p stop) 0) (get_or p.lists.starts.items ((longest_at p stop) +
+              1) 0)
+          list = parts.lists.each (longest_at p stop) longest_below (first_is_own (texts_in p) some_texts text
+              (longest_at p stop) is_first)
 
           pub stands_there : IsStanding p haystack span (standing_at p stop)
           stands_there =
@@ -224,7 +228,8 @@ module _ (p : Parts) (parts : AreParts p) (haystack : List â„•) (bytes : (i : â„
                       let one = list.each k from before in (
                         record {
                           is_pattern = one.0.is_pattern;
-                          ends = ends_on text (pattern_at (texts_in p) (longest_at p stop)) _ is_first.is.ends one.0.ends;
+                          ends = ends_on text (pattern_at (texts_in p) (longest_at p stop)) _ is_first.is.ends
+                          one.0.ends;
                         },
                         one.1,
                       );

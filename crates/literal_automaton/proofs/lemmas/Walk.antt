@@ -18,7 +18,8 @@ use Rattle.literal_base.specs.declared.search.Span.{Span}
 use Rattle.literal_base.specs.Occurs.{NoneIsEmpty, between, pattern_at}
 use Rattle.literal_automaton.specs.Inside.Classes.{symbols_in}
 use Rattle.literal_automaton.specs.Inside.Grown.{ending_held}
-use Rattle.literal_automaton.specs.Inside.Walk.{FindsIn, IsAt, IsBehind, IsBest, IsFirst, IsFound, IsRow, IsTable, Reads}
+use Rattle.literal_automaton.specs.Inside.Walk.{FindsIn, IsAt, IsBehind, IsBest, IsFirst, IsFound, IsRow, IsTable}
+use Rattle.literal_automaton.specs.Inside.Walk.{Reads}
 use Rattle.literal_automaton.specs.Inside.Walk.{FindsEnd, GoesOn, IsFirstEnd, NoneEnds, StopsNear, from_match, place_of}
 use Rattle.literal_automaton.specs.Inside.Walk.{read_to, text_of}
 use Rattle.literal_automaton.specs.Table.{LeadsTo, Leads, Recognises, code_of, nothing, stride_of}
@@ -576,7 +577,8 @@ module _ (width : ℕ) (rows : List ℕ) (from : ℕ) (classes haystack : List �
           dead_for_good kind patterns text end longer short dead =
               let first = text_of classes haystack (between start (at + 1)) in
               let rest = text_of classes haystack (between (at + 1) end) in
-              let split : read_to text classes haystack start end ≡ read_to text classes haystack start (at + 1) ++ rest =
+              let split : read_to text classes haystack start end ≡ read_to text classes haystack start (at + 1) ++
+              rest =
               ap (λ l. text ++ l) (text_halves classes haystack start (at + 1) end (omega arith) (omega arith))
               ∙ sym (append_assoc text first rest) in
               ap (ending kind patterns) split

@@ -16,10 +16,11 @@ use Rattle.literal_automaton.specs.declared.overlapping.Parts.{Parts}
 use Rattle.literal_automaton.specs.declared.overlapping.Standing.{Standing}
 use Rattle.literal_automaton.specs.declared.walk.Stop.{Stop}
 
--- the patterns, and their classes
+-- the patterns
 abbrev pub patterns_of : Parts → List (List ℕ)
 patterns_of p = map (λ pattern. pattern.items) p.patterns.items
 
+-- the classes of their bytes
 abbrev pub texts_in : Parts → List (List ℕ)
 texts_in p = map (symbols_in p.classes.table) (patterns_of p)
 
@@ -40,8 +41,8 @@ pub record AreParts (p : Parts) : Type 0 where
 abbrev pub read_of : Parts → List ℕ → Span → ℕ → List ℕ
 read_of p haystack span at = text_of p.classes.table haystack (between span.start at)
 
--- a search stands at a place of the span: at its row, if more is to be read, and with those patterns of a list left that
--- end there, from one on
+-- a search stands at a place of the span: at its row, if more is to be read, and with those patterns of a list left
+-- that end there, from one on
 pub record IsStanding (p : Parts) (haystack : List ℕ) (span : Span) (s : Standing) : Type 0 where
   pub after : span.start ≤ s.at
   pub inside : s.at ≤ span.end
@@ -60,10 +61,11 @@ standing_value p haystack span s =
 abbrev pub HaveSameToCome : OverlappingMatchesValue → OverlappingMatchesValue → Type 0
 HaveSameToCome one other = (found : MatchValue) → IsToCome one found ↔ IsToCome other found
 
--- the pattern that the row names where a walk stopped, and where that walk stands: before all that ends there
+-- the pattern that the row names where a walk stopped
 abbrev pub longest_at : Parts → Stop → ℕ
 longest_at p stop = slice_index p.rows.items (stop.place + p.classes.width)
 
+-- where that walk stands: before all that ends there
 abbrev pub standing_at : Parts → Stop → Standing
 standing_at p stop = record {
   at = stop.end;

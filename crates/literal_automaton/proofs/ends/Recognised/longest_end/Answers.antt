@@ -25,12 +25,14 @@ loop-at-preserved c =
     let at = c.loop-at.at in
     let read = c.index-self-pattern.result in
     let bytes = c.as_slice-bytes.result.now in
-    let is : bytes ≡ read.items = c.as_slice-bytes.ensures.value ∙ ap (λ (v : Vec ℕ). v.items) (sym c.index-self-pattern.is) in
+    let is : bytes ≡ read.items = c.as_slice-bytes.ensures.value ∙ ap (λ (v : Vec ℕ). v.items) (sym
+    c.index-self-pattern.is) in
     let text = take (at - c.args.from) (drop c.args.from (pattern_at (symbols_of r) c.args.pattern)) in
     let symbol = get_or r.classes.now (get_or bytes at 0) 0 in
     let code = get_or r.rows.now (c.loop-at.place + symbol) 0 in
     let inside : at < length read.items = omega (arith, ap (λ (l : List ℕ). length l) is, c.loop-at-test.true) in
-    let more : text ++ symbol ∷ [] ≡ take (at + 1 - c.args.from) (drop c.args.from (pattern_at (symbols_of r) c.args.pattern)) =
+    let more : text ++ symbol ∷ [] ≡ take (at + 1 - c.args.from) (drop c.args.from (pattern_at (symbols_of r)
+    c.args.pattern)) =
     ap (λ (l : List ℕ). text ++ get_or r.classes.now (get_or l at 0) 0 ∷ []) is
     ∙ sym (pattern_push r c.requires.recognise c.args.pattern c.args.from at read c.requires.is_pattern
     c.index-self-pattern.is c.loop-at.auto.at inside) in
@@ -48,7 +50,8 @@ returns c =
     let r = c.args.self.now in
     let read = c.index-self-pattern.result in
     let bytes = c.as_slice-bytes.result.now in
-    let is : bytes ≡ read.items = c.as_slice-bytes.ensures.value ∙ ap (λ (v : Vec ℕ). v.items) (sym c.index-self-pattern.is) in
+    let is : bytes ≡ read.items = c.as_slice-bytes.ensures.value ∙ ap (λ (v : Vec ℕ). v.items) (sym
+    c.index-self-pattern.is) in
     let text = pattern_at (symbols_of r) c.args.pattern in
     let same = symbols_are r c.requires.recognise c.args.pattern read c.requires.is_pattern c.index-self-pattern.is in
     let size = length-map read.items (λ byte. get_or r.classes.now byte 0) in
@@ -63,4 +66,5 @@ returns c =
     ) in
     ends_there r c.requires.recognise (take (c.loop-at.at - c.args.from) (drop c.args.from text)) c.loop-at.place
     c.loop-at.invariant
-    ∙ ap (λ t. unwrap_or (ending Standard (symbols_of r) t) nothing) (take_all (c.loop-at.at - c.args.from) (drop c.args.from text) long)
+    ∙ ap (λ t. unwrap_or (ending Standard (symbols_of r) t) nothing) (take_all (c.loop-at.at - c.args.from) (drop
+    c.args.from text) long)

@@ -15,7 +15,8 @@ index-requires-2 c =
     let within = c.requires.standing.within in
     let read : c.index.result.now ≡ get_or p.lists.ends.items s.next 0 =
     c.index.ensures ∙ get_or_default p.lists.ends.items s.next c.index.result.now 0 (omega (arith, c.requires.left)) in
-    let below = is_pattern p c.requires.parts c.args.haystack.now (λ k. omega (arith, c.type_inv.haystack k)) c.args.span
+    let below = is_pattern p c.requires.parts c.args.haystack.now (λ k. omega (arith, c.type_inv.haystack k))
+    c.args.span
     c.requires.valid s c.requires.standing c.requires.left in
     omega (arith, below, read, p.patterns.ok.0, length-map p.patterns.items (λ (v : Vec ℕ). v.items))
 
@@ -26,7 +27,8 @@ overflow_sub-start c =
     let within = c.requires.standing.within in
     let read : c.index.result.now ≡ get_or p.lists.ends.items s.next 0 =
     c.index.ensures ∙ get_or_default p.lists.ends.items s.next c.index.result.now 0 (omega (arith, c.requires.left)) in
-    let below = is_pattern p c.requires.parts c.args.haystack.now (λ k. omega (arith, c.type_inv.haystack k)) c.args.span
+    let below = is_pattern p c.requires.parts c.args.haystack.now (λ k. omega (arith, c.type_inv.haystack k))
+    c.args.span
     c.requires.valid s c.requires.standing c.requires.left in
     let inside : c.index.result.now < length p.patterns.items =
     omega (arith, below, read, length-map p.patterns.items (λ (v : Vec ℕ). v.items)) in
@@ -47,7 +49,8 @@ must-found-requires-clause-pattern c =
     let within = c.requires.standing.within in
     let read : c.index.result.now ≡ get_or p.lists.ends.items s.next 0 =
     c.index.ensures ∙ get_or_default p.lists.ends.items s.next c.index.result.now 0 (omega (arith, c.requires.left)) in
-    let below = is_pattern p c.requires.parts c.args.haystack.now (λ k. omega (arith, c.type_inv.haystack k)) c.args.span
+    let below = is_pattern p c.requires.parts c.args.haystack.now (λ k. omega (arith, c.type_inv.haystack k))
+    c.args.span
     c.requires.valid s c.requires.standing c.requires.left in
     let few = c.requires.parts.kept.few in
     omega (arith, below, read, few)
@@ -71,7 +74,8 @@ returns-clause-next c =
     let within = c.requires.standing.within in
     let read : c.index.result.now ≡ get_or p.lists.ends.items s.next 0 =
     c.index.ensures ∙ get_or_default p.lists.ends.items s.next c.index.result.now 0 (omega (arith, c.requires.left)) in
-    let below = is_pattern p c.requires.parts c.args.haystack.now (λ k. omega (arith, c.type_inv.haystack k)) c.args.span
+    let below = is_pattern p c.requires.parts c.args.haystack.now (λ k. omega (arith, c.type_inv.haystack k))
+    c.args.span
     c.requires.valid s c.requires.standing c.requires.left in
     let inside : c.index.result.now < length p.patterns.items =
     omega (arith, below, read, length-map p.patterns.items (λ (v : Vec ℕ). v.items)) in
