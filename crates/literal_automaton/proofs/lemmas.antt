@@ -5,6 +5,7 @@ pub mod Built
 pub mod Callers
 pub mod Chains
 pub mod Classes
+pub mod Earliest
 pub mod EndLists
 pub mod Ends
 pub mod Found

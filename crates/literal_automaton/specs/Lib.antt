@@ -1,4 +1,5 @@
 pub mod DfaValue
+pub mod Earliest
 pub mod Inside
 pub mod MatchesValue
 pub mod Overlapping

@@ -11,6 +11,7 @@ ghost use Rattle.literal_packed.specs.Lending.{CanBeTaken};
 ghost use Rattle.literal_automaton.specs.DfaValue.{BuildsDfa, CanBeKept, GivesAll, NeedFewStates};
 ghost use Rattle.literal_automaton.specs.DfaValue.{NeedTooManyStates, RefusesDfa};
 ghost use Rattle.literal_automaton.specs.DfaValue.{ScansAtMost, ScansListAtMost};
+ghost use Rattle.literal_automaton.specs.Earliest.{IsEarliestEnd};
 ghost use Rattle.literal_automaton.specs.MatchesValue.{GivesMatch, most_to_come};
 
 mod classes;
@@ -32,7 +33,7 @@ use std::alloc::{AllocError, Global};
 use std::error::Error;
 use std::fmt;
 use std::marker::Model;
-use walk::last_ended;
+use walk::{first_ended, last_ended};
 
 /// Why there is no automaton for some patterns.
 #[derive(Clone, Copy, Debug, PartialEq, Eq, Drop)]
@@ -243,6 +244,20 @@ impl Dfa {
             rest.start = found.end();
         }
         Ok(all)
+    }
+
+    /// The earliest end of an occurrence that lies whole in a span of the haystack, an offset in bytes of the whole
+    /// haystack, and `None` where nothing occurs in the span. It is known sooner than the leftmost match, and may be
+    /// the end of another one. The span has to be valid.
+    pub fn earliest_end(&self, haystack: &[u8], span: Span) -> Option<usize>
+        requires { IsValidSpan haystack.now span }
+        ensures { IsEarliestEnd self.now.query.patterns self.now.ignore_case haystack.now span result }
+    {
+        let (table, width) = (&self.classes.table, self.classes.width);
+        let Some(stop) = first_ended(table, &self.rows, width, haystack, 0, span) else {
+            return None;
+        };
+        Some(stop.end)
     }
 
     /// Whether a pattern occurs in the haystack.
