@@ -61,7 +61,7 @@ TRY = re.compile(r"tally\.tick_tried\(\);\s*if let Some\(\w+\) = best_at\(")
 # The functions that read bytes of a haystack. In `find_at` they are read as they are handed to the rolling sum.
 READERS = (
     (PATTERN, "Patterns::matches_at"), (BYTE_TABLE, "ByteTable::find"), (WALK, "last_ended"),
-    (WALK, "last_ended_in_lent"),
+    (WALK, "last_ended_in_lent"), (WALK, "first_ended"),
 )
 HASHES = ((RABIN_KARP, "RabinKarp::find_at"),)
 
@@ -69,8 +69,8 @@ HASHES = ((RABIN_KARP, "RabinKarp::find_at"),)
 PATTERN_NAMES = ("pattern", "patterns", "bytes", "by_id", "lists", "classes")
 BYTES = re.compile(r"\[u8\]|\bVec<u8>|\bstr\b")
 
-# The types that may keep a slice of bytes: three a haystack, one a pattern, and one what C hands over of either.
-KEEPERS = ("FindIter", "Matches", "Input", "Pattern", "Pieces")
+# The types that may keep a slice of bytes: four a haystack, one a pattern, and one what C hands over of either.
+KEEPERS = ("FindIter", "Matches", "OverlappingMatches", "Input", "Pattern", "Pieces")
 
 # The fields of `BucketEntries` that tell nothing of an entry, and the functions that may name the others: the one that
 # reads an entry, and those that make and copy it.
@@ -238,7 +238,7 @@ def odd_use(code, place, takers, may_hash):
             "a byte of a haystack is read in `matches_at`, in the scan of `ByteTable`, and in `find_at` as an argument "
             "of `push` or `roll` alone: call one of these, with the tally")
     is_bound = re.search(r"\bhaystack\s*=$", before) and after.startswith(";")
-    if is_bound or owner.lstrip(".") in takers or owner in ("FindIter {", "Matches {"):
+    if is_bound or owner.lstrip(".") in takers or owner in ("FindIter {", "Matches {", "OverlappingMatches {"):
         return ""
     return (
         "a haystack is asked for its `len()`, cut by a range into another `haystack`, or handed whole to a function "

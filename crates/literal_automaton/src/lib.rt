@@ -11,12 +11,15 @@ ghost use Rattle.literal_packed.specs.Lending.{CanBeTaken};
 ghost use Rattle.literal_automaton.specs.DfaValue.{BuildsDfa, CanBeKept, GivesAll, NeedFewStates};
 ghost use Rattle.literal_automaton.specs.DfaValue.{NeedTooManyStates, RefusesDfa};
 ghost use Rattle.literal_automaton.specs.DfaValue.{ScansAtMost, ScansListAtMost};
+ghost use Rattle.literal_automaton.specs.Earliest.{IsEarliestEnd};
 ghost use Rattle.literal_automaton.specs.MatchesValue.{GivesMatch, most_to_come};
 ghost use Rattle.literal_automaton.specs.Prepared.{RefusesToPrepare, WritesPrepared};
 
 mod classes;
+mod ends;
 mod grow;
 pub mod laws;
+mod overlapping;
 pub mod prepared;
 mod walk;
 
@@ -27,12 +30,13 @@ pub use literal_base::packed::MatchKind;
 use literal_base::search;
 pub use literal_base::{Match, Span};
 pub use literal_ids::PatternID;
+pub use overlapping::{Overlapping, OverlappingMatches};
 pub use prepared::{Damaged, PrepareError, Prepared};
 use std::alloc::{AllocError, Global};
 use std::error::Error;
 use std::fmt;
 use std::marker::Model;
-use walk::last_ended;
+use walk::{first_ended, last_ended};
 
 /// Why there is no automaton for some patterns.
 #[derive(Clone, Copy, Debug, PartialEq, Eq, Drop)]
@@ -134,9 +138,9 @@ impl Dfa {
         requires { CanBeTaken I.into_iter_gives I.IntoIter.can_next I.IntoIter.remaining patterns }
         ensures ok { IfOk result
             (BuildsDfa I.into_iter_gives I.IntoIter.next_gives patterns kind ignore_case) }
-        ensures few { IfOk result (λ dfa. NeedFewStates kind ignore_case dfa.query.patterns) }
+        ensures few { IfOk result (λ dfa. NeedFewStates (root_kind_of kind) ignore_case dfa.query.patterns) }
         ensures error { IfErr result (RefusesDfa I.into_iter_gives I.IntoIter.next_gives patterns
-            (NeedTooManyStates kind ignore_case)) }
+            (NeedTooManyStates (root_kind_of kind) ignore_case)) }
     {
         let patterns = copies(alloc, patterns)?;
         let classes = classes_for(ignore_case, &patterns);
@@ -243,6 +247,20 @@ impl Dfa {
             rest.start = found.end();
         }
         Ok(all)
+    }
+
+    /// The earliest end of an occurrence that lies whole in a span of the haystack, an offset in bytes of the whole
+    /// haystack, and `None` where nothing occurs in the span. It is known sooner than the leftmost match, and may be
+    /// the end of another one. The span has to be valid.
+    pub fn earliest_end(&self, haystack: &[u8], span: Span) -> Option<usize>
+        requires { IsValidSpan haystack.now span }
+        ensures { IsEarliestEnd self.now.query.patterns self.now.ignore_case haystack.now span result }
+    {
+        let (table, width) = (&self.classes.table, self.classes.width);
+        let Some(stop) = first_ended(table, &self.rows, width, haystack, 0, span) else {
+            return None;
+        };
+        Some(stop.end)
     }
 
     /// Whether a pattern occurs in the haystack.
