@@ -137,15 +137,15 @@ def tables(repository):
 
 
 def definitions(repository):
-    """docs/DEFINITIONS.md is as checks/definitions_page.py writes it, and names each file of definitions, of which each
-    has a comment."""
+    """docs/DEFINITIONS.md is as checks/definitions_page.py writes it, and names each file of definitions but those that
+    models and private functions alone cite. Each definition has a comment."""
     page = repository.texts[definitions_page.PATH]
     if definitions_page.written(page, repository.texts) != page:
         yield f"{definitions_page.PATH} says otherwise than the files of specs: run checks/definitions_page.py"
     named = {path for _, paths in definitions_page.sections_of(page) for path in paths}
     for path, text in repository.texts.items():
         found = list(definitions_page.definitions_in(text)) if re.match(r"crates/\w+/specs/.*\.antt$", path) else []
-        if found and path not in named:
+        if found and path not in named and not re.search(r"/Inside\b", path) and "/literal_compared/" not in path:
             yield f"{path} is named by no heading of {definitions_page.PATH}"
         for name in (name for name, comment in found if not comment):
             yield f"{path}: {name} has no comment"
