@@ -1,9 +1,10 @@
 """Compiles the header and the programs in C, and runs them: under the sanitizers, with little stack, linked to the
-shared library as bindings/install leaves it. It takes bindings/out/."""
+shared library as bindings/install leaves it. Then builds all of it elsewhere. It takes bindings/out/."""
 import os
 import shlex
 import shutil
 import subprocess
+import sys
 import tempfile
 import unittest
 from pathlib import Path
@@ -65,7 +66,7 @@ class Find(unittest.TestCase):
     @unittest.skipUnless("refuse" in REFUSER, "run by bindings/test")
     def test_each_request_refused(self):
         """It finds all the same, as where an output has no buffer, or says why not."""
-        find, told, mark = self.compiled("find", *SANITIZED), 0, f"{self.room.name}/mark"
+        find, told, mark = self.compiled("find"), 0, f"{self.room.name}/mark"
         for request in range(1, MOST_REQUESTS):
             given = {"LD_PRELOAD": REFUSER, "REFUSED_REQUEST": str(request), "REFUSED_MARK": mark}
             answer = run(find, *WORDS, text=TEXT, env=given)
@@ -95,6 +96,49 @@ class Find(unittest.TestCase):
         self.assertEqual(run(*linked), (0, ""))
         self.assertEqual(run(find, *WORDS, text=TEXT, cwd="/"), (0, FOUND))
         self.assertIn(f"{prefix}/lib/libliteral_prefilters.so.0", run("ldd", find)[1])
+
+
+class Build(unittest.TestCase):
+    def setUp(self):
+        room = tempfile.TemporaryDirectory()
+        self.addCleanup(room.cleanup)
+        self.room = Path(room.name, "a folder")
+
+    def test_in_a_folder_with_a_space(self):
+        """What a second build makes takes the place of the first: nobody writes into files that programs may run by."""
+        shutil.copytree(HERE.parent, self.room / "bindings", ignore=shutil.ignore_patterns("out", "*.so", "__pycache__"))
+        for licence in ("LICENSE-MIT", "UNLICENSE"):
+            shutil.copy(HERE.parents[1] / licence, self.room)
+        build = [sys.executable, str(self.room / "bindings/build"), "--no-proof", str(LIBRARY)]
+        uses = "import literal_prefilters as it; print(it.Searcher([b'b']).find(b'ab').start)"
+        given, nodes = {**PLAIN, "CC": "gcc -O2", "PYTHONPATH": str(self.room / "bindings/python")}, []
+        (self.room / "kept").mkdir()
+        for turn in range(2):
+            status, said = run(*build, env=given)
+            self.assertEqual(status, 0, said)
+            self.assertEqual(run(sys.executable, "-B", "-c", uses, env=given, cwd="/"), (0, "1\n"))
+            for file in (*self.room.glob("bindings/out/*.so.0"), *self.room.glob("bindings/python/*/*.so")):
+                nodes.append(file.stat().st_ino)
+                os.link(file, self.room / "kept" / f"{turn} {file.name}")  # (so that its number is not given again)
+        self.assertEqual(len(set(nodes)), 4)
+
+    def test_what_is_missing(self):
+        tools = ("rt", "cc", "ld", "objcopy", "ar", "nm")
+        for name in tools:
+            folder = self.room / f"no {name}"
+            folder.mkdir(parents=True)
+            for other in set(tools) - {name}:
+                (folder / other).symlink_to(shutil.which(other))
+            given = {name: value for name, value in PLAIN.items() if name != "CC"}
+            status, said = run(sys.executable, str(HERE.parent / "build"), env={**given, "PATH": str(folder)})
+            self.assertEqual(status, 1)
+            self.assertRegex(said, rf"\Abuild: {name} is missing: .*\n\Z")
+
+    def test_the_package_before_the_library(self):
+        (self.room / "python").mkdir(parents=True)
+        shutil.copy(HERE.parent / "python/setup.py", self.room / "python")
+        status, said = run(sys.executable, "setup.py", "build", cwd=self.room / "python")
+        self.assertEqual((status, said), (1, f"{self.room}/out/libliteral_prefilters.a is not there: run bindings/build first\n"))
 
 
 if __name__ == "__main__":

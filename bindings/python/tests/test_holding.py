@@ -15,7 +15,7 @@ from literal_prefilters import Match, Searcher
 
 TEXT = b"Nobody likes maple in their apple flavored Snapple."
 WORDS = [b"apple", b"maple", b"Snapple"]
-LONG = 1 << 32
+LONG, WAIT = 1 << 32, 0.5
 
 
 def calls_of(searcher):
@@ -174,14 +174,14 @@ class Signals(unittest.TestCase):
             raise Interrupted
 
         before = signal.signal(signal.SIGINT, handle)
-        timer = threading.Timer(0.1, signal.raise_signal, (signal.SIGINT,))
+        timer = threading.Timer(WAIT, signal.raise_signal, (signal.SIGINT,))
         timer.start()
         started = time.monotonic()
         try:
             with self.assertRaises(Interrupted):
                 call(text)
                 time.sleep(1)
-            return time.monotonic() - started - 0.1
+            return time.monotonic() - started - WAIT
         finally:
             timer.join()
             signal.signal(signal.SIGINT, before)
