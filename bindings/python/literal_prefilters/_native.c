@@ -522,7 +522,8 @@ static PyTypeObject matches_type;
 
 PyDoc_STRVAR(finditer_doc, "finditer($self, /, text, start=0, end=None)\n--\n\n"
 "Gives what `findall` lists, one match after another. From this call on, before the first match is asked for, and\n"
-"until the iterator is at its end or gone, the text is held: it can be neither resized nor closed.");
+"until the iterator is at its end or gone, the text is held: it can be neither resized nor closed. Some thousands of\n"
+"matches are found ahead: do not write into the text in the meantime.");
 
 static PyObject *search_finditer(PyObject *self, PyObject *const *given, Py_ssize_t count, PyObject *names) {
     PyObject *asked[3];
