@@ -7,9 +7,10 @@ import signal
 import tempfile
 import threading
 import time
+import tracemalloc
 import unittest
 from concurrent.futures import ThreadPoolExecutor
-from contextlib import contextmanager
+from contextlib import contextmanager, suppress
 
 from literal_prefilters import Match, Searcher
 
@@ -80,6 +81,28 @@ class Buffers(unittest.TestCase):
         except ZeroDivisionError:
             text.clear()  # (while the error holds the frame of `sub`)
         self.assertEqual(text, b"")
+
+
+class Leaks(unittest.TestCase):
+    def test_no_call_keeps_memory(self):
+        """Neither one that answers, nor one that refuses what it is given."""
+        calls = [*calls_of(Searcher(WORDS)), *calls_of(Searcher(["apple", "ä"])), lambda it: Searcher([it, b"b"])]
+        texts = [TEXT, bytearray(TEXT * 3), TEXT.decode(), "ä" + TEXT.decode() + "äppleä", memoryview(TEXT)[::2], "\ud800", 5]
+
+        def all_calls():
+            for call in calls:
+                for text in texts:
+                    with suppress(TypeError, ValueError, BufferError):
+                        call(text)
+
+        tracemalloc.start()
+        self.addCleanup(tracemalloc.stop)
+        all_calls()
+        before = tracemalloc.get_traced_memory()[0]
+        for _ in range(300):
+            all_calls()
+        gc.collect()
+        self.assertLess(tracemalloc.get_traced_memory()[0] - before, 3000)
 
 
 class Iterators(unittest.TestCase):
