@@ -4,10 +4,12 @@
 
 The text is a str of the machine's source code and pages: half from below /usr/lib/python3, half from below /usr/share,
 the files that are UTF-8, of each at most 256 KiB, in the order of their paths, over again if they are too few. The words
-are those of 4 letters or more that stand in it most often. For each number of words, with case kept and ignored: the milliseconds in which all
-matches are counted, as iterators give them, and in which `count` and `findall` do that; then the microseconds for the
-first match of a line of 80 characters, of a list of matches for each, and what threads bring. Each is the least of some
-runs in turns. `ahocorasick` knows no case: where it is ignored, the text is made small first, which is part of its time.
+are those of 4 letters or more that stand in it most often. For each number of words, with case kept and ignored, one row
+tells how many matches there are; in how many milliseconds `count` counts them, `findall` lists them, and the other two
+give them one after another; and in how many microseconds the first match of a line of 80 characters is found. Then
+follows what threads bring. Each time is the least of some runs in turns; `re` with more than 128 words has only one
+mebibyte to search, for which its time is multiplied. `ahocorasick` knows no case: where case is ignored, the text is
+made small first, which is part of its time.
 """
 import collections
 import os
@@ -24,8 +26,7 @@ except ImportError:
     ahocorasick = None
 
 FOLDERS, MOST_OF_A_FILE = ("/usr/lib/python3", "/usr/share"), 1 << 18
-COUNTS, RUNS, LINES, WIDTH, THREADS = (1, 3, 16, 128, 2000), 5, 5000, 80, 4
-SLOW = 3  # seconds, behind which a search is not run again
+COUNTS, RUNS, LINES, WIDTH, THREADS = (1, 3, 16, 128, 2000), 3, 2000, 80, 4
 
 
 def files(top):
@@ -57,19 +58,18 @@ def text_of(size):
 def searches(words, ignore_case):
     """For each search its name, what counts the matches of a text, and what finds the first match of a line."""
     searcher = Searcher(words, Kind.LEFTMOST_LONGEST, ignore_case)
-    yield "`count`", searcher.count, None
-    yield "`findall`", lambda text: len(searcher.findall(text)), searcher.find
-    yield "`finditer`", lambda text: sum(1 for _ in searcher.finditer(text)), None
+    yield "count", searcher.count, None
+    yield "findall", lambda text: len(searcher.findall(text)), searcher.find
     longest_first = sorted(words, key=len, reverse=True)
     regex = re.compile("|".join(map(re.escape, longest_first)), re.ASCII | re.IGNORECASE if ignore_case else 0)
-    yield "`re`", lambda text: sum(1 for _ in regex.finditer(text)), regex.search
+    yield "re", lambda text: sum(1 for _ in regex.finditer(text)), regex.search
     if ahocorasick:
         automaton = ahocorasick.Automaton()
         for i, word in enumerate(words):
             automaton.add_word(word.lower() if ignore_case else word, i)
         automaton.make_automaton()
         folded = str.lower if ignore_case else str
-        yield ("`ahocorasick`", lambda text: sum(1 for _ in automaton.iter_long(folded(text))),
+        yield ("ahocorasick", lambda text: sum(1 for _ in automaton.iter_long(folded(text))),
                lambda line: next(automaton.iter_long(folded(line)), None))
 
 
@@ -87,19 +87,18 @@ def each_line(find, lines):
 
 def row(words, ignore_case, text, lines):
     """Measures all searches, in turns."""
-    found, best, best_line = {}, {}, {}
-    for run in range(RUNS):
+    matches, best, best_line = 0, {}, {}
+    for _ in range(RUNS):
         for name, count, find in searches(words, ignore_case):
-            if run == 0 or best[name] < SLOW:
-                took, found[name] = seconds(count, text)
-                best[name] = min(took, best.get(name, took))
+            part = len(text) >> 20 if name == "re" and len(words) > 128 else 1
+            took, found = seconds(count, text[: len(text) // part])
+            best[name] = min(took * part, best.get(name, took * part))
+            matches = found if name == "count" else matches
             if find:
                 took, _ = seconds(each_line, find, lines)
                 best_line[name] = min(took, best_line.get(name, took))
-    for name in best:
-        line = f"{best_line[name] / len(lines) * 1e6:.2f}" if name in best_line else ""
-        case = "ignored" if ignore_case else "kept"
-        print(f"| {len(words)} | {case} | {name} | {found[name]} | {best[name] * 1e3:.0f} | {line} |", flush=True)
+    cells = [f"{best[name] * 1e3:.0f}" for name in best] + [f"{it / len(lines) * 1e6:.2f}" for it in best_line.values()]
+    print(f"| {len(words)} | {'ignored' if ignore_case else 'kept'} | {matches} | {' | '.join(cells)} |", flush=True)
 
 
 def threads(words, text):
@@ -121,7 +120,9 @@ def main():
         often = collections.Counter(re.findall(r"[A-Za-z]{4,}", text)).most_common(max(COUNTS))
         lines = [text[at : at + WIDTH] for at in range(0, WIDTH * LINES, WIDTH)]
         print(f"\n{size} MiB, {len(text)} characters\n")
-        print("| Words | Case | Search | Matches | All matches, ms | First match of a line, µs |\n|---|---|---|---|---|---|")
+        other = ["`re`", "`ahocorasick`"] if ahocorasick else ["`re`"]
+        heads = ["Words", "Case", "Matches", "`count`", "`findall`", *other, "`find`, a line", *other]
+        print(f"| {' | '.join(heads)} |\n{len(heads) * '|---'}|")
         for count in COUNTS:
             for ignore_case in (False, True):
                 row([word for word, _ in often[:count]], ignore_case, text, lines)
