@@ -34,6 +34,7 @@ PREFILTER = "crates/literal_prefilters/src/prefilter.rt"
 BYTE_TABLE = "crates/literal_prefilters/src/prefilter/byte_table.rt"
 CONFIRMING = "crates/literal_prefilters/src/prefilter/confirming.rt"
 AUTOMATON = "crates/literal_automaton/src/lib.rt"
+PREPARED = "crates/literal_automaton/src/prepared.rt"
 WALK = "crates/literal_automaton/src/walk.rt"
 ENGINE = "crates/litfind/src/engine.rt"
 
@@ -43,6 +44,7 @@ TALLY_MAKERS = {
     PREFILTER: ("Builder::build", "Prefilter::find_in"),
     CONFIRMING: ("ConfirmingSearch::find_in",),
     AUTOMATON: ("Dfa::find_in", "Dfa::find_all"),
+    PREPARED: ("Prepared::find_in",),
     ENGINE: ("run",),
 }
 
@@ -51,7 +53,7 @@ TICKS = {
     "tick_hashed": ((RABIN_KARP, "Rolling::push"), (RABIN_KARP, "Rolling::roll")),
     "tick_entries": ((ENTRIES, "BucketEntries::entry"),),
     "tick_compared": ((PATTERN, "Patterns::matches_at"),),
-    "tick_scanned": ((BYTE_TABLE, "ByteTable::find"), (WALK, "last_ended")),
+    "tick_scanned": ((BYTE_TABLE, "ByteTable::find"), (WALK, "last_ended"), (WALK, "last_ended_in_lent")),
     "tick_tried": ((CONFIRMING, "confirm"), (CONFIRMING, "confirm_by_table")),
 }
 
@@ -59,7 +61,10 @@ TICKS = {
 TRY = re.compile(r"tally\.tick_tried\(\);\s*if let Some\(\w+\) = best_at\(")
 
 # The functions that read bytes of a haystack. In `find_at` they are read as they are handed to the rolling sum.
-READERS = ((PATTERN, "Patterns::matches_at"), (BYTE_TABLE, "ByteTable::find"), (WALK, "last_ended"))
+READERS = (
+    (PATTERN, "Patterns::matches_at"), (BYTE_TABLE, "ByteTable::find"), (WALK, "last_ended"),
+    (WALK, "last_ended_in_lent"),
+)
 HASHES = ((RABIN_KARP, "RabinKarp::find_at"),)
 
 # What parameters are called that hold bytes of patterns, one or all.

@@ -3,4 +3,5 @@ pub mod Classes
 pub mod Dfa
 pub mod Grown
 pub mod Growing
+pub mod Prepared
 pub mod Walk

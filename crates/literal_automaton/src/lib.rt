@@ -12,10 +12,12 @@ ghost use Rattle.literal_automaton.specs.DfaValue.{BuildsDfa, CanBeKept, GivesAl
 ghost use Rattle.literal_automaton.specs.DfaValue.{NeedTooManyStates, RefusesDfa};
 ghost use Rattle.literal_automaton.specs.DfaValue.{ScansAtMost, ScansListAtMost};
 ghost use Rattle.literal_automaton.specs.MatchesValue.{GivesMatch, most_to_come};
+ghost use Rattle.literal_automaton.specs.Prepared.{RefusesToPrepare, WritesPrepared};
 
 mod classes;
 mod grow;
 pub mod laws;
+pub mod prepared;
 mod walk;
 
 use classes::{Classes, classes_for};
@@ -25,6 +27,7 @@ pub use literal_base::packed::MatchKind;
 use literal_base::search;
 pub use literal_base::{Match, Span};
 pub use literal_ids::PatternID;
+pub use prepared::{Damaged, PrepareError, Prepared};
 use std::alloc::{AllocError, Global};
 use std::error::Error;
 use std::fmt;
@@ -248,6 +251,17 @@ impl Dfa {
             × Occurs self.now.query.patterns self.now.ignore_case haystack.now (whole_of haystack.now) i at) }
     {
         self.find(haystack).is_some()
+    }
+
+    /// Writes the search into the first places of an array, and answers how many these are: about as many as the
+    /// automaton has numbers. [`Prepared`] searches by them, without this automaton. After an error the array is as it
+    /// was.
+    pub fn prepare(&self, array: &mut [u32]) -> Result<usize, PrepareError>
+        ensures ok { IfOk result (WritesPrepared self.now.query self.now.ignore_case array.old array.new) }
+        ensures error { IfErr result (RefusesToPrepare self.now.query self.now.ignore_case array.old) }
+        ensures as_before { OnErr result (array.new ≡ array.old) }
+    {
+        prepared::write(&self.classes, &self.patterns, &self.rows, array)
     }
 
     /// How many patterns there are, none of them empty.

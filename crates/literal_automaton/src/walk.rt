@@ -1,9 +1,12 @@
 //! A walk through the rows of an automaton.
-ghost use Rattle.std.specs.Prelude.{◌≡◌, ◌+◌, ◌-◌, ◌<◌, ◌≤◌};
+ghost use Rattle.std.specs.Prelude.{◌≡◌, ◌+◌, ◌-◌, ◌<◌, ◌≤◌, ◌^◌};
+ghost use Rattle.std.specs.Prelude.{IfOk, IfSome, length};
+ghost use Rattle.std.specs.Result.{IsOkAnd};
 ghost use Rattle.literal_base.specs.Occurs.{IsValidSpan};
 ghost use Rattle.literal_automaton.specs.Inside.Classes.{AreClasses};
 ghost use Rattle.literal_automaton.specs.Inside.Walk.{FindsIn, IsTable, StopsNear, text_of};
 
+use crate::prepared::Damaged;
 use literal_base::Span;
 use literal_base::count::Tally;
 
@@ -55,4 +58,42 @@ pub fn last_ended(
         }
     }
     last
+}
+
+/// The same by classes and rows that may be any numbers. They are damaged where one leads out of the rows.
+pub fn last_ended_in_lent(
+    classes: &[u32],
+    rows: &[u32],
+    width: usize,
+    haystack: &[u8],
+    span: Span,
+    tally: &mut Tally,
+) -> Result<Option<Ended>, Damaged>
+    requires each { length classes.now ≡ 256 }
+    requires width { width < 2 ^ 32 }
+    requires valid { IsValidSpan haystack.now span }
+    ensures found { AreClasses classes.now width → IsTable width rows.now → IsOkAnd result
+        (FindsIn width rows.now span.start (text_of classes.now haystack.now span)) }
+    ensures inside { IfOk result (λ last. IfSome last (λ e. (span.start < e.end) × (e.end ≤ span.end))) }
+    ensures counted { tally.new ≡ record tally.old { scanned = tally.new.scanned } }
+    ensures scanned { tally.new.scanned ≤ tally.old.scanned + (span.end - span.start) }
+{
+    let mut last = None;
+    let mut place = 0;
+    for at in span.start..span.end {
+        tally.tick_scanned();
+        let class = classes[haystack[at] as usize] as usize;
+        let code = *rows.get(place + class).ok_or(Damaged)?;
+        if code < ENDS {
+            place = code as usize;
+        } else if code == NOTHING {
+            return Ok(last);
+        } else {
+            place = (code - ENDS) as usize;
+            let pattern = *rows.get(place + width).ok_or(Damaged)?;
+            let end = at + 1;
+            last = Some(Ended { pattern, end });
+        }
+    }
+    Ok(last)
 }

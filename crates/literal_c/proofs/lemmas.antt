@@ -1,3 +1,4 @@
 -- Lemmas by topic. Each file says what it is about and for which functions.
 pub mod Pages
 pub mod Pieces
+pub mod Statuses

@@ -1,9 +1,13 @@
 -- What a call writes to the memory that C lends it.
 use Rattle.std.specs.Prelude.{◌≡◌, ◌⊎◌, ℕ, ◌≤◌, Bool, List, [], ◌∷◌, length, map, take, drop, Option, Some, None}
+use Rattle.std.specs.Prelude.{IfSome}
+use Rattle.std.specs.List.{All}
 use Rattle.literal_base.specs.Leftmost.{IsLeftmost, IsLeftmostMatch}
 use Rattle.literal_base.specs.MatchValue.{MatchValue}
-use Rattle.literal_base.specs.Occurs.{NothingOccurs, rest_from, whole_of}
+use Rattle.literal_base.specs.Occurs.{NothingOccurs, between, whole_of}
 use Rattle.literal_base.specs.Query.{Query}
+use Rattle.literal_base.specs.declared.search.Span.{Span}
+use Rattle.literal_automaton.specs.Prepared.{LiesIn}
 use Rattle.literal_c.specs.declared.LiteralAnswer.{LiteralAnswer}
 use Rattle.literal_c.specs.declared.LiteralMatch.{LiteralMatch}
 use Rattle.literal_c.specs.declared.LiteralPage.{LiteralPage}
@@ -17,25 +21,39 @@ match_of found = record { pattern = found.pattern; start = found.start; end = fo
 abbrev pub match_for_c : MatchValue → LiteralMatch
 match_for_c found = record { pattern = found.pattern; start = found.start; end = found.end }
 
--- each match is the leftmost one of the haystack behind the match before it, the first from a place on; the last ends
--- at `next`, which is that place where there is no match
-abbrev pub AreNext : Query → Bool → List ℕ → ℕ → List MatchValue → ℕ → Type 0
-AreNext query ignore_case haystack at [] next = next ≡ at
-AreNext query ignore_case haystack at (found ∷ more) next =
-    IsLeftmostMatch query ignore_case haystack (rest_from haystack at) found
-    × AreNext query ignore_case haystack found.end more next
+-- each match is the leftmost one of the haystack from behind the match before it up to an end, the first from a place
+-- on; the last ends at `next`, which is that place where there is no match
+abbrev pub AreNext : Query → Bool → List ℕ → ℕ → ℕ → List MatchValue → ℕ → Type 0
+AreNext query ignore_case haystack end at [] next = next ≡ at
+AreNext query ignore_case haystack end at (found ∷ more) next =
+    IsLeftmostMatch query ignore_case haystack (between at end) found
+    × AreNext query ignore_case haystack end found.end more next
 
--- a page of the matches from a place on: as many as it says are written, and the rest of the array stays as it was.
--- Either nothing occurs behind them, and it is the last page, or something does, and the array is full
-pub record IsPage (query : Query) (ignore_case : Bool) (haystack : List ℕ) (from : ℕ) (old new : List LiteralMatch)
+-- a page of the matches in a span: as many as it says are written, and the rest of the array stays as it was. Either
+-- nothing occurs behind them, and it is the last page, or something does, and the array is full
+pub record IsPage (query : Query) (ignore_case : Bool) (haystack : List ℕ) (span : Span) (old new : List LiteralMatch)
     (page : LiteralPage) : Type 0 where
   pub len : length new ≡ length old
   pub fits : page.written ≤ length new
-  pub matches : AreNext query ignore_case haystack from (map match_of (take page.written new)) page.next
+  pub matches : AreNext query ignore_case haystack span.end span.start (map match_of (take page.written new)) page.next
   pub others : drop page.written new ≡ drop page.written old
-  pub rest : ((page.is_last ≡ 1) × NothingOccurs query.patterns ignore_case haystack (rest_from haystack page.next))
+  pub rest : ((page.is_last ≡ 1) × NothingOccurs query.patterns ignore_case haystack (between page.next span.end))
       ⊎ ((page.is_last ≡ 0) × (page.written ≡ length new)
-      × ¬ NothingOccurs query.patterns ignore_case haystack (rest_from haystack page.next))
+      × ¬ NothingOccurs query.patterns ignore_case haystack (between page.next span.end))
+
+-- the matches of a page lie in the span, and so does the place from which the next goes on
+pub record LieIn (span : Span) (new : List LiteralMatch) (page : LiteralPage) : Type 0 where
+  pub fits : page.written ≤ length new
+  pub matches : All (λ found. LiesIn span (match_of found)) (take page.written new)
+  pub start : span.start ≤ page.next
+  pub end : page.next ≤ span.end
+
+-- how many matches there are in a span, none of which overlaps another: the first is its leftmost match, each further
+-- one that of the bytes behind the one before, and nothing occurs behind the last
+abbrev pub IsCount : Query → Bool → List ℕ → Span → ℕ → Type 0
+IsCount query ignore_case haystack span count =
+    (all : List MatchValue) × (next : ℕ) × AreNext query ignore_case haystack span.end span.start all next
+    × NothingOccurs query.patterns ignore_case haystack (between next span.end) × (count ≡ length all)
 
 -- the answer of a search as C has it: `LITERAL_OK` and the match, or `LITERAL_NONE` and a match of zeros
 abbrev pub answer_for_c : Option MatchValue → LiteralAnswer
@@ -47,3 +65,8 @@ abbrev pub IsAnswer : Query → Bool → List ℕ → LiteralAnswer → Type 0
 IsAnswer query ignore_case haystack answer =
     (found : Option MatchValue) × IsLeftmost query ignore_case haystack (whole_of haystack) found
     × (answer ≡ answer_for_c found)
+
+-- the answer is a match that lies in the haystack, or that nothing is found
+abbrev pub LiesInside : List ℕ → LiteralAnswer → Type 0
+LiesInside haystack answer =
+    (found : Option MatchValue) × IfSome found (LiesIn (whole_of haystack)) × (answer ≡ answer_for_c found)

@@ -4,10 +4,11 @@ use Rattle.literal_base.specs.declared.packed.MatchKind.{MatchKind}
 use Rattle.literal_base.specs.declared.packed.MatchKind.TheVariants.{LeftmostFirst, LeftmostLongest}
 use Rattle.literal_base.specs.Query.{Query}
 use Rattle.literal_automaton.specs.DfaValue.{CanBeKept}
+use Rattle.literal_automaton.specs.Prepared.{ForPrepared}
 use Rattle.literal_c.specs.declared.TheConstants.{LITERAL_BAD_ARGUMENTS, LITERAL_LEFTMOST_FIRST}
 use Rattle.literal_c.specs.declared.TheConstants.{LITERAL_LEFTMOST_LONGEST}
 use Rattle.literal_c.specs.declared.TheConstants.{LITERAL_NONE, LITERAL_NO_SEARCHER, LITERAL_OK}
-use Rattle.literal_c.specs.declared.TheConstants.{LITERAL_OUT_OF_MEMORY, LITERAL_TOO_LARGE}
+use Rattle.literal_c.specs.declared.TheConstants.{LITERAL_DAMAGED, LITERAL_OUT_OF_MEMORY, LITERAL_TOO_LARGE}
 use Rattle.literal_c.specs.Pieces.{AreEnds, pieces}
 
 -- a number stands for a kind of match: 0 for `LeftmostFirst`, and 1 for `LeftmostLongest`
@@ -35,3 +36,11 @@ pub record IsStatus (agree : Type 0) (patterns : List (List ℕ)) (status : ℤ)
   pub no_searcher : (status ≡ LITERAL_NO_SEARCHER) ↔ (agree × ¬ CanBeKept patterns)
   pub searched : ((status ≡ LITERAL_OK) ⊎ ((status ≡ LITERAL_NONE) ⊎ ((status ≡ LITERAL_OUT_OF_MEMORY)
       ⊎ (status ≡ LITERAL_TOO_LARGE)))) ↔ (agree × CanBeKept patterns)
+
+-- what the status says of a call that searches by an array: it is `LITERAL_BAD_ARGUMENTS` exactly if the other
+-- arguments do not agree; else the search is done, or it is `LITERAL_DAMAGED`, but not where the array is prepared for
+-- any patterns
+pub record IsStatusBy (array : List ℕ) (agree : Type 0) (IsDone : ℤ → Type 0) (status : ℤ) : Type 0 where
+  pub bad_arguments : (status ≡ LITERAL_BAD_ARGUMENTS) ↔ ¬ agree
+  pub searched : agree → IsDone status ⊎ (status ≡ LITERAL_DAMAGED)
+  pub prepared : ForPrepared array (λ _ _. ¬ (status ≡ LITERAL_DAMAGED))

@@ -1,11 +1,17 @@
 //! What is written for C.
-ghost use Rattle.std.specs.Prelude.{◌≡◌, ◌≤◌, length};
+ghost use Rattle.std.specs.Prelude.{◌≡◌, Bool, IfOk, OnOk, length};
 ghost use Rattle.std.specs.List.{AllZip};
-ghost use Rattle.literal_c.specs.Answers.{IsAnswer, IsPage, answer_for_c as answer_value, match_for_c as match_value};
+ghost use Rattle.std.specs.Result.{IsOkAnd};
+ghost use Rattle.literal_base.specs.Occurs.{IsValidSpan};
+ghost use Rattle.literal_base.specs.Query.{Query};
+ghost use Rattle.literal_automaton.specs.Prepared.{ForPrepared};
+ghost use Rattle.literal_c.specs.Answers.{IsAnswer, IsCount, IsPage, LieIn, LiesInside};
+ghost use Rattle.literal_c.specs.Answers.{answer_for_c as answer_value, match_for_c as match_value};
 
+use crate::finder::Finder;
 use crate::pieces::Pieces;
 use crate::{LITERAL_NONE, LITERAL_OK, LiteralAnswer, LiteralMatch, LiteralPage};
-use literal_search::{Match, Search, Span};
+use literal_search::{Damaged, Match, Prepared, Span};
 
 /// A match as C has it.
 pub fn match_for_c(found: &Match) -> LiteralMatch
@@ -38,51 +44,76 @@ fn answer_for_c(found: Option<Match>) -> LiteralAnswer
     }
 }
 
-/// Writes all matches in the haystack from an offset on, as many as there is room for, and says how many and what is
-/// left.
-pub fn write_page(
-    search: &Search,
+/// Writes all matches in a span of the haystack, as many as there is room for, and says how many and what is left.
+pub fn write_page<F: Finder>(
+    search: &F,
     haystack: &[u8],
-    from: usize,
+    span: Span,
     found: &mut [LiteralMatch],
-) -> LiteralPage
-    requires { from ≤ length haystack.now }
-    ensures { IsPage search.now.query search.now.ignore_case haystack.now from found.old found.new result }
+) -> Result<LiteralPage, Damaged>
+    requires { IsValidSpan haystack.now span }
+    ensures page { (query : Query) (ignore_case : Bool) → F.is_for search.now query ignore_case
+        → IsOkAnd result (IsPage query ignore_case haystack.now span found.old found.new) }
+    ensures inside { IfOk result (LieIn span found.new) }
 {
-    let end = haystack.len();
-    let mut next = from;
+    let Span { start, end } = span;
+    let mut next = start;
     let mut written: usize = 0;
     for place in found.iter_mut() {
-        let Some(it) = search.find_in(haystack, Span { start: next, end }) else {
-            return LiteralPage {
+        let Some(it) = search.find_in(haystack, Span { start: next, end })? else {
+            return Ok(LiteralPage {
                 written,
                 next,
                 is_last: 1,
-            };
+            });
         };
         *place = match_for_c(&it);
         written += 1;
         next = it.end();
     }
-    let is_last = match search.find_in(haystack, Span { start: next, end }) {
+    let is_last = match search.find_in(haystack, Span { start: next, end })? {
         None => 1,
         Some(_) => 0,
     };
-    LiteralPage {
+    Ok(LiteralPage {
         written,
         next,
         is_last,
-    }
+    })
 }
 
 /// Answers for each haystack, of which there are as many as answers.
-pub fn answer_each(search: &Search, haystacks: Pieces<'_, '_>, answers: &mut [LiteralAnswer])
+pub fn answer_each<F: Finder>(
+    search: &F,
+    haystacks: Pieces<'_, '_>,
+    answers: &mut [LiteralAnswer],
+) -> Result<(), Damaged>
     requires { length haystacks ≡ length answers.old }
-    ensures { AllZip (IsAnswer search.now.query search.now.ignore_case) haystacks.entry answers.new }
+    ensures answers { (query : Query) (ignore_case : Bool) → F.is_for search.now query ignore_case
+        → IsOkAnd result (λ _. AllZip (IsAnswer query ignore_case) haystacks.entry answers.new) }
+    ensures inside { OnOk result (AllZip LiesInside haystacks.entry answers.new) }
 {
     let mut i = 0;
     for haystack in haystacks {
-        answers[i] = answer_for_c(search.find(haystack));
+        let end = haystack.len();
+        answers[i] = answer_for_c(search.find_in(haystack, Span { start: 0, end })?);
         i += 1;
     }
+    Ok(())
+}
+
+/// How many matches there are in a span of the haystack.
+pub fn count_matches(search: &Prepared<'_>, haystack: &[u8], span: Span) -> Result<usize, Damaged>
+    requires { IsValidSpan haystack.now span }
+    ensures { ForPrepared search.now (λ query ignore_case. IsOkAnd result
+        (IsCount query ignore_case haystack.now span)) }
+{
+    let Span { start, end } = span;
+    let mut next = start;
+    let mut count = 0;
+    while let Some(it) = search.find_in(haystack, Span { start: next, end })? {
+        count += 1;
+        next = it.end();
+    }
+    Ok(count)
 }

@@ -1,5 +1,5 @@
 //! Laws of the definitions that the contracts of the exports cite.
-ghost use Rattle.std.specs.Prelude.{ℕ, List, Bool, ◌++◌};
+ghost use Rattle.std.specs.Prelude.{ℕ, List, Bool, ◌++◌, length};
 ghost use Rattle.literal_base.specs.Greedy.{IsGreedy};
 ghost use Rattle.literal_base.specs.MatchValue.{MatchValue};
 ghost use Rattle.literal_base.specs.Occurs.{NothingOccurs, rest_from};
@@ -9,12 +9,12 @@ ghost use Rattle.literal_c.specs.Answers.{AreNext};
 /// The matches of pages one after another, each from where the one before it ends, are those of one page; and those of
 /// pages up to the last one are the greedy list.
 pub fn pages_are_the_greedy_list()
-    ensures joined { (query : Query) (ignore_case : Bool) (haystack : List ℕ) (from next end : ℕ)
-        (first second : List MatchValue) → AreNext query ignore_case haystack from first next
-        → AreNext query ignore_case haystack next second end
-        → AreNext query ignore_case haystack from (first ++ second) end }
+    ensures joined { (query : Query) (ignore_case : Bool) (haystack : List ℕ) (end from next last : ℕ)
+        (first second : List MatchValue) → AreNext query ignore_case haystack end from first next
+        → AreNext query ignore_case haystack end next second last
+        → AreNext query ignore_case haystack end from (first ++ second) last }
     ensures greedy { (query : Query) (ignore_case : Bool) (haystack : List ℕ) (from next : ℕ)
-        (all : List MatchValue) → AreNext query ignore_case haystack from all next
+        (all : List MatchValue) → AreNext query ignore_case haystack (length haystack) from all next
         → NothingOccurs query.patterns ignore_case haystack (rest_from haystack next)
         → IsGreedy query ignore_case haystack from all }
 {}

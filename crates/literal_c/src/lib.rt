@@ -2,28 +2,33 @@
 //!
 //! Bytes cross as a pointer and a length. A list of byte strings crosses as one buffer and where each of its pieces
 //! ends: piece i is the bytes from `ends[i - 1]`, for the first from 0, up to and not including `ends[i]`. Each call
-//! answers a status, builds its search anew, and keeps nothing when it returns.
+//! answers a status, and keeps nothing when it returns. It builds its search anew, except for those whose names end in
+//! `_in`, which search by an array that [`literal_prepare`] filled.
 #![tactic(auto)]
 
-ghost use Rattle.std.specs.Prelude.{◌≡◌, ◌⊎◌, ◌↔◌, ◌≤◌, length};
+ghost use Rattle.std.specs.Prelude.{◌≡◌, ◌⊎◌, ◌↔◌, ◌<◌, ◌≤◌, List, ℕ, length};
 ghost use Rattle.std.specs.List.{AllZip};
 ghost use Rattle.literal_base.specs.Leftmost.{IsLeftmostMatch};
-ghost use Rattle.literal_base.specs.Occurs.{IsValidSpan, NothingOccurs, between};
+ghost use Rattle.literal_base.specs.Occurs.{IsValidSpan, NothingOccurs, between, rest_from};
 ghost use Rattle.literal_automaton.specs.DfaValue.{CanBeKept};
-ghost use Rattle.literal_c.specs.Answers.{IsAnswer, IsPage, match_of};
-ghost use Rattle.literal_c.specs.Arguments.{Agree, IsStatus, argument_query};
+ghost use Rattle.literal_automaton.specs.Prepared.{ForPrepared, IsPrepared, IsWhole, LiesIn, WritesPrepared};
+ghost use Rattle.literal_c.specs.Answers.{IsAnswer, IsCount, IsPage, LieIn, LiesInside, match_of};
+ghost use Rattle.literal_c.specs.Arguments.{Agree, IsStatus, IsStatusBy, argument_query};
 ghost use Rattle.literal_c.specs.Pieces.{AreEnds, pieces};
 
 mod answers;
 mod arguments;
+mod finder;
 pub mod laws;
 mod pieces;
 #[cfg(test)]
+mod prepared_tests;
+#[cfg(test)]
 mod tests;
 
-use answers::{answer_each, match_for_c, write_page};
+use answers::{answer_each, count_matches, match_for_c, write_page};
 use arguments::{can_be_searched, search_for};
-use literal_search::Span;
+use literal_search::{Damaged, PrepareError, Prepared, Span};
 use pieces::{Pieces, are_ends};
 use std::alloc::Global;
 
@@ -39,6 +44,10 @@ pub const LITERAL_OUT_OF_MEMORY: i32 = 3;
 pub const LITERAL_BAD_ARGUMENTS: i32 = 4;
 /// Status: the patterns need more states than there are numbers for them, some billions of bytes.
 pub const LITERAL_TOO_LARGE: i32 = 5;
+/// Status: the array that was lent is shorter than it has to be.
+pub const LITERAL_TOO_SHORT: i32 = 6;
+/// Status: the array that was lent is not as [`literal_prepare`] wrote it.
+pub const LITERAL_DAMAGED: i32 = 7;
 
 /// Kind of match: of the patterns that match at one place, the one that stands first in the list.
 pub const LITERAL_LEFTMOST_FIRST: u32 = 0;
@@ -158,19 +167,23 @@ pub extern "C" fn literal_find_all(
     ensures status { IsStatus (Agree kind patterns.now ends.now × (from ≤ length haystack.now))
         (pieces patterns.now 0 ends.now) result }
     ensures page { result ≡ LITERAL_OK → IsPage (argument_query kind patterns.now ends.now) ignore_case haystack.now
-        from found.old found.new page.new }
+        (rest_from haystack.now from) found.old found.new page.new }
     ensures as_before { (result ≡ LITERAL_OK) ⊎ ((found.new ≡ found.old) × (page.new ≡ page.old)) }
     ensures not_none { ¬ (result ≡ LITERAL_NONE) }
 {
-    if from > haystack.len() {
+    let end = haystack.len();
+    if from > end {
         return LITERAL_BAD_ARGUMENTS;
     }
     match search_for(alloc, kind, ignore_case, patterns, ends) {
         Err(refusal) => refusal.status(),
-        Ok(search) => {
-            *page = write_page(&search, haystack, from, found);
-            LITERAL_OK
-        }
+        Ok(search) => match write_page(&search, haystack, Span { start: from, end }, found) {
+            Err(Damaged) => LITERAL_DAMAGED,
+            Ok(written) => {
+                *page = written;
+                LITERAL_OK
+            }
+        },
     }
 }
 
@@ -201,8 +214,198 @@ pub extern "C" fn literal_find_each(
     }
     match search_for(alloc, kind, ignore_case, patterns, ends) {
         Err(refusal) => refusal.status(),
-        Ok(search) => {
-            answer_each(&search, Pieces::new(haystacks, haystack_ends), answers);
+        Ok(search) => match answer_each(&search, Pieces::new(haystacks, haystack_ends), answers) {
+            Err(Damaged) => LITERAL_DAMAGED,
+            Ok(()) => LITERAL_OK,
+        },
+    }
+}
+
+/// Writes a search for the patterns into the first places of an array, by which the calls whose names end in `_in`
+/// search as often as they are asked to. `needed` says how many places these are: at most two more than the patterns
+/// have different bytes, for each byte of a pattern, and some hundreds. With [`LITERAL_TOO_SHORT`] it says so too, and
+/// the array is too short. The other statuses come as from [`literal_find`], and [`LITERAL_TOO_LARGE`] also where a
+/// pattern has 2^32 bytes or more. After any status but [`LITERAL_OK`] the array is as it was, and `needed` too, except
+/// after [`LITERAL_TOO_SHORT`].
+#[unsafe(no_mangle)]
+pub extern "C" fn literal_prepare(
+    alloc: Global,
+    kind: u32,
+    ignore_case: bool,
+    patterns: &[u8],
+    ends: &[usize],
+    prepared: &mut [u32],
+    needed: &mut usize,
+) -> i32
+    ensures status { IsStatus (Agree kind patterns.now ends.now) (pieces patterns.now 0 ends.now) result
+        ⊎ ((result ≡ LITERAL_TOO_SHORT) × Agree kind patterns.now ends.now
+        × CanBeKept (pieces patterns.now 0 ends.now)) }
+    ensures ok { result ≡ LITERAL_OK → WritesPrepared (argument_query kind patterns.now ends.now) ignore_case
+        prepared.old prepared.new needed.new }
+    ensures too_short { result ≡ LITERAL_TOO_SHORT → (length prepared.old < needed.new) × ((numbers : List ℕ)
+        × IsPrepared (argument_query kind patterns.now ends.now) ignore_case numbers × (length numbers ≡ needed.new)) }
+    ensures as_before { (result ≡ LITERAL_OK) ⊎ (prepared.new ≡ prepared.old) }
+    ensures needed { ((result ≡ LITERAL_OK) ⊎ (result ≡ LITERAL_TOO_SHORT)) ⊎ (needed.new ≡ needed.old) }
+    ensures not_none { ¬ (result ≡ LITERAL_NONE) }
+{
+    match search_for(alloc, kind, ignore_case, patterns, ends) {
+        Err(refusal) => refusal.status(),
+        Ok(search) => match search.prepare(prepared) {
+            Ok(places) => {
+                *needed = places;
+                LITERAL_OK
+            }
+            Err(PrepareError::ArrayTooShort(places)) => {
+                *needed = places;
+                LITERAL_TOO_SHORT
+            }
+            Err(PrepareError::PatternTooLong) => LITERAL_TOO_LARGE,
+        },
+    }
+}
+
+/// Whether an array begins with a whole search: [`LITERAL_OK`], as for each that [`literal_prepare`] wrote, or
+/// [`LITERAL_DAMAGED`]. It goes over all numbers of the search, and finds each change of one of them.
+#[unsafe(no_mangle)]
+pub extern "C" fn literal_check_prepared(prepared: &[u32]) -> i32
+    ensures ok { (result ≡ LITERAL_OK) ↔ IsWhole prepared.now }
+    ensures damaged { (result ≡ LITERAL_DAMAGED) ↔ ¬ IsWhole prepared.now }
+    ensures prepared { ForPrepared prepared.now (λ _ _. result ≡ LITERAL_OK) }
+{
+    match Prepared::new(prepared) {
+        Ok(search) if search.is_whole() => LITERAL_OK,
+        _ => LITERAL_DAMAGED,
+    }
+}
+
+/// Answers as [`literal_find`], by a search that [`literal_prepare`] wrote. [`LITERAL_BAD_ARGUMENTS`] comes where
+/// `start` is above `end`, or `end` above the haystack's length. Of an array that was changed it may say
+/// [`LITERAL_DAMAGED`], or find another match or none; a match lies in the bytes that were searched, whatever the array
+/// holds. After any status but [`LITERAL_OK`] what was lent is as it was.
+#[unsafe(no_mangle)]
+pub extern "C" fn literal_find_in(
+    prepared: &[u32],
+    haystack: &[u8],
+    start: usize,
+    end: usize,
+    found: &mut LiteralMatch,
+) -> i32
+    ensures status { IsStatusBy prepared.now (IsValidSpan haystack.now (between start end))
+        (λ status. (status ≡ LITERAL_OK) ⊎ (status ≡ LITERAL_NONE)) result }
+    ensures found { ForPrepared prepared.now (λ query ignore_case. result ≡ LITERAL_OK
+        → IsLeftmostMatch query ignore_case haystack.now (between start end) (match_of found.new)) }
+    ensures none { ForPrepared prepared.now (λ query ignore_case. result ≡ LITERAL_NONE
+        → NothingOccurs query.patterns ignore_case haystack.now (between start end)) }
+    ensures inside { result ≡ LITERAL_OK → LiesIn (between start end) (match_of found.new) }
+    ensures as_before { (result ≡ LITERAL_OK) ⊎ (found.new ≡ found.old) }
+{
+    if start > end || end > haystack.len() {
+        return LITERAL_BAD_ARGUMENTS;
+    }
+    let Ok(search) = Prepared::new(prepared) else {
+        return LITERAL_DAMAGED;
+    };
+    match search.find_in(haystack, Span { start, end }) {
+        Err(Damaged) => LITERAL_DAMAGED,
+        Ok(None) => LITERAL_NONE,
+        Ok(Some(it)) => {
+            *found = match_for_c(&it);
+            LITERAL_OK
+        }
+    }
+}
+
+/// Answers as [`literal_find_all`], by a search that [`literal_prepare`] wrote, of the bytes of the haystack from
+/// `start` up to and not including `end`. [`LITERAL_BAD_ARGUMENTS`] and [`LITERAL_DAMAGED`] come as from
+/// [`literal_find_in`]. After any status but [`LITERAL_OK`] the page is as it was, and after [`LITERAL_BAD_ARGUMENTS`]
+/// the array of matches too; of a damaged search it may hold some matches.
+#[unsafe(no_mangle)]
+pub extern "C" fn literal_find_all_in(
+    prepared: &[u32],
+    haystack: &[u8],
+    start: usize,
+    end: usize,
+    found: &mut [LiteralMatch],
+    page: &mut LiteralPage,
+) -> i32
+    ensures status { IsStatusBy prepared.now (IsValidSpan haystack.now (between start end))
+        (λ status. status ≡ LITERAL_OK) result }
+    ensures page { ForPrepared prepared.now (λ query ignore_case. result ≡ LITERAL_OK
+        → IsPage query ignore_case haystack.now (between start end) found.old found.new page.new) }
+    ensures inside { result ≡ LITERAL_OK → LieIn (between start end) found.new page.new }
+    ensures as_before { (result ≡ LITERAL_OK) ⊎ (page.new ≡ page.old) }
+    ensures refused { result ≡ LITERAL_BAD_ARGUMENTS → found.new ≡ found.old }
+{
+    if start > end || end > haystack.len() {
+        return LITERAL_BAD_ARGUMENTS;
+    }
+    let Ok(search) = Prepared::new(prepared) else {
+        return LITERAL_DAMAGED;
+    };
+    match write_page(&search, haystack, Span { start, end }, found) {
+        Err(Damaged) => LITERAL_DAMAGED,
+        Ok(written) => {
+            *page = written;
+            LITERAL_OK
+        }
+    }
+}
+
+/// Answers as [`literal_find_each`], by a search that [`literal_prepare`] wrote. [`LITERAL_BAD_ARGUMENTS`] comes where
+/// the ends of haystacks fall or pass their buffer, or there are not as many answers as haystacks; then the answers are
+/// as they were. With [`LITERAL_DAMAGED`] some of them may be written.
+#[unsafe(no_mangle)]
+pub extern "C" fn literal_find_each_in(
+    prepared: &[u32],
+    haystacks: &[u8],
+    haystack_ends: &[usize],
+    answers: &mut [LiteralAnswer],
+) -> i32
+    ensures status { IsStatusBy prepared.now (AreEnds (length haystacks.now) 0 haystack_ends.now
+        × (length answers.old ≡ length haystack_ends.now)) (λ status. status ≡ LITERAL_OK) result }
+    ensures answers { ForPrepared prepared.now (λ query ignore_case. result ≡ LITERAL_OK
+        → AllZip (IsAnswer query ignore_case) (pieces haystacks.now 0 haystack_ends.now) answers.new) }
+    ensures inside { result ≡ LITERAL_OK → AllZip LiesInside (pieces haystacks.now 0 haystack_ends.now) answers.new }
+    ensures refused { result ≡ LITERAL_BAD_ARGUMENTS → answers.new ≡ answers.old }
+{
+    if answers.len() != haystack_ends.len() || !are_ends(haystacks.len(), haystack_ends) {
+        return LITERAL_BAD_ARGUMENTS;
+    }
+    let Ok(search) = Prepared::new(prepared) else {
+        return LITERAL_DAMAGED;
+    };
+    match answer_each(&search, Pieces::new(haystacks, haystack_ends), answers) {
+        Err(Damaged) => LITERAL_DAMAGED,
+        Ok(()) => LITERAL_OK,
+    }
+}
+
+/// How many matches [`literal_find_all_in`] finds, on one page after another. The statuses are the same, and after any
+/// but [`LITERAL_OK`] the count is as it was.
+#[unsafe(no_mangle)]
+pub extern "C" fn literal_count_in(
+    prepared: &[u32],
+    haystack: &[u8],
+    start: usize,
+    end: usize,
+    count: &mut usize,
+) -> i32
+    ensures status { IsStatusBy prepared.now (IsValidSpan haystack.now (between start end))
+        (λ status. status ≡ LITERAL_OK) result }
+    ensures count { ForPrepared prepared.now (λ query ignore_case. result ≡ LITERAL_OK
+        → IsCount query ignore_case haystack.now (between start end) count.new) }
+    ensures as_before { (result ≡ LITERAL_OK) ⊎ (count.new ≡ count.old) }
+{
+    if start > end || end > haystack.len() {
+        return LITERAL_BAD_ARGUMENTS;
+    }
+    let Ok(search) = Prepared::new(prepared) else {
+        return LITERAL_DAMAGED;
+    };
+    match count_matches(&search, haystack, Span { start, end }) {
+        Err(Damaged) => LITERAL_DAMAGED,
+        Ok(matches) => {
+            *count = matches;
             LITERAL_OK
         }
     }

@@ -6,5 +6,6 @@
 #![tactic(auto)]
 
 pub use literal_automaton::{
-    BuildError, Dfa as Search, Match, MatchKind, Matches, PatternID, Span, laws,
+    BuildError, Damaged, Dfa as Search, Match, MatchKind, Matches, PatternID, PrepareError,
+    Prepared, Span, laws,
 };

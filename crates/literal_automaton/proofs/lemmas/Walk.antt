@@ -8,11 +8,13 @@ use Rattle.std.proofs.lemmas.List.{drop-drop, drop-take, get_or-drop, length-dro
 use Rattle.std.proofs.lemmas.List.{take-append-drop, take-take, take_more}
 use Rattle.std.proofs.lemmas.Slice.Eq.{starts_is}
 use Rattle.std.specs.List.{slice_range}
-use Rattle.std.specs.Option.{unwrap_or}
+use Rattle.std.specs.Borrow.{Bor}
+use Rattle.std.specs.Option.{option_map, unwrap_or}
+use Rattle.std.specs.Slice.{IsItemAt}
 use Rattle.literal_base.specs.declared.packed.MatchKind.{MatchKind}
 use Rattle.literal_base.specs.Kinds.{root_kind_of}
 use Rattle.literal_base.specs.Occurs.{NoneIsEmpty, between, pattern_at}
-use Rattle.literal_automaton.specs.Inside.Classes.{symbols_in}
+use Rattle.literal_automaton.specs.Inside.Classes.{AreClasses, symbols_in}
 use Rattle.literal_automaton.specs.Inside.Walk.{FindsIn, IsBehind, IsBest, IsFirst, IsFound, IsRow, IsTable, Reads}
 use Rattle.literal_automaton.specs.Inside.Walk.{StopsNear, from_match, place_of, text_of}
 use Rattle.literal_automaton.specs.Table.{LeadsTo, Leads, Recognises, code_of, nothing, stride_of}
@@ -409,3 +411,53 @@ pub stops_nearer : (last : Option Ended) (place before longest : ℕ) (patterns 
     → IfSome last (λ e. before + length (pattern_at patterns e.pattern) ≤ e.end + longest)
 stops_nearer None place before longest patterns earlier near = tt
 stops_nearer (Some e) place before longest patterns earlier near = omega arith
+
+-- one byte more of a span
+module _ (classes rows haystack : List ℕ) (width : ℕ) (are : AreClasses classes width) (table : IsTable width rows)
+    (start at : ℕ) (after : start ≤ at) (inside : at < length haystack) (is_byte : get_or haystack at 0 < 256)
+    (place : ℕ) (last : Option Ended)
+    (reads : Reads width rows start (text_of classes haystack (between start at)) place last)
+  where
+    -- its number lies in the rows
+    pub step_inside : place + get_or classes (get_or haystack at 0) 0 < length rows
+    step_inside =
+        let below = are.below (get_or haystack at 0) is_byte in
+        let fits = reads.row.fits in
+        omega arith
+
+    module _ (code : ℕ) (code_is : code ≡ get_or rows (place + get_or classes (get_or haystack at 0) 0) 0) where
+      -- no match ends there, one does, or no more bytes matter
+      pub step_on : code < 2 ^ 31 → Reads width rows start (text_of classes haystack (between start (at + 1))) code last
+      step_on small = subst (λ (text : List ℕ). Reads width rows start text code last)
+          (sym (text_push classes haystack start at after inside))
+          (reads_on width rows table start (text_of classes haystack (between start at)) place last reads
+          (get_or classes (get_or haystack at 0) 0) (are.below (get_or haystack at 0) is_byte) code code_is small)
+
+      pub step_end : 2 ^ 31 ≤ code → ¬ (code ≡ nothing)
+          → Reads width rows start (text_of classes haystack (between start (at + 1))) (code - 2 ^ 31)
+          (Some (record { pattern = get_or rows (code - 2 ^ 31 + width) 0; end = at + 1 }))
+      step_end large alive = subst (λ (text : List ℕ). Reads width rows start text (code - 2 ^ 31)
+          (Some (record { pattern = get_or rows (code - 2 ^ 31 + width) 0; end = at + 1 })))
+          (sym (text_push classes haystack start at after inside))
+          (reads_end width rows table start (text_of classes haystack (between start at)) place last reads
+          (get_or classes (get_or haystack at 0) 0) (are.below (get_or haystack at 0) is_byte) code code_is large alive
+          (at + 1)
+          (let size = text_length classes haystack start at after (omega arith) in omega arith))
+
+      -- and there stands the pattern that ends
+      pub step_ended : 2 ^ 31 ≤ code → ¬ (code ≡ nothing) → code - 2 ^ 31 + width < length rows
+      step_ended large alive = let fits = (step_end large alive).row.fits in omega arith
+
+      pub step_dead : code ≡ nothing → (end : ℕ) → at < end
+          → FindsIn width rows start (text_of classes haystack (between start end)) last
+      step_dead is_dead end before = subst (λ (text : List ℕ). FindsIn width rows start text last)
+          (sym (text_split classes haystack start at after inside end before))
+          (finds_dead width rows table start (text_of classes haystack (between start at)) place last reads
+          (get_or classes (get_or haystack at 0) 0) (are.below (get_or haystack at 0) is_byte) code code_is is_dead
+          (text_of classes haystack (between (at + 1) end)))
+
+-- what `get` answers, if it answers, is the number there
+pub got_is : (numbers : List ℕ) (i : ℕ) (answer : Option (Bor ℕ)) (item : Bor ℕ) → IsItemAt numbers i answer
+    → answer ≡ Some item → item.now ≡ get_or numbers i 0
+got_is numbers i answer item is some =
+    sym (ap (λ (o : Option (Bor ℕ)). unwrap_or (option_map (λ (b : Bor ℕ). b.now) o) 0) some) ∙ is.4 (omega arith) 0

@@ -1,28 +1,32 @@
 -- Matches that are written for C, one after another, and pages of them.
--- For `write_page` and the laws.
-use Rattle.std.proofs.Common.{◌≡◌, ℕ, ◌+◌, ◌<◌, Bool, List, [], ◌∷◌, ◌++◌, length, map, take}
-use Rattle.std.proofs.Common.{refl, sym, ap, ◌∙◌, subst, add-one}
+-- For `write_page`, `count_matches` and the laws.
+use Rattle.std.proofs.Common.{◌≡◌, ℕ, ◌+◌, ◌<◌, ◌≤◌, Bool, List, [], ◌∷◌, ◌++◌, length, map, take}
+use Rattle.std.proofs.Common.{refl, sym, ap, ◌∙◌, subst, add-one, arith}
 use Rattle.std.proofs.Math.ListN.{set}
 use Rattle.std.proofs.Math.Seq.{take-suc-set}
 use Rattle.std.proofs.lemmas.List.{map-append}
+use Rattle.std.proofs.lemmas.List.Elements.{All-push}
+use Rattle.std.specs.List.{All}
 use Rattle.literal_base.specs.Greedy.{IsGreedy}
 use Rattle.literal_base.specs.Leftmost.{IsLeftmostMatch}
 use Rattle.literal_base.specs.MatchValue.{MatchValue}
-use Rattle.literal_base.specs.Occurs.{NothingOccurs, rest_from}
+use Rattle.literal_base.specs.Occurs.{NothingOccurs, between, rest_from}
 use Rattle.literal_base.specs.Query.{Query}
+use Rattle.literal_automaton.specs.Prepared.{LiesIn}
 use Rattle.literal_c.specs.Answers.{AreNext, match_of}
 use Rattle.literal_c.specs.declared.LiteralMatch.{LiteralMatch}
 
 module _ (query : Query) (ignore_case : Bool) (haystack : List ℕ) where
   -- those of two pages, one behind the other, are those of one
-  pub joined : (at next end : ℕ) (first second : List MatchValue) → AreNext query ignore_case haystack at first next
-      → AreNext query ignore_case haystack next second end
-      → AreNext query ignore_case haystack at (first ++ second) end
-  joined at next end [] second a b = subst (λ n. AreNext query ignore_case haystack n second end) a b
-  joined at next end (found ∷ more) second a b = (a.0, joined found.end next end more second a.1 b)
+  pub joined : (end at next last : ℕ) (first second : List MatchValue)
+      → AreNext query ignore_case haystack end at first next → AreNext query ignore_case haystack end next second last
+      → AreNext query ignore_case haystack end at (first ++ second) last
+  joined end at next last [] second a b = subst (λ n. AreNext query ignore_case haystack end n second last) a b
+  joined end at next last (found ∷ more) second a b = (a.0, joined end found.end next last more second a.1 b)
 
   -- where nothing is left, they are the greedy list
-  pub greedy : (at next : ℕ) (all : List MatchValue) → AreNext query ignore_case haystack at all next
+  pub greedy : (at next : ℕ) (all : List MatchValue)
+      → AreNext query ignore_case haystack (length haystack) at all next
       → NothingOccurs query.patterns ignore_case haystack (rest_from haystack next)
       → IsGreedy query ignore_case haystack at all
   greedy at next [] a none =
@@ -30,14 +34,30 @@ module _ (query : Query) (ignore_case : Bool) (haystack : List ℕ) where
   greedy at next (found ∷ more) a none = (a.0, greedy found.end next more a.1 none)
 
   -- one more, which is written behind them
-  pub one_more : (at next i : ℕ) (written : List LiteralMatch) (found : LiteralMatch) → i < length written
-      → AreNext query ignore_case haystack at (map match_of (take i written)) next
-      → IsLeftmostMatch query ignore_case haystack (rest_from haystack next) (match_of found)
-      → AreNext query ignore_case haystack at (map match_of (take (i + 1) (set written i found))) found.end
-  one_more at next i written found lt before here =
+  pub one_more : (end at next i : ℕ) (written : List LiteralMatch) (found : LiteralMatch) → i < length written
+      → AreNext query ignore_case haystack end at (map match_of (take i written)) next
+      → IsLeftmostMatch query ignore_case haystack (between next end) (match_of found)
+      → AreNext query ignore_case haystack end at (map match_of (take (i + 1) (set written i found))) found.end
+  one_more end at next i written found lt before here =
       let list : map match_of (take (i + 1) (set written i found))
       ≡ map match_of (take i written) ++ match_of found ∷ [] =
       ap (map match_of) (rw add-one (take-suc-set written i found lt))
       ∙ map-append match_of (take i written) (found ∷ []) in
-      subst (λ all. AreNext query ignore_case haystack at all found.end) (sym list)
-      (joined at next found.end (map match_of (take i written)) (match_of found ∷ []) before (here, refl))
+      subst (λ all. AreNext query ignore_case haystack end at all found.end) (sym list)
+      (joined end at next found.end (map match_of (take i written)) (match_of found ∷ []) before (here, refl))
+
+-- a match that lies in the rest of a span lies in the span
+pub lies_in_all : (start next end : ℕ) (found : MatchValue) → start ≤ next → LiesIn (between next end) found
+    → LiesIn (between start end) found
+lies_in_all start next end found after lies = record {
+  start = omega (arith, after, lies.start);
+  some = lies.some;
+  end = lies.end;
+}
+
+-- what holds of all that is written, and of one more
+pub all_more : (P : LiteralMatch → Type 0) (i : ℕ) (written : List LiteralMatch) (found : LiteralMatch)
+    → i < length written → All P (take i written) → P found → All P (take (i + 1) (set written i found))
+all_more P i written found lt before here =
+    subst (All P) (sym (rw add-one (take-suc-set written i found lt)))
+    (All-push P (take i written) found before here)

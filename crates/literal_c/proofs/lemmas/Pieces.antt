@@ -2,7 +2,7 @@
 -- For `Pieces`, `are_ends`, `can_be_searched`, `search_for` and `answer_each`.
 use Rattle.std.proofs.Common.{◌≡◌, ◌↔◌, ℕ, ◌+◌, ◌<◌, ◌≤◌, List, [], ◌∷◌, ◌++◌, length, get_or, drop, map, Bor, suc}
 use Rattle.std.proofs.Common.{refl, sym, ap, ◌∙◌, subst, arith, add-one}
-use Rattle.std.proofs.Common.{Bool, Option, take, append_assoc}
+use Rattle.std.proofs.Common.{Bool, take, append_assoc}
 use Rattle.std.proofs.Math.ListN.{set}
 use Rattle.std.proofs.Math.Seq.{drop-cons, take-suc-set}
 use Rattle.std.proofs.lemmas.List.{length-append, length-map, map-append}

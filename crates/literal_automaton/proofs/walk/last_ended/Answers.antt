@@ -1,30 +1,22 @@
-use Rattle.std.proofs.Common.{◌≡◌, ◌+◌, ◌-◌, ◌<◌, ◌∙◌, ◌^◌, ◌++◌, ◌∷◌, [], ℕ, List, Option, Some, arith, get_or, length}
+use Rattle.std.proofs.Common.{◌≡◌, ◌+◌, ◌-◌, ◌<◌, ◌∙◌, ◌^◌, ℕ, Option, Some, arith, get_or, length}
 use Rattle.std.proofs.Common.{refl, ap, sym, subst}
 use Rattle.literal_base.specs.Counts.{Counts}
 use Rattle.literal_base.specs.Occurs.{between}
 use Rattle.literal_automaton.specs.Inside.Walk.{FindsIn, Reads, StopsNear, text_of}
 use Rattle.literal_automaton.specs.declared.walk.Ended.{Ended}
-use Rattle.literal_automaton.proofs.lemmas.Walk.{finds_all, finds_dead, reads_end, reads_near, reads_on, stops_nearer}
-use Rattle.literal_automaton.proofs.lemmas.Walk.{text_length, text_push, text_split}
+use Rattle.literal_automaton.proofs.lemmas.Walk.{finds_all, reads_near, step_dead, step_end, step_on, stops_nearer}
+use Rattle.literal_automaton.proofs.lemmas.Walk.{text_length}
 use Rattle.literal_automaton.proofs.walk.last_ended.Goals as goal
 use Rattle.literal_automaton.proofs.walk.last_ended.Goals.{then-code-lt-ENDS, else-code-lt-ENDS+else-code}
 
 pub returns-then-code-clause-found : goal.returns-then-code-clause-found
 returns-then-code-clause-found c =
-    let classes = c.args.classes.now in
-    let rows = c.args.rows.now in
     let haystack = c.args.haystack.now in
-    let start = c.args.span.start in
     let at = c.loop-at.at in
     let inside : at < length haystack = omega (arith, c.loop-at-test.true, c.requires.valid.in_haystack) in
-    let class = get_or classes (get_or haystack at 0) 0 in
-    subst (λ (text : List ℕ). FindsIn c.args.width rows start text c.loop-at.last)
-    (sym (text_split classes haystack start at c.loop-at.auto.at inside c.args.span.end c.loop-at-test.true))
-    (finds_dead c.args.width rows c.requires.table start (text_of classes haystack (between start at)) c.loop-at.place
-    c.loop-at.last c.loop-at.invariant.reads class
-    (c.requires.classes.below (get_or haystack at 0) (omega (arith, c.type_inv.haystack at)))
-    (get_or rows (c.loop-at.place + class) 0) refl c.if-code.true
-    (text_of classes haystack (between (at + 1) c.args.span.end)))
+    step_dead c.args.classes.now c.args.rows.now haystack c.args.width c.requires.classes c.requires.table
+    c.args.span.start at c.loop-at.auto.at inside (omega (arith, c.type_inv.haystack at)) c.loop-at.place c.loop-at.last
+    c.loop-at.invariant.reads _ refl c.if-code.true c.args.span.end c.loop-at-test.true
 
 pub returns-then-code-clause-near : goal.returns-then-code-clause-near
 returns-then-code-clause-near c =
@@ -49,40 +41,32 @@ loop-at-preserved c =
     let start = c.args.span.start in
     let at = c.loop-at.at in
     let inside : at < length haystack = omega (arith, c.loop-at-test.true, c.requires.valid.in_haystack) in
-    let class = get_or classes (get_or haystack at 0) 0 in
-    let code = get_or rows (c.loop-at.place + class) 0 in
-    let below = c.requires.classes.below (get_or haystack at 0) (omega (arith, c.type_inv.haystack at)) in
-    let text = text_of classes haystack (between start at) in
-    let size = text_length classes haystack start at c.loop-at.auto.at (omega arith) in
+    let is_byte : get_or haystack at 0 < 256 = omega (arith, c.type_inv.haystack at) in
+    let code = get_or rows (c.loop-at.place + get_or classes (get_or haystack at 0) 0) 0 in
+    let text = text_of classes haystack (between start (at + 1)) in
     let so_far = c.loop-at.invariant in
     let after = c.loop-at.auto.at in
     let more : c.args.tally.now.scanned + (at - start) + 1 ≡ c.args.tally.now.scanned +
     (at + 1 - start) = omega arith in
     record {
-      reads = subst (λ (text : List ℕ). Reads c.args.width rows start text c.if-code-lt-ENDS.place
-          c.if-code-lt-ENDS.last)
-          (sym (text_push classes haystack start at c.loop-at.auto.at inside))
-          (elim c.if-code-lt-ENDS.branch [
-            | then-code-lt-ENDS w ↦
-                subst (λ (last : Option Ended). Reads c.args.width rows start
-                (text ++ class ∷ []) c.if-code-lt-ENDS.place
-                last) (sym w.last-is)
-                (subst (λ (place : ℕ). Reads c.args.width rows start (text ++ class ∷ []) place c.loop-at.last)
-                (sym w.place-is)
-                (reads_on c.args.width rows c.requires.table start text c.loop-at.place c.loop-at.last so_far.reads
-                class
-                below code refl w.if-code-lt-ENDS.true))
-            | else-code-lt-ENDS+else-code w ↦
-                subst (λ (last : Option Ended). Reads c.args.width rows start
-                (text ++ class ∷ []) c.if-code-lt-ENDS.place
-                last) (sym w.last-is)
-                (subst (λ (place : ℕ). Reads c.args.width rows start (text ++ class ∷ []) place
-                (Some (record { pattern = get_or rows (code - 2 ^ 31 + c.args.width) 0; end = at + 1 })))
-                (sym w.place-is)
-                (reads_end c.args.width rows c.requires.table start text c.loop-at.place c.loop-at.last so_far.reads
-                class
-                below code refl w.if-code-lt-ENDS.false w.if-code.false (at + 1) (omega (arith, size))))
-          ]);
+      reads = elim c.if-code-lt-ENDS.branch [
+        | then-code-lt-ENDS w ↦
+            subst (λ (last : Option Ended). Reads c.args.width rows start text c.if-code-lt-ENDS.place last)
+            (sym w.last-is)
+            (subst (λ (place : ℕ). Reads c.args.width rows start text place c.loop-at.last) (sym w.place-is)
+            (step_on classes rows haystack c.args.width c.requires.classes c.requires.table start at after inside
+            is_byte
+            c.loop-at.place c.loop-at.last so_far.reads code refl w.if-code-lt-ENDS.true))
+        | else-code-lt-ENDS+else-code w ↦
+            subst (λ (last : Option Ended). Reads c.args.width rows start text c.if-code-lt-ENDS.place last)
+            (sym w.last-is)
+            (subst (λ (place : ℕ). Reads c.args.width rows start text place
+            (Some (record { pattern = get_or rows (code - 2 ^ 31 + c.args.width) 0; end = at + 1 })))
+            (sym w.place-is)
+            (step_end classes rows haystack c.args.width c.requires.classes c.requires.table start at after inside
+            is_byte
+            c.loop-at.place c.loop-at.last so_far.reads code refl w.if-code-lt-ENDS.false w.if-code.false))
+      ];
       counted = c.tick_scanned.ensures
           ∙ (ap (λ (t : Counts). let t' : Counts = record t { scanned = t.scanned + 1 } in t') so_far.counted
           ∙ ap (λ (n : ℕ). let t : Counts = record c.args.tally.now { scanned = n } in t) more);

@@ -3,26 +3,32 @@ use Rattle.std.proofs.Common.{◌+◌}
 use Rattle.std.proofs.Math.ListN.{set}
 use Rattle.std.proofs.lemmas.List.{length-append}
 use Rattle.std.specs.List.{AllZip}
-use Rattle.literal_c.specs.Answers.{IsAnswer}
-use Rattle.literal_c.proofs.lemmas.Pieces.{one_more_answer, map_more, split_more, taken_more}
+use Rattle.literal_c.specs.Answers.{IsAnswer, LiesInside}
+use Rattle.literal_c.proofs.lemmas.Pieces.{map_more, one_more_answer, split_more, taken_more}
 use Rattle.literal_c.proofs.answers.answer_each.Goals as goal
 
 pub loop-haystack-preserved : goal.loop-haystack-preserved
-loop-haystack-preserved c =
+loop-haystack-preserved g c =
     let taken = c.loop-haystack.yielded in
     let item = c.in-Some.haystack in
-    let IsHere = IsAnswer c.args.search.now.query c.args.search.now.ignore_case in
+    let so_far = c.loop-haystack.invariant in
     let split = split_more taken item c.loop-haystack.haystack-iterator c.next.new.self c.args.haystacks
-    c.loop-haystack.invariant.split c.in-Some.ensures.steps in
+    so_far.split c.in-Some.ensures.steps in
     let count = length-append taken (item ∷ []) in
     let few = taken_more taken item c.next.new.self c.args.haystacks split in
     let lt : c.loop-haystack.i < length c.loop-haystack.answers = omega arith in
+    let i = c.loop-haystack.i in
+    let answers = c.loop-haystack.answers in
+    let new = c.answer_for_c.result in
     record {
       split = split;
       count = omega arith;
-      answered = subst (λ done. AllZip IsHere done
-          (take (c.loop-haystack.i + 1) (set c.loop-haystack.answers c.loop-haystack.i c.answer_for_c.result)))
-          (sym (map_more taken item))
-          (one_more_answer IsHere _ c.loop-haystack.i c.loop-haystack.answers item.now c.answer_for_c.result lt
-          c.loop-haystack.invariant.answered (c.find.result, c.find.ensures.leftmost, c.answer_for_c.ensures));
+      answered = λ query ignore_case is. subst (λ done. AllZip (IsAnswer query ignore_case) done
+          (take (i + 1) (set answers i new))) (sym (map_more taken item))
+          (one_more_answer (IsAnswer query ignore_case) _ i answers item.now new lt
+          (so_far.answered query ignore_case is)
+          (c.in_ok-find_in.field-0, c.in_ok-find_in.ensures.found query ignore_case is, c.answer_for_c.ensures));
+      inside = subst (λ done. AllZip LiesInside done (take (i + 1) (set answers i new))) (sym (map_more taken item))
+          (one_more_answer LiesInside _ i answers item.now new lt so_far.inside
+          (c.in_ok-find_in.field-0, c.in_ok-find_in.ensures.inside, c.answer_for_c.ensures));
     }

@@ -1,30 +1,45 @@
-use Rattle.std.proofs.Common.{◌≡◌, ◌<◌, ◌+◌, length, drop, sym, ap, ◌∙◌, subst, arith}
+use Rattle.std.proofs.Common.{◌≡◌, ◌<◌, ◌+◌, IfSome, Option, length, drop, sym, ap, ◌∙◌, subst, arith}
 use Rattle.std.proofs.lemmas.List.{drop-drop, drop-set-lt}
-use Rattle.literal_base.specs.Leftmost.{IsLeftmostMatch}
-use Rattle.literal_base.specs.Occurs.{rest_from}
+use Rattle.literal_base.specs.Leftmost.{IsLeftmost, IsLeftmostMatch}
+use Rattle.literal_base.specs.MatchValue.{MatchValue}
+use Rattle.literal_base.specs.Occurs.{between}
+use Rattle.literal_automaton.specs.Prepared.{LiesIn}
 use Rattle.literal_c.specs.Answers.{AreNext, match_of}
-use Rattle.literal_c.proofs.lemmas.Pages.{one_more}
+use Rattle.literal_c.proofs.lemmas.Pages.{all_more, lies_in_all, one_more}
 use Rattle.literal_c.proofs.answers.write_page.Goals as goal
 
 pub loop-place-preserved : goal.loop-place-preserved
-loop-place-preserved c =
-    let query = c.args.search.now.query in
-    let ignore_case = c.args.search.now.ignore_case in
+loop-place-preserved g c =
     let haystack = c.args.haystack.now in
+    let start = c.args.span.start in
+    let stop = c.args.span.end in
     let next = c.loop-place.next in
     let i = c.loop-place.place-index in
     let found = c.loop-place.found in
+    let it = c.in-Some.it in
     let new = c.match_for_c.result in
+    let so_far = c.loop-place.invariant in
     let lt : i < length found = omega arith in
-    let here : IsLeftmostMatch query ignore_case haystack (rest_from haystack next) (match_of new) =
-    subst (λ m. IsLeftmostMatch query ignore_case haystack (rest_from haystack next) (match_of m))
-    (sym c.match_for_c.ensures) c.in-Some.ensures.leftmost in
+    let lies : LiesIn (between next stop) it =
+    subst (λ (o : Option MatchValue). IfSome o (LiesIn (between next stop))) c.in-Some.is c.in_ok-it.ensures.inside in
+    let is_new = sym c.match_for_c.ensures in
     let end : new.end ≡ c.end-next.result = ap (λ m. m.end) c.match_for_c.ensures ∙ sym c.end-next.ensures.end in
     record {
       count = omega arith;
-      within = omega (arith, end, here.occurs.before_end, here.whole);
-      matches = subst (AreNext query ignore_case haystack c.args.from _) end
-          (one_more query ignore_case haystack c.args.from next i found new lt c.loop-place.invariant.matches here);
+      after = omega (arith, so_far.after, lies.start, lies.some, c.end-next.ensures.end);
+      before = omega (arith, lies.end, c.end-next.ensures.end);
+      matches = λ query ignore_case is.
+          let leftmost : IsLeftmostMatch query ignore_case haystack (between next stop) it =
+          subst (λ (o : Option MatchValue). IsLeftmost query ignore_case haystack (between next stop) o) c.in-Some.is
+          (c.in_ok-it.ensures.found query ignore_case is) in
+          let here = subst (λ m. IsLeftmostMatch query ignore_case haystack (between next stop) (match_of m)) is_new
+          leftmost in
+          subst (AreNext query ignore_case haystack stop start _) end
+          (one_more query ignore_case haystack stop start next i found new lt
+          (so_far.matches query ignore_case is) here);
+      inside = all_more (λ m. LiesIn (between start stop) (match_of m)) i found new lt so_far.inside
+          (subst (λ m. LiesIn (between start stop) (match_of m)) is_new
+          (lies_in_all start next stop it so_far.after lies));
       others = drop-set-lt (i + 1) found i new (omega arith)
-          ∙ (sym (drop-drop 1 i found) ∙ (ap (drop 1) c.loop-place.invariant.others ∙ drop-drop 1 i c.args.found.now));
+          ∙ (sym (drop-drop 1 i found) ∙ (ap (drop 1) so_far.others ∙ drop-drop 1 i c.args.found.now));
     }

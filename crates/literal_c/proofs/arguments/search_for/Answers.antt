@@ -1,4 +1,4 @@
-use Rattle.std.proofs.Common.{◌≡◌, sym, ap, ◌∙◌}
+use Rattle.std.proofs.Common.{ap, ◌∙◌}
 use Rattle.literal_automaton.specs.DfaValue.{dfa_for}
 use Rattle.literal_c.specs.Arguments.{kind_of}
 use Rattle.literal_c.specs.Pieces.{pieces}

@@ -1,0 +1,260 @@
+//! A search as numbers in an array that its caller lends: written once, and then searched by, with no memory of its
+//! own. A search does not trust the array: where a number leads out of it, the search says so.
+ghost use Rattle.std.specs.Prelude.{◌≡◌, ◌+◌, ◌-◌, ◌<◌, ◌≤◌, ◌^◌, ◌↔◌, length, map};
+ghost use Rattle.std.specs.Prelude.{IfErr, IfOk, IfSome, IsTrue, MatchBool, MatchResult, OnErr};
+ghost use Rattle.std.specs.Result.{IsOkAnd};
+ghost use Rattle.literal_base.specs.Occurs.{IsValidSpan};
+ghost use Rattle.literal_base.specs.Leftmost.{IsLeftmost};
+ghost use Rattle.literal_automaton.specs.Prepared.{AreShort, ForPrepared, HasParts, IsWhole, LiesIn, check_of};
+ghost use Rattle.literal_automaton.specs.Inside.Prepared.{Puts, RefusesArray, numbers_for};
+
+use crate::classes::Classes;
+use crate::walk::last_ended_in_lent;
+use literal_base::count::Tally;
+use literal_base::{Match, Span};
+use literal_ids::PatternID;
+use std::error::Error;
+use std::fmt;
+use std::marker::Model;
+
+/// What the first number of a prepared search is.
+pub const PREPARED_VERSION: u32 = 0x4C50_0001;
+
+/// Where the classes of all bytes begin, behind the version, the check, the width, and how many patterns and places in
+/// the rows there are.
+pub const CLASSES_AT: usize = 5;
+
+/// Where the lengths of the patterns begin. Behind them stand the rows.
+pub const LENGTHS_AT: usize = CLASSES_AT + 256;
+
+/// By what a check is multiplied before each further number: any change of one number changes the check.
+const CHECK_FACTOR: u64 = 16_777_619;
+
+/// Why a search is not written into an array, which then stays as it was.
+#[derive(Clone, Copy, Debug, PartialEq, Eq, Drop)]
+pub enum PrepareError {
+    /// A pattern has 2^32 bytes or more.
+    PatternTooLong,
+    /// The array has to have this many places.
+    ArrayTooShort(usize),
+}
+
+/// What is wrong, in a few words.
+impl fmt::Display for PrepareError {
+    fn fmt<W: fmt::Write>(&self, f: &mut fmt::Formatter<W>) -> fmt::Result {
+        match self {
+            PrepareError::PatternTooLong => write!(f, "a pattern is too long"),
+            PrepareError::ArrayTooShort(needed) => write!(f, "the array needs {needed} places"),
+        }
+    }
+}
+
+impl Error for PrepareError {}
+
+/// The numbers that were lent are not those of a prepared search.
+#[derive(Clone, Copy, Debug, PartialEq, Eq, Drop)]
+pub struct Damaged;
+
+/// What is wrong, in a few words.
+impl fmt::Display for Damaged {
+    fn fmt<W: fmt::Write>(&self, f: &mut fmt::Formatter<W>) -> fmt::Result {
+        write!(f, "the prepared search is damaged")
+    }
+}
+
+impl Error for Damaged {}
+
+/// A search by numbers that [`Dfa::prepare`](crate::Dfa::prepare) wrote into an array, which may be longer. Contracts
+/// see the array.
+#[derive(Drop)]
+pub struct Prepared<'p> {
+    numbers: &'p [u32],
+    classes: &'p [u32],
+    width: usize,
+    lengths: &'p [u32],
+    rows: &'p [u32],
+}
+
+impl<'p> Model for Prepared<'p> {
+    ghost use Rattle.std.specs.Prelude.{List, ℕ};
+    ghost use Rattle.literal_automaton.specs.Inside.Prepared.{IsSplit};
+
+    ghost Value = { List ℕ };
+
+    ghost view = { λ p. p.numbers.now };
+
+    ghost invariant = { λ p. IsSplit p.numbers.now p.classes.now p.width p.lengths.now p.rows.now };
+}
+
+impl<'p> Prepared<'p> {
+    /// The search by the numbers in an array, where its first numbers say that it is one and as long as it has to be.
+    /// No more of it is read: [`Prepared::is_whole`] goes over all of it.
+    pub fn new(numbers: &'p [u32]) -> Result<Prepared<'p>, Damaged>
+        ensures { MatchResult result (λ prepared. (prepared ≡ numbers.now) × HasParts numbers.now)
+            (λ _. ¬ HasParts numbers.now) }
+    {
+        if numbers.len() < LENGTHS_AT || numbers[0] != PREPARED_VERSION {
+            return Err(Damaged);
+        }
+        let (patterns, places) = (numbers[3] as usize, numbers[4] as usize);
+        if patterns > PatternID::LIMIT || numbers.len() - LENGTHS_AT < patterns + places {
+            return Err(Damaged);
+        }
+        let rows_at = LENGTHS_AT + patterns;
+        Ok(Prepared {
+            numbers,
+            classes: &numbers[CLASSES_AT..LENGTHS_AT],
+            width: numbers[2] as usize,
+            lengths: &numbers[LENGTHS_AT..rows_at],
+            rows: &numbers[rows_at..rows_at + places],
+        })
+    }
+
+    /// Whether the check over all numbers of the search is right. It finds each change of one number, and most of
+    /// several, but none that is made to pass.
+    pub fn is_whole(&self) -> bool
+        ensures { IsTrue result ↔ IsWhole self.now }
+    {
+        let end = LENGTHS_AT + self.lengths.len() + self.rows.len();
+        self.numbers[1] == check_over(&self.numbers[2..end])
+    }
+
+    /// The leftmost match in a span of the haystack, for which the same holds as for
+    /// [`Dfa::find_in`](crate::Dfa::find_in). With numbers that were changed it may be another, or [`Damaged`]; but it
+    /// lies in the span, and is not empty.
+    pub fn find_in(&self, haystack: &[u8], span: Span) -> Result<Option<Match>, Damaged>
+        requires { IsValidSpan haystack.now span }
+        ensures prepared { ForPrepared self.now (λ query ignore_case. IsOkAnd result
+            (IsLeftmost query ignore_case haystack.now span)) }
+        ensures inside { IfOk result (λ answer. IfSome answer (LiesIn span)) }
+    {
+        self.find_in_counted(haystack, span, &mut Tally::new())
+    }
+
+    /// Answers as [`Prepared::find_in`], and adds each byte that it looks up to a tally, as scanned: each byte of
+    /// the span at most once, whatever the numbers are.
+    pub fn find_in_counted(
+        &self,
+        haystack: &[u8],
+        span: Span,
+        tally: &mut Tally,
+    ) -> Result<Option<Match>, Damaged>
+        requires { IsValidSpan haystack.now span }
+        ensures prepared { ForPrepared self.now (λ query ignore_case. IsOkAnd result
+            (IsLeftmost query ignore_case haystack.now span)) }
+        ensures inside { IfOk result (λ answer. IfSome answer (LiesIn span)) }
+        ensures others { tally.new ≡ record tally.old { scanned = tally.new.scanned } }
+        ensures once { tally.new.scanned ≤ tally.old.scanned + (span.end - span.start) }
+    {
+        let ended = last_ended_in_lent(self.classes, self.rows, self.width, haystack, span, tally)?;
+        let Some(ended) = ended else {
+            return Ok(None);
+        };
+        let pattern = ended.pattern as usize;
+        if pattern >= self.lengths.len() {
+            return Err(Damaged);
+        }
+        let len = self.lengths[pattern] as usize;
+        if len == 0 || len > ended.end - span.start {
+            return Err(Damaged);
+        }
+        let (start, end) = (ended.end - len, ended.end);
+        Ok(Some(Match::must(pattern, Span { start, end })))
+    }
+}
+
+/// Writes a search into the first places of an array, and answers how many these are.
+pub fn write(
+    classes: &Classes,
+    patterns: &[Vec<u8>],
+    rows: &[u32],
+    array: &mut [u32],
+) -> Result<usize, PrepareError>
+    requires classes { length classes.now.table ≡ 256 }
+    requires width { classes.now.width < 2 ^ 32 }
+    requires patterns { length patterns.now < 2 ^ 32 }
+    requires rows { length rows.now < 2 ^ 32 }
+    ensures ok { IfOk result (λ needed. (needed ≤ length array.old) × Puts 0 (numbers_for classes.now.table
+        classes.now.width (map (λ pattern. pattern.items) patterns.now) rows.now) array.old array.new
+        × (needed ≡ length (numbers_for classes.now.table classes.now.width
+        (map (λ pattern. pattern.items) patterns.now) rows.now))) }
+    ensures error { IfErr result (RefusesArray (map (λ pattern. pattern.items) patterns.now) (numbers_for
+        classes.now.table classes.now.width (map (λ pattern. pattern.items) patterns.now) rows.now) array.old) }
+    ensures as_before { OnErr result (array.new ≡ array.old) }
+{
+    if has_long(patterns) {
+        return Err(PrepareError::PatternTooLong);
+    }
+    let rows_at = LENGTHS_AT + patterns.len();
+    let needed = rows_at + rows.len();
+    if array.len() < needed {
+        return Err(PrepareError::ArrayTooShort(needed));
+    }
+    let width = classes.width as u32;
+    let front = [
+        PREPARED_VERSION,
+        0,
+        width,
+        patterns.len() as u32,
+        rows.len() as u32,
+    ];
+    put_numbers(array, 0, &front);
+    put_classes(array, &classes.table);
+    put_lengths(array, patterns);
+    put_numbers(array, rows_at, rows);
+    array[1] = check_over(&array[2..needed]);
+    Ok(needed)
+}
+
+/// Whether a pattern has 2^32 bytes or more.
+fn has_long(patterns: &[Vec<u8>]) -> bool
+    ensures { MatchBool result (¬ AreShort (map (λ pattern. pattern.items) patterns.now))
+        (AreShort (map (λ pattern. pattern.items) patterns.now)) }
+{
+    for pattern in patterns {
+        if pattern.len() > u32::MAX as usize {
+            return true;
+        }
+    }
+    false
+}
+
+/// Writes numbers into an array, from a place on.
+fn put_numbers(array: &mut [u32], at: usize, numbers: &[u32])
+    requires { at + length numbers.now ≤ length array.old }
+    ensures { Puts at numbers.now array.old array.new }
+{
+    array[at..at + numbers.len()].copy_from_slice(numbers);
+}
+
+/// Writes the classes of bytes.
+fn put_classes(array: &mut [u32], classes: &[u8])
+    requires { CLASSES_AT + length classes.now ≤ length array.old }
+    ensures { Puts CLASSES_AT classes.now array.old array.new }
+{
+    for (i, class) in classes.iter().enumerate() {
+        array[CLASSES_AT + i] = u32::from(*class);
+    }
+}
+
+/// Writes the lengths of the patterns.
+fn put_lengths(array: &mut [u32], patterns: &[Vec<u8>])
+    requires room { LENGTHS_AT + length patterns.now ≤ length array.old }
+    requires short { AreShort (map (λ pattern. pattern.items) patterns.now) }
+    ensures { Puts LENGTHS_AT (map (λ pattern. length pattern.items) patterns.now) array.old array.new }
+{
+    for (i, pattern) in patterns.iter().enumerate() {
+        array[LENGTHS_AT + i] = pattern.len() as u32;
+    }
+}
+
+/// A check over numbers.
+fn check_over(numbers: &[u32]) -> u32
+    ensures { result ≡ check_of numbers.now }
+{
+    let mut check = 0;
+    for number in numbers {
+        check = ((u64::from(check) * CHECK_FACTOR + u64::from(*number)) % (1 << 32)) as u32;
+    }
+    check
+}

@@ -1,0 +1,30 @@
+use Rattle.std.proofs.Common.{Option, subst, sym}
+use Rattle.literal_base.specs.Leftmost.{IsLeftmost, IsLeftmostMatch}
+use Rattle.literal_base.specs.MatchValue.{MatchValue}
+use Rattle.literal_base.specs.Occurs.{between}
+use Rattle.literal_automaton.specs.Prepared.{IsPrepared}
+use Rattle.literal_c.specs.Answers.{match_of}
+use Rattle.literal_c.proofs.lemmas.Statuses.{damaged}
+use Rattle.literal_c.proofs.literal_find_in.Goals as goal
+
+pub returns-in-Err-clause-status : goal.returns-in-Err-clause-status
+returns-in-Err-clause-status c =
+    damaged c.args.prepared.now _ _ (record { ordered = c.if-start-end.false; in_haystack = c.if-end-haystack.false })
+    (λ query ignore_case is. c.in-Err.ensures.prepared query ignore_case
+    (subst (IsPrepared query ignore_case) (sym c.in-Ok.ensures.0) is))
+
+pub returns-in-Ok-None-clause-none : goal.returns-in-Ok-None-clause-none
+returns-in-Ok-None-clause-none c = λ query ignore_case is _.
+    subst (λ (o : Option MatchValue). IsLeftmost query ignore_case c.args.haystack.now
+    (between c.args.start c.args.end) o) c.in-Ok-None.field-0-is
+    (c.in-Ok-None.ensures.prepared query ignore_case
+    (subst (IsPrepared query ignore_case) (sym c.in-Ok.ensures.0) is))
+
+pub returns-in-Ok-Some-clause-found : goal.returns-in-Ok-Some-clause-found
+returns-in-Ok-Some-clause-found c = λ query ignore_case is _.
+    subst (λ m. IsLeftmostMatch query ignore_case c.args.haystack.now (between c.args.start c.args.end) (match_of m))
+    (sym c.match_for_c.ensures)
+    (subst (λ (o : Option MatchValue). IsLeftmost query ignore_case c.args.haystack.now
+    (between c.args.start c.args.end) o) c.in-Ok-Some.field-0-is
+    (c.in-Ok-Some.ensures.prepared query ignore_case
+    (subst (IsPrepared query ignore_case) (sym c.in-Ok.ensures.0) is)))

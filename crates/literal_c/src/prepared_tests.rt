@@ -1,0 +1,206 @@
+//! Each export that fills an array, or searches by one.
+use crate::{
+    LITERAL_BAD_ARGUMENTS, LITERAL_DAMAGED, LITERAL_LEFTMOST_FIRST, LITERAL_LEFTMOST_LONGEST,
+    LITERAL_NO_SEARCHER, LITERAL_NONE, LITERAL_OK, LITERAL_TOO_SHORT, LiteralAnswer, LiteralMatch,
+    LiteralPage, literal_check_prepared, literal_count_in, literal_find_all_in,
+    literal_find_each_in, literal_find_in, literal_prepare,
+};
+use std::alloc::Global;
+use std::process::Abort;
+use std::test::Fail;
+
+const WORDS: &[u8] = b"applemapleSnapple";
+
+const ENDS: [usize; 3] = [5, 10, 17];
+
+const TEXT: &[u8] = b"Nobody likes maple in their apple flavored Snapple.";
+
+/// What no call writes.
+const BEFORE: LiteralMatch = LiteralMatch {
+    pattern: 7,
+    start: 8,
+    end: 9,
+};
+
+fn assert_match(rt: &impl Abort, found: &LiteralMatch, wanted: (usize, usize, usize)) {
+    assert!(rt; found.pattern == wanted.0 && found.start == wanted.1 && found.end == wanted.2);
+}
+
+/// An array of zeros that is as long as a search for the words needs.
+fn room(alloc: Global, kind: u32, ignore_case: bool) -> Result<Vec<u32>, Fail> {
+    let mut needed = 0;
+    let status = literal_prepare(alloc, kind, ignore_case, WORDS, &ENDS, &mut [], &mut needed);
+    if status != LITERAL_TOO_SHORT || needed > 10_000 {
+        return Err(Fail::from("no room is asked for"));
+    }
+    Ok(vec![in alloc; 0; needed]?)
+}
+
+/// A search for the words, and three places more.
+fn search_for_words(alloc: Global, kind: u32, ignore_case: bool) -> Result<Vec<u32>, Fail> {
+    let mut prepared = room(alloc, kind, ignore_case)?;
+    prepared.extend_from_slice(&[7, 8, 9])?;
+    let mut needed = 0;
+    let status = literal_prepare(
+        alloc,
+        kind,
+        ignore_case,
+        WORDS,
+        &ENDS,
+        &mut prepared,
+        &mut needed,
+    );
+    if status != LITERAL_OK || needed + 3 != prepared.len() {
+        return Err(Fail::from("nothing is written"));
+    }
+    Ok(prepared)
+}
+
+#[test]
+fn prepares(rt: HostRuntime) -> Result<(), Fail> {
+    let (alloc, kind) = (rt.alloc(), LITERAL_LEFTMOST_FIRST);
+    let mut short = room(alloc, kind, false)?;
+    let full = short.len();
+    let _ = short.pop();
+    let mut needed = 0;
+    let status = literal_prepare(alloc, kind, false, WORDS, &ENDS, &mut short, &mut needed);
+    assert!(rt; status == LITERAL_TOO_SHORT && needed == full);
+    assert!(rt; short.iter().all(|number| *number == 0));
+    needed = 5;
+    let status = literal_prepare(alloc, kind, false, WORDS, &[0], &mut short, &mut needed);
+    assert!(rt; status == LITERAL_NO_SEARCHER && needed == 5);
+    let status = literal_prepare(alloc, 2, false, WORDS, &ENDS, &mut short, &mut needed);
+    assert!(rt; status == LITERAL_BAD_ARGUMENTS && needed == 5);
+    assert!(rt; short.iter().all(|number| *number == 0));
+    assert!(rt; literal_check_prepared(&short) == LITERAL_DAMAGED);
+    let prepared = search_for_words(alloc, kind, false)?;
+    assert!(rt; literal_check_prepared(&prepared) == LITERAL_OK);
+    assert!(rt; prepared.ends_with(&[7, 8, 9]));
+    Ok(())
+}
+
+#[test]
+fn finds_by_an_array(rt: HostRuntime) -> Result<(), Fail> {
+    let prepared = search_for_words(rt.alloc(), LITERAL_LEFTMOST_FIRST, true)?;
+    let mut found = BEFORE;
+    assert!(rt; literal_find_in(&prepared, TEXT, 14, 51, &mut found) == LITERAL_OK);
+    assert_match(&rt, &found, (0, 28, 33));
+    found = BEFORE;
+    assert!(rt; literal_find_in(&prepared, TEXT, 14, 32, &mut found) == LITERAL_NONE);
+    assert!(rt; literal_find_in(&prepared, TEXT, 3, 2, &mut found) == LITERAL_BAD_ARGUMENTS);
+    assert!(rt; literal_find_in(&prepared, TEXT, 0, 52, &mut found) == LITERAL_BAD_ARGUMENTS);
+    assert!(rt; literal_find_in(&[], TEXT, 0, 51, &mut found) == LITERAL_DAMAGED);
+    assert_match(&rt, &found, (7, 8, 9));
+    let mut count = 0;
+    assert!(rt; literal_count_in(&prepared, TEXT, 0, 51, &mut count) == LITERAL_OK && count == 3);
+    assert!(rt; literal_count_in(&prepared, TEXT, 14, 49, &mut count) == LITERAL_OK && count == 1);
+    assert!(rt; literal_count_in(&prepared, TEXT, 0, 52, &mut count) == LITERAL_BAD_ARGUMENTS);
+    assert!(rt; literal_count_in(&[], TEXT, 0, 51, &mut count) == LITERAL_DAMAGED && count == 1);
+    Ok(())
+}
+
+#[test]
+fn finds_pages_by_an_array(rt: HostRuntime) -> Result<(), Fail> {
+    let prepared = search_for_words(rt.alloc(), LITERAL_LEFTMOST_LONGEST, true)?;
+    let mut found = [BEFORE, BEFORE];
+    let mut page = LiteralPage {
+        written: 0,
+        next: 0,
+        is_last: 7,
+    };
+    let status = literal_find_all_in(&prepared, TEXT, 0, 50, &mut found, &mut page);
+    assert!(rt; status == LITERAL_OK && page.written == 2 && page.next == 33 && page.is_last == 0);
+    assert_match(&rt, &found[0], (1, 13, 18));
+    assert_match(&rt, &found[1], (0, 28, 33));
+    let status = literal_find_all_in(&prepared, TEXT, 33, 49, &mut found, &mut page);
+    assert!(rt; status == LITERAL_OK && page.written == 0 && page.next == 33 && page.is_last == 1);
+    let status = literal_find_all_in(&prepared, TEXT, 33, 50, &mut found, &mut page);
+    assert!(rt; status == LITERAL_OK && page.written == 1 && page.next == 50 && page.is_last == 1);
+    assert_match(&rt, &found[0], (2, 43, 50));
+    assert_match(&rt, &found[1], (0, 28, 33));
+    let status = literal_find_all_in(&prepared, TEXT, 52, 51, &mut found, &mut page);
+    assert!(rt; status == LITERAL_BAD_ARGUMENTS && page.written == 1);
+    let status = literal_find_all_in(&[], TEXT, 0, 51, &mut found, &mut page);
+    assert!(rt; status == LITERAL_DAMAGED && page.written == 1);
+    Ok(())
+}
+
+#[test]
+fn finds_in_each_by_an_array(rt: HostRuntime) -> Result<(), Fail> {
+    let prepared = search_for_words(rt.alloc(), LITERAL_LEFTMOST_FIRST, false)?;
+    let before = LiteralAnswer {
+        status: 7,
+        found: BEFORE,
+    };
+    let mut answers = [before, before, before];
+    let (lines, ends) = (b"an applesome maple", [8, 12, 18]);
+    let status = literal_find_each_in(&prepared, lines, &ends, &mut answers);
+    assert!(rt; status == LITERAL_OK);
+    assert!(rt; answers[0].status == LITERAL_OK);
+    assert_match(&rt, &answers[0].found, (0, 3, 8));
+    assert!(rt; answers[1].status == LITERAL_NONE);
+    assert_match(&rt, &answers[1].found, (0, 0, 0));
+    assert!(rt; answers[2].status == LITERAL_OK);
+    assert_match(&rt, &answers[2].found, (1, 1, 6));
+    let status = literal_find_each_in(&prepared, lines, &[8, 12], &mut answers);
+    assert!(rt; status == LITERAL_BAD_ARGUMENTS && answers[0].status == LITERAL_OK);
+    let status = literal_find_each_in(&[], lines, &ends, &mut answers);
+    assert!(rt; status == LITERAL_DAMAGED);
+    Ok(())
+}
+
+/// Makes each search by an array, and answers how many of them say that it is damaged.
+fn damaged_answers(prepared: &[u32]) -> usize {
+    let mut found = [BEFORE, BEFORE, BEFORE, BEFORE];
+    let (mut one, mut count) = (BEFORE, 0);
+    let mut page = LiteralPage {
+        written: 0,
+        next: 0,
+        is_last: 7,
+    };
+    let statuses = [
+        literal_check_prepared(prepared),
+        literal_find_in(prepared, TEXT, 0, 51, &mut one),
+        literal_find_all_in(prepared, TEXT, 0, 51, &mut found, &mut page),
+        literal_count_in(prepared, TEXT, 0, 51, &mut count),
+    ];
+    statuses
+        .iter()
+        .filter(|status| **status == LITERAL_DAMAGED)
+        .count()
+}
+
+/// Each number in turn is changed, in one of its bits, and in all.
+#[test]
+fn notices_each_change(rt: HostRuntime) -> Result<(), Fail> {
+    let mut prepared = search_for_words(rt.alloc(), LITERAL_LEFTMOST_FIRST, true)?;
+    assert!(rt; damaged_answers(&prepared) == 0);
+    let mut most = 0;
+    for place in 0..prepared.len() - prepared.len().min(3) {
+        let before = prepared[place];
+        for number in [before ^ (1 << (place % 32)), !before] {
+            prepared[place] = number;
+            assert!(rt; literal_check_prepared(&prepared) == LITERAL_DAMAGED);
+            most = damaged_answers(&prepared).max(most);
+        }
+        prepared[place] = before;
+    }
+    assert!(rt; most == 4);
+    assert!(rt; damaged_answers(&prepared) == 0);
+    Ok(())
+}
+
+/// Every number is any number, but for those that say how many there are.
+#[test]
+fn searches_by_any_numbers(rt: HostRuntime) -> Result<(), Fail> {
+    let mut prepared = search_for_words(rt.alloc(), LITERAL_LEFTMOST_FIRST, true)?;
+    let mut random: u32 = 1;
+    for mask in [7, 63, 511, u32::MAX] {
+        for place in 5..prepared.len() {
+            random = random.wrapping_mul(1_664_525).wrapping_add(1_013_904_223);
+            prepared[place] = (random >> 8) & mask;
+        }
+        assert!(rt; damaged_answers(&prepared) > 0);
+    }
+    Ok(())
+}
