@@ -221,11 +221,11 @@ class Signals(unittest.TestCase):
     def test_much_is_looked_at_twice(self):
         """Behind each match the search looks as far ahead as a pattern is long."""
         for longest in (1000, 1 << 20):
-            searcher, text = Searcher([b"a", b"a" * longest + b"b"]), bytearray(b"a" * (1 << 26))
+            searcher, text = Searcher([b"a" * longest + b"b", b"a"]), bytearray(b"a" * (1 << 26))
             for call in (searcher.findall, searcher.count, lambda it: sum(1 for _ in searcher.finditer(it))):
                 self.assertLess(self.interrupted(call, text), 2)
                 text += b"a"  # (it is given back)
-            self.assertEqual(searcher.find(text), Match(0, 0, 1))
+            self.assertEqual(searcher.find(text), Match(1, 0, 1))
 
 
 if __name__ == "__main__":
