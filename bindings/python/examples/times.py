@@ -7,7 +7,7 @@ the files that are UTF-8, of each at most 256 KiB, in the order of their paths, 
 are those of 4 letters or more that stand in it most often. For each number of words, with case kept and ignored, one row
 tells how many matches there are; in how many milliseconds `count` counts them, `findall` lists them, and the other two
 give them one after another; and in how many microseconds the first match of a line of 80 characters is found. Then
-follows what threads bring. Each time is the least of some runs in turns; `re` with more than 128 words has only one
+follows what threads bring. Each time is the least of some runs in turns; `re` with more than 16 words has only one
 mebibyte to search, for which its time is multiplied. `ahocorasick` knows no case: where case is ignored, the text is
 made small first, which is part of its time.
 """
@@ -90,7 +90,7 @@ def row(words, ignore_case, text, lines):
     matches, best, best_line = 0, {}, {}
     for _ in range(RUNS):
         for name, count, find in searches(words, ignore_case):
-            part = len(text) >> 20 if name == "re" and len(words) > 128 else 1
+            part = len(text) >> 20 if name == "re" and len(words) > 16 else 1
             took, found = seconds(count, text[: len(text) // part])
             best[name] = min(took * part, best.get(name, took * part))
             matches = found if name == "count" else matches

@@ -18,7 +18,7 @@ enum {
     SHORT = 1 << 12,      /* bytes whose search takes less time than it takes to let another thread run */
     FIRST_PAGE = 32,      /* room for so many matches at first */
     LARGEST_PAGE = 4096,  /* and for so many later */
-    READ_AHEAD = 1 << 24, /* bytes that the matches of a page may be looked at beyond their ends, all together */
+    READ_AHEAD = 1 << 22, /* bytes that the matches of a page may be looked at beyond their ends, all together */
     SCRATCH = 1 << 20     /* words in which a search is written whose length is not known yet */
 };
 
