@@ -11,6 +11,7 @@ pub mod Held
 pub mod Iterations
 pub mod Links
 pub mod Lists
+pub mod Places
 pub mod Prepared
 pub mod States
 pub mod Walk

@@ -1,9 +1,11 @@
 //! What follows from the definitions, for callers: call a law where its fact is needed.
-ghost use Rattle.std.specs.Prelude.{◌≡◌, List, length, IsNone, Option, None};
+ghost use Rattle.std.specs.Prelude.{◌≡◌, ◌≤◌, ℕ, Bool, List, length, take, IsNone, Option, None};
 ghost use Rattle.std.specs.Iterator.{Yields};
 ghost use Rattle.literal_base.specs.Greedy.{IsGreedy};
 ghost use Rattle.literal_base.specs.MatchValue.{MatchValue};
+ghost use Rattle.literal_base.specs.Query.{Query};
 ghost use Rattle.literal_automaton.specs.MatchesValue.{GivesMatch, MatchesValue};
+ghost use Rattle.literal_automaton.specs.Prepared.{IsPrepared, prepared_len};
 
 /// An iterator that answers `None` stands at the end of the haystack then, and there it answers `None` and stays.
 pub fn none_is_for_good()
@@ -17,4 +19,14 @@ pub fn iterations_are_greedy()
     ensures { (first last ended : MatchesValue) (all : List MatchValue) → Yields GivesMatch first all last
         → GivesMatch last None ended
         → IsGreedy first.search.query first.search.ignore_case first.haystack first.at all }
+{}
+
+/// An array begins with a prepared search if its first places do, and what it begins with stands in as many places as
+/// its numbers say, so that these may be copied.
+pub fn first_places_are_enough()
+    ensures longer { (query : Query) (ignore_case : Bool) (numbers : List ℕ) (n : ℕ)
+        → IsPrepared query ignore_case (take n numbers) → IsPrepared query ignore_case numbers }
+    ensures shorter { (query : Query) (ignore_case : Bool) (numbers : List ℕ) (n : ℕ)
+        → IsPrepared query ignore_case numbers → prepared_len numbers ≤ n
+        → IsPrepared query ignore_case (take n numbers) }
 {}
