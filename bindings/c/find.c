@@ -3,37 +3,43 @@
 #include "literal_prefilters.h"
 
 #include <stdio.h>
-#include <string.h>
+#include <stdlib.h>
 
-enum { ROOM = 65535, WORDS = 1000, MATCHES = 100 };
+enum { KIND = LITERAL_LEFTMOST_FIRST, ROOM = 65535, WORDS = 1000, MATCHES = 100 };
+
+/* Writes a search for the words into memory of its own, or ends the program. */
+static uint32_t *prepare(const char *const *words, size_t words_len, size_t *needed) {
+    static uint8_t patterns[ROOM];
+    static size_t ends[WORDS];
+    uint32_t *prepared = NULL;
+    size_t len = words_len > WORDS ? ROOM + 1 : literal_join(words, words_len, patterns, ROOM, ends);
+    const char *why = "too many words";
+    if (len <= ROOM) {
+        int32_t status = literal_prepare(KIND, false, patterns, len, ends, words_len, NULL, 0, needed);
+        if (status == LITERAL_TOO_SHORT && (prepared = malloc(*needed * sizeof *prepared)) != NULL)
+            status = literal_prepare(KIND, false, patterns, len, ends, words_len, prepared, *needed, needed);
+        if (status == LITERAL_OK)
+            return prepared;
+        why = status == LITERAL_NO_SEARCHER ? "no search for these words" : "out of memory";
+    }
+    fprintf(stderr, "find: %s\n", why);
+    exit(2);
+}
 
 int main(int count, char **words) {
-    static char patterns[ROOM], text[ROOM];
+    static uint8_t text[ROOM];
     static literal_match found[MATCHES];
-    static size_t ends[WORDS];
-    size_t end = 0, len;
+    size_t needed = 0, len;
+    uint32_t *prepared = prepare((const char *const *)words + 1, count > 1 ? (size_t)count - 1 : 0, &needed);
     literal_page page = {0, 0, 0};
 
-    for (int i = 1; i < count; i++) {
-        size_t word = strlen(words[i]);
-        if (i > WORDS || word > ROOM - end) {
-            fputs("find: too many words\n", stderr);
-            return 2;
-        }
-        memcpy(patterns + end, words[i], word);
-        ends[i - 1] = end += word;
-    }
     len = fread(text, 1, ROOM, stdin);
     do {
-        int32_t status = literal_find_all(LITERAL_LEFTMOST_FIRST, false, (uint8_t *)patterns, end, ends,
-                                          count > 1 ? (size_t)count - 1 : 0, (uint8_t *)text, len, page.next, found,
-                                          MATCHES, &page);
-        if (status != LITERAL_OK) {
-            fputs(status == LITERAL_NO_SEARCHER ? "find: no search for these words\n" : "find: out of memory\n", stderr);
-            return 2;
-        }
+        if (literal_find_all_in(prepared, needed, text, len, page.next, len, found, MATCHES, &page) != LITERAL_OK)
+            abort(); /* (the array is as it was written) */
         for (size_t i = 0; i < page.written; i++)
             printf("%zu %zu %zu\n", found[i].pattern, found[i].start, found[i].end);
     } while (!page.is_last);
+    free(prepared);
     return 0;
 }

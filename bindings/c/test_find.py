@@ -1,6 +1,10 @@
-"""Compiles the header and the example in C, and runs the example under the sanitizers. It takes bindings/out/."""
+"""Compiles the header and the programs in C, and runs them: under the sanitizers, with little stack, linked to the
+shared library as bindings/install leaves it. Then builds all of it elsewhere. It takes bindings/out/."""
 import os
+import shlex
+import shutil
 import subprocess
+import sys
 import tempfile
 import unittest
 from pathlib import Path
@@ -19,9 +23,10 @@ PLAIN = {name: value for name, value in os.environ.items() if name != "LD_PRELOA
 REFUSER = os.environ.get("LD_PRELOAD", "")
 
 
-def run(*words, text="", env=PLAIN):
+def run(*words, text="", **how):
     """The status of a command, and what it wrote on both outputs."""
-    ran = subprocess.run(words, input=text, stdout=subprocess.PIPE, stderr=subprocess.STDOUT, text=True, env=env)
+    how = {"stdout": subprocess.PIPE, "stderr": subprocess.STDOUT, "text": True, "env": PLAIN, **how}
+    ran = subprocess.run(words, input=text, **how)
     return ran.returncode, ran.stdout
 
 
@@ -31,30 +36,37 @@ class Find(unittest.TestCase):
         cls.room = tempfile.TemporaryDirectory()
         cls.addClassCleanup(cls.room.cleanup)
 
-    def compiled(self, *words):
-        """The example, compiled."""
-        find = f"{self.room.name}/find"
-        self.assertEqual(run("cc", "-std=c11", *WARNINGS, *words, f"{HERE}/find.c", str(LIBRARY), "-o", find), (0, ""))
-        return find
+    def compiled(self, name, *words):
+        """A program, compiled."""
+        program = f"{self.room.name}/{name}"
+        compiler = ["cc", "-std=c11", *WARNINGS, *words]
+        self.assertEqual(run(*compiler, f"{HERE}/{name}.c", str(LIBRARY), "-pthread", "-o", program), (0, ""))
+        return program
 
     def test_header(self):
         self.assertEqual(run("cc", "-std=c11", *WARNINGS, "-xc", *ALONE), (0, ""))
         self.assertEqual(run("c++", "-std=c++17", *WARNINGS, "-xc++", *ALONE), (0, ""))
 
-    def test_sanitized(self):
-        find, refused = self.compiled(*SANITIZED), (2, "find: no search for these words\n")
+    def test_find_sanitized(self):
+        find, refused = self.compiled("find", *SANITIZED), (2, "find: no search for these words\n")
         self.assertEqual(run(find, *WORDS, text=TEXT), (0, FOUND))
         self.assertEqual(run(find, "zebra", text=TEXT), (0, ""))
         self.assertEqual(run(find, "a"), (0, ""))
         many = "".join(f"0 {at} {at + 1}\n" for at in range(250))
         self.assertEqual(run(find, "a", text=250 * "a"), (0, many))
-        self.assertEqual(run(find), (0, ""))
+        self.assertEqual(run(find, text=TEXT), (0, ""))
         self.assertEqual(run(find, "a", "", text=TEXT), refused)
+
+    def test_calls_sanitized(self):
+        self.assertEqual(run(self.compiled("calls", *SANITIZED)), (0, ""))
+
+    def test_calls_with_little_stack(self):
+        self.assertEqual(run(self.compiled("calls", "-O1"), "stack"), (0, ""))
 
     @unittest.skipUnless("refuse" in REFUSER, "run by bindings/test")
     def test_each_request_refused(self):
         """It finds all the same, as where an output has no buffer, or says why not."""
-        find, told, mark = self.compiled(), 0, f"{self.room.name}/mark"
+        find, told, mark = self.compiled("find"), 0, f"{self.room.name}/mark"
         for request in range(1, MOST_REQUESTS):
             given = {"LD_PRELOAD": REFUSER, "REFUSED_REQUEST": str(request), "REFUSED_MARK": mark}
             answer = run(find, *WORDS, text=TEXT, env=given)
@@ -65,6 +77,68 @@ class Find(unittest.TestCase):
             os.remove(mark)
         self.assertLess(request, MOST_REQUESTS - 1)
         self.assertGreater(told, 2)
+
+    def test_only_the_header_s_names_are_shown(self):
+        names = set(run("sed", "-n", r"s/^int32_t \(literal_\w*\)(.*/\1/p", f"{HERE}/literal_prefilters.h")[1].split())
+        self.assertGreater(len(names), 9)
+        for words in (("-g", LIBRARY), ("-D", LIBRARY.with_suffix(".so"))):
+            listed = run("nm", "--defined-only", *map(str, words))[1].splitlines()
+            self.assertEqual({it.split()[2] for it in listed if " " in it}, names)
+
+    @unittest.skipUnless(shutil.which("pkg-config"), "there is no pkg-config")
+    def test_installed(self):
+        """In a folder with a space in its name, and a program that is run in another one."""
+        prefix, find = f"{self.room.name}/a folder", f"{self.room.name}/find shared"
+        self.assertEqual(run(str(HERE.parent / "install"), prefix)[0], 0)
+        given = {**PLAIN, "PKG_CONFIG_PATH": f"{prefix}/lib/pkgconfig"}
+        flags = shlex.split(run("pkg-config", "--cflags", "--libs", "literal_prefilters", env=given)[1])
+        linked = ["cc", str(HERE / "find.c"), *flags, f"-Wl,-rpath,{prefix}/lib", "-o", find]
+        self.assertEqual(run(*linked), (0, ""))
+        self.assertEqual(run(find, *WORDS, text=TEXT, cwd="/"), (0, FOUND))
+        self.assertIn(f"{prefix}/lib/libliteral_prefilters.so.0", run("ldd", find)[1])
+
+
+class Build(unittest.TestCase):
+    def setUp(self):
+        room = tempfile.TemporaryDirectory()
+        self.addCleanup(room.cleanup)
+        self.room = Path(room.name, "a folder")
+
+    def test_in_a_folder_with_a_space(self):
+        """What a second build makes takes the place of the first: nobody writes into files that programs may run by."""
+        shutil.copytree(HERE.parent, self.room / "bindings", ignore=shutil.ignore_patterns("out", "*.so", "__pycache__"))
+        for licence in ("LICENSE-MIT", "UNLICENSE"):
+            shutil.copy(HERE.parents[1] / licence, self.room)
+        build = [sys.executable, str(self.room / "bindings/build"), "--no-proof", str(LIBRARY)]
+        uses = "import literal_prefilters as it; print(it.Searcher([b'b']).find(b'ab').start)"
+        given, nodes = {**PLAIN, "CC": "gcc -O2", "PYTHONPATH": str(self.room / "bindings/python")}, []
+        (self.room / "kept").mkdir()
+        for turn in range(2):
+            status, said = run(*build, env=given)
+            self.assertEqual(status, 0, said)
+            self.assertEqual(run(sys.executable, "-B", "-c", uses, env=given, cwd="/"), (0, "1\n"))
+            for file in (*self.room.glob("bindings/out/*.so.0"), *self.room.glob("bindings/python/*/*.so")):
+                nodes.append(file.stat().st_ino)
+                os.link(file, self.room / "kept" / f"{turn} {file.name}")  # (so that its number is not given again)
+        self.assertEqual(len(set(nodes)), 4)
+
+    def test_what_is_missing(self):
+        tools = ("rt", "cc", "ld", "objcopy", "ar", "nm")
+        for name in tools:
+            folder = self.room / f"no {name}"
+            folder.mkdir(parents=True)
+            for other in set(tools) - {name}:
+                (folder / other).symlink_to(shutil.which(other))
+            given = {name: value for name, value in PLAIN.items() if name != "CC"}
+            status, said = run(sys.executable, str(HERE.parent / "build"), env={**given, "PATH": str(folder)})
+            self.assertEqual(status, 1)
+            self.assertRegex(said, rf"\Abuild: {name} is missing: .*\n\Z")
+
+    def test_the_package_before_the_library(self):
+        (self.room / "python").mkdir(parents=True)
+        shutil.copy(HERE.parent / "python/setup.py", self.room / "python")
+        status, said = run(sys.executable, "setup.py", "build", cwd=self.room / "python")
+        self.assertEqual((status, said), (1, f"{self.room}/out/libliteral_prefilters.a is not there: run bindings/build first\n"))
 
 
 if __name__ == "__main__":

@@ -1,85 +1,134 @@
 """Times of a search beside Python's `re` and, where it is installed, `ahocorasick` of the package pyahocorasick.
 
-  python3 times.py [MEBIBYTES]
+  python3 times.py [MEBIBYTES...]
 
-For 3, 16 and 128 patterns: the milliseconds in which all matches of a text are counted, and the microseconds in which
-the first match of a line of 80 bytes is found. Each is the least of some runs in turns.
+The text is a str of the machine's source code and pages: half from below /usr/lib/python3, half from below /usr/share,
+the files that are UTF-8, of each at most 256 KiB, in the order of their paths, over again if they are too few. The words
+are those of 4 letters or more that stand in it most often. For each number of words, with case kept and ignored, one row
+tells how many matches there are; in how many milliseconds `count` counts them, `findall` lists them, and the other two
+give them one after another; and in how many microseconds the first match of a line of 80 characters is found. Then
+follows what threads bring. Each time is the least of some runs in turns; `re` with more than 16 words has only one
+mebibyte to search, for which its time is multiplied. `ahocorasick` knows no case: where case is ignored, the text is
+made small first, which is part of its time.
 """
-import random
+import collections
+import os
 import re
 import sys
 import time
+from concurrent.futures import ThreadPoolExecutor
 
-from literal_prefilters import Searcher
+from literal_prefilters import Kind, Searcher
 
 try:
     import ahocorasick
 except ImportError:
     ahocorasick = None
 
-RUNS, LINES, WIDTH = 5, 2000, 80
+FOLDERS, MOST_OF_A_FILE = ("/usr/lib/python3", "/usr/share"), 1 << 18
+COUNTS, RUNS, LINES, WIDTH, THREADS = (1, 3, 16, 128, 2000), 3, 2000, 80, 4
 
 
-class Text:
-    """A text of words, and its first lines, as str and as bytes."""
-
-    def __init__(self, words, size, chance):
-        self.text = " ".join(chance.choices(words, k=size * 2**20 // 9))
-        self.lines = [self.text[at : at + WIDTH] for at in range(0, WIDTH * LINES, WIDTH)]
-        self.bytes, self.lines_of_bytes = self.text.encode(), [it.encode() for it in self.lines]
-
-
-def made_words(chance, count):
-    """Words of 5 to 12 small letters, all different."""
-    found = set()
-    while len(found) < count:
-        found.add("".join(chance.choices("etaoinshrdlucmfwyp", k=chance.randint(5, 12))))
-    return sorted(found)
+def files(top):
+    """The texts in a folder."""
+    for folder, folders, names in os.walk(top):
+        folders.sort()
+        for name in sorted(names):
+            try:
+                with open(os.path.join(folder, name), encoding="utf-8") as file:
+                    yield file.read(MOST_OF_A_FILE)
+            except (OSError, UnicodeDecodeError):
+                pass
 
 
-def searches(patterns):
-    """For each search its name, what counts the matches of a text, and what finds the first match of each line."""
-    searcher = Searcher([it.encode() for it in patterns])
-    yield ("find", lambda it: len(searcher.findall(it.bytes)),
-           lambda it: [searcher.find(line) for line in it.lines_of_bytes])
-    yield "find_each", None, lambda it: searcher.find_each(it.lines_of_bytes)
-    regex = re.compile("|".join(map(re.escape, patterns)).encode())
-    yield "re", lambda it: len(regex.findall(it.bytes)), lambda it: [regex.search(line) for line in it.lines_of_bytes]
+def text_of(size):
+    """A text of so many bytes in UTF-8, or a few more."""
+    parts = []
+    for top in FOLDERS:
+        left = size // len(FOLDERS)
+        while left > 0:
+            for part in files(top):
+                parts.append(part.encode()[:left].decode(errors="ignore") + "\n")
+                left -= len(parts[-1].encode())
+                if left <= 0:
+                    break
+    return "".join(parts)
+
+
+def searches(words, ignore_case):
+    """For each search its name, what counts the matches of a text, and what finds the first match of a line."""
+    searcher = Searcher(words, Kind.LEFTMOST_LONGEST, ignore_case)
+    yield "count", searcher.count, None
+    yield "findall", lambda text: len(searcher.findall(text)), searcher.find
+    longest_first = sorted(words, key=len, reverse=True)
+    regex = re.compile("|".join(map(re.escape, longest_first)), re.ASCII | re.IGNORECASE if ignore_case else 0)
+    yield "re", lambda text: sum(1 for _ in regex.finditer(text)), regex.search
     if ahocorasick:
         automaton = ahocorasick.Automaton()
-        for i, pattern in enumerate(patterns):
-            automaton.add_word(pattern, i)
+        for i, word in enumerate(words):
+            automaton.add_word(word.lower() if ignore_case else word, i)
         automaton.make_automaton()
-        # (as built by Debian it searches str, and the longest match is the one that it takes)
-        yield ("ahocorasick", lambda it: sum(1 for _ in automaton.iter_long(it.text)),
-               lambda it: [next(automaton.iter_long(line), None) for line in it.lines])
+        folded = str.lower if ignore_case else str
+        yield ("ahocorasick", lambda text: sum(1 for _ in automaton.iter_long(folded(text))),
+               lambda line: next(automaton.iter_long(folded(line)), None))
 
 
-def seconds(call, text):
+def seconds(call, *given):
     """How long a call takes, and what it answers."""
     started = time.perf_counter()
-    answer = call(text) if call else None
+    answer = call(*given)
     return time.perf_counter() - started, answer
 
 
+def each_line(find, lines):
+    for line in lines:
+        find(line)
+
+
+def row(words, ignore_case, text, lines):
+    """Measures all searches, in turns."""
+    matches, best, best_line = 0, {}, {}
+    for _ in range(RUNS):
+        for name, count, find in searches(words, ignore_case):
+            part = len(text) >> 20 if name == "re" and len(words) > 16 else 1
+            took, found = seconds(count, text[: len(text) // part])
+            best[name] = min(took * part, best.get(name, took * part))
+            matches = found if name == "count" else matches
+            if find:
+                took, _ = seconds(each_line, find, lines)
+                best_line[name] = min(took, best_line.get(name, took))
+    cells = [f"{best[name] * 1e3:.0f}" for name in best] + [f"{it / len(lines) * 1e6:.2f}" for it in best_line.values()]
+    print(f"| {len(words)} | {'ignored' if ignore_case else 'kept'} | {matches} | {' | '.join(cells)} |", flush=True)
+
+
+def threads(words, text):
+    """Measures `count` of pieces of a text, with one thread and with some."""
+    searcher, size = Searcher(words), len(text) // (4 * THREADS) + 1
+    parts, best = [text[at : at + size] for at in range(0, len(text), size)], {}
+    for _ in range(RUNS):
+        for count in (1, THREADS):
+            with ThreadPoolExecutor(count) as pool:
+                took, _ = seconds(lambda: list(pool.map(searcher.count, parts)))
+            best[count] = min(took, best.get(count, took))
+    print(f"{len(words)} words, `count` with 1 thread {best[1] * 1e3:.0f} ms, with {THREADS} {best[THREADS] * 1e3:.0f} ms: "
+          f"{best[1] / best[THREADS]:.1f} times as fast", flush=True)
+
+
 def main():
-    chance, size = random.Random(1), int(sys.argv[1]) if len(sys.argv) > 1 else 8
-    words = made_words(chance, 4000)
-    text = Text(words, size, chance)
-    print("| Patterns | Search | Matches | All matches, ms | First match of a line, µs |\n|---|---|---|---|---|")
-    for count in (3, 16, 128):
-        # half of them words of the text
-        patterns = chance.sample(words, count // 2) + [f"{it}q" for it in chance.sample(words, count - count // 2)]
-        rows = {}
-        for _ in range(RUNS):
-            for name, all_of, first_of in searches(patterns):
-                whole, matches = seconds(all_of, text)
-                each, _ = seconds(first_of, text)
-                before = rows.get(name, (matches, whole, each))
-                rows[name] = matches, min(before[1], whole), min(before[2], each)
-        for name, (matches, whole, each) in rows.items():
-            cells = ("", "") if matches is None else (matches, f"{whole * 1e3:.0f}")
-            print(f"| {count} | `{name}` | {cells[0]} | {cells[1]} | {each / LINES * 1e6:.1f} |")
+    for size in map(int, sys.argv[1:] or ["8", "64"]):
+        text = text_of(size << 20)
+        often = collections.Counter(re.findall(r"[A-Za-z]{4,}", text)).most_common(max(COUNTS))
+        lines = [text[at : at + WIDTH] for at in range(0, WIDTH * LINES, WIDTH)]
+        print(f"\n{size} MiB, {len(text)} characters\n")
+        other = ["`re`", "`ahocorasick`"] if ahocorasick else ["`re`"]
+        heads = ["Words", "Case", "Matches", "`count`", "`findall`", *other, "`find`, a line", *other]
+        print(f"| {' | '.join(heads)} |\n{len(heads) * '|---'}|")
+        for count in COUNTS:
+            for ignore_case in (False, True):
+                row([word for word, _ in often[:count]], ignore_case, text, lines)
+        print()
+        for count in COUNTS:
+            threads([word for word, _ in often[:count]], text)
 
 
 if __name__ == "__main__":

@@ -1,253 +1,323 @@
-"""Search for several literals at once, in bytes, by a library whose every function is proved.
+"""Search for several literals at once, in str and in bytes, by a library whose every function is proved.
 
->>> searcher = Searcher([b"apple", b"maple", b"Snapple"])
->>> searcher.find(b"Nobody likes maple in their apple flavored Snapple.")
+>>> searcher = Searcher(["apple", "maple", "Snapple"])
+>>> searcher.find("Nobody likes maple in their apple flavored Snapple.")
 Match(pattern=1, start=13, end=18)
->>> searcher.sub(b"***", b"maple and apple")
-b'*** and ***'
+>>> searcher.sub("***", "maple and apple")
+'*** and ***'
 
-It takes what Python lends as bytes, without a copy: bytes, bytearray, memoryview, mmap, array. Text of type str has to
-be encoded first. Every offset counts bytes.
+A searcher whose patterns are str takes texts of type str, and every offset counts characters. One whose patterns are
+bytes takes what Python lends as bytes, without a copy, as bytes, bytearray, memoryview, mmap and array; every offset
+counts bytes, whatever the items are.
 """
-import ctypes
-import enum
 import operator
-from contextlib import closing
-from typing import Any, Callable, Generator, Iterable, Iterator, List, NamedTuple, NoReturn, Optional, Sequence, Tuple
-from typing import Union
+import os
+import secrets
+import struct
+import zlib
+from contextlib import suppress
+from itertools import accumulate, islice
+from typing import TYPE_CHECKING, Any, AnyStr, Callable, Iterable, List, Optional, Sequence, Tuple, Type, TypeVar, Union
+from typing import cast, overload
 
-from . import _library
-from ._library import LiteralAnswer, LiteralMatch, LiteralPage, Lent
+from ._native import Search, __version__
+from ._types import Kind, Match
 
-__all__ = ["Kind", "Match", "Searcher"]
+if TYPE_CHECKING:
+    from _typeshed import ReadableBuffer, StrPath
 
-# What lends its bytes: bytes, bytearray, memoryview, mmap and others (before Python 3.12 there is no name for it).
-Buffer = Any
+__all__ = ["Kind", "Match", "Searcher", "__version__"]
 
-_library_for_c = _library.load()
+_Any = TypeVar("_Any", bound="Searcher[Any]")
+_Replacement = Union[AnyStr, Sequence[AnyStr], Callable[[Match], AnyStr]]
 
-# Room for so many matches in the first page of an iteration, and at most so many in the later ones.
-_FIRST_PAGE, _LARGEST_PAGE = 32, 4096
-
-
-class Kind(enum.IntEnum):
-    """Which of the patterns that match at one place is taken."""
-
-    #: the one that stands first in the list
-    LEFTMOST_FIRST = 0
-    #: the longest, and of several equally long ones the one that stands first in the list
-    LEFTMOST_LONGEST = 1
-
-
-class Match(NamedTuple):
-    """A match: the number of its pattern, and the offsets of its first byte and behind its last byte."""
-
-    pattern: int
-    start: int
-    end: int
-
-    def span(self) -> Tuple[int, int]:
-        """Both offsets.
-
-        >>> Match(0, 2, 5).span()
-        (2, 5)
-        """
-        return self.start, self.end
+# A file of a searcher: these words first, the kind, whether case is ignored, whether the patterns are str, how many
+# they are, and how many bytes they and the prepared search have; then the ends of the patterns, the patterns, and the
+# prepared search; and at the end a sum of all that.
+_HEAD, _MAGIC, _SUM = struct.Struct("=8s6Q"), b"LITERAL1", struct.Struct("=L")
 
 
-class Searcher:
-    """Searches for any number of patterns, none of them empty. Without a pattern it finds nothing.
+class Searcher(Search[AnyStr]):
+    """Searches for any number of patterns, none of them empty. Without a pattern it finds nothing, in any text.
 
-    With `ignore_case` A to Z are the same as a to z, and other bytes are themselves. A searcher never changes, so
-    threads may share one; while the library searches, other threads run. Each call builds its search anew, so give
-    many short texts to `find_each` at once.
+    With `ignore_case` A to Z are the same as a to z, in a str too; all other characters are themselves. A searcher
+    never changes, so threads may share one. In a long text, the other threads of Python run while the library searches,
+    and signals are looked for. Until a call returns its text can be neither resized nor closed, and no other thread may
+    write into it.
 
-    Raises ValueError if there is no search for the patterns.
+    Raises ValueError if a pattern is empty or has a lone surrogate, MemoryError, and OverflowError if the table of the
+    search would have 2^31 places.
 
     >>> Searcher([b"ab", b"abcd"], Kind.LEFTMOST_LONGEST).find(b"xabcd")
     Match(pattern=1, start=1, end=5)
-    >>> Searcher([b"secret"], ignore_case=True).is_match(b"My Secret.")
+    >>> Searcher(["secret"], ignore_case=True).is_match("My Secret.")
     True
-    >>> Searcher([b""])
+    >>> [it.span() for it in Searcher(["ab", "ba"]).finditer("äbabaab")]
+    [(1, 3), (3, 5), (5, 7)]
+    >>> Searcher([b"a"]).count(bytearray(b"banana"), 2, -1)
+    1
+    >>> Searcher([""])
     Traceback (most recent call last):
     ...
     ValueError: no search for these patterns: one of them is empty
     """
 
-    __slots__ = ("_patterns", "_how")
+    __slots__ = ("__weakref__",)
 
-    def __init__(self, patterns: Iterable[Buffer], kind: Kind = Kind.LEFTMOST_FIRST, ignore_case: bool = False) -> None:
+    @overload
+    def __init__(
+        self: "Searcher[str]", patterns: Iterable[str], kind: Kind = Kind.LEFTMOST_FIRST, ignore_case: bool = False
+    ) -> None: ...
+
+    @overload
+    def __init__(
+        self: "Searcher[bytes]",
+        patterns: "Iterable[ReadableBuffer]",
+        kind: Kind = Kind.LEFTMOST_FIRST,
+        ignore_case: bool = False,
+    ) -> None: ...
+
+    def __init__(
+        self, patterns: Iterable[Any], kind: Kind = Kind.LEFTMOST_FIRST, ignore_case: bool = False
+    ) -> None:
         if isinstance(kind, bool):  # (else it would be taken for the number of a kind)
             raise TypeError("the kind is a Kind, not a bool")
-        self._patterns = tuple(_list_of_bytes(patterns))
-        buffer, ends = _joined(self._patterns)
-        pieces = (buffer or b"\0", len(buffer), ends, len(self._patterns))
-        self._how = (int(Kind(kind)), bool(ignore_case), *pieces)
-        _check(_library_for_c.literal_can_search(*pieces))
-
-    @property
-    def patterns(self) -> Tuple[bytes, ...]:
-        """The patterns, as bytes."""
-        return self._patterns
+        given: Tuple[Any, ...] = tuple(it if isinstance(it, str) else _bytes_of(it) for it in _many(patterns))
+        if len({isinstance(it, str) for it in given}) > 1:
+            raise TypeError("the patterns are partly str and partly bytes")
+        self._prepare(given, tuple(map(_encoded, given)), int(Kind(kind)), bool(ignore_case), None)
 
     @property
     def kind(self) -> Kind:
         """Which of the patterns that match at one place is taken."""
-        return Kind(self._how[0])
+        return Kind(self._kind)
 
-    @property
-    def ignore_case(self) -> bool:
-        """Whether A to Z are the same as a to z."""
-        return self._how[1]
+    @overload
+    def find_each(self: "Searcher[str]", texts: Iterable[str]) -> List[Optional[Match]]: ...
 
-    def find(self, text: Buffer, start: int = 0, end: Optional[int] = None) -> Optional[Match]:
-        """The leftmost match in text[start:end], or None. Its offsets are in the whole text.
+    @overload
+    def find_each(self: "Searcher[bytes]", texts: "Iterable[ReadableBuffer]") -> List[Optional[Match]]: ...
 
-        >>> Searcher([b"ab"]).find(b"abxab", 1)
-        Match(pattern=0, start=3, end=5)
-        """
-        with Lent(text) as lent:
-            start, end = _bounds(lent.len, start, end)
-            found = LiteralMatch()
-            status = _library_for_c.literal_find(*self._how, lent.address, lent.len, start, end, found)
-        if status == _library.NONE:
-            return None
-        _check(status)
-        return _match(found)
+    def find_each(self, texts: Iterable[Any]) -> List[Optional[Match]]:
+        """The leftmost match of each text, or None. Offsets are in the text of the match.
 
-    def is_match(self, text: Buffer, start: int = 0, end: Optional[int] = None) -> bool:
-        """Whether a pattern occurs in text[start:end]."""
-        return self.find(text, start, end) is not None
-
-    def finditer(self, text: Buffer, start: int = 0, end: Optional[int] = None) -> Iterator[Match]:
-        """All matches in text[start:end], from the left, none of which overlaps another. As long as the iteration is
-        not at its end, the text can be neither resized nor closed.
-
-        >>> [it.span() for it in Searcher([b"ab", b"ba"]).finditer(b"abaab")]
-        [(0, 2), (3, 5)]
-        """
-        return self._matches(Lent(text), start, end)
-
-    def _matches(self, text: Lent, start: int, end: Optional[int]) -> Generator[Match, None, None]:
-        with text as lent:
-            start, end = _bounds(lent.len, start, end)
-            page, room = LiteralPage(0, start, 0), _FIRST_PAGE
-            while not page.is_last:
-                found = (LiteralMatch * room)()
-                status = _library_for_c.literal_find_all(*self._how, lent.address, end, page.next, found, room, page)
-                _check(status)
-                for it in found[: page.written]:
-                    yield _match(it)
-                room = min(4 * room, _LARGEST_PAGE)
-
-    def findall(self, text: Buffer, start: int = 0, end: Optional[int] = None) -> List[Match]:
-        """The list of what `finditer` gives.
-
-        >>> len(Searcher([b"a"]).findall(bytearray(b"banana")))
-        3
-        """
-        return list(self.finditer(text, start, end))
-
-    def find_each(self, texts: Iterable[Buffer]) -> List[Optional[Match]]:
-        """The leftmost match of each text, or None. The texts are copied into one buffer, and the search is built once
-        for all of them. Offsets are in the text of the match.
-
-        >>> Searcher([b"ERROR", b"WARN"]).find_each([b"a WARN", b"fine", b"ERROR"])
+        >>> Searcher(["ERROR", "WARN"]).find_each(["a WARN", "fine", "ERROR"])
         [Match(pattern=1, start=2, end=6), None, Match(pattern=0, start=0, end=5)]
         """
-        pieces = _list_of_bytes(texts)
-        buffer, ends = _joined(pieces)
-        answers = (LiteralAnswer * max(len(pieces), 1))()
-        texts_of_c = (buffer or b"\0", len(buffer), ends, len(pieces))
-        _check(_library_for_c.literal_find_each(*self._how, *texts_of_c, answers, len(pieces)))
-        given = answers[: len(pieces)]
-        return [_match(it.found) if it.status == _library.OK else None for it in given]
+        find: Callable[[Any], Optional[Match]] = self.find
+        return [find(it) for it in _many(texts)]
 
-    def sub(self, replacement: Union[bytes, Callable[[Match], bytes]], text: Buffer, count: int = 0) -> bytes:
-        """The text with each match replaced: by the replacement, or by what it answers if it can be called. If `count`
-        is not 0, at most so many matches are replaced, from the left.
+    @overload
+    def findall_each(self: "Searcher[str]", texts: Iterable[str]) -> List[List[Match]]: ...
 
+    @overload
+    def findall_each(self: "Searcher[bytes]", texts: "Iterable[ReadableBuffer]") -> List[List[Match]]: ...
+
+    def findall_each(self, texts: Iterable[Any]) -> List[List[Match]]:
+        """All matches of each text, as `findall` lists them.
+
+        >>> Searcher(["a"]).findall_each(["b", "ab"])
+        [[], [Match(pattern=0, start=0, end=1)]]
+        """
+        findall: Callable[[Any], List[Match]] = self.findall
+        return [findall(it) for it in _many(texts)]
+
+    @overload
+    def split(self: "Searcher[str]", text: str, maxsplit: int = 0) -> List[str]: ...
+
+    @overload
+    def split(self: "Searcher[bytes]", text: "ReadableBuffer", maxsplit: int = 0) -> List[bytes]: ...
+
+    def split(self, text: Any, maxsplit: int = 0) -> List[Any]:
+        """What stands before, between and behind the matches. If `maxsplit` is not 0, the text is split at so many
+        matches at most, from the left.
+
+        >>> Searcher([", ", ";"]).split("a, b;c")
+        ['a', 'b', 'c']
+        """
+        most, whole = _most(maxsplit, "maxsplit"), self._own(text)
+        parts: List[Any] = []
+        at = 0
+        for match in islice(self.finditer(whole), most):
+            parts.append(whole[at : match.start])
+            at = match.end
+        return [*parts, whole[at:]]
+
+    @overload
+    def sub(self: "Searcher[str]", replacement: _Replacement[str], text: str, count: int = 0) -> str: ...
+
+    @overload
+    def sub(
+        self: "Searcher[bytes]", replacement: _Replacement[bytes], text: "ReadableBuffer", count: int = 0
+    ) -> bytes: ...
+
+    def sub(self, replacement: Any, text: Any, count: int = 0) -> Any:
+        """The text with each match replaced: by the replacement, by the one of a list that has the pattern's number, or
+        by what a function answers that is given the match. If `count` is not 0, at most so many matches are replaced,
+        from the left. What a function does to the text meanwhile changes nothing in the answer.
+
+        >>> Searcher(["cat", "dog"]).sub(["dog", "cat"], "dog and cat")
+        'cat and dog'
         >>> Searcher([b"cat", b"dog"]).sub(lambda it: b"<%d>" % it.pattern, b"dog and cat")
         b'<1> and <0>'
         """
-        count = operator.index(count)
-        if count < 0:
-            raise ValueError("count is negative")
-        if isinstance(replacement, str):
-            raise TypeError("the replacement is bytes, and not str: encode it first, as by replacement.encode()")
-        with_what = replacement if callable(replacement) else lambda _: replacement
-        parts, at = [], 0
-        lent = Lent(text)  # (which refuses text of type str)
-        with memoryview(text).cast("B") as view, closing(self._matches(lent, 0, None)) as matches:
-            for done, found in enumerate(matches, 1):
-                parts += [view[at : found.start].tobytes(), with_what(found)]
-                at = found.end
-                if done == count:
-                    break
-            return b"".join([*parts, view[at:].tobytes()])
+        return self._replaced(replacement, text, count)[0]
+
+    @overload
+    def subn(self: "Searcher[str]", replacement: _Replacement[str], text: str, count: int = 0) -> Tuple[str, int]: ...
+
+    @overload
+    def subn(
+        self: "Searcher[bytes]", replacement: _Replacement[bytes], text: "ReadableBuffer", count: int = 0
+    ) -> Tuple[bytes, int]: ...
+
+    def subn(self, replacement: Any, text: Any, count: int = 0) -> Tuple[Any, int]:
+        """What `sub` answers, and how many matches were replaced.
+
+        >>> Searcher(["a"]).subn("o", "banana", 2)
+        ('bonona', 2)
+        """
+        return self._replaced(replacement, text, count)
+
+    def _replaced(self, replacement: Any, text: Any, count: int) -> Tuple[Any, int]:
+        most, whole = _most(count, "count"), self._own(text)
+        chosen = self._chosen(replacement, type(whole))
+        parts: List[Any] = []
+        at = done = 0
+        for done, match in enumerate(islice(self.finditer(whole), most), 1):
+            parts += [whole[at : match.start], chosen(match)]
+            at = match.end
+        return whole[:0].join([*parts, whole[at:]]), done
+
+    def _chosen(self, replacement: Any, wanted: Type[Any]) -> Callable[[Match], Any]:
+        """What answers the replacement of a match, of the type of the text."""
+        if callable(replacement):
+            return lambda match: _of_type(replacement(match), wanted)
+        if not isinstance(replacement, (list, tuple)):
+            one = _of_type(replacement, wanted)
+            return lambda match: one
+        if len(replacement) != len(self.patterns):
+            raise ValueError(f"there are {len(replacement)} replacements for {len(self.patterns)} patterns")
+        many = [_of_type(it, wanted) for it in replacement]
+        return lambda match: many[match.pattern]
+
+    def save(self, path: "StrPath") -> None:
+        """Writes the searcher into a file, ready to search. A file of this name is replaced when all is written."""
+        whole, name = _written(self), os.fsdecode(path)
+        part = f"{name}.{secrets.token_hex(4)}"
+        try:
+            with open(part, "xb") as file:
+                file.write(whole + _SUM.pack(zlib.crc32(whole)))
+            os.replace(part, name)
+        except BaseException:
+            with suppress(FileNotFoundError):
+                os.unlink(part)
+            raise
+
+    @classmethod
+    def load(cls: Type[_Any], path: "StrPath") -> _Any:
+        """The searcher that `save` wrote into a file, without building its search again. What happens to a file by
+        accident is noticed; one that somebody forged may answer wrongly, and does nothing worse.
+
+        Raises ValueError if the file is damaged, or was written by another version or machine.
+        """
+        with open(path, "rb") as file:
+            read = _read(file.read())
+        if read is None:
+            raise ValueError(f"{os.fspath(path)!r} is not a file that Searcher.save wrote, or it is damaged")
+        made = cls.__new__(cls)
+        made._prepare(*read)
+        return made
 
     def __eq__(self, other: object) -> bool:
-        return isinstance(other, Searcher) and self.__reduce__()[1] == other.__reduce__()[1]
+        if not isinstance(other, Searcher):
+            return NotImplemented
+        return bool(self._key() == other._key())
 
     def __hash__(self) -> int:
-        return hash(self.__reduce__()[1])
+        return hash(self._key())
+
+    def _key(self) -> Tuple[Tuple[AnyStr, ...], Kind, bool]:
+        return self.patterns, self.kind, self.ignore_case
 
     def __repr__(self) -> str:
-        return f"Searcher({list(self.patterns)!r}, Kind.{self.kind.name}, ignore_case={self.ignore_case})"
+        name = type(self).__qualname__
+        return f"{name}({list(self.patterns)!r}, Kind.{self.kind.name}, ignore_case={self.ignore_case})"
 
-    def __reduce__(self):
-        return type(self), (self.patterns, self.kind, self.ignore_case)
+    def __reduce__(self) -> Tuple[Any, ...]:
+        # (the __init__ of a subclass may take something else)
+        state = getattr(self, "__getstate__", lambda: getattr(self, "__dict__", None))  # (Python 3.10 has no such method)
+        return _made, (type(self), *self._key()), state()
 
 
-def _bytes_of(of: Buffer) -> bytes:
-    """The bytes of a pattern or of one of many texts, copied unless they are of type bytes."""
+def _made(cls: Type[_Any], patterns: Iterable[Any], kind: Kind, ignore_case: bool) -> _Any:
+    """A searcher of a class, whose own __init__ is not called: for pickle and copy."""
+    made = cls.__new__(cls)
+    Searcher.__init__(made, patterns, kind, ignore_case)
+    return made
+
+
+def _written(searcher: "Searcher[Any]") -> bytes:
+    """The file of a searcher, but for its sum."""
+    pieces = [_encoded(it) for it in searcher.patterns]
+    is_str, ends = any(isinstance(it, str) for it in searcher.patterns), list(accumulate(map(len, pieces)))
+    size, kept = sum(map(len, pieces)), searcher._prepared
+    head = _HEAD.pack(_MAGIC, searcher.kind, searcher.ignore_case, is_str, len(pieces), size, len(kept))
+    return b"".join([head, struct.pack(f"={len(ends)}Q", *ends), *pieces, kept])
+
+
+def _read(whole: bytes) -> Optional[Tuple[Any, ...]]:
+    """What `_prepare` takes, of the file that holds it."""
+    if len(whole) < _HEAD.size + _SUM.size or _SUM.pack(zlib.crc32(whole[: -_SUM.size])) != whole[-_SUM.size :]:
+        return None
+    magic, kind, ignore_case, is_str, count, size, prepared = _HEAD.unpack_from(whole)
+    behind_ends = _HEAD.size + 8 * count
+    if magic != _MAGIC or len(whole) != behind_ends + size + prepared + _SUM.size:
+        return None
+    ends = struct.unpack_from(f"={count}Q", whole, _HEAD.size)
+    buffer = whole[behind_ends : behind_ends + size]
+    pieces = tuple(buffer[start:end] for start, end in zip((0, *ends), ends))
+    patterns = tuple(it.decode() for it in pieces) if is_str else pieces
+    return patterns, pieces, kind, bool(ignore_case), whole[behind_ends + size : -_SUM.size]
+
+
+def _bytes_of(of: Any) -> bytes:
+    """The bytes of a pattern."""
     if type(of) is bytes:
         return of
-    if isinstance(of, (str, int)):
-        raise TypeError(f"bytes are wanted, and not {type(of).__name__}: encode text first, as by text.encode()")
+    if isinstance(of, int):
+        raise TypeError("a pattern is a str or lends its bytes, not a number")
     return bytes(memoryview(of))
 
 
-def _list_of_bytes(pieces: Iterable[Buffer]) -> List[bytes]:
-    """The bytes of each piece. One text is refused: its pieces would be its single bytes."""
+def _encoded(pattern: Union[str, bytes]) -> bytes:
+    """The bytes by which a pattern is searched for."""
     try:
-        memoryview(pieces).release()  # type: ignore
+        return pattern.encode() if isinstance(pattern, str) else pattern
+    except UnicodeEncodeError:
+        raise ValueError(f"the pattern {pattern!r} has a lone surrogate, which is no character") from None
+
+
+def _many(of: Iterable[Any]) -> Iterable[Any]:
+    """Patterns or texts. One text is refused: it would be taken for its characters."""
+    try:
+        memoryview(cast(Any, of)).release()
     except TypeError:
-        if not isinstance(pieces, str):
-            return [_bytes_of(it) for it in pieces]
-    raise TypeError(f"a list of bytes is wanted, not one text of type {type(pieces).__name__}")
+        if not isinstance(of, str):
+            return of
+    raise TypeError(f"a list of texts is wanted, not one text of type {type(of).__name__}")
 
 
-def _joined(pieces: Sequence[bytes]) -> Tuple[bytes, ctypes.Array]:
-    """The pieces in one buffer, and where each ends there."""
-    ends, end = (ctypes.c_size_t * max(len(pieces), 1))(), 0
-    for i, piece in enumerate(pieces):
-        end += len(piece)
-        ends[i] = end
-    return b"".join(pieces), ends
+def _most(count: int, name: str) -> Optional[int]:
+    """How many matches are wanted at most. By 0 all are."""
+    count = operator.index(count)
+    if count < 0:
+        raise ValueError(f"{name} is negative")
+    return count or None
 
 
-def _bounds(length: int, start: int, end: Optional[int]) -> Tuple[int, int]:
-    """Where text[start:end] begins and ends."""
-    start, end, _ = slice(start, end).indices(length)
-    return start, max(start, end)
-
-
-def _match(found: LiteralMatch) -> Match:
-    return Match(found.pattern, found.start, found.end)
-
-
-def _check(status: int) -> None:
-    """Raises what a status other than success stands for."""
-    if status != _library.OK:
-        _refuse(status)
-
-
-def _refuse(status: int) -> NoReturn:
-    if status == _library.NO_SEARCHER:
-        raise ValueError("no search for these patterns: one of them is empty")
-    if status == _library.OUT_OF_MEMORY:
-        raise MemoryError("no memory for a search")
-    if status == _library.TOO_LARGE:
-        raise OverflowError("the table of a search for these patterns would be too large")
-    raise RuntimeError(f"the library answers the status {status}")  # (none of the calls above can)
+def _of_type(replacement: Any, wanted: Type[Any]) -> Any:
+    """A replacement, if it has the type of the text."""
+    if isinstance(replacement, str) != issubclass(wanted, str):
+        raise TypeError(f"a replacement is {wanted.__name__} as the text is, not {type(replacement).__name__}")
+    return replacement if isinstance(replacement, str) else _bytes_of(replacement)

@@ -1,8 +1,10 @@
-"""A plain search in Python, by the definition of a match, for the tests to compare with."""
+"""A plain search in Python, by the definition of a match, for the tests to compare with: of bytes, or of str."""
 
 
 def _folded(text, ignore_case):
-    return text.lower() if ignore_case else text
+    if not ignore_case:
+        return text
+    return "".join(it.lower() if it.isascii() else it for it in text) if isinstance(text, str) else text.lower()
 
 
 def find(patterns, longest, ignore_case, text, start, end):

@@ -16,6 +16,7 @@ pub mod Iterations
 pub mod Links
 pub mod Lists
 pub mod Overlapping
+pub mod Places
 pub mod Prepared
 pub mod Recognised
 pub mod Standard

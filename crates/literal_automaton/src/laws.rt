@@ -1,12 +1,14 @@
 //! What follows from the definitions, for callers: call a law where its fact is needed.
-ghost use Rattle.std.specs.Prelude.{◌≡◌, ℕ, List, length, IsNone, Option, None};
+ghost use Rattle.std.specs.Prelude.{◌≡◌, ◌≤◌, ℕ, Bool, List, length, take, IsNone, Option, None};
 ghost use Rattle.std.specs.Iterator.{Yields};
 ghost use Rattle.literal_base.specs.declared.search.Span.{Span};
 ghost use Rattle.literal_base.specs.Greedy.{IsGreedy};
 ghost use Rattle.literal_base.specs.MatchValue.{MatchValue};
+ghost use Rattle.literal_base.specs.Query.{Query};
 ghost use Rattle.literal_automaton.specs.MatchesValue.{GivesMatch, MatchesValue};
 ghost use Rattle.literal_automaton.specs.Overlapping.{IsOverlapping, OverlappingValue};
 ghost use Rattle.literal_automaton.specs.OverlappingMatchesValue.{GivesOverlapping, OverlappingMatchesValue};
+ghost use Rattle.literal_automaton.specs.Prepared.{IsPrepared, prepared_len};
 
 /// An iterator that answers `None` stands at the end of the haystack then, and there it answers `None` and stays.
 pub fn none_is_for_good()
@@ -30,4 +32,14 @@ pub fn iterations_give_each_occurrence_once()
         → first ≡ record { search = search; haystack = haystack; span = span; end = span.start; pattern = 0 }
         → Yields GivesOverlapping first all last → GivesOverlapping last None ended
         → IsOverlapping search.patterns search.ignore_case haystack span all }
+{}
+
+/// An array begins with a prepared search if its first places do, and what it begins with stands in as many places as
+/// its numbers say, so that these may be copied.
+pub fn first_places_are_enough()
+    ensures longer { (query : Query) (ignore_case : Bool) (numbers : List ℕ) (n : ℕ)
+        → IsPrepared query ignore_case (take n numbers) → IsPrepared query ignore_case numbers }
+    ensures shorter { (query : Query) (ignore_case : Bool) (numbers : List ℕ) (n : ℕ)
+        → IsPrepared query ignore_case numbers → prepared_len numbers ≤ n
+        → IsPrepared query ignore_case (take n numbers) }
 {}

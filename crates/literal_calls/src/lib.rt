@@ -10,6 +10,7 @@
 //! | `builders` | builders, their configuration and limits, and what they build |
 //! | `rabin_karp` | rolling sums, and the search by buckets |
 //! | `prefilters` | prefilters, confirming searches, and their copies |
+//! | `prepared` | `Prepared` |
 //! | `searches` | `Search` |
 #![tactic(auto)]
 
@@ -23,6 +24,8 @@ mod paths;
 mod pattern_lists;
 #[cfg(test)]
 mod prefilters;
+#[cfg(test)]
+mod prepared;
 #[cfg(test)]
 mod rabin_karp;
 #[cfg(test)]

@@ -1,0 +1,45 @@
+"""The library for C, called by the tests through ctypes: its structs, functions and numbers, as the header has them."""
+import ctypes
+import re
+from pathlib import Path
+
+BINDINGS = Path(__file__).resolve().parent.parent
+HEADER = re.sub(r"/\*.*?\*/", "", (BINDINGS / "c/literal_prefilters.h").read_text("utf-8"), flags=re.S)
+TYPES = {
+    "uint32_t": ctypes.c_uint32,
+    "int32_t": ctypes.c_int32,
+    "size_t": ctypes.c_size_t,
+    "bool": ctypes.c_bool,
+    "const uint8_t *": ctypes.c_void_p,
+}
+NUMBERS = {it[0]: int(it[1]) for it in re.findall(r"#define LITERAL_(\w+) ([0-9]+)", HEADER)}
+
+
+def declared(text):
+    """The types and names of parameters or fields, as C declares them."""
+    found = [re.fullmatch(r"(.*?)\s*(\w+)", " ".join(it.split())) for it in re.split("[,;]", text) if it.strip()]
+    return [(it[1], it[2]) for it in found]
+
+
+STRUCTS = {it[1]: declared(it[0]) for it in re.findall(r"struct \w+ \{(.*?)\} (\w+);", HEADER, re.S)}
+FUNCTIONS = {it[1]: (it[0], declared(it[2])) for it in re.findall(r"(\w+) (literal_\w+)\(([^)]*)\);", HEADER)}
+
+
+def type_of(declared_type):
+    """The type of ctypes for one of C."""
+    name = declared_type.removeprefix("const ").removesuffix(" *")
+    return TYPES[declared_type] if declared_type in TYPES else ctypes.POINTER(TYPES[name])
+
+
+for struct, fields in STRUCTS.items():
+    TYPES[struct] = type(struct, (ctypes.Structure,), {"_fields_": [(name, type_of(of)) for of, name in fields]})
+Match, Page, Answer = (TYPES[f"literal_{name}"] for name in ("match", "page", "answer"))
+
+
+def load():
+    """The shared library in bindings/out."""
+    library = ctypes.CDLL(str(BINDINGS / "out/libliteral_prefilters.so"))
+    for name, (result, parameters) in FUNCTIONS.items():
+        function = getattr(library, name)
+        function.argtypes, function.restype = [type_of(it) for it, _ in parameters], type_of(result)
+    return library

@@ -1,0 +1,194 @@
+"""The functions of the header themselves, by arguments of all kinds: which status they answer, and what they write."""
+import ctypes
+import os
+import random
+import unittest
+
+import library
+from library import NUMBERS, Answer, Match, Page
+
+OK, NONE, NO_SEARCHER, BAD_ARGUMENTS = (NUMBERS[it] for it in ("OK", "NONE", "NO_SEARCHER", "BAD_ARGUMENTS"))
+TOO_SHORT, DAMAGED, OUT_OF_MEMORY = (NUMBERS[it] for it in ("TOO_SHORT", "DAMAGED", "OUT_OF_MEMORY"))
+TEXT = b"Nobody likes maple in their apple flavored Snapple."
+WORDS, SPANS = [b"apple", b"maple", b"Snapple"], [(13, 18), (28, 33), (43, 50)]
+BEFORE = (7, 8, 9)
+CALLS = library.load()
+
+
+def joined(words):
+    """The words as they cross to C."""
+    ends = [sum(map(len, words[: i + 1])) for i in range(len(words))]
+    return b"".join(words), sum(map(len, words)), (ctypes.c_size_t * len(words))(*ends), len(words)
+
+
+def prepared(words, kind=0, ignore_case=False):
+    """The array of a search, and its length."""
+    needed = ctypes.c_size_t()
+    assert CALLS.literal_prepare(kind, ignore_case, *joined(words), None, 0, needed) == TOO_SHORT
+    array = (ctypes.c_uint32 * needed.value)()
+    assert CALLS.literal_prepare(kind, ignore_case, *joined(words), array, needed.value, needed) == OK
+    return array, needed.value
+
+
+def fields(struct):
+    """The values of a struct's fields."""
+    return tuple(getattr(struct, name) for name, _ in struct._fields_)
+
+
+class Statuses(unittest.TestCase):
+    def wanted(self, patterns, ends, agree):
+        """The status of a call that takes patterns, by the header's words."""
+        starts = [0, *ends]
+        if not agree or any(a > b for a, b in zip(starts, ends)) or max(starts) > len(patterns):
+            return BAD_ARGUMENTS
+        return NO_SEARCHER if any(a == b for a, b in zip(starts, ends)) else OK
+
+    def test_arguments(self):
+        chance, text = random.Random(2), b"abcabc"
+        array = prepared([b"abc"])
+        for _ in range(5000):
+            patterns = b"abcabc"[: chance.randint(0, 6)]
+            ends = [chance.choice((0, 1, 2, 3, 4, 5, 6, 7, 2**64 - 1)) for _ in range(chance.randint(0, 3))]
+            ends = sorted(ends) if chance.random() < 0.8 else ends
+            start, end = chance.choice((0, 1, 6, 7)), chance.choice((6, 6, 6, 0, 7, 2**64 - 1))
+            kind, valid = chance.choice((0, 1, 2)), start <= end <= 6
+            asked = (patterns, len(patterns), (ctypes.c_size_t * 4)(*ends), len(ends))
+            found, page, needed = Match(*BEFORE), Page(*BEFORE), ctypes.c_size_t(1)
+            room, answers, count = (Match * 2)(found, found), (Answer * 3)(), chance.choice((2, 2, 3))
+            lines = (ctypes.c_size_t * 2)(start, end)
+            case = (patterns, ends, start, end, kind)
+            self.assertEqual(CALLS.literal_can_search(*asked), self.wanted(patterns, ends, True), case)
+
+            status = CALLS.literal_find(kind, False, *asked, text, 6, start, end, found)
+            wanted = self.wanted(patterns, ends, kind < 2 and valid)
+            self.assertIn(status, (wanted, NONE) if wanted == OK else (wanted,), case)
+            self.assertTrue(status == OK or fields(found) == BEFORE, case)
+
+            status = CALLS.literal_find_all(kind, True, *asked, text, 6, start, room, 2, page)
+            self.assertEqual(status, self.wanted(patterns, ends, kind < 2 and start <= 6), case)
+            self.assertTrue(status == OK or (*fields(page), *fields(room[0])) == (*BEFORE, *BEFORE), case)
+
+            status = CALLS.literal_find_each(kind, True, *asked, text, 6, lines, 2, answers, count)
+            self.assertEqual(status, self.wanted(patterns, ends, kind < 2 and count == 2 and valid), case)
+            self.assertTrue(status == OK or not any(bytes(answers)), case)
+
+            status = CALLS.literal_prepare(kind, True, *asked, None, 0, needed)
+            wanted = self.wanted(patterns, ends, kind < 2)
+            self.assertEqual(status, TOO_SHORT if wanted == OK else wanted, case)
+            self.assertEqual(needed.value != 1, status == TOO_SHORT, case)
+
+            self.by_array(array, text, start, end, valid, count)
+
+    def by_array(self, array, text, start, end, valid, count):
+        """The same for the functions that take an array."""
+        found, page, answers, number = Match(*BEFORE), Page(*BEFORE), (Answer * 3)(), ctypes.c_size_t(7)
+        room, lines = (Match * 2)(found, found), (ctypes.c_size_t * 2)(start, end)
+        statuses = (
+            CALLS.literal_find_in(*array, text, 6, start, end, found),
+            CALLS.literal_find_all_in(*array, text, 6, start, end, room, 2, page),
+            CALLS.literal_count_in(*array, text, 6, start, end, number),
+        )
+        if valid:
+            self.assertEqual(statuses, (NONE if found.pattern == 7 else OK, OK, OK))
+            self.assertEqual((page.written, number.value), (b"abcabc"[start:end].count(b"abc"),) * 2)
+        else:
+            self.assertEqual(statuses, (BAD_ARGUMENTS,) * 3)
+            self.assertEqual((*fields(found), *fields(page), *fields(room[0]), number.value), (*BEFORE * 3, 7))
+        status = CALLS.literal_find_each_in(*array, text, 6, lines, 2, answers, count)
+        self.assertEqual(status, OK if valid and count == 2 else BAD_ARGUMENTS)
+        self.assertTrue(status == OK or not any(bytes(answers)))
+
+
+class Pages(unittest.TestCase):
+    def spans(self, call, room):
+        """What pages of some room hold, at most four of them, and the last page."""
+        found, page, spans = (Match * 5)(), Page(), []
+        for _ in range(4):
+            self.assertEqual(call(page.next, found, room, page), OK)
+            spans += [(it.start, it.end) for it in found[: page.written]]
+            if page.is_last or not room:
+                break
+        return spans, page.is_last, page.next
+
+    def test_pages(self):
+        array = prepared(WORDS)
+        for room in (0, 1, 2, 3, 4):
+            wanted = (SPANS, 1, 50) if room else ([], 0, 0)
+            by_patterns = lambda at, *lent: CALLS.literal_find_all(0, False, *joined(WORDS), TEXT, len(TEXT), at, *lent)
+            by_array = lambda at, *lent: CALLS.literal_find_all_in(*array, TEXT, len(TEXT), at, len(TEXT), *lent)
+            self.assertEqual(self.spans(by_patterns, room), wanted)
+            self.assertEqual(self.spans(by_array, room), wanted)
+
+
+class Arrays(unittest.TestCase):
+    def test_a_copy_is_whole(self):
+        array, length = prepared(WORDS, 1, True)
+        copy = (ctypes.c_uint32 * length)(*array)
+        self.assertEqual(CALLS.literal_check_prepared(copy, length), OK)
+        found = Match()
+        self.assertEqual(CALLS.literal_find_in(copy, length, b"SNAPPLE", 7, 0, 7, found), OK)
+        self.assertEqual(fields(found), (2, 0, 7))
+
+    def test_too_short(self):
+        array, length = prepared(WORDS)
+        for given in (0, 1, length // 2, length - 1):
+            room, needed = (ctypes.c_uint32 * length)(), ctypes.c_size_t()
+            self.assertEqual(CALLS.literal_prepare(0, False, *joined(WORDS), room, given, needed), TOO_SHORT)
+            self.assertEqual((needed.value, any(room)), (length, False))
+            self.assertEqual(CALLS.literal_check_prepared(array, given), DAMAGED)
+
+    def test_each_damaged_word_is_noticed(self):
+        array, length = prepared(WORDS)
+        for at in range(length):
+            array[at] ^= 1
+            self.assertEqual(CALLS.literal_check_prepared(array, length), DAMAGED, at)
+            array[at] ^= 1
+        self.assertEqual(CALLS.literal_check_prepared(array, length), OK)
+
+    def test_a_damaged_array_writes_to_lent_places_alone(self):
+        chance, (array, length) = random.Random(3), prepared(WORDS)
+        for _ in range(5000):
+            copy = (ctypes.c_uint32 * length)(*array)
+            for _ in range(chance.randint(1, 3)):
+                word = chance.choice((0, 1, 2, 255, 2**31, 2**32 - 1, chance.randrange(2**32)))
+                copy[chance.randrange(length)] = word
+            room, page, number = (Match * 5)(*[Match(*BEFORE)] * 5), Page(), ctypes.c_size_t()
+            answers, lines = (Answer * 2)(), (ctypes.c_size_t * 1)(len(TEXT))
+            given = (copy, length, TEXT, len(TEXT))
+            statuses = (
+                CALLS.literal_find_in(*given, 0, len(TEXT), room[0]),
+                CALLS.literal_find_all_in(*given, 0, len(TEXT), room, 4, page),
+                CALLS.literal_find_each_in(*given, lines, 1, answers, 1),
+                CALLS.literal_count_in(*given, 0, len(TEXT), number),
+            )
+            self.assertLessEqual(set(statuses), {OK, NONE, DAMAGED})
+            self.assertEqual((fields(room[4]), bytes(answers[1])), (BEFORE, bytes(ctypes.sizeof(Answer))))
+
+
+@unittest.skipUnless("refuse.so" in os.environ.get("LD_PRELOAD", ""), "run by bindings/test")
+class RefusedMemory(unittest.TestCase):
+    """With an allocator before the C library's that refuses all requests while the environment says so."""
+
+    def test_all_requests_refused(self):
+        process, array, asked = ctypes.CDLL(None), prepared(WORDS), (0, False, *joined(WORDS))
+        found, page, answers = Match(*BEFORE), Page(*BEFORE), (Answer * 1)(Answer(7, Match(*BEFORE)))
+        room, ends, text = (Match * 1)(found), (ctypes.c_size_t * 1)(5), (TEXT, len(TEXT))
+        lent, needed, number = (ctypes.c_uint32 * 4)(*BEFORE), ctypes.c_size_t(7), ctypes.c_size_t(7)
+        process.setenv(b"REFUSED_REQUEST", b"0", 1)
+        statuses = (
+            CALLS.literal_find(*asked, *text, 0, 5, found),
+            CALLS.literal_find_all(*asked, *text, 0, room, 1, page),
+            CALLS.literal_find_each(*asked, *text, ends, 1, answers, 1),
+            CALLS.literal_prepare(*asked, lent, 4, needed),
+            CALLS.literal_can_search(*asked[2:]),
+            CALLS.literal_check_prepared(*array),
+            CALLS.literal_count_in(*array, *text, 0, len(TEXT), number),
+        )
+        process.unsetenv(b"REFUSED_REQUEST")
+        self.assertEqual(statuses, (*4 * [OUT_OF_MEMORY], *3 * [OK]))
+        self.assertEqual([fields(it) for it in (found, room[0], answers[0].found, page)], 4 * [BEFORE])
+        self.assertEqual((answers[0].status, needed.value, tuple(lent[:3]), number.value), (7, 7, BEFORE, 3))
+
+
+if __name__ == "__main__":
+    unittest.main()

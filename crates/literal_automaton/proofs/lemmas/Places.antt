@@ -1,0 +1,93 @@
+-- The first places of an array that is prepared. For the laws.
+use Rattle.std.proofs.Common.{◌≡◌, ℕ, ◌+◌, ◌-◌, ◌<◌, ◌≤◌, Bool, List, drop, get_or, length, take}
+use Rattle.std.proofs.Common.{sym, ap, subst, ◌∙◌, arith}
+use Rattle.std.proofs.lemmas.List.{drop-take, get_or-take, length-take, take-take}
+use Rattle.std.specs.List.{slice_range}
+use Rattle.literal_base.specs.Kinds.{root_kind_of}
+use Rattle.literal_base.specs.Query.{Query}
+use Rattle.literal_automaton.specs.Inside.Classes.{AreClasses, Tells, symbols_in}
+use Rattle.literal_automaton.specs.Prepared.{HasParts, IsPrepared, IsWhole, check_of, classes_in, lengths_in}
+use Rattle.literal_automaton.specs.Prepared.{prepared_len, rows_at, rows_in, width_in}
+use Rattle.literal_automaton.specs.Table.{Recognises}
+use Rattle.std.proofs.Common.{map}
+
+-- a part of the first places is that of all
+part_of_first : (n : ℕ) (numbers : List ℕ) (from to : ℕ) → from ≤ to → to ≤ n
+    → slice_range (take n numbers) from to ≡ slice_range numbers from to
+part_of_first n numbers from to ordered inside =
+    let whole : n ≡ from + (n - from) = omega arith in
+    ap (λ m. take (to - from) (drop from (take m numbers))) whole
+    ∙ (ap (take (to - from)) (drop-take from (n - from) numbers)
+    ∙ take-take (to - from) (n - from) (drop from numbers) (omega arith))
+
+-- an array that has the same numbers as one that is prepared, as far as these go
+module _ (query : Query) (ignore_case : Bool) (old new : List ℕ)
+    (same : (k : ℕ) → k < 5 → get_or new k 0 ≡ get_or old k 0)
+    (parts : (from to : ℕ) → from ≤ to → to ≤ prepared_len old → slice_range new from to ≡ slice_range old from to)
+    (fits : prepared_len old ≤ length new)
+  where
+    rows_same : rows_at new ≡ rows_at old
+    rows_same = let is = same 3 (omega arith) in omega arith
+
+    len_same : prepared_len new ≡ prepared_len old
+    len_same = let is = same 4 (omega arith) in omega (arith, is, rows_same)
+
+    is_whole : IsWhole old → IsWhole new
+    is_whole whole = record {
+      parts = record {
+        version = same 0 (omega arith) ∙ whole.parts.version;
+        few = let is = same 3 (omega arith) in let few = whole.parts.few in omega arith;
+        fits = omega (arith, len_same, fits);
+      };
+      check = same 1 (omega arith)
+          ∙ (whole.check
+          ∙ ap check_of
+          (sym (parts 2 (prepared_len old) (omega arith) (omega arith))
+          ∙ ap (slice_range new 2) (sym len_same)));
+    }
+
+    pub prepared_as : IsPrepared query ignore_case old → IsPrepared query ignore_case new
+    prepared_as prepared =
+        let classes_same : classes_in new ≡ classes_in old = parts 5 261 (omega arith) (omega arith) in
+        let width_same : width_in new ≡ width_in old = same 2 (omega arith) in
+        let lengths_same : lengths_in new ≡ lengths_in old =
+        ap (slice_range new 261) rows_same ∙ parts 261 (rows_at old) (omega arith) (omega arith) in
+        let rows_are : rows_in new ≡ rows_in old =
+        ap (λ from. slice_range new from (prepared_len new)) rows_same
+        ∙ (ap (slice_range new (rows_at old)) len_same
+        ∙ parts (rows_at old) (prepared_len old) (omega arith) (omega arith)) in
+        record {
+          whole = is_whole prepared.whole;
+          classes = subst (λ (w : ℕ). AreClasses (classes_in new) w) (sym width_same)
+              (subst (λ (c : List ℕ). AreClasses c (width_in old)) (sym classes_same) prepared.classes);
+          tells = subst (λ (c : List ℕ). Tells ignore_case c query.patterns) (sym classes_same) prepared.tells;
+          lengths = lengths_same ∙ prepared.lengths;
+          recognises = subst (λ (c : List ℕ). Recognises (root_kind_of query.kind)
+              (map (symbols_in c) query.patterns) (width_in new) (rows_in new)) (sym classes_same)
+              (subst (λ (w : ℕ). Recognises (root_kind_of query.kind)
+              (map (symbols_in (classes_in old)) query.patterns) w (rows_in new)) (sym width_same)
+              (subst (λ (r : List ℕ). Recognises (root_kind_of query.kind)
+              (map (symbols_in (classes_in old)) query.patterns) (width_in old) r) (sym rows_are)
+              prepared.recognises));
+          kept = prepared.kept;
+        }
+
+module _ (query : Query) (ignore_case : Bool) (numbers : List ℕ) (n : ℕ) where
+  -- what is prepared in the first places is so in all
+  pub longer : IsPrepared query ignore_case (take n numbers) → IsPrepared query ignore_case numbers
+  longer prepared =
+      let fits = prepared.whole.parts.fits in
+      let long = length-take n numbers in
+      prepared_as query ignore_case (take n numbers) numbers
+      (λ k below. sym (get_or-take n numbers k 0 (omega arith)))
+      (λ from to ordered inside. sym (part_of_first n numbers from to ordered (omega arith)))
+      (omega arith) prepared
+
+  -- and in as many places as it takes
+  pub shorter : IsPrepared query ignore_case numbers → prepared_len numbers ≤ n
+      → IsPrepared query ignore_case (take n numbers)
+  shorter prepared enough =
+      let fits = prepared.whole.parts.fits in
+      let long = length-take n numbers in
+      prepared_as query ignore_case numbers (take n numbers) (λ k below. get_or-take n numbers k 0 (omega arith))
+      (λ from to ordered inside. part_of_first n numbers from to ordered (omega arith)) (omega arith) prepared

@@ -1,0 +1,47 @@
+//! `Prepared`, a search by an array that is lent.
+use literal_base::count::Tally;
+use literal_search::{Match, MatchKind, PrepareError, Prepared, Search, Span};
+use std::alloc::Global;
+use std::process::Abort;
+use std::test::Fail;
+
+/// The search for two words with case ignored, in an array that it fills.
+fn filled(alloc: Global) -> Result<Vec<u32>, Fail> {
+    let words = [b"password".as_slice(), b"secret"];
+    let search = Search::new(alloc, MatchKind::LeftmostFirst, true, words)?;
+    let Err(PrepareError::ArrayTooShort(needed)) = search.prepare(&mut []) else {
+        return Err(Fail::from("an empty array is filled"));
+    };
+    let mut array = vec![in alloc; 0; needed]?;
+    if search.prepare(&mut array)? != needed {
+        return Err(Fail::from("another number of places is filled"));
+    }
+    Ok(array)
+}
+
+/// What all calls answer by the array, each in its own case.
+fn assert_searches(rt: &impl Abort, prepared: &Prepared<'_>) -> Result<(), Fail> {
+    let haystack = b"A SECRET, a Secret";
+    let [first, second] = [Span { start: 2, end: 8 }, Span { start: 12, end: 18 }];
+    let rest = Span { start: 3, end: 18 };
+    assert!(rt; prepared.is_whole());
+    let found = prepared.find_in(haystack, Span { start: 0, end: 18 })?;
+    assert!(rt; found == Some(Match::must(1, first)));
+    let found = prepared.find_in_counted(haystack, rest, &mut Tally::new())?;
+    assert!(rt; found == Some(Match::must(1, second)));
+    assert!(rt;
+        prepared
+            .find_in(haystack, Span { start: 3, end: 17 })?
+            .is_none()
+    );
+    Ok(())
+}
+
+#[test]
+fn finds_by_an_array(rt: HostRuntime) -> Result<(), Fail> {
+    let mut array = filled(rt.alloc())?;
+    assert_searches(&rt, &Prepared::new(&array)?)?;
+    assert!(rt; array.pop().is_some());
+    assert!(rt; Prepared::new(&array).is_err());
+    Ok(())
+}
