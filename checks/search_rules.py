@@ -34,6 +34,7 @@ PREFILTER = "crates/literal_prefilters/src/prefilter.rt"
 BYTE_TABLE = "crates/literal_prefilters/src/prefilter/byte_table.rt"
 CONFIRMING = "crates/literal_prefilters/src/prefilter/confirming.rt"
 AUTOMATON = "crates/literal_automaton/src/lib.rt"
+OVERLAPPING = "crates/literal_automaton/src/overlapping.rt"
 PREPARED = "crates/literal_automaton/src/prepared.rt"
 WALK = "crates/literal_automaton/src/walk.rt"
 
@@ -42,16 +43,22 @@ TALLY_MAKERS = {
     API: ("Builder::build", "Searcher::find_in", "Searcher::find_iter"),
     PREFILTER: ("Builder::build", "Prefilter::find_in"),
     CONFIRMING: ("ConfirmingSearch::find_in",),
-    AUTOMATON: ("Dfa::find_in", "Dfa::find_all"),
+    AUTOMATON: ("Dfa::find_in", "Dfa::find_all", "Dfa::earliest_end"),
+    OVERLAPPING: ("Overlapping::find_overlapping_in",),
     PREPARED: ("Prepared::find_in",),
 }
+
+# The functions that scan bytes of a haystack.
+SCANS = (
+    (BYTE_TABLE, "ByteTable::find"), (WALK, "last_ended"), (WALK, "last_ended_in_lent"), (WALK, "first_ended"),
+)
 
 # Where each step ticks, once in each function.
 TICKS = {
     "tick_hashed": ((RABIN_KARP, "Rolling::push"), (RABIN_KARP, "Rolling::roll")),
     "tick_entries": ((ENTRIES, "BucketEntries::entry"),),
     "tick_compared": ((PATTERN, "Patterns::matches_at"),),
-    "tick_scanned": ((BYTE_TABLE, "ByteTable::find"), (WALK, "last_ended"), (WALK, "last_ended_in_lent")),
+    "tick_scanned": SCANS,
     "tick_tried": ((CONFIRMING, "confirm"), (CONFIRMING, "confirm_by_table")),
 }
 
@@ -59,10 +66,7 @@ TICKS = {
 TRY = re.compile(r"tally\.tick_tried\(\);\s*if let Some\(\w+\) = best_at\(")
 
 # The functions that read bytes of a haystack. In `find_at` they are read as they are handed to the rolling sum.
-READERS = (
-    (PATTERN, "Patterns::matches_at"), (BYTE_TABLE, "ByteTable::find"), (WALK, "last_ended"),
-    (WALK, "last_ended_in_lent"), (WALK, "first_ended"),
-)
+READERS = ((PATTERN, "Patterns::matches_at"), *SCANS)
 HASHES = ((RABIN_KARP, "RabinKarp::find_at"),)
 
 # What parameters are called that hold bytes of patterns, one or all.

@@ -11,7 +11,7 @@ ghost use Rattle.literal_packed.specs.Lending.{CanBeTaken};
 ghost use Rattle.literal_automaton.specs.DfaValue.{BuildsDfa, CanBeKept, GivesAll, NeedFewStates};
 ghost use Rattle.literal_automaton.specs.DfaValue.{NeedTooManyStates, RefusesDfa};
 ghost use Rattle.literal_automaton.specs.DfaValue.{ScansAtMost, ScansListAtMost};
-ghost use Rattle.literal_automaton.specs.Earliest.{IsEarliestEnd};
+ghost use Rattle.literal_automaton.specs.Earliest.{IsEarliestEnd, ScansToEnd};
 ghost use Rattle.literal_automaton.specs.MatchesValue.{GivesMatch, most_to_come};
 ghost use Rattle.literal_automaton.specs.Prepared.{RefusesToPrepare, WritesPrepared};
 
@@ -256,8 +256,23 @@ impl Dfa {
         requires { IsValidSpan haystack.now span }
         ensures { IsEarliestEnd self.now.query.patterns self.now.ignore_case haystack.now span result }
     {
+        self.earliest_end_counted(haystack, span, &mut Tally::new())
+    }
+
+    /// Answers as [`Dfa::earliest_end`], and adds each byte that it looks up to a tally, as scanned: each up to that
+    /// end once, and none behind it.
+    pub fn earliest_end_counted(
+        &self,
+        haystack: &[u8],
+        span: Span,
+        tally: &mut Tally,
+    ) -> Option<usize>
+        requires { IsValidSpan haystack.now span }
+        ensures end { IsEarliestEnd self.now.query.patterns self.now.ignore_case haystack.now span result }
+        ensures scanned { ScansToEnd span result tally.old tally.new }
+    {
         let (table, width) = (&self.classes.table, self.classes.width);
-        let Some(stop) = first_ended(table, &self.rows, width, haystack, 0, span) else {
+        let Some(stop) = first_ended(table, &self.rows, width, haystack, 0, span, tally) else {
             return None;
         };
         Some(stop.end)

@@ -17,6 +17,7 @@ use crate::ends::{Lists, Recognised};
 use crate::grow::grow;
 use crate::walk::{Stop, first_ended};
 use crate::{BuildError, copies};
+use literal_base::count::Tally;
 use literal_base::search::MatchKind;
 use literal_base::{Match, Span};
 use std::alloc::Global;
@@ -139,6 +140,7 @@ impl Overlapping {
             haystack,
             span,
             standing: self.parts.before_all(haystack, span),
+            tally: Tally::new(),
         }
     }
 
@@ -167,7 +169,13 @@ struct Standing {
 
 impl Parts {
     /// Where the next occurrence ends: here, as long as the list has more, or else at the next end of a pattern.
-    fn next_end(&self, haystack: &[u8], span: Span, standing: Standing) -> Option<Standing>
+    fn next_end(
+        &self,
+        haystack: &[u8],
+        span: Span,
+        standing: Standing,
+        tally: &mut Tally,
+    ) -> Option<Standing>
         requires parts { AreParts self.now }
         requires valid { IsValidSpan haystack.now span }
         requires standing { IsStanding self.now haystack.now span standing }
@@ -189,7 +197,8 @@ impl Parts {
             end: span.end,
         };
         let (table, width) = (&self.classes.table, self.classes.width);
-        let stop = first_ended(table, &self.rows, width, haystack, standing.place, rest)?;
+        let place = standing.place;
+        let stop = first_ended(table, &self.rows, width, haystack, place, rest, tally)?;
         Some(self.standing_at(stop))
     }
 
@@ -291,6 +300,7 @@ pub struct OverlappingMatches<'s, 'h> {
     haystack: &'h [u8],
     span: Span,
     standing: Standing,
+    tally: Tally,
 }
 
 impl<'s, 'h> Model for OverlappingMatches<'s, 'h> {
@@ -314,7 +324,10 @@ impl<'s, 'h> Iterator for OverlappingMatches<'s, 'h> {
     ghost remaining = { most_overlapping };
 
     fn next(&mut self) -> Option<Match> {
-        let next_end = self.parts.next_end(self.haystack, self.span, self.standing);
+        let tally = &mut self.tally;
+        let next_end = self
+            .parts
+            .next_end(self.haystack, self.span, self.standing, tally);
         let Some(here) = next_end else {
             self.standing = self.parts.behind_all(self.haystack, self.span);
             return None;

@@ -1,9 +1,11 @@
 //! A walk through the rows of an automaton.
 ghost use Rattle.std.specs.Prelude.{◌≡◌, ◌+◌, ◌-◌, ◌<◌, ◌≤◌, ◌^◌};
 ghost use Rattle.std.specs.Prelude.{IfOk, IfSome, length};
+ghost use Rattle.std.specs.Option.{option_map};
 ghost use Rattle.std.specs.Result.{IsOkAnd};
 ghost use Rattle.literal_base.specs.Occurs.{IsValidSpan};
 ghost use Rattle.literal_automaton.specs.Inside.Classes.{AreClasses};
+ghost use Rattle.literal_automaton.specs.Earliest.{ScansToEnd};
 ghost use Rattle.literal_automaton.specs.Inside.Walk.{FindsEnd, FindsIn, IsRow, IsTable, StopsNear, text_of};
 
 use crate::prepared::Damaged;
@@ -114,6 +116,7 @@ pub fn first_ended(
     haystack: &[u8],
     from: usize,
     span: Span,
+    tally: &mut Tally,
 ) -> Option<Stop>
     requires classes { AreClasses classes.now width }
     requires table { IsTable width rows.now }
@@ -121,9 +124,11 @@ pub fn first_ended(
     requires valid { IsValidSpan haystack.now span }
     ensures first { FindsEnd width rows.now from classes.now haystack.now span result }
     ensures inside { IfSome result (λ stop. (span.start < stop.end) × (stop.end ≤ span.end)) }
+    ensures scanned { ScansToEnd span (option_map (λ stop. stop.end) result) tally.old tally.new }
 {
     let mut place = from;
     for at in span.start..span.end {
+        tally.tick_scanned();
         let code = rows[place + classes[haystack[at] as usize] as usize];
         if code < ENDS {
             place = code as usize;

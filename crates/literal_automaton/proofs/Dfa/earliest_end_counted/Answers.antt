@@ -5,10 +5,10 @@ use Rattle.literal_automaton.specs.DfaValue.{DfaValue}
 use Rattle.literal_automaton.specs.Earliest.{EndsEarliest}
 use Rattle.literal_automaton.specs.Inside.Classes.{symbols_in}
 use Rattle.literal_automaton.specs.Inside.Dfa.{patterns_in}
-use Rattle.literal_automaton.specs.Inside.Walk.{FindsEnd, IsRow, IsTable}
+use Rattle.literal_automaton.specs.Inside.Walk.{FindsEnd, IsTable}
 use Rattle.literal_automaton.proofs.lemmas.Earliest.{ends_earliest, none_earliest}
 use Rattle.literal_automaton.proofs.lemmas.Walk.{table_of}
-use Rattle.literal_automaton.proofs.Dfa.earliest_end.Goals as goal
+use Rattle.literal_automaton.proofs.Dfa.earliest_end_counted.Goals as goal
 
 pub first_ended-requires-clause-table : goal.first_ended-requires-clause-table
 first_ended-requires-clause-table c =
@@ -20,8 +20,8 @@ first_ended-requires-clause-table c =
 pub first_ended-requires-clause-row : goal.first_ended-requires-clause-row
 first_ended-requires-clause-row c = (first_ended-requires-clause-table c).some
 
-pub returns-in_default : goal.returns-in_default
-returns-in_default c =
+pub returns-in_default-clause-end : goal.returns-in_default-clause-end
+returns-in_default-clause-end c =
     let a = c.self.inside in
     subst (λ (v : DfaValue). NothingOccurs v.query.patterns v.ignore_case c.args.haystack.now c.args.span)
     c.self.view_is
@@ -30,8 +30,8 @@ returns-in_default c =
     (subst (λ (rows : List ℕ). FindsEnd a.classes.width rows 0 a.classes.table c.args.haystack.now c.args.span None)
     c.deref.ensures.value c.in_default.ensures.first))
 
-pub returns : goal.returns
-returns c =
+pub returns-clause-end : goal.returns-clause-end
+returns-clause-end c =
     let a = c.self.inside in
     let ends = c.in-Some.ensures.inside in
     subst (λ (v : DfaValue). EndsEarliest v.query.patterns v.ignore_case c.args.haystack.now c.args.span
