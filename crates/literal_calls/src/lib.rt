@@ -10,7 +10,7 @@
 //! | `builders` | builders, their configuration and limits, and what they build |
 //! | `rabin_karp` | rolling sums, and the search by buckets |
 //! | `prefilters` | prefilters, confirming searches, and their copies |
-//! | `searches` | `Search` |
+//! | `searches` | `Search`, `Overlapping` |
 #![tactic(auto)]
 
 #[cfg(test)]

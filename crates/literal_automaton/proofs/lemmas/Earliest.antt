@@ -1,12 +1,11 @@
 -- Where a match ends first, an occurrence ends first.
-use Rattle.std.proofs.Common.{◌≡◌, ℕ, ◌+◌, ◌-◌, ◌<◌, ◌≤◌, List, [], ◌∷◌, ◌++◌, length, get_or, map, take, drop, suc, zero}
-use Rattle.std.proofs.Common.{Option, Some, None, IsSome, inl, inr, refl, sym, ap, subst, ◌∙◌, arith}
+use Rattle.std.proofs.Common.{◌≡◌, ℕ, ◌+◌, ◌-◌, ◌<◌, ◌≤◌, List, [], length, get_or, map, take, drop, suc, zero}
+use Rattle.std.proofs.Common.{Option, Some, None, IsSome, inl, inr, refl, sym, ap, ◌∙◌, arith}
 use Rattle.std.proofs.lemmas.Bool.{cases_lt}
-use Rattle.literal_base.specs.declared.packed.MatchKind.{MatchKind}
 use Rattle.literal_base.specs.declared.search.Span.{Span}
 use Rattle.literal_base.specs.Kinds.{root_kind_of}
-use Rattle.literal_base.specs.Occurs.{IsValidSpan, NoneIsEmpty, NothingOccurs, Occurs, between, pattern_at}
-use Rattle.literal_automaton.specs.Earliest.{EndsEarliest, IsEarliestEnd}
+use Rattle.literal_base.specs.Occurs.{IsValidSpan, NoneIsEmpty, NothingOccurs, between, pattern_at}
+use Rattle.literal_automaton.specs.Earliest.{EndsEarliest}
 use Rattle.literal_automaton.specs.Inside.Classes.{symbols_in}
 use Rattle.literal_automaton.specs.Inside.Dfa.{IsSound, patterns_in}
 use Rattle.literal_automaton.specs.Inside.Walk.{FindsEnd, IsFirstEnd, NoneEnds, from_match, text_of}
@@ -68,7 +67,8 @@ module _ (a : Inside) (sound : IsSound a) (haystack : List ℕ) (bytes : (i : �
         (at_start (root_kind_of a.kind) words a.classes.width a.rows.items sound.recognises) in
         nothing_upto span.end valid.ordered (omega arith) none
 
-    pub ends_earliest : (stop : Stop) → FindsEnd a.classes.width a.rows.items 0 a.classes.table haystack span (Some stop)
+    pub ends_earliest : (stop : Stop)
+        → FindsEnd a.classes.width a.rows.items 0 a.classes.table haystack span (Some stop)
         → span.start < stop.end → stop.end ≤ span.end
         → EndsEarliest (patterns_in a) a.ignore_case haystack span stop.end
     ends_earliest stop finds after inside =
@@ -107,12 +107,12 @@ module _ (a : Inside) (sound : IsSound a) (haystack : List ℕ) (bytes : (i : �
                 sym found.whole,
               );
               first = λ j at other. elim (cases_lt (at + length (pattern_at (patterns_in a) j)) stop.end) [
-                    | inl sooner ↦ absurd (before j at (record {
-                        is_pattern = other.is_pattern;
-                        after_start = other.after_start;
-                        before_end = omega arith;
-                        same = other.same;
-                      }))
-                    | inr not ↦ not
-                  ];
+                | inl sooner ↦ absurd (before j at (record {
+                  is_pattern = other.is_pattern;
+                  after_start = other.after_start;
+                  before_end = omega arith;
+                  same = other.same;
+                }))
+                | inr not ↦ not
+              ];
             }

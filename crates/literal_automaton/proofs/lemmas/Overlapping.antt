@@ -21,8 +21,11 @@ module _ (m : OverlappingMatchesValue) (found : MatchValue) (next : IsNextToCome
   -- what is to come behind what is next comes behind it
   later_to_come : (other : MatchValue) → IsToCome (gone_on m (Some found)) other
       → IsToCome m other × ComesBefore found other
-  later_to_come other is = (record { occurrence = is.occurrence; after = by next.to_come.after is.after }, behind
-      is.after)
+  later_to_come other is = (
+    record { occurrence = is.occurrence; after = by next.to_come.after is.after },
+    behind
+        is.after,
+  )
     where
       by : (m.end < found.end) ⊎ ((m.end ≡ found.end) × (m.pattern ≤ found.pattern))
           → (found.end < other.end) ⊎ ((found.end ≡ other.end) × (found.pattern + 1 ≤ other.pattern))

@@ -229,7 +229,7 @@ module _ (p : Parts) (parts : AreParts p) (haystack : List â„•) (bytes : (i : â„
                         record {
                           is_pattern = one.0.is_pattern;
                           ends = ends_on text (pattern_at (texts_in p) (longest_at p stop)) _ is_first.is.ends
-                          one.0.ends;
+                              one.0.ends;
                         },
                         one.1,
                       );

@@ -5,7 +5,7 @@ use Rattle.literal_automaton.specs.DfaValue.{DfaValue}
 use Rattle.literal_automaton.specs.Earliest.{EndsEarliest}
 use Rattle.literal_automaton.specs.Inside.Classes.{symbols_in}
 use Rattle.literal_automaton.specs.Inside.Dfa.{patterns_in}
-use Rattle.literal_automaton.specs.Inside.Walk.{FindsEnd, IsRow, IsTable}
+use Rattle.literal_automaton.specs.Inside.Walk.{FindsEnd, IsTable}
 use Rattle.literal_automaton.proofs.lemmas.Earliest.{ends_earliest, none_earliest}
 use Rattle.literal_automaton.proofs.lemmas.Walk.{table_of}
 use Rattle.literal_automaton.proofs.Dfa.earliest_end.Goals as goal

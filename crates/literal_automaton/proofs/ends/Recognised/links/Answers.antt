@@ -70,8 +70,11 @@ loop-pattern-preserved c =
     let heads = c.loop-pattern.heads.items in
     let equal = c.index-equal.result.now in
     let read : equal ≡ get_or heads c.longest_end-first.result 0 = c.index-equal.ensures
-    ∙ get_or_default heads c.longest_end-first.result equal 0 (omega (arith, is.below,
-    c.loop-pattern.invariant.heads.long)) in
+    ∙ get_or_default heads c.longest_end-first.result equal 0 (omega (
+      arith,
+      is.below,
+      c.loop-pattern.invariant.heads.long,
+    )) in
     let before = subst (AreHeads texts heads) next c.loop-pattern.invariant.heads in
     let after = subst (IsNextEqual texts c.longest_end-first.result (p + 1)) (sym read)
     (before.each c.longest_end-first.result is.below is.first_is) in

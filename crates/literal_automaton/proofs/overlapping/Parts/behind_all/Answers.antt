@@ -8,5 +8,10 @@ pub returns-clause-stands : goal.returns-clause-stands
 returns-clause-stands c =
     stands_behind c.args.self.now c.requires.parts c.args.haystack.now (λ k. omega (arith, c.type_inv.haystack k))
     c.args.span c.requires.valid c.len.result
-    (omega (arith, c.len.ensures, c.args.self.now.patterns.ok.0, length-map c.args.self.now.patterns.items (λ (v :
-    Vec ℕ). v.items)))
+    (omega (
+      arith,
+      c.len.ensures,
+      c.args.self.now.patterns.ok.0,
+      length-map c.args.self.now.patterns.items (λ (v :
+          Vec ℕ). v.items),
+    ))
