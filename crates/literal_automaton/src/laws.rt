@@ -31,3 +31,9 @@ pub fn iterations_give_each_occurrence_once()
         → Yields GivesOverlapping first all last → GivesOverlapping last None ended
         → IsOverlapping search.patterns search.ignore_case haystack span all }
 {}
+
+/// An iterator over everything that occurs that answers `None` keeps doing so, and stays where it is.
+pub fn overlapping_is_over_for_good()
+    ensures { (old new newer : OverlappingMatchesValue) (answer : Option MatchValue) → GivesOverlapping old None new
+        → GivesOverlapping new answer newer → IsNone answer × (newer ≡ new) }
+{}
