@@ -1,8 +1,9 @@
 -- An automaton as contracts see it, and what it is built from.
+use Rattle.std.specs.Prelude.{◌==◌, min}
 use Rattle.std.specs.Prelude.{◌≡◌, ◌+◌, ◌-◌, ◌*◌, ◌<◌, ◌≤◌, ◌⊎◌, ℕ, Bool, List, length, Option, Some, IfSome, map}
 use Rattle.std.specs.Borrow.{Bor}
 use Rattle.std.specs.Iterator.{Drains, Yields}
-use Rattle.std.specs.List.{All}
+use Rattle.std.specs.List.{All, count_by, list_any, range_with_len}
 use Rattle.literal_base.specs.Counts.{Counts}
 use Rattle.literal_base.specs.MatchValue.{MatchValue}
 use Rattle.literal_base.specs.Occurs.{NoneIsEmpty}
@@ -11,7 +12,7 @@ use Rattle.literal_base.specs.declared.packed.MatchKind.{MatchKind}
 use Rattle.literal_base.specs.declared.search.MatchKind as search
 use Rattle.literal_base.specs.declared.search.Span.{Span}
 use Rattle.literal_ids.specs.declared.primitives.pattern_id.TheConstants.PatternID
-use Rattle.literal_automaton.specs.Inside.Classes.{AreClasses, Tells, symbols_in}
+use Rattle.literal_automaton.specs.Inside.Classes.{AreClasses, Tells, folded, symbols_in}
 use Rattle.literal_automaton.specs.States.{HasTooManyStates}
 use Rattle.literal_automaton.specs.declared.BuildError.{BuildError}
 use Rattle.literal_automaton.specs.declared.BuildError.TheVariants.{EmptyPattern, OutOfMemory, TooManyPatterns}
@@ -72,11 +73,21 @@ module _ {U T : Type 0} (becomes : U → T → Type 0) (steps : T → Option (Bo
       × (length patterns < PatternID.LIMIT))
       ⊎ ((patterns : List (List ℕ)) × GivesAll patterns)
 
+-- whether a byte is one of the patterns', once these are folded where case is ignored
+abbrev pub is_in_patterns : Bool → List (List ℕ) → ℕ → Bool
+is_in_patterns ignore_case patterns byte =
+    list_any (λ pattern. list_any (λ b. folded ignore_case b == byte) pattern) patterns
+
+-- how many classes there are: one for each such byte and one for all others, at most 256
+abbrev pub width_for : Bool → List (List ℕ) → ℕ
+width_for ignore_case patterns =
+    min (count_by (is_in_patterns ignore_case patterns) (range_with_len 0 256) + 1) 256
+
 -- what holds of the patterns' texts in some classes of bytes by which the patterns' bytes are told from others
 abbrev pub HoldsInClasses : (List (List ℕ) → ℕ → Type 0) → Bool → List (List ℕ) → Type 0
 HoldsInClasses P ignore_case patterns =
-    (classes : List ℕ) × (width : ℕ) × AreClasses classes width × Tells ignore_case classes patterns
-    × P (map (symbols_in classes) patterns) width
+    (classes : List ℕ) × AreClasses classes (width_for ignore_case patterns) × Tells ignore_case classes patterns
+    × P (map (symbols_in classes) patterns) (width_for ignore_case patterns)
 
 -- the automaton for the patterns has more states than the numbers in its rows reach
 abbrev pub NeedTooManyStates : search.MatchKind → Bool → List (List ℕ) → Type 0

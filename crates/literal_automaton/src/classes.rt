@@ -1,6 +1,9 @@
 //! Classes of bytes: numbers that tell the bytes of the patterns from each other and from all others.
 ghost use Rattle.std.specs.Prelude.{◌≡◌, ◌+◌, ◌<◌, ◌≤◌, ℕ, true, false, length, map, slice_index, slice_index_or};
-ghost use Rattle.literal_automaton.specs.Inside.Classes.{AreClasses, AreNumbers, Marks, Tells, TellsMarked, folded};
+ghost use Rattle.std.specs.Prelude.{◌⊎◌, count_by, min};
+ghost use Rattle.literal_automaton.specs.DfaValue.{width_for};
+ghost use Rattle.literal_automaton.specs.Inside.Classes.{AreClasses, AreNumbers, IsFoldOfOne, Marks, Tells};
+ghost use Rattle.literal_automaton.specs.Inside.Classes.{TellsMarked, folded};
 
 /// The class of each byte, and how many classes there are: 1 to 256.
 #[derive(Clone, Copy)]
@@ -14,6 +17,7 @@ pub struct Classes {
 pub fn classes_for(ignore_case: bool, patterns: &[Vec<u8>]) -> Classes
     ensures classes { AreClasses result.table result.width }
     ensures tells { Tells ignore_case result.table (map (λ pattern. pattern.items) patterns.now) }
+    ensures width { result.width ≡ width_for ignore_case (map (λ pattern. pattern.items) patterns.now) }
 {
     let mut seen = [false; 256];
     for pattern in patterns {
@@ -27,6 +31,8 @@ fn mark(seen: &mut [bool], ignore_case: bool, pattern: &[u8])
     requires { length seen.old ≡ 256 }
     ensures marks { Marks ignore_case seen.new pattern.now }
     ensures keeps { (b : ℕ) → slice_index_or seen.old b false ≡ true → slice_index_or seen.new b false ≡ true }
+    ensures only { (b : ℕ) → slice_index_or seen.new b false ≡ true → (slice_index_or seen.old b false ≡ true)
+        ⊎ IsFoldOfOne ignore_case pattern.now b }
 {
     for byte in pattern {
         seen[fold(ignore_case, *byte) as usize] = true;
@@ -47,7 +53,8 @@ fn fold(ignore_case: bool, byte: u8) -> u8
 /// A number for each marked byte, from 0 up, and the next one.
 fn numbers(seen: &[bool]) -> Classes
     requires { length seen.now ≡ 256 }
-    ensures { AreNumbers seen.now result.table 256 result.width }
+    ensures numbers { AreNumbers seen.now result.table 256 result.width }
+    ensures count { result.width ≡ count_by (λ is_seen. is_seen) seen.now }
 {
     let mut table = [0; 256];
     let mut next = 0;
@@ -66,6 +73,7 @@ fn folded_table(ignore_case: bool, seen: &[bool], numbers: &Classes) -> Classes
     requires numbered { AreNumbers seen.now numbers.now.table 256 numbers.now.width }
     ensures classes { AreClasses result.table result.width }
     ensures tells { TellsMarked ignore_case seen.now result.table }
+    ensures width { result.width ≡ min (numbers.now.width + 1) 256 }
 {
     let mut table = [0; 256];
     let other = numbers.width.min(255) as u8;

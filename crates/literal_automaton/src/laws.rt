@@ -43,3 +43,9 @@ pub fn first_places_are_enough()
         → IsPrepared query ignore_case numbers → prepared_len numbers ≤ n
         → IsPrepared query ignore_case (take n numbers) }
 {}
+
+/// An iterator over everything that occurs that answers `None` keeps doing so, and stays where it is.
+pub fn overlapping_is_over_for_good()
+    ensures { (old new newer : OverlappingMatchesValue) (answer : Option MatchValue) → GivesOverlapping old None new
+        → GivesOverlapping new answer newer → IsNone answer × (newer ≡ new) }
+{}

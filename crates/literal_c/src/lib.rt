@@ -188,10 +188,10 @@ pub extern "C" fn literal_find_all(
     }
 }
 
-/// Every occurrence of every pattern in the bytes of the haystack from `start` up to and not including `end`, those that
-/// overlap others too, in the order of ends and, at one end, of numbers, as many as there is room for. The page says how
-/// many were written, the end of the last of them, or `start`, and whether there are no more. The rest of the array
-/// stays as it was. The statuses are those of [`literal_find`], but [`LITERAL_NONE`]. After any status but
+/// Every occurrence of every pattern in the bytes of the haystack from `start` up to and not including `end`, those
+/// that overlap others too, in the order of ends and, at one end, of numbers, as many as there is room for. The page
+/// says how many were written, the end of the last of them, or `start`, and whether there are no more. The rest of the
+/// array stays as it was. The statuses are those of [`literal_find`], but [`LITERAL_NONE`]. After any status but
 /// [`LITERAL_OK`] what was lent is as it was.
 #[unsafe(no_mangle)]
 pub extern "C" fn literal_find_overlapping(
@@ -208,8 +208,8 @@ pub extern "C" fn literal_find_overlapping(
     ensures status { IsStatus (AreEnds (length patterns.now) 0 ends.now × IsValidSpan haystack.now (between start end))
         (pieces patterns.now 0 ends.now) result }
     ensures page { result ≡ LITERAL_OK → IsOverlappingPage
-        (all_that_occurs (overlapping_for (pieces patterns.now 0 ends.now) ignore_case) haystack.now (between start end))
-        found.old found.new page.new }
+        (all_that_occurs (overlapping_for (pieces patterns.now 0 ends.now) ignore_case) haystack.now
+        (between start end)) found.old found.new page.new }
     ensures as_before { (result ≡ LITERAL_OK) ⊎ ((found.new ≡ found.old) × (page.new ≡ page.old)) }
     ensures not_none { ¬ (result ≡ LITERAL_NONE) }
 {

@@ -11,7 +11,7 @@
 //! | `rabin_karp` | rolling sums, and the search by buckets |
 //! | `prefilters` | prefilters, confirming searches, and their copies |
 //! | `prepared` | `Prepared` |
-//! | `searches` | `Search` |
+//! | `searches` | `Search`, `Overlapping` |
 #![tactic(auto)]
 
 #[cfg(test)]

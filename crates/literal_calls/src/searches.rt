@@ -1,6 +1,6 @@
-//! `Search`.
+//! `Search` and `Overlapping`.
 use literal_base::count::Tally;
-use literal_search::{Match, MatchKind, Search, Span};
+use literal_search::{Match, MatchKind, Overlapping, Search, Span};
 use std::process::Abort;
 use std::test::Fail;
 
@@ -41,5 +41,39 @@ fn finds_all_matches(rt: HostRuntime) -> Result<(), Fail> {
             .find_in(haystack, Span { start: 3, end: 17 })
             .is_none()
     );
+    assert!(rt; search.earliest_end(haystack, whole) == Some(8));
+    Ok(())
+}
+
+#[test]
+fn example_of_overlapping(rt: HostRuntime) -> Result<(), Fail> {
+    let alloc = rt.alloc();
+    let search = Overlapping::new(alloc, false, [b"append".as_slice(), b"app", b"end"])?;
+    let mut matches = search.find_overlapping_iter(b"append");
+    let first = matches.next().ok_or("nothing is found")?;
+    assert!(rt; first.pattern().as_usize() == 1 && first.range() == (0..3));
+    Ok(())
+}
+
+/// What all calls answer of `ba` and two `a`, with case ignored.
+fn assert_overlapping(rt: &impl Abort, search: &Overlapping) {
+    let [of_ba, of_a] = [Span { start: 0, end: 2 }, Span { start: 1, end: 2 }];
+    assert!(rt; search.patterns_len() == 3);
+    let mut matches = search.find_overlapping_iter(b"bA");
+    assert!(rt; matches.next() == Some(Match::must(0, of_a)));
+    assert!(rt; matches.next() == Some(Match::must(1, of_ba)));
+    assert!(rt; matches.next() == Some(Match::must(2, of_a)));
+    assert!(rt; matches.next().is_none() && matches.next().is_none());
+    let mut within = search.find_overlapping_in(b"bA", of_a);
+    assert!(rt; within.next() == Some(Match::must(0, of_a)));
+    assert!(rt; within.next() == Some(Match::must(2, of_a)));
+    assert!(rt; within.next().is_none());
+}
+
+#[test]
+fn finds_what_overlaps(rt: HostRuntime) -> Result<(), Fail> {
+    let words = [b"a".as_slice(), b"Ba", b"A"];
+    let search = Overlapping::new(rt.alloc(), true, words)?;
+    assert_overlapping(&rt, &search);
     Ok(())
 }

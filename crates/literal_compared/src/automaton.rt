@@ -11,7 +11,7 @@ use std::process::Abort;
 use std::test::Fail;
 
 /// Patterns within others, one that stands twice, letters beside bytes that are none, and no pattern.
-static LISTS: [&[&[u8]]; 9] = [
+pub static LISTS: [&[&[u8]]; 9] = [
     &[],
     &[b"a"],
     &[b"A", b"@A", b"[a", b"a`", b"{"],
@@ -24,7 +24,7 @@ static LISTS: [&[&[u8]]; 9] = [
 ];
 
 /// A haystack of five bytes, told by the digits of its number, below 625. The last byte is an `a`.
-fn bytes_of(digits: &[u8; 5], number: usize) -> [u8; 5] {
+pub fn bytes_of(digits: &[u8; 5], number: usize) -> [u8; 5] {
     [
         digits[number % 5],
         digits[number / 5 % 5],

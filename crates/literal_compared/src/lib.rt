@@ -10,6 +10,7 @@
 //! | `exact` | exact prefilters, compared with the plain search |
 //! | `confirming` | both confirming searches, compared with the plain search |
 //! | `automaton` | the automaton, compared with the plain search |
+//! | `overlapping` | the search for everything that occurs, and the earliest end, compared with what occurs plainly |
 //! | `asking` | how often `confirm` asks its prefilter |
 //! | `running_tables` | that a builder of prefilters keeps up the tables of all patterns so far |
 //! | `chosen` | each distance that a table may have |
@@ -36,6 +37,8 @@ mod exact;
 mod large;
 #[cfg(test)]
 mod made;
+#[cfg(test)]
+mod overlapping;
 pub mod plain;
 #[cfg(test)]
 mod running_tables;

@@ -28,7 +28,7 @@ fn is_same(a: &[u8], b: &[u8], ignore_case: bool) -> bool
 }
 
 /// Whether a pattern occurs at a place of the span.
-fn occurs(
+pub fn occurs(
     patterns: &[&[u8]],
     ignore_case: bool,
     haystack: &[u8],

@@ -1,7 +1,7 @@
-//! Calls of `Search`.
+//! Calls of `Search` and `Overlapping`.
 use crate::made::{assert_place, words_with_a_table, words_without_a_table};
 use literal_base::count::Tally;
-use literal_search::{BuildError, MatchKind, Search, Span};
+use literal_search::{BuildError, MatchKind, Overlapping, Search, Span};
 use std::alloc::{AllocError, Global};
 use std::process::Abort;
 use std::test::Fail;
@@ -39,6 +39,36 @@ fn builds(rt: &impl Abort, alloc: Global, ignore_case: bool, has_table: bool) {
 fn new_of_a_search(rt: HostRuntime) {
     builds(&rt, rt.alloc(), false, false);
     builds(&rt, rt.alloc(), true, true);
+}
+
+/// A search for everything that occurs of patterns that are ends of others, and of one that stands twice.
+fn build_overlapping(alloc: Global) -> Result<Overlapping, BuildError> {
+    let words = [b"abc".as_slice(), b"c", b"bc", b"c"];
+    Overlapping::new(alloc, true, words)
+}
+
+/// It finds all that ends with a `c`.
+fn assert_overlaps(rt: &impl Abort, search: &Overlapping) {
+    let mut matches = search.find_overlapping_iter(b"aBC");
+    assert_place(rt, matches.next(), 0, (0, 3));
+    assert_place(rt, matches.next(), 1, (2, 3));
+    assert_place(rt, matches.next(), 2, (1, 3));
+    assert_place(rt, matches.next(), 3, (2, 3));
+    assert!(rt; matches.next().is_none());
+    assert!(rt; search.patterns_len() == 4);
+}
+
+#[test]
+fn new_of_overlapping(rt: HostRuntime) {
+    let search = match build_overlapping(rt.alloc()) {
+        Ok(search) => search,
+        Err(error) => {
+            assert!(rt; error == BuildError::OutOfMemory);
+            let again = build_overlapping(rt.alloc());
+            again.expect(&rt, "it was refused again")
+        }
+    };
+    assert_overlaps(&rt, &search);
 }
 
 /// Two matches, by the call that counts, which can be refused too.
@@ -88,6 +118,11 @@ fn searches_take_no_memory(rt: HostRuntime) -> Result<(), Fail> {
         assert!(rt; search.find_all(b"qq")?.is_empty());
         assert!(rt; search.find_all_counted(b"qq", tally)?.is_empty());
         assert!(rt; search.patterns_len() == 24);
+        assert!(rt;
+            search
+                .earliest_end(b"qqax", Span { start: 0, end: 4 })
+                .is_some()
+        );
     }
     Ok(())
 }

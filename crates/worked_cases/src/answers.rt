@@ -3,8 +3,8 @@ use crate::case::Case;
 use crate::refusal::Refusal;
 use crate::told::push_also;
 use crate::{
-    classes, identifiers, numbers, packed_search, pattern_lists, prefilters, searches, spans,
-    tables,
+    classes, identifiers, numbers, overlapping, packed_search, pattern_lists, prefilters, searches,
+    spans, tables,
 };
 use std::alloc::{AllocError, Global};
 
@@ -58,6 +58,9 @@ fn answer(text: &mut String, alloc: Global, case: &Case<'_>) -> Result<(), Refus
         "builder" => packed_search::builder(text, alloc, case),
         "search" => searches::search(text, alloc, case),
         "search_in" => searches::search_in(text, alloc, case),
+        "earliest_end" => searches::earliest_end(text, alloc, case),
+        "overlapping" => overlapping::overlapping(text, alloc, case),
+        "overlapping_in" => overlapping::overlapping_in(text, alloc, case),
         "confirm" => searches::confirm(text, alloc, case),
         "confirm_all" => searches::confirm_all(text, alloc, case),
         "candidate" => prefilters::candidate(text, alloc, case),

@@ -28,6 +28,7 @@ mod case;
 mod classes;
 mod identifiers;
 mod numbers;
+mod overlapping;
 mod packed_search;
 mod pattern_lists;
 mod prefilters;

@@ -1,7 +1,7 @@
 //! Answers of `Search` and of confirming searches.
 use crate::case::Case;
 use crate::refusal::Refusal;
-use crate::told::{NO_PREFILTER, push_found, push_list, push_lists, push_other, push_word};
+use crate::told::{NO_PREFILTER, NONE, push_found, push_list, push_lists, push_other, push_word};
 use literal_prefilters::Match;
 use literal_prefilters::count::Tally;
 use literal_prefilters::packed::MatchKind;
@@ -9,11 +9,11 @@ use literal_prefilters::prefilter::ConfirmingSearch;
 use literal_search::{BuildError, Search};
 use std::alloc::{AllocError, Global};
 
-/// What is answered where there is no `Search`.
-const NO_SEARCH: &str = "no-search";
+/// What is answered where there is no search.
+pub const NO_SEARCH: &str = "no-search";
 
 /// The patterns, lent.
-fn lent<'p>(alloc: Global, patterns: &'p [Vec<u8>]) -> Result<Vec<&'p [u8]>, AllocError> {
+pub fn lent<'p>(alloc: Global, patterns: &'p [Vec<u8>]) -> Result<Vec<&'p [u8]>, AllocError> {
     let mut bytes = Vec::new(alloc);
     for pattern in patterns {
         bytes.push(pattern.as_slice())?;
@@ -91,6 +91,29 @@ fn push_leftmost(
     let haystack = case.haystack(alloc)?;
     let span = case.span(haystack.as_slice())?;
     Ok(push_found(text, search.find_in(haystack.as_slice(), span))?)
+}
+
+/// The earliest end of an occurrence in a span, by a `Search`.
+pub fn earliest_end(text: &mut String, alloc: Global, case: &Case<'_>) -> Result<(), Refusal> {
+    match search_for(alloc, case)? {
+        Some(search) => push_earliest(text, alloc, case, &search),
+        None => push_word(text, NO_SEARCH),
+    }
+}
+
+/// Writes the earliest end in the span of the case.
+fn push_earliest(
+    text: &mut String,
+    alloc: Global,
+    case: &Case<'_>,
+    search: &Search,
+) -> Result<(), Refusal> {
+    let haystack = case.haystack(alloc)?;
+    let span = case.span(haystack.as_slice())?;
+    match search.earliest_end(haystack.as_slice(), span) {
+        Some(end) => Ok(write!(text, "{end}")?),
+        None => push_word(text, NONE),
+    }
 }
 
 /// The confirming search for the patterns of the case.

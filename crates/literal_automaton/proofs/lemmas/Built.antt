@@ -1,5 +1,5 @@
 -- What an automaton is built of, and why one is not built.
-use Rattle.std.proofs.Common.{◌≡◌, ◌∙◌, ℕ, List, Option, Result, Ok, Err, IfErr, ap, inr, map, refl, subst, sym}
+use Rattle.std.proofs.Common.{◌≡◌, ◌∙◌, ℕ, Bool, List, Option, Result, Ok, Err, IfErr, ap, inr, map, refl, subst, sym}
 use Rattle.std.proofs.lemmas.Simd.{map-map}
 use Rattle.std.specs.Borrow.{Bor}
 use Rattle.std.specs.Global.{Global}
@@ -8,8 +8,8 @@ use Rattle.std.specs.declared.vec.Vec.{Vec}
 use Rattle.literal_base.specs.declared.packed.MatchKind as packed
 use Rattle.literal_base.specs.declared.search.MatchKind.{MatchKind}
 use Rattle.literal_base.specs.Kinds.{root_kind_of}
-use Rattle.literal_automaton.specs.DfaValue.{GivesAll, RefusesDfa}
-use Rattle.literal_automaton.specs.Inside.Classes.{symbols_in}
+use Rattle.literal_automaton.specs.DfaValue.{GivesAll, HoldsInClasses, RefusesDfa, width_for}
+use Rattle.literal_automaton.specs.Inside.Classes.{AreClasses, Tells, symbols_in}
 use Rattle.literal_automaton.specs.Inside.Dfa.{IsErrorOf}
 use Rattle.literal_automaton.specs.declared.BuildError.{BuildError}
 use Rattle.literal_automaton.specs.declared.grow.GrowError.{GrowError}
@@ -31,6 +31,23 @@ pub holds_of : (P : MatchKind → List (List ℕ) → Type 0) (kind : packed.Mat
 holds_of P kind root classes lent patterns kind_is same holds =
     subst (λ k. P k (map (symbols_in classes) (map (λ (pattern : Vec ℕ Global). pattern.items) patterns))) kind_is
     (subst (P root) (same_texts classes lent patterns same) holds)
+
+-- what holds in the classes that were made for the patterns that were lent
+pub holds_in : (P : List (List ℕ) → ℕ → Type 0) (ignore_case : Bool) (classes : List ℕ) (width : ℕ)
+    (lent patterns : List (Vec ℕ Global)) → lent ≡ patterns → AreClasses classes width
+    → Tells ignore_case classes (map (λ (pattern : Vec ℕ Global). pattern.items) lent)
+    → width ≡ width_for ignore_case (map (λ (pattern : Vec ℕ Global). pattern.items) lent)
+    → P (map (symbols_in classes) (map (λ (pattern : Vec ℕ Global). pattern.items) patterns)) width
+    → HoldsInClasses P ignore_case (map (λ (pattern : Vec ℕ Global). pattern.items) patterns)
+holds_in P ignore_case classes width lent patterns same are tells width_is holds =
+    let lists = λ (p : List (Vec ℕ Global)). map (λ (pattern : Vec ℕ Global). pattern.items) p in
+    let known : width ≡ width_for ignore_case (lists patterns) =
+    width_is ∙ ap (λ p. width_for ignore_case (lists p)) same in (
+      classes,
+      subst (AreClasses classes) known are,
+      subst (λ p. Tells ignore_case classes (lists p)) same tells,
+      subst (P (map (symbols_in classes) (lists patterns))) known holds,
+    )
 
 -- where all patterns were given, and the rows are refused
 pub refused_rows : {U T V : Type 0} (becomes : U → T → Type 0) (steps : T → Option (Bor (List ℕ)) → T → Type 0)

@@ -67,7 +67,8 @@ module _ (a : Inside) (sound : IsSound a) (haystack : List ℕ) (bytes : (i : �
         (at_start (root_kind_of a.kind) words a.classes.width a.rows.items sound.recognises) in
         nothing_upto span.end valid.ordered (omega arith) none
 
-    pub ends_earliest : (stop : Stop) → FindsEnd a.classes.width a.rows.items 0 a.classes.table haystack span (Some stop)
+    pub ends_earliest : (stop : Stop)
+        → FindsEnd a.classes.width a.rows.items 0 a.classes.table haystack span (Some stop)
         → span.start < stop.end → stop.end ≤ span.end
         → EndsEarliest (patterns_in a) a.ignore_case haystack span stop.end
     ends_earliest stop finds after inside =

@@ -32,6 +32,11 @@ Marks ignore_case seen bytes =
     (k : ℕ) → k < length bytes
     → (slice_index bytes k < 256) × (slice_index_or seen (folded ignore_case (slice_index bytes k)) false ≡ true)
 
+-- a byte is one of some bytes, once that is folded
+abbrev pub IsFoldOfOne : Bool → List ℕ → ℕ → Type 0
+IsFoldOfOne ignore_case bytes byte =
+    (k : ℕ) × (k < length bytes) × (folded ignore_case (slice_index bytes k) ≡ byte)
+
 -- the marked ones of the first bytes have numbers of their own below the next one, and each other one leaves room
 pub record AreNumbers (seen : List Bool) (numbers : List ℕ) (bytes next : ℕ) : Type 0 where
   pub each : length numbers ≡ 256

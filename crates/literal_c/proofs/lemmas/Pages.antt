@@ -71,7 +71,8 @@ pub given_more : (first : OverlappingMatchesValue) (written : List LiteralMatch)
     → GivesOverlapping last (Some (match_of found)) next
     → Yields GivesOverlapping first (map match_of (take (i + 1) (set written i found))) next
 given_more first written i found last next lt before here =
-    let list : map match_of (take (i + 1) (set written i found)) ≡ map match_of (take i written) ++ match_of found ∷ [] =
+    let list : map match_of (take (i + 1) (set written i found))
+    ≡ map match_of (take i written) ++ match_of found ∷ [] =
     ap (map match_of) (rw add-one (take-suc-set written i found lt)) ∙ map-append match_of (take i written) (found ∷ [])
     in
     subst (λ all. Yields GivesOverlapping first all next) (sym list)

@@ -62,8 +62,8 @@ built_for kind ignore_case left built (patterns, (it, items, is_iterator, drains
     is ∙ ap (dfa_for kind ignore_case) (are ∙ (drained it items drains ∙ is_iterator))
 
 pub all_built_for : (ignore_case : Bool) (left : List (List ℕ)) (built : OverlappingValue)
-    → BuildsOverlapping (λ (patterns it : List (List ℕ)). it ≡ patterns) (YieldsFirstRef (λ (s : List (List ℕ)). s)) left
-    ignore_case built → built ≡ overlapping_for left ignore_case
+    → BuildsOverlapping (λ (patterns it : List (List ℕ)). it ≡ patterns) (YieldsFirstRef (λ (s : List (List ℕ)). s))
+    left ignore_case built → built ≡ overlapping_for left ignore_case
 all_built_for ignore_case left built (patterns, (it, items, is_iterator, drains, are, can), is) =
     is ∙ ap (λ (list : List (List ℕ)). overlapping_for list ignore_case) (are ∙ (drained it items drains ∙ is_iterator))
 

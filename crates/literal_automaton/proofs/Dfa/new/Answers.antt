@@ -6,7 +6,7 @@ use Rattle.literal_automaton.specs.DfaValue.{NeedTooManyStates}
 use Rattle.literal_automaton.specs.Inside.Classes.{Tells}
 use Rattle.literal_automaton.specs.States.{HasTooManyStates}
 use Rattle.literal_automaton.specs.Table.{Recognises}
-use Rattle.literal_automaton.proofs.lemmas.Built.{holds_of, refused_rows}
+use Rattle.literal_automaton.proofs.lemmas.Built.{holds_in, holds_of, refused_rows}
 use Rattle.literal_automaton.proofs.Dfa.new.Goals as goal
 
 pub invariant_of-result : goal.invariant_of-result
@@ -27,31 +27,22 @@ pub returns-in_err-rows-clause-error : goal.returns-in_err-rows-clause-error
 returns-in_err-rows-clause-error g c =
     let classes = c.classes_for-classes.result in
     let patterns = c.in_ok-patterns.patterns.items in
-    let tells = subst (λ (patterns : List (Vec ℕ Global)). Tells c.args.ignore_case classes.table
-    (map (λ (pattern : Vec ℕ Global). pattern.items) patterns)) c.deref.ensures.value
-    c.classes_for-classes.ensures.tells in
     refused_rows g.I.IntoIterator.into_iter_gives g.I.IntoIter.Iterator.next_gives c.args.patterns
     (NeedTooManyStates (root_kind_of c.args.kind) c.args.ignore_case)
     (map (λ (pattern : Vec ℕ Global). pattern.items) patterns) c.in_ok-patterns.ensures.ok c.in_err-rows.field-0.0
-    (λ is. (
-      classes.table,
-      classes.width,
-      c.classes_for-classes.ensures.classes,
-      tells,
-      holds_of (λ kind texts. HasTooManyStates kind texts classes.width) c.args.kind c.root_kind.result classes.table
-          c.deref-2.result.now patterns c.root_kind.ensures c.deref-2.ensures.value (c.in_err-rows.ensures.too_many is),
-    )) c.from_residual-in_err-rows.result c.from_residual-in_err-rows.ensures.1
+    (λ is. holds_in (HasTooManyStates (root_kind_of c.args.kind)) c.args.ignore_case classes.table classes.width
+    c.deref.result.now patterns c.deref.ensures.value c.classes_for-classes.ensures.classes
+    c.classes_for-classes.ensures.tells c.classes_for-classes.ensures.width
+    (holds_of (λ kind texts. HasTooManyStates kind texts classes.width) c.args.kind c.root_kind.result classes.table
+    c.deref-2.result.now patterns c.root_kind.ensures c.deref-2.ensures.value (c.in_err-rows.ensures.too_many is)))
+    c.from_residual-in_err-rows.result c.from_residual-in_err-rows.ensures.1
 
 pub returns-clause-few : goal.returns-clause-few
 returns-clause-few g c =
-    let classes = c.classes_for-classes.result in (
-      classes.table,
-      classes.width,
-      c.classes_for-classes.ensures.classes,
-      subst (λ (patterns : List (Vec ℕ Global)). Tells c.args.ignore_case classes.table
-          (map (λ (pattern : Vec ℕ Global). pattern.items) patterns)) c.deref.ensures.value
-          c.classes_for-classes.ensures.tells,
-      holds_of (λ kind texts. ¬ HasTooManyStates kind texts classes.width) c.args.kind c.root_kind.result classes.table
-          c.deref-2.result.now c.in_ok-patterns.patterns.items c.root_kind.ensures c.deref-2.ensures.value
-          c.in_ok-rows.ensures.few,
-    )
+    let classes = c.classes_for-classes.result in
+    let patterns = c.in_ok-patterns.patterns.items in
+    holds_in (λ texts width. ¬ HasTooManyStates (root_kind_of c.args.kind) texts width) c.args.ignore_case classes.table
+    classes.width c.deref.result.now patterns c.deref.ensures.value c.classes_for-classes.ensures.classes
+    c.classes_for-classes.ensures.tells c.classes_for-classes.ensures.width
+    (holds_of (λ kind texts. ¬ HasTooManyStates kind texts classes.width) c.args.kind c.root_kind.result classes.table
+    c.deref-2.result.now patterns c.root_kind.ensures c.deref-2.ensures.value c.in_ok-rows.ensures.few)

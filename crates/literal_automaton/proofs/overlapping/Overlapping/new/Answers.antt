@@ -9,7 +9,7 @@ use Rattle.literal_automaton.specs.Inside.Classes.{Tells, symbols_in}
 use Rattle.literal_automaton.specs.Inside.Lists.{AreLists}
 use Rattle.literal_automaton.specs.States.{HasTooManyStates}
 use Rattle.literal_automaton.specs.Table.{Recognises}
-use Rattle.literal_automaton.proofs.lemmas.Built.{refused_rows, same_texts}
+use Rattle.literal_automaton.proofs.lemmas.Built.{holds_in, refused_rows, same_texts}
 use Rattle.literal_automaton.proofs.lemmas.Found.{some_symbols}
 use Rattle.literal_automaton.proofs.overlapping.Overlapping.new.Goals as goal
 
@@ -20,17 +20,13 @@ returns-in_err-rows-clause-error g c =
     refused_rows g.I.IntoIterator.into_iter_gives g.I.IntoIter.Iterator.next_gives c.args.patterns
     (NeedTooManyStates Standard c.args.ignore_case)
     (map (λ (pattern : Vec ℕ Global). pattern.items) patterns) c.in_ok-patterns.ensures.ok c.in_err-rows.field-0.0
-    (λ is. (
-      classes.table,
-      classes.width,
-      c.classes_for-classes.ensures.classes,
-      subst (λ (patterns : List (Vec ℕ Global)). Tells c.args.ignore_case classes.table
-          (map (λ (pattern : Vec ℕ Global). pattern.items) patterns)) c.deref.ensures.value
-          c.classes_for-classes.ensures.tells,
-      subst (λ (texts : List (List ℕ)). HasTooManyStates Standard texts classes.width)
-          (same_texts classes.table c.deref-2.result.now patterns c.deref-2.ensures.value)
-          (c.in_err-rows.ensures.too_many is),
-    )) c.from_residual-in_err-rows.result c.from_residual-in_err-rows.ensures.1
+    (λ is. holds_in (HasTooManyStates Standard) c.args.ignore_case classes.table classes.width c.deref.result.now
+    patterns c.deref.ensures.value c.classes_for-classes.ensures.classes c.classes_for-classes.ensures.tells
+    c.classes_for-classes.ensures.width
+    (subst (λ (texts : List (List ℕ)). HasTooManyStates Standard texts classes.width)
+    (same_texts classes.table c.deref-2.result.now patterns c.deref-2.ensures.value)
+    (c.in_err-rows.ensures.too_many is)))
+    c.from_residual-in_err-rows.result c.from_residual-in_err-rows.ensures.1
 
 pub lists-requires : goal.lists-requires
 lists-requires g c =
@@ -80,14 +76,10 @@ invariant_of-result g c =
 
 pub returns-clause-few : goal.returns-clause-few
 returns-clause-few g c =
-    let classes = c.classes_for-classes.result in (
-      classes.table,
-      classes.width,
-      c.classes_for-classes.ensures.classes,
-      subst (λ (patterns : List (Vec ℕ Global)). Tells c.args.ignore_case classes.table
-          (map (λ (pattern : Vec ℕ Global). pattern.items) patterns)) c.deref.ensures.value
-          c.classes_for-classes.ensures.tells,
-      subst (λ (texts : List (List ℕ)). ¬ HasTooManyStates Standard texts classes.width)
-          (same_texts classes.table c.deref-2.result.now c.in_ok-patterns.patterns.items c.deref-2.ensures.value)
-          c.in_ok-rows.ensures.few,
-    )
+    let classes = c.classes_for-classes.result in
+    let patterns = c.in_ok-patterns.patterns.items in
+    holds_in (λ texts width. ¬ HasTooManyStates Standard texts width) c.args.ignore_case classes.table classes.width
+    c.deref.result.now patterns c.deref.ensures.value c.classes_for-classes.ensures.classes
+    c.classes_for-classes.ensures.tells c.classes_for-classes.ensures.width
+    (subst (λ (texts : List (List ℕ)). ¬ HasTooManyStates Standard texts classes.width)
+    (same_texts classes.table c.deref-2.result.now patterns c.deref-2.ensures.value) c.in_ok-rows.ensures.few)
