@@ -17,7 +17,7 @@ ghost use Rattle.literal_automaton.specs.Prepared.{RefusesToPrepare, WritesPrepa
 mod classes;
 mod grow;
 pub mod laws;
-pub mod prepared;
+mod prepared;
 mod walk;
 
 use classes::{Classes, classes_for};
