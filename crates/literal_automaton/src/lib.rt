@@ -20,7 +20,7 @@ mod ends;
 mod grow;
 pub mod laws;
 mod overlapping;
-pub mod prepared;
+mod prepared;
 mod walk;
 
 use classes::{Classes, classes_for};

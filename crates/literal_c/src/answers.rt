@@ -1,5 +1,5 @@
 //! What is written for C.
-ghost use Rattle.std.specs.Prelude.{◌≡◌, Bool, IfOk, OnOk, length};
+ghost use Rattle.std.specs.Prelude.{◌≡◌, ◌-◌, ◌≤◌, Bool, IfOk, OnOk, length};
 ghost use Rattle.std.specs.List.{AllZip};
 ghost use Rattle.std.specs.Result.{IsOkAnd};
 ghost use Rattle.literal_base.specs.Occurs.{IsValidSpan};
@@ -143,8 +143,9 @@ pub fn answer_each<F: Finder>(
 /// How many matches there are in a span of the haystack.
 pub fn count_matches(search: &Prepared<'_>, haystack: &[u8], span: Span) -> Result<usize, Damaged>
     requires { IsValidSpan haystack.now span }
-    ensures { ForPrepared search.now (λ query ignore_case. IsOkAnd result
+    ensures count { ForPrepared search.now (λ query ignore_case. IsOkAnd result
         (IsCount query ignore_case haystack.now span)) }
+    ensures most { IfOk result (λ count. count ≤ span.end - span.start) }
 {
     let Span { start, end } = span;
     let mut next = start;

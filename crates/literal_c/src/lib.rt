@@ -6,7 +6,7 @@
 //! `_in`, which search by an array that [`literal_prepare`] filled.
 #![tactic(auto)]
 
-ghost use Rattle.std.specs.Prelude.{◌≡◌, ◌⊎◌, ◌↔◌, ◌<◌, ◌≤◌, List, ℕ, length};
+ghost use Rattle.std.specs.Prelude.{◌≡◌, ◌⊎◌, ◌↔◌, ◌-◌, ◌<◌, ◌≤◌, List, ℕ, length};
 ghost use Rattle.std.specs.List.{AllZip};
 ghost use Rattle.literal_base.specs.Leftmost.{IsLeftmostMatch};
 ghost use Rattle.literal_base.specs.Occurs.{IsValidSpan, NothingOccurs, between, rest_from};
@@ -260,11 +260,11 @@ pub extern "C" fn literal_find_each(
 }
 
 /// Writes a search for the patterns into the first places of an array, by which the calls whose names end in `_in`
-/// search as often as they are asked to. `needed` says how many places these are: at most two more than the patterns
-/// have different bytes, for each byte of a pattern, and some hundreds. With [`LITERAL_TOO_SHORT`] it says so too, and
-/// the array is too short. The other statuses come as from [`literal_find`], and [`LITERAL_TOO_LARGE`] also where a
-/// pattern has 2^32 bytes or more. After any status but [`LITERAL_OK`] the array is as it was, and `needed` too, except
-/// after [`LITERAL_TOO_SHORT`].
+/// search as often as they are asked to. `needed` says how many places these are: for each byte of the patterns at most
+/// two more than they have different bytes, one for each pattern, and some hundreds. With [`LITERAL_TOO_SHORT`] it says
+/// so too, and the array is too short. The other statuses come as from [`literal_find`], and [`LITERAL_TOO_LARGE`] also
+/// where a pattern has 2^32 bytes or more. After any status but [`LITERAL_OK`] the array is as it was, and `needed`
+/// too, except after [`LITERAL_TOO_SHORT`].
 #[unsafe(no_mangle)]
 pub extern "C" fn literal_prepare(
     alloc: Global,
@@ -418,8 +418,8 @@ pub extern "C" fn literal_find_each_in(
     }
 }
 
-/// How many matches [`literal_find_all_in`] finds, on one page after another. The statuses are the same, and after any
-/// but [`LITERAL_OK`] the count is as it was.
+/// How many matches [`literal_find_all_in`] finds, on one page after another: at most as many as there are bytes to
+/// search. The statuses are the same, and after any but [`LITERAL_OK`] the count is as it was.
 #[unsafe(no_mangle)]
 pub extern "C" fn literal_count_in(
     prepared: &[u32],
@@ -432,6 +432,7 @@ pub extern "C" fn literal_count_in(
         (λ status. status ≡ LITERAL_OK) result }
     ensures count { ForPrepared prepared.now (λ query ignore_case. result ≡ LITERAL_OK
         → IsCount query ignore_case haystack.now (between start end) count.new) }
+    ensures most { result ≡ LITERAL_OK → count.new ≤ end - start }
     ensures as_before { (result ≡ LITERAL_OK) ⊎ (count.new ≡ count.old) }
 {
     if start > end || end > haystack.len() {

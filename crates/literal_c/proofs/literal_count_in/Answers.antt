@@ -6,5 +6,5 @@ use Rattle.literal_c.proofs.literal_count_in.Goals as goal
 pub returns-in-Err-clause-status : goal.returns-in-Err-clause-status
 returns-in-Err-clause-status c =
     damaged c.args.prepared.now _ _ (record { ordered = c.if-start-end.false; in_haystack = c.if-end-haystack.false })
-    (λ query ignore_case is. c.in-Err.ensures query ignore_case
+    (λ query ignore_case is. c.in-Err.ensures.count query ignore_case
     (subst (IsPrepared query ignore_case) (sym c.in-Ok.ensures.0) is))

@@ -8,8 +8,8 @@ use Rattle.literal_c.specs.Answers.{AreNext}
 use Rattle.literal_c.proofs.lemmas.Pages.{joined}
 use Rattle.literal_c.proofs.answers.count_matches.Goals as goal
 
-pub returns-in_err-it : goal.returns-in_err-it
-returns-in_err-it c = λ query ignore_case is. absurd (c.in_err-it.ensures.prepared query ignore_case is)
+pub returns-in_err-it-clause-count : goal.returns-in_err-it-clause-count
+returns-in_err-it-clause-count c = λ query ignore_case is. absurd (c.in_err-it.ensures.prepared query ignore_case is)
 
 pub loop-it-preserved : goal.loop-it-preserved
 loop-it-preserved c =
@@ -37,8 +37,8 @@ loop-it-preserved c =
           );
     }
 
-pub returns : goal.returns
-returns c = λ query ignore_case is.
+pub returns-clause-count : goal.returns-clause-count
+returns-clause-count c = λ query ignore_case is.
     let (all, are_next, count) = c.loop-it.invariant.counted query ignore_case is in
     let none = subst (λ (o : Option MatchValue). IsLeftmost query ignore_case c.args.haystack.now
     (between c.loop-it.next c.args.span.end) o) c.in_default.is
