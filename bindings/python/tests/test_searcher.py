@@ -109,6 +109,13 @@ class Rows(unittest.TestCase):
                     found = Searcher(words, kind, ignore_case).find(b"x%05d" % (count - 1))
                     self.assertEqual(found, Match(count - 1, 1, 6))
 
+    def test_a_large_table(self):
+        """Its length turns out when it is written."""
+        pattern = bytes(range(100)) * 2000
+        searcher = Searcher([pattern, b"b"])
+        self.assertGreater(len(searcher._prepared), 1 << 26)
+        self.assertEqual(searcher.findall(b"b" + pattern), [(1, 0, 1), (0, 1, 1 + len(pattern))])
+
     def test_all_bytes(self):
         every = bytes(range(256))
         for byte in range(256):
