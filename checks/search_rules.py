@@ -34,26 +34,31 @@ PREFILTER = "crates/literal_prefilters/src/prefilter.rt"
 BYTE_TABLE = "crates/literal_prefilters/src/prefilter/byte_table.rt"
 CONFIRMING = "crates/literal_prefilters/src/prefilter/confirming.rt"
 AUTOMATON = "crates/literal_automaton/src/lib.rt"
+OVERLAPPING = "crates/literal_automaton/src/overlapping.rt"
 PREPARED = "crates/literal_automaton/src/prepared.rt"
 WALK = "crates/literal_automaton/src/walk.rt"
-ENGINE = "crates/litfind/src/engine.rt"
 
 # The functions that may make a tally, each one: for the hashes of patterns, or for a search that is given none.
 TALLY_MAKERS = {
-    API: ("Builder::build", "Searcher::find", "Searcher::find_in", "Searcher::find_iter"),
+    API: ("Builder::build", "Searcher::find_in", "Searcher::find_iter"),
     PREFILTER: ("Builder::build", "Prefilter::find_in"),
     CONFIRMING: ("ConfirmingSearch::find_in",),
-    AUTOMATON: ("Dfa::find_in", "Dfa::find_all"),
+    AUTOMATON: ("Dfa::find_in", "Dfa::find_all", "Dfa::earliest_end"),
+    OVERLAPPING: ("Overlapping::find_overlapping_in",),
     PREPARED: ("Prepared::find_in",),
-    ENGINE: ("run",),
 }
+
+# The functions that scan bytes of a haystack.
+SCANS = (
+    (BYTE_TABLE, "ByteTable::find"), (WALK, "last_ended"), (WALK, "last_ended_in_lent"), (WALK, "first_ended"),
+)
 
 # Where each step ticks, once in each function.
 TICKS = {
     "tick_hashed": ((RABIN_KARP, "Rolling::push"), (RABIN_KARP, "Rolling::roll")),
     "tick_entries": ((ENTRIES, "BucketEntries::entry"),),
     "tick_compared": ((PATTERN, "Patterns::matches_at"),),
-    "tick_scanned": ((BYTE_TABLE, "ByteTable::find"), (WALK, "last_ended"), (WALK, "last_ended_in_lent")),
+    "tick_scanned": SCANS,
     "tick_tried": ((CONFIRMING, "confirm"), (CONFIRMING, "confirm_by_table")),
 }
 
@@ -61,40 +66,20 @@ TICKS = {
 TRY = re.compile(r"tally\.tick_tried\(\);\s*if let Some\(\w+\) = best_at\(")
 
 # The functions that read bytes of a haystack. In `find_at` they are read as they are handed to the rolling sum.
-READERS = (
-    (PATTERN, "Patterns::matches_at"), (BYTE_TABLE, "ByteTable::find"), (WALK, "last_ended"),
-    (WALK, "last_ended_in_lent"),
-)
+READERS = ((PATTERN, "Patterns::matches_at"), *SCANS)
 HASHES = ((RABIN_KARP, "RabinKarp::find_at"),)
 
 # What parameters are called that hold bytes of patterns, one or all.
 PATTERN_NAMES = ("pattern", "patterns", "bytes", "by_id", "lists", "classes")
 BYTES = re.compile(r"\[u8\]|\bVec<u8>|\bstr\b")
 
-# The types that may keep a slice of bytes: three a haystack, one a pattern, and one what C hands over of either.
-KEEPERS = ("FindIter", "Matches", "Input", "Pattern", "Pieces")
+# The types that may keep a slice of bytes: four a haystack, one a pattern, and one what C hands over of either.
+KEEPERS = ("FindIter", "Matches", "OverlappingMatches", "Input", "Pattern", "Pieces")
 
 # The fields of `BucketEntries` that tell nothing of an entry, and the functions that may name the others: the one that
 # reads an entry, and those that make and copy it.
 PLAIN_FIELDS = ("starts", "longer")
 ENTRY_READERS = ("BucketEntries::entry", "BucketEntries::new", "BucketEntries::try_clone")
-
-# The code of the counts, whole.
-TALLY_CODE = """
-use std::marker::Model;
-#[derive(Drop)] pub struct Tally { }
-const _: () = prove!(size_of::<Tally>() == 0);
-impl Model for Tally { }
-impl Tally {
-    pub fn new() -> Tally { Tally {} }
-    pub fn tick_hashed(&mut self) { *self = self.plus(1, 0, 0, 0, 0); }
-    pub fn tick_entries(&mut self) { *self = self.plus(0, 1, 0, 0, 0); }
-    pub fn tick_compared(&mut self) { *self = self.plus(0, 0, 1, 0, 0); }
-    pub fn tick_scanned(&mut self) { *self = self.plus(0, 0, 0, 1, 0); }
-    pub fn tick_tried(&mut self) { *self = self.plus(0, 0, 0, 0, 1); }
-    fn plus(&self, hashed: u64, entries: u64, compared: u64, scanned: u64, tried: u64) -> Tally { Self {} }
-}
-"""
 
 # The bodies that count what they read, word for word.
 BODIES = {
@@ -257,7 +242,7 @@ def odd_use(code, place, takers, may_hash):
             "a byte of a haystack is read in `matches_at`, in the scan of `ByteTable`, and in `find_at` as an argument "
             "of `push` or `roll` alone: call one of these, with the tally")
     is_bound = re.search(r"\bhaystack\s*=$", before) and after.startswith(";")
-    if is_bound or owner.lstrip(".") in takers or owner in ("FindIter {", "Matches {"):
+    if is_bound or owner.lstrip(".") in takers or owner in ("FindIter {", "Matches {", "OverlappingMatches {"):
         return ""
     return (
         "a haystack is asked for its `len()`, cut by a range into another `haystack`, or handed whole to a function "
@@ -338,8 +323,6 @@ def keepers(sources):
 def held(sources):
     """What counts stands word for word as it is held here."""
     for source in sources:
-        if source.path == COUNT and words_of(source.code) != words_of(TALLY_CODE):
-            yield source.at(0, f"`Tally` stands as TALLY_CODE{HERE} holds it: review what is counted, and change both")
         for (path, name), body in BODIES.items():
             for function in source.functions if path == source.path else ():
                 code = source.code[function.start : function.end]

@@ -1,8 +1,12 @@
 -- Lemmas that several proofs share, by topic.
+pub mod Ascending
 pub mod Behind
 pub mod Built
 pub mod Callers
+pub mod Chains
 pub mod Classes
+pub mod Earliest
+pub mod EndLists
 pub mod Ends
 pub mod Found
 pub mod Growing
@@ -11,8 +15,12 @@ pub mod Held
 pub mod Iterations
 pub mod Links
 pub mod Lists
+pub mod Overlapping
 pub mod Places
 pub mod Prepared
+pub mod Recognised
+pub mod Standard
+pub mod Standing
 pub mod States
 pub mod Walk
 pub mod Written

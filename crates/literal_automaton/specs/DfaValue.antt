@@ -5,10 +5,10 @@ use Rattle.std.specs.Iterator.{Drains, Yields}
 use Rattle.std.specs.List.{All}
 use Rattle.literal_base.specs.Counts.{Counts}
 use Rattle.literal_base.specs.MatchValue.{MatchValue}
-use Rattle.literal_base.specs.Kinds.{root_kind_of}
 use Rattle.literal_base.specs.Occurs.{NoneIsEmpty}
 use Rattle.literal_base.specs.Query.{Query}
 use Rattle.literal_base.specs.declared.packed.MatchKind.{MatchKind}
+use Rattle.literal_base.specs.declared.search.MatchKind as search
 use Rattle.literal_base.specs.declared.search.Span.{Span}
 use Rattle.literal_ids.specs.declared.primitives.pattern_id.TheConstants.PatternID
 use Rattle.literal_automaton.specs.Inside.Classes.{AreClasses, Tells, symbols_in}
@@ -79,14 +79,13 @@ HoldsInClasses P ignore_case patterns =
     × P (map (symbols_in classes) patterns) width
 
 -- the automaton for the patterns has more states than the numbers in its rows reach
-abbrev pub NeedTooManyStates : MatchKind → Bool → List (List ℕ) → Type 0
-NeedTooManyStates kind ignore_case patterns =
-    HoldsInClasses (HasTooManyStates (root_kind_of kind)) ignore_case patterns
+abbrev pub NeedTooManyStates : search.MatchKind → Bool → List (List ℕ) → Type 0
+NeedTooManyStates kind ignore_case patterns = HoldsInClasses (HasTooManyStates kind) ignore_case patterns
 
 -- the numbers in its rows reach all its states
-abbrev pub NeedFewStates : MatchKind → Bool → List (List ℕ) → Type 0
+abbrev pub NeedFewStates : search.MatchKind → Bool → List (List ℕ) → Type 0
 NeedFewStates kind ignore_case patterns =
-    HoldsInClasses (λ texts width. ¬ HasTooManyStates (root_kind_of kind) texts width) ignore_case patterns
+    HoldsInClasses (λ texts width. ¬ HasTooManyStates kind texts width) ignore_case patterns
 
 -- what a search in a span scans: each of its bytes at most once, and with a match, from the span's start on, at most
 -- one byte more than those before the match and those of the longest pattern

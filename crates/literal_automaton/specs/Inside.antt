@@ -1,7 +1,10 @@
 -- What models and private functions alone cite.
 pub mod Classes
 pub mod Dfa
-pub mod Grown
+pub mod Ends
 pub mod Growing
+pub mod Grown
+pub mod Lists
 pub mod Prepared
+pub mod Standing
 pub mod Walk

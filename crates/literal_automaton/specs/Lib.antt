@@ -1,6 +1,9 @@
 pub mod DfaValue
+pub mod Earliest
 pub mod Inside
 pub mod MatchesValue
+pub mod Overlapping
+pub mod OverlappingMatchesValue
 pub mod Prepared
 pub mod States
 pub mod Table

@@ -1,10 +1,13 @@
 //! What follows from the definitions, for callers: call a law where its fact is needed.
 ghost use Rattle.std.specs.Prelude.{◌≡◌, ◌≤◌, ℕ, Bool, List, length, take, IsNone, Option, None};
 ghost use Rattle.std.specs.Iterator.{Yields};
+ghost use Rattle.literal_base.specs.declared.search.Span.{Span};
 ghost use Rattle.literal_base.specs.Greedy.{IsGreedy};
 ghost use Rattle.literal_base.specs.MatchValue.{MatchValue};
 ghost use Rattle.literal_base.specs.Query.{Query};
 ghost use Rattle.literal_automaton.specs.MatchesValue.{GivesMatch, MatchesValue};
+ghost use Rattle.literal_automaton.specs.Overlapping.{IsOverlapping, OverlappingValue};
+ghost use Rattle.literal_automaton.specs.OverlappingMatchesValue.{GivesOverlapping, OverlappingMatchesValue};
 ghost use Rattle.literal_automaton.specs.Prepared.{IsPrepared, prepared_len};
 
 /// An iterator that answers `None` stands at the end of the haystack then, and there it answers `None` and stays.
@@ -19,6 +22,16 @@ pub fn iterations_are_greedy()
     ensures { (first last ended : MatchesValue) (all : List MatchValue) → Yields GivesMatch first all last
         → GivesMatch last None ended
         → IsGreedy first.search.query first.search.ignore_case first.haystack first.at all }
+{}
+
+/// What an iteration over everything that occurs in a span gives up to its first `None` is every occurrence once, in
+/// the order of ends and, at one end, of identifiers.
+pub fn iterations_give_each_occurrence_once()
+    ensures { (search : OverlappingValue) (haystack : List ℕ) (span : Span) (first last ended : OverlappingMatchesValue)
+        (all : List MatchValue)
+        → first ≡ record { search = search; haystack = haystack; span = span; end = span.start; pattern = 0 }
+        → Yields GivesOverlapping first all last → GivesOverlapping last None ended
+        → IsOverlapping search.patterns search.ignore_case haystack span all }
 {}
 
 /// An array begins with a prepared search if its first places do, and what it begins with stands in as many places as

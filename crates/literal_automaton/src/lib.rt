@@ -6,17 +6,20 @@ ghost use Rattle.std.specs.Prelude.{◌≡◌, ◌<◌, ◌↔◌, ◌++◌, ◌
 ghost use Rattle.literal_base.specs.Greedy.{IsGreedy};
 ghost use Rattle.literal_base.specs.Kinds.{root_kind_of};
 ghost use Rattle.literal_base.specs.Leftmost.{IsLeftmost};
-ghost use Rattle.literal_base.specs.Occurs.{IsValidSpan, NothingOccurs, Occurs, whole_of};
+ghost use Rattle.literal_base.specs.Occurs.{IsValidSpan, NothingOccurs, Occurs, one_occurs, whole_of};
 ghost use Rattle.literal_packed.specs.Lending.{CanBeTaken};
 ghost use Rattle.literal_automaton.specs.DfaValue.{BuildsDfa, CanBeKept, GivesAll, NeedFewStates};
 ghost use Rattle.literal_automaton.specs.DfaValue.{NeedTooManyStates, RefusesDfa};
 ghost use Rattle.literal_automaton.specs.DfaValue.{ScansAtMost, ScansListAtMost};
+ghost use Rattle.literal_automaton.specs.Earliest.{IsEarliestEnd, ScansToEnd};
 ghost use Rattle.literal_automaton.specs.MatchesValue.{GivesMatch, most_to_come};
 ghost use Rattle.literal_automaton.specs.Prepared.{RefusesToPrepare, WritesPrepared};
 
 mod classes;
+mod ends;
 mod grow;
 pub mod laws;
+mod overlapping;
 pub mod prepared;
 mod walk;
 
@@ -27,12 +30,13 @@ pub use literal_base::packed::MatchKind;
 use literal_base::search;
 pub use literal_base::{Match, Span};
 pub use literal_ids::PatternID;
+pub use overlapping::{Overlapping, OverlappingMatches};
 pub use prepared::{Damaged, PrepareError, Prepared};
 use std::alloc::{AllocError, Global};
 use std::error::Error;
 use std::fmt;
 use std::marker::Model;
-use walk::last_ended;
+use walk::{first_ended, last_ended};
 
 /// Why there is no automaton for some patterns.
 #[derive(Clone, Copy, Debug, PartialEq, Eq, Drop)]
@@ -134,9 +138,9 @@ impl Dfa {
         requires { CanBeTaken I.into_iter_gives I.IntoIter.can_next I.IntoIter.remaining patterns }
         ensures ok { IfOk result
             (BuildsDfa I.into_iter_gives I.IntoIter.next_gives patterns kind ignore_case) }
-        ensures few { IfOk result (λ dfa. NeedFewStates kind ignore_case dfa.query.patterns) }
+        ensures few { IfOk result (λ dfa. NeedFewStates (root_kind_of kind) ignore_case dfa.query.patterns) }
         ensures error { IfErr result (RefusesDfa I.into_iter_gives I.IntoIter.next_gives patterns
-            (NeedTooManyStates kind ignore_case)) }
+            (NeedTooManyStates (root_kind_of kind) ignore_case)) }
     {
         let patterns = copies(alloc, patterns)?;
         let classes = classes_for(ignore_case, &patterns);
@@ -245,10 +249,40 @@ impl Dfa {
         Ok(all)
     }
 
+    /// The earliest end of an occurrence that lies whole in a span of the haystack, an offset in bytes of the whole
+    /// haystack, and `None` where nothing occurs in the span. It is known sooner than the leftmost match, and may be
+    /// the end of another one. The span has to be valid.
+    pub fn earliest_end(&self, haystack: &[u8], span: Span) -> Option<usize>
+        requires { IsValidSpan haystack.now span }
+        ensures { IsEarliestEnd self.now.query.patterns self.now.ignore_case haystack.now span result }
+    {
+        self.earliest_end_counted(haystack, span, &mut Tally::new())
+    }
+
+    /// Answers as [`Dfa::earliest_end`], and adds each byte that it looks up to a tally, as scanned: each up to that
+    /// end once, and none behind it.
+    pub fn earliest_end_counted(
+        &self,
+        haystack: &[u8],
+        span: Span,
+        tally: &mut Tally,
+    ) -> Option<usize>
+        requires { IsValidSpan haystack.now span }
+        ensures end { IsEarliestEnd self.now.query.patterns self.now.ignore_case haystack.now span result }
+        ensures scanned { ScansToEnd span result tally.old tally.new }
+    {
+        let (table, width) = (&self.classes.table, self.classes.width);
+        let Some(stop) = first_ended(table, &self.rows, width, haystack, 0, span, tally) else {
+            return None;
+        };
+        Some(stop.end)
+    }
+
     /// Whether a pattern occurs in the haystack.
     pub fn is_match(&self, haystack: &[u8]) -> bool
-        ensures { IsTrue result ↔ ((i : ℕ) × (at : ℕ)
+        ensures occurs { IsTrue result ↔ ((i : ℕ) × (at : ℕ)
             × Occurs self.now.query.patterns self.now.ignore_case haystack.now (whole_of haystack.now) i at) }
+        ensures told { result ≡ one_occurs self.now.query.patterns self.now.ignore_case haystack.now }
     {
         self.find(haystack).is_some()
     }

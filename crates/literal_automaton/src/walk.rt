@@ -1,10 +1,12 @@
 //! A walk through the rows of an automaton.
 ghost use Rattle.std.specs.Prelude.{◌≡◌, ◌+◌, ◌-◌, ◌<◌, ◌≤◌, ◌^◌};
 ghost use Rattle.std.specs.Prelude.{IfOk, IfSome, length};
+ghost use Rattle.std.specs.Option.{option_map};
 ghost use Rattle.std.specs.Result.{IsOkAnd};
 ghost use Rattle.literal_base.specs.Occurs.{IsValidSpan};
 ghost use Rattle.literal_automaton.specs.Inside.Classes.{AreClasses};
-ghost use Rattle.literal_automaton.specs.Inside.Walk.{FindsIn, IsTable, StopsNear, text_of};
+ghost use Rattle.literal_automaton.specs.Earliest.{ScansToEnd};
+ghost use Rattle.literal_automaton.specs.Inside.Walk.{FindsEnd, FindsIn, IsRow, IsTable, StopsNear, text_of};
 
 use crate::prepared::Damaged;
 use literal_base::Span;
@@ -96,4 +98,46 @@ pub fn last_ended_in_lent(
         }
     }
     Ok(last)
+}
+
+/// Where a walk stands: at which row, and how far it has read.
+#[derive(Clone, Copy)]
+pub struct Stop {
+    pub place: usize,
+    pub end: usize,
+}
+
+/// The first place in a span behind which a match ends, and the row there. The walk stands at a row as it begins to
+/// read the span. It stops where no more bytes matter.
+pub fn first_ended(
+    classes: &[u8],
+    rows: &[u32],
+    width: usize,
+    haystack: &[u8],
+    from: usize,
+    span: Span,
+    tally: &mut Tally,
+) -> Option<Stop>
+    requires classes { AreClasses classes.now width }
+    requires table { IsTable width rows.now }
+    requires row { IsRow width rows.now from }
+    requires valid { IsValidSpan haystack.now span }
+    ensures first { FindsEnd width rows.now from classes.now haystack.now span result }
+    ensures inside { IfSome result (λ stop. (span.start < stop.end) × (stop.end ≤ span.end)) }
+    ensures scanned { ScansToEnd span (option_map (λ stop. stop.end) result) tally.old tally.new }
+{
+    let mut place = from;
+    for at in span.start..span.end {
+        tally.tick_scanned();
+        let code = rows[place + classes[haystack[at] as usize] as usize];
+        if code < ENDS {
+            place = code as usize;
+        } else if code == NOTHING {
+            return None;
+        } else {
+            let place = (code - ENDS) as usize;
+            return Some(Stop { place, end: at + 1 });
+        }
+    }
+    None
 }

@@ -4,7 +4,9 @@ pub mod ClassIterations
 pub mod Exists
 pub mod LentParts
 pub mod Marks
+pub mod Met
 pub mod Runs
 pub mod Stride
+pub mod Tested
 pub mod Ties
 pub mod Unique

@@ -1,5 +1,6 @@
 -- All matches of a haystack that do not overlap, taken from the left.
-use Rattle.std.specs.Prelude.{ℕ, Bool, List, [], ◌∷◌}
+use Rattle.std.specs.Prelude.{ℕ, ◌&&◌, Bool, List, [], ◌∷◌, nat_le, nat_lt}
+use Rattle.std.specs.List.{list_any}
 use Rattle.literal_base.specs.MatchValue.{MatchValue}
 use Rattle.literal_base.specs.Query.{Query}
 use Rattle.literal_base.specs.Occurs.{NothingOccurs, rest_from}
@@ -13,3 +14,7 @@ IsGreedy query ignore_case haystack at [] =
 IsGreedy query ignore_case haystack at (found ∷ more) =
     IsLeftmostMatch query ignore_case haystack (rest_from haystack at) found
     × IsGreedy query ignore_case haystack found.end more
+
+-- whether a place lies in one of the matches
+abbrev pub lies_in_one : List MatchValue → ℕ → Bool
+lies_in_one all at = list_any (λ found. nat_le found.start at && nat_lt at found.end) all

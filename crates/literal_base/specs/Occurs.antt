@@ -1,10 +1,11 @@
 -- Where patterns stand in a haystack.
 -- A pattern and a haystack are lists of bytes. The patterns are numbered from 0, in the order of a list.
 -- A place is an offset in the whole haystack.
-use Rattle.std.specs.Prelude.{◌≡◌, ◌==◌, ℕ, ◌+◌, ◌<◌, ◌≤◌, Bool, if◌then◌else◌, List, [], length, map, slice_range}
-use Rattle.std.specs.Prelude.{slice_index_or}
+use Rattle.std.specs.Prelude.{◌≡◌, ◌==◌, ℕ, ◌+◌, ◌<◌, ◌≤◌, ◌&&◌, Bool, if◌then◌else◌, List, [], length, map, nat_le}
+use Rattle.std.specs.Prelude.{slice_index_or, slice_range}
 use Rattle.std.specs.Char.{to_ascii_lowercase}
-use Rattle.std.specs.List.{All}
+use Rattle.std.specs.List.{All, list_any, range_with_len}
+use Rattle.std.specs.Str.{bytes_eq}
 use Rattle.literal_base.specs.declared.search.Span.{Span}
 
 -- the bytes; where case is ignored, each of A to Z is replaced by its small letter
@@ -61,3 +62,15 @@ pub record Occurs (patterns : List (List ℕ)) (ignore_case : Bool) (haystack : 
 -- no pattern occurs at any place of the span
 abbrev pub NothingOccurs : List (List ℕ) → Bool → List ℕ → Span → Type 0
 NothingOccurs patterns ignore_case haystack span = (i at : ℕ) → ¬ Occurs patterns ignore_case haystack span i at
+
+-- whether the bytes lie whole in the haystack at a place, and the haystack has the same there
+abbrev pub stands_at : Bool → List ℕ → List ℕ → ℕ → Bool
+stands_at ignore_case bytes haystack at =
+    nat_le (at + length bytes) (length haystack)
+    && bytes_eq (case_folded ignore_case (slice_range haystack at (at + length bytes))) (case_folded ignore_case bytes)
+
+-- whether a pattern occurs at any place of the haystack
+abbrev pub one_occurs : List (List ℕ) → Bool → List ℕ → Bool
+one_occurs patterns ignore_case haystack =
+    list_any (λ at. list_any (λ bytes. stands_at ignore_case bytes haystack at) patterns)
+    (range_with_len 0 (length haystack + 1))

@@ -1,7 +1,7 @@
 //! Laws of the definitions that contracts cite. Each function does nothing, and its contract is the
 //! law.
 ghost use Rattle.std.specs.Prelude.{◌≡◌, ◌≢◌, ◌+◌, ◌-◌, ◌<◌, ◌≤◌, ◌↔◌, ◌⊎◌, [], ◌∷◌, ◌++◌, List, ℕ, Bool, Option};
-ghost use Rattle.std.specs.Prelude.{IsTrue, length, slice_index};
+ghost use Rattle.std.specs.Prelude.{IsTrue, length, slice_index, true};
 ghost use Rattle.std.specs.List.{All, Contains};
 ghost use Rattle.std.specs.Char.{to_ascii_lowercase};
 ghost use Rattle.std.specs.Hash.{u32, usize};
@@ -18,8 +18,8 @@ ghost use Rattle.literal_ids.specs.Clones.{ClonesExactly};
 ghost use Rattle.literal_ids.specs.Iteration.{GivesEachThenNone};
 ghost use Rattle.literal_base.specs.MatchValue.{MatchValue};
 ghost use Rattle.literal_base.specs.Leftmost.{IsLeftmost, IsLeftmostMatch};
-ghost use Rattle.literal_base.specs.Occurs.{NoneIsEmpty, Occurs, pattern_at};
-ghost use Rattle.literal_base.specs.Greedy.{IsGreedy};
+ghost use Rattle.literal_base.specs.Occurs.{NoneIsEmpty, Occurs, one_occurs, pattern_at, whole_of};
+ghost use Rattle.literal_base.specs.Greedy.{IsGreedy, lies_in_one};
 ghost use Rattle.literal_base.specs.Query.{Query};
 
 use crate::alphabet::{
@@ -56,6 +56,26 @@ pub fn greedy_is_unique()
         → IsGreedy query ignore_case haystack at a
         → IsGreedy query ignore_case haystack at b
         → a ≡ b }
+{}
+
+/// Whatever occurs in a haystack has a place in a match of the greedy list, and no match ends behind the haystack.
+pub fn matches_meet_all_that_occurs()
+    ensures meets { (query : Query) (ignore_case : Bool) (haystack : List ℕ) (all : List MatchValue)
+        → NoneIsEmpty query.patterns
+        → IsGreedy query ignore_case haystack 0 all
+        → (i at : ℕ) → Occurs query.patterns ignore_case haystack (whole_of haystack) i at
+        → (place : ℕ) × at ≤ place × place < at + length (pattern_at query.patterns i)
+        × (lies_in_one all place ≡ true) }
+    ensures within { (query : Query) (ignore_case : Bool) (haystack : List ℕ) (from : ℕ) (all : List MatchValue)
+        → IsGreedy query ignore_case haystack from all
+        → All (λ found. found.end ≤ length haystack) all }
+{}
+
+/// The test whether a pattern occurs tells just that.
+pub fn one_occurs_where_a_pattern_does()
+    ensures { (patterns : List (List ℕ)) (ignore_case : Bool) (haystack : List ℕ)
+        → IsTrue (one_occurs patterns ignore_case haystack)
+        ↔ ((i : ℕ) × (at : ℕ) × Occurs patterns ignore_case haystack (whole_of haystack) i at) }
 {}
 
 /// With [`MatchKind::LeftmostLongest`](crate::packed::MatchKind::LeftmostLongest) the smallest

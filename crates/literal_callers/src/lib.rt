@@ -9,7 +9,8 @@
 //! | `counts` | callers of counts |
 //! | `copies` | clones that take no memory |
 //! | `uses` | callers of builders, searchers and patterns |
-//! | `given` | callers that search for the words of an array, a slice or a vector |
+//! | `given` | callers of packed and confirming searches for the words of an array, a slice or a vector |
+//! | `words` | callers of a `Search` for the words of an array, a slice, a vector or texts |
 //! | `uses_of_prefilters` | callers of prefilters |
 //! | `laws` | laws that make a call |
 //! | `together` | what all layers promise together |
@@ -27,3 +28,4 @@ mod together;
 pub mod uses;
 pub mod uses_of_ids;
 pub mod uses_of_prefilters;
+pub mod words;

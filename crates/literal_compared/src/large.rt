@@ -1,8 +1,10 @@
-//! A long pattern, and long haystacks. What bounds the time of each search is what its contract says that it counts.
+//! A long pattern, many patterns, and long haystacks. What bounds the time of each search is what its contract says
+//! that it counts.
 use crate::asserted::assert_same;
 use crate::chosen::assert_confirms;
 use crate::made::{place, searcher};
 use literal_prefilters::packed::MatchKind;
+use literal_search::Search;
 use std::alloc::{AllocError, Global};
 use std::process::Abort;
 use std::test::Fail;
@@ -21,8 +23,8 @@ fn behind_x(alloc: Global, pattern: &[u8]) -> Result<Vec<u8>, AllocError> {
     Ok(haystack)
 }
 
-/// What searchers and confirming searches find in a haystack, by the pattern alone and with another one: the
-/// pattern behind the first byte, or nothing.
+/// What all searches find in a haystack, by the pattern alone and with another one: the pattern behind the first
+/// byte, or nothing.
 fn assert_finds_long(
     rt: &impl Abort,
     alloc: Global,
@@ -35,6 +37,8 @@ fn assert_finds_long(
         for kind in [MatchKind::LeftmostFirst, MatchKind::LeftmostLongest] {
             let found = searcher(alloc, kind, list)?.find(haystack);
             assert_same(rt, found.map(place), wanted, case);
+            let search = Search::new(alloc, kind, true, list.iter().copied())?;
+            assert_same(rt, search.find(haystack).map(place), wanted, case);
         }
         assert_confirms(rt, alloc, list, haystack, wanted, case)?;
     }
@@ -66,6 +70,54 @@ fn assert_tries_each_place(rt: &impl Abort, alloc: Global) -> Result<(), Fail> {
     for (case, patterns, byte) in &IN_TABLES {
         let haystack = vec![in alloc; *byte; LEN]?;
         assert_confirms(rt, alloc, patterns, &haystack, None, case)?;
+    }
+    Ok(())
+}
+
+/// How many patterns there are: none, one, as many as a packed search has at most and one more, and many more.
+const COUNTS: [usize; 6] = [0, 1, 128, 129, 2_000, 20_000];
+
+/// The pattern of a number below 100,000: its digits, and what stands behind no other digit.
+fn numbered(number: usize) -> [u8; 6] {
+    let digit = |unit: usize| b'0' + (number / unit % 10) as u8;
+    [
+        digit(10_000),
+        digit(1_000),
+        digit(100),
+        digit(10),
+        digit(1),
+        b';',
+    ]
+}
+
+/// The patterns of the numbers below a count, one behind another.
+fn all_numbered(alloc: Global, count: usize) -> Result<Vec<u8>, AllocError> {
+    let mut text = Vec::new(alloc);
+    for number in 0..count {
+        text.extend_from_slice(&numbered(number))?;
+    }
+    Ok(text)
+}
+
+/// Each of so many patterns is found where it stands, and nothing else.
+fn assert_finds_numbered(rt: &impl Abort, alloc: Global, count: usize) -> Result<(), Fail> {
+    let text = all_numbered(alloc, count)?;
+    let patterns = text.chunks_exact(6);
+    let search = Search::new(alloc, MatchKind::LeftmostFirst, false, patterns)?;
+    let mut number = 0;
+    for found in search.find_iter(&text) {
+        let start = 6 * (number % 100_000);
+        assert_same(rt, place(found), (number, start, start + 6), "a number");
+        number = number.wrapping_add(1);
+    }
+    assert_same(rt, number, count, "all numbers");
+    Ok(())
+}
+
+#[test]
+fn finds_each_of_many_patterns(rt: HostRuntime) -> Result<(), Fail> {
+    for count in COUNTS {
+        assert_finds_numbered(&rt, rt.alloc(), count)?;
     }
     Ok(())
 }

@@ -13,7 +13,7 @@
 //! | `asking` | how often `confirm` asks its prefilter |
 //! | `running_tables` | that a builder of prefilters keeps up the tables of all patterns so far |
 //! | `chosen` | each distance that a table may have |
-//! | `large` | a pattern of 100,000 bytes, and haystacks of which every byte is in a table |
+//! | `large` | a pattern of 100,000 bytes, up to 20,000 patterns, and haystacks of which every byte is in a table |
 //! | `asserted` | assertions as calls |
 //! | `made` | what tests of several modules make |
 #![tactic(auto)]

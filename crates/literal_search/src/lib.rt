@@ -6,6 +6,6 @@
 #![tactic(auto)]
 
 pub use literal_automaton::{
-    BuildError, Damaged, Dfa as Search, Match, MatchKind, Matches, PatternID, PrepareError,
-    Prepared, Span, laws,
+    BuildError, Damaged, Dfa as Search, Match, MatchKind, Matches, Overlapping, OverlappingMatches,
+    PatternID, PrepareError, Prepared, Span, laws,
 };

@@ -163,7 +163,7 @@ module _ (kind : MatchKind) (patterns : List (List ℕ)) where
       by_settled false = sym (held_push kind patterns more (symbol ∷ []))
 
   -- the pattern that ends with a text ends with what is held of it
-  ending_by_held : (text : List ℕ) → ending kind patterns text ≡ ending_held kind patterns (held kind patterns text)
+  pub ending_by_held : (text : List ℕ) → ending kind patterns text ≡ ending_held kind patterns (held kind patterns text)
   ending_by_held [] = refl
   ending_by_held (symbol ∷ more) =
       by_begun (begins_one kind patterns (symbol ∷ more)) refl (ending_by_held more)

@@ -15,16 +15,22 @@ use Rattle.literal_automaton.specs.declared.BuildError.{BuildError}
 use Rattle.literal_automaton.specs.declared.grow.GrowError.{GrowError}
 use Rattle.literal_automaton.specs.declared.grow.GrowError.TheVariants as grow_error
 
--- what holds of the texts that are lent, holds of those of the patterns
+-- the texts of the patterns that are lent are those of the patterns
+pub same_texts : (classes : List ℕ) (lent patterns : List (Vec ℕ Global)) → lent ≡ patterns
+    → map (λ (pattern : Vec ℕ Global). symbols_in classes pattern.items) lent
+    ≡ map (symbols_in classes) (map (λ (pattern : Vec ℕ Global). pattern.items) patterns)
+same_texts classes lent patterns same =
+    ap (map (λ (pattern : Vec ℕ Global). symbols_in classes pattern.items)) same
+    ∙ sym (map-map (symbols_in classes) (λ (pattern : Vec ℕ Global). pattern.items) patterns)
+
+-- so what holds of these holds of those
 pub holds_of : (P : MatchKind → List (List ℕ) → Type 0) (kind : packed.MatchKind) (root : MatchKind) (classes : List ℕ)
     (lent patterns : List (Vec ℕ Global)) → root ≡ root_kind_of kind → lent ≡ patterns
     → P root (map (λ (pattern : Vec ℕ Global). symbols_in classes pattern.items) lent)
     → P (root_kind_of kind) (map (symbols_in classes) (map (λ (pattern : Vec ℕ Global). pattern.items) patterns))
 holds_of P kind root classes lent patterns kind_is same holds =
     subst (λ k. P k (map (symbols_in classes) (map (λ (pattern : Vec ℕ Global). pattern.items) patterns))) kind_is
-    (subst (P root)
-    (ap (map (λ (pattern : Vec ℕ Global). symbols_in classes pattern.items)) same
-    ∙ sym (map-map (symbols_in classes) (λ (pattern : Vec ℕ Global). pattern.items) patterns)) holds)
+    (subst (P root) (same_texts classes lent patterns same) holds)
 
 -- where all patterns were given, and the rows are refused
 pub refused_rows : {U T V : Type 0} (becomes : U → T → Type 0) (steps : T → Option (Bor (List ℕ)) → T → Type 0)

@@ -2,7 +2,15 @@
 -- matches. For callers.
 use Rattle.std.proofs.Common.{◌≡◌, ℕ, Bool, List, [], ◌∷◌, map, Option, None, sym, ap, ◌∙◌, subst}
 use Rattle.std.specs.Borrow.{Bor}
+use Rattle.std.specs.Fn.{Called}
 use Rattle.std.specs.Iterator.{Yields}
+use Rattle.std.specs.Iterator.Adapters.{map_callee, map_source}
+use Rattle.std.specs.Slice.Iter.{iter_rest, iter_steps}
+use Rattle.std.specs.declared.iter.Map.{Map}
+use Rattle.std.specs.declared.slice.Iter.{Iter}
+use Rattle.std.proofs.lemmas.Iterator.{YieldsList, YieldsList-from_map_by, YieldsList-from_slice, items_from_drains}
+use Rattle.std.proofs.lemmas.Iterator.{maps}
+use denote.Param.Members.{Mut}
 use Rattle.literal_base.specs.declared.packed.MatchKind.{MatchKind}
 use Rattle.literal_base.specs.Greedy.{IsGreedy}
 use Rattle.literal_base.specs.MatchValue.{MatchValue}
@@ -19,6 +27,31 @@ pub dfa_is_for : {U T : Type 0} {becomes : U → T → Type 0} {steps : T → Op
 dfa_is_for gives kind ignore_case built (patterns, all, is) =
     is ∙ ap (dfa_for kind ignore_case) (all.4
     ∙ ap (map (λ (p : Bor (List ℕ)). p.now)) (items_are gives all.0 all.1 all.2 all.3))
+
+-- whichever iterator the given value becomes, that gives references to these byte strings and ends
+pub record GivesBytes {U T : Type 0} (becomes : U → T → Type 0) (steps : T → Option (Bor (List ℕ)) → T → Type 0)
+    (given : U) (list : List (List ℕ)) : Type 0 where
+  pub each : (it : T) → becomes given it → YieldsList steps (λ p. p.now) it list
+
+-- `list.iter().map(f)` gives what `h` says of each element, where that is what a call of `f` answers
+pub mapped_gives : {A F : Type 0} {given : Map (Iter A) F} (g : Mut F (Bor A × Unit {0}) (Bor (List ℕ)))
+    (h : A → List ℕ) (list : List A) {f : F} → iter_rest (map_source given) ≡ list → map_callee given ≡ f
+    → ((x : Bor A) (r : Bor (List ℕ)) (q : F) → Called g f (x, tt) r q → (q ≡ f) × (r.now ≡ h x.now))
+    → GivesBytes (λ s r. r ≡ s) (maps (iter_steps {A = A}) g) given (map h list)
+mapped_gives g h list is callee calls = record {
+  each = λ it same.
+      YieldsList-from_map_by g (λ r. r.now) h
+      (YieldsList-from_slice {s = map_source it} list (ap (λ i. iter_rest (map_source i)) same ∙ is))
+      (ap map_callee same ∙ callee) calls;
+}
+
+-- an automaton that is built of byte strings that are given, as by `mapped_gives`, is for these
+pub dfa_is_for_bytes : {U T : Type 0} {becomes : U → T → Type 0} {steps : T → Option (Bor (List ℕ)) → T → Type 0}
+    {given : U} {list : List (List ℕ)} → GivesBytes becomes steps given list → (kind : MatchKind) (ignore_case : Bool)
+    (built : DfaValue) → BuildsDfa becomes steps given kind ignore_case built → built ≡ dfa_for kind ignore_case list
+dfa_is_for_bytes gives kind ignore_case built (patterns, all, is) =
+    is ∙ ap (dfa_for kind ignore_case) (all.4
+    ∙ items_from_drains all.1 (all.3.1.0, all.3.1.1, λ _. (all.3.0, all.3.1.2)) (gives.each all.0 all.2))
 
 -- what an iteration over matches gives up to its end is the greedy list from where it stood
 pub greedy_from_yields : (m : MatchesValue) (all : List MatchValue) (n o : MatchesValue) → Yields GivesMatch m all n

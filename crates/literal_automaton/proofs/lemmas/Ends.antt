@@ -148,24 +148,6 @@ module _ (kind : MatchKind) (patterns : List (List ℕ)) where
           absurd (false≢true (sym (none_any (λ pattern. starts_with nat_eq text pattern) patterns [] i none one.0.below)
           ∙ (and_parts (starts_with nat_eq (pattern_at patterns i) text) _ one.0.passes).1))
 
-  -- nor is one with which none begins that may be the match
-  unbegun_is_none : (text : List ℕ) → begins_one (root_kind_of kind) patterns text ≡ false
-      → first_equal (root_kind_of kind) patterns text ≡ None
-  unbegun_is_none text unbegun = by_answer (first_equal (root_kind_of kind) patterns text) refl
-    where
-      by_answer : (o : Option ℕ) → first_equal (root_kind_of kind) patterns text ≡ o → o ≡ None
-      by_answer None is = refl
-      by_answer (Some i) is =
-          let one = first_in_question (λ pattern. starts_with nat_eq pattern text && starts_with nat_eq text pattern)
-          (root_kind_of kind) patterns text i is in
-          absurd (false≢true (sym unbegun
-          ∙ any_in_question_at (λ pattern. starts_with nat_eq pattern text) (root_kind_of kind) patterns text i
-          record {
-            below = one.0.below;
-            passes = (and_parts (starts_with nat_eq (pattern_at patterns i) text) _ one.0.passes).0;
-            in_question = one.0.in_question;
-          }))
-
   -- the pattern that ends with a text is the whole rest from the first match on
   pub ending_is : (text : List ℕ) → ending (root_kind_of kind) patterns text
       ≡ whole_of kind patterns (from_match patterns text)
@@ -417,20 +399,6 @@ module _ (kind : MatchKind) (patterns : List (List ℕ)) where
           let held_is : held (root_kind_of kind) patterns (symbol ∷ text) ≡ held (root_kind_of kind) patterns text =
           cond-false _ _ _ unbegun ∙ cond-false _ _ _ (settled_is (symbol ∷ text) ∙ unstood) in
           from_more symbol text unstood ∙ further (sym held_is ∙ is)
-
-  -- the pattern that ends with a text ends with what is held; where nothing is held none does
-  pub ending_held : (text word : List ℕ) → held (root_kind_of kind) patterns text ≡ Some word
-      → ending (root_kind_of kind) patterns text ≡ ending (root_kind_of kind) patterns word
-  ending_held text word is =
-      ending_is text ∙ (ap (whole_of kind patterns) (from_match_held text word is) ∙ sym (ending_is word))
-
-  pub ending_dead : (text : List ℕ) → held (root_kind_of kind) patterns text ≡ None
-      → ending (root_kind_of kind) patterns text ≡ None
-  ending_dead text is = ending_is text ∙ none (from_match patterns text) (from_match_dead text [] is).1
-    where
-      none : (u : List ℕ) → begins_one (root_kind_of kind) patterns u ≡ false → whole_of kind patterns u ≡ None
-      none [] unbegun = refl
-      none (symbol ∷ more) unbegun = unbegun_is_none (symbol ∷ more) unbegun
 
   -- what is held is no longer than a pattern
   pub held_is_short : (longest : ℕ) → ((i : ℕ) → length (pattern_at patterns i) ≤ longest) → (text word : List ℕ)

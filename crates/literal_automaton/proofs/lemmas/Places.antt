@@ -6,7 +6,7 @@ use Rattle.std.specs.List.{slice_range}
 use Rattle.literal_base.specs.Kinds.{root_kind_of}
 use Rattle.literal_base.specs.Query.{Query}
 use Rattle.literal_automaton.specs.Inside.Classes.{AreClasses, Tells, symbols_in}
-use Rattle.literal_automaton.specs.Prepared.{HasParts, IsPrepared, IsWhole, check_of, classes_in, lengths_in}
+use Rattle.literal_automaton.specs.Prepared.{IsPrepared, IsWhole, check_of, classes_in, lengths_in}
 use Rattle.literal_automaton.specs.Prepared.{prepared_len, rows_at, rows_in, width_in}
 use Rattle.literal_automaton.specs.Table.{Recognises}
 use Rattle.std.proofs.Common.{map}

@@ -69,7 +69,7 @@ module _ {numbers classes : List ℕ} {width : ℕ} {lengths rows : List ℕ}
         (width_in numbers) r) (sym split.rows_are) prepared.recognises))
 
     is_table : IsTable width rows
-    is_table = table_of query.kind (map (symbols_in classes) query.patterns) width rows recognises
+    is_table = table_of (root_kind_of query.kind) (map (symbols_in classes) query.patterns) width rows recognises
 
     -- there is the length of each pattern
     pub lengths_many : length lengths ≡ length query.patterns

@@ -1,6 +1,7 @@
 -- A walk through rows that recognise patterns.
 use Rattle.std.proofs.Common.{◌≡◌, ℕ, ◌+◌, ◌*◌, ◌-◌, ◌<◌, ◌≤◌, ◌^◌, List, [], ◌∷◌, ◌++◌, length, get_or}
 use Rattle.std.proofs.Common.{Option, Some, None, IfSome, MatchOption, inl, inr, ◌⊎◌, take, drop}
+use Rattle.std.proofs.Common.{Bool, IsSome, append-nil, false, true}
 use Rattle.std.proofs.Common.{append_assoc, length-append, mul-le-mul_right, refl, sym, ap, subst, ◌∙◌, arith}
 use Rattle.std.proofs.lemmas.Bool.{cases_lt, cond-false, cond-true, le-ltb, lt-ltb}
 use Rattle.std.proofs.lemmas.Bool.Decides.{Decides-eqb}
@@ -12,15 +13,23 @@ use Rattle.std.specs.Borrow.{Bor}
 use Rattle.std.specs.Option.{option_map, unwrap_or}
 use Rattle.std.specs.Slice.{IsItemAt}
 use Rattle.literal_base.specs.declared.packed.MatchKind.{MatchKind}
+use Rattle.literal_base.specs.declared.search.MatchKind as search
+use Rattle.literal_base.specs.declared.search.MatchKind.TheVariants.{Standard}
 use Rattle.literal_base.specs.Kinds.{root_kind_of}
+use Rattle.literal_base.specs.declared.search.Span.{Span}
 use Rattle.literal_base.specs.Occurs.{NoneIsEmpty, between, pattern_at}
 use Rattle.literal_automaton.specs.Inside.Classes.{AreClasses, symbols_in}
-use Rattle.literal_automaton.specs.Inside.Walk.{FindsIn, IsBehind, IsBest, IsFirst, IsFound, IsRow, IsTable, Reads}
-use Rattle.literal_automaton.specs.Inside.Walk.{StopsNear, from_match, place_of, text_of}
+use Rattle.literal_automaton.specs.Inside.Grown.{ending_held}
+use Rattle.literal_automaton.specs.Inside.Walk.{FindsIn, IsAt, IsBehind, IsBest, IsFirst, IsFound, IsRow, IsTable}
+use Rattle.literal_automaton.specs.Inside.Walk.{Reads}
+use Rattle.literal_automaton.specs.Inside.Walk.{FindsEnd, GoesOn, IsFirstEnd, NoneEnds, StopsNear, from_match, place_of}
+use Rattle.literal_automaton.specs.Inside.Walk.{read_to, text_of}
 use Rattle.literal_automaton.specs.Table.{LeadsTo, Leads, Recognises, code_of, nothing, stride_of}
-use Rattle.literal_automaton.specs.Words.{ending, first_equal, held, word_of}
+use Rattle.literal_automaton.specs.Words.{begins_one, ending, first_equal, held, word_of}
 use Rattle.literal_automaton.specs.declared.walk.Ended.{Ended}
-use Rattle.literal_automaton.proofs.lemmas.Ends.{ending_dead, ending_held, ending_is, from_match_dead, from_match_held}
+use Rattle.literal_automaton.specs.declared.walk.Stop.{Stop}
+use Rattle.literal_automaton.proofs.lemmas.Behind.{ending_by_held}
+use Rattle.literal_automaton.proofs.lemmas.Ends.{ending_is, from_match_dead, from_match_held}
 use Rattle.literal_automaton.proofs.lemmas.Ends.{from_match_push, from_match_short, held_is_short, pushed}
 use Rattle.literal_automaton.proofs.lemmas.Ends.{whole_is_best, whole_of}
 use Rattle.literal_automaton.proofs.lemmas.Ends.{stays_best, stays_best_for_good}
@@ -106,8 +115,8 @@ module _ (kind : MatchKind) (patterns : List (List ℕ)) (some : NoneIsEmpty pat
       }
 
 -- each row lies in the rows
-row_fits : (kind : MatchKind) (patterns : List (List ℕ)) (width : ℕ) (rows : List ℕ)
-    (recognises : Recognises (root_kind_of kind) patterns width rows) (state : ℕ) → state < length recognises.words
+pub row_fits : (kind : search.MatchKind) (patterns : List (List ℕ)) (width : ℕ) (rows : List ℕ)
+    (recognises : Recognises kind patterns width rows) (state : ℕ) → state < length recognises.words
     → state * stride_of width + stride_of width ≤ length rows
 row_fits kind patterns width rows recognises state below =
     let most : (state + 1) * stride_of width ≤ length recognises.words * stride_of width =
@@ -122,8 +131,8 @@ place_of_code place (Some i) small =
     cond-false _ _ _ (le-ltb (place + 2 ^ 31) (2 ^ 31) (omega arith)) ∙ omega arith
 
 -- the rows that recognise patterns are whole, and their numbers lead to rows
-pub table_of : (kind : MatchKind) (patterns : List (List ℕ)) (width : ℕ) (rows : List ℕ)
-    → Recognises (root_kind_of kind) patterns width rows → IsTable width rows
+pub table_of : (kind : search.MatchKind) (patterns : List (List ℕ)) (width : ℕ) (rows : List ℕ)
+    → Recognises kind patterns width rows → IsTable width rows
 table_of kind patterns width rows recognises = record {
   some = record {
     state = 0;
@@ -136,7 +145,7 @@ table_of kind patterns width rows recognises = record {
       let is_state = state_below row.state (omega (arith, row.place_is, row.fits)) in
       subst (λ n. (n ≡ nothing) ⊎ IsRow width rows (place_of n))
       (ap (λ p. get_or rows (p + class) 0) (sym row.place_is))
-      (by_held code (held (root_kind_of kind) patterns (word_of recognises.words row.state ++ class ∷ []))
+      (by_held code (held kind patterns (word_of recognises.words row.state ++ class ∷ []))
       (recognises.leads row.state class is_state below));
 }
   where
@@ -154,41 +163,37 @@ table_of kind patterns width rows recognises = record {
     ]
 
     by_held : (code : ℕ) (o : Option (List ℕ))
-        → MatchOption o (code ≡ nothing) (LeadsTo (root_kind_of kind) patterns recognises.words width code)
+        → MatchOption o (code ≡ nothing) (LeadsTo kind patterns recognises.words width code)
         → (code ≡ nothing) ⊎ IsRow width rows (place_of code)
     by_held code None dead = inl dead
     by_held code (Some word) to =
         let fits = row_fits kind patterns width rows recognises to.state to.is_state in
         let few = recognises.few in
         let place_is = ap place_of to.code_is
-        ∙ place_of_code (to.state * stride_of width) (ending (root_kind_of kind) patterns word) (omega arith) in
+        ∙ place_of_code (to.state * stride_of width) (ending kind patterns word) (omega arith) in
         inr (record { state = to.state; place_is = place_is; fits = omega (arith, place_is, fits) })
 
--- the code that leads on from a text to a word with which nothing ends is the place of its state
-module _ (kind : MatchKind) (patterns : List (List ℕ)) (some : NoneIsEmpty patterns) (width : ℕ) (rows : List ℕ)
-    (recognises : Recognises (root_kind_of kind) patterns width rows) (start : ℕ) (text : List ℕ) (place : ℕ)
-    (last : Option Ended) (behind : IsBehind kind patterns width rows recognises start text place last) (symbol : ℕ)
-    (below : symbol < width) (code : ℕ) (code_is : code ≡ get_or rows (place + symbol) 0)
+-- where the number behind a place and a symbol leads, for a walk that stands there
+module _ (kind : search.MatchKind) (patterns : List (List ℕ)) (width : ℕ) (rows : List ℕ)
+    (recognises : Recognises kind patterns width rows) (text : List ℕ) (place : ℕ)
+    (at : IsAt kind patterns width rows recognises text place) (symbol : ℕ) (below : symbol < width) (code : ℕ)
+    (code_is : code ≡ get_or rows (place + symbol) 0)
   where
-    -- what is held with one symbol more, and where the number leads
-    leads_on : Leads (root_kind_of kind) patterns recognises.words width code
-        (word_of recognises.words behind.state ++ symbol ∷ [])
+    leads_on : Leads kind patterns recognises.words width code (word_of recognises.words at.state ++ symbol ∷ [])
     leads_on =
-        subst (λ n. Leads (root_kind_of kind) patterns recognises.words width n
-        (word_of recognises.words behind.state ++ symbol ∷ []))
-        (sym (code_is ∙ ap (λ p. get_or rows (p + symbol) 0) behind.place_is))
-        (recognises.leads behind.state symbol behind.is_state below)
+        subst (λ n. Leads kind patterns recognises.words width n (word_of recognises.words at.state ++ symbol ∷ []))
+        (sym (code_is ∙ ap (λ p. get_or rows (p + symbol) 0) at.place_is))
+        (recognises.leads at.state symbol at.is_state below)
 
-    held_more : held (root_kind_of kind) patterns (word_of recognises.words behind.state ++ symbol ∷ [])
-        ≡ held (root_kind_of kind) patterns (text ++ symbol ∷ [])
+    held_more : held kind patterns (word_of recognises.words at.state ++ symbol ∷ [])
+        ≡ held kind patterns (text ++ symbol ∷ [])
     held_more =
-        sym (ap (λ o. held_on (root_kind_of kind) patterns o (symbol ∷ [])) behind.held)
-        ∙ held_push (root_kind_of kind) patterns text (symbol ∷ [])
+        sym (ap (λ o. held_on kind patterns o (symbol ∷ [])) at.held) ∙ held_push kind patterns text (symbol ∷ [])
 
-    leads_more : MatchOption (held (root_kind_of kind) patterns (text ++ symbol ∷ [])) (code ≡ nothing)
-        (LeadsTo (root_kind_of kind) patterns recognises.words width code)
-    leads_more = subst (λ o. MatchOption o (code ≡ nothing)
-        (LeadsTo (root_kind_of kind) patterns recognises.words width code)) held_more leads_on
+    leads_more : MatchOption (held kind patterns (text ++ symbol ∷ [])) (code ≡ nothing)
+        (LeadsTo kind patterns recognises.words width code)
+    leads_more = subst (λ o. MatchOption o (code ≡ nothing) (LeadsTo kind patterns recognises.words width code))
+        held_more leads_on
 
     small : (state : ℕ) → state < length recognises.words → state * stride_of width < 2 ^ 31 - 1
     small state is_state =
@@ -196,48 +201,55 @@ module _ (kind : MatchKind) (patterns : List (List ℕ)) (some : NoneIsEmpty pat
         let few = recognises.few in
         omega arith
 
+    ends_by : (o : Option (List ℕ)) → held kind patterns (text ++ symbol ∷ []) ≡ o
+        → ending kind patterns (text ++ symbol ∷ []) ≡ ending_held kind patterns o
+    ends_by o is = ending_by_held kind patterns (text ++ symbol ∷ []) ∙ ap (ending_held kind patterns) is
+
     -- a number below 2^31 leads to a state with whose word nothing ends
-    pub on_without_end : code < 2 ^ 31
-        → IsBehind kind patterns width rows recognises start (text ++ symbol ∷ []) code last
-    on_without_end is_small = by_held (held (root_kind_of kind) patterns (text ++ symbol ∷ [])) refl leads_more
+    pub at_without_end : code < 2 ^ 31
+        → IsAt kind patterns width rows recognises (text ++ symbol ∷ []) code
+        × (ending kind patterns (text ++ symbol ∷ []) ≡ None)
+    at_without_end is_small = by_held (held kind patterns (text ++ symbol ∷ [])) refl leads_more
       where
-        by_held : (o : Option (List ℕ)) → held (root_kind_of kind) patterns (text ++ symbol ∷ []) ≡ o
-            → MatchOption o (code ≡ nothing) (LeadsTo (root_kind_of kind) patterns recognises.words width code)
-            → IsBehind kind patterns width rows recognises start (text ++ symbol ∷ []) code last
+        by_held : (o : Option (List ℕ)) → held kind patterns (text ++ symbol ∷ []) ≡ o
+            → MatchOption o (code ≡ nothing) (LeadsTo kind patterns recognises.words width code)
+            → IsAt kind patterns width rows recognises (text ++ symbol ∷ []) code
+            × (ending kind patterns (text ++ symbol ∷ []) ≡ None)
         by_held None is dead = absurd (omega arith)
-        by_held (Some word) is to = by_ending (ending (root_kind_of kind) patterns word) refl
+        by_held (Some word) is to = by_ending (ending kind patterns word) refl
           where
-            by_ending : (o : Option ℕ) → ending (root_kind_of kind) patterns word ≡ o
-                → IsBehind kind patterns width rows recognises start (text ++ symbol ∷ []) code last
-            by_ending None ends = record {
-              state = to.state;
-              is_state = to.is_state;
-              place_is = to.code_is ∙ ap (code_of (to.state * stride_of width)) ends;
-              held = is ∙ ap Some (sym to.word_is);
-              found = found_push kind patterns some start text symbol last
-                  (ending_held kind patterns (text ++ symbol ∷ []) word is ∙ ends) behind.found;
-            }
+            by_ending : (o : Option ℕ) → ending kind patterns word ≡ o
+                → IsAt kind patterns width rows recognises (text ++ symbol ∷ []) code
+                × (ending kind patterns (text ++ symbol ∷ []) ≡ None)
+            by_ending None ends = (
+              record {
+                state = to.state;
+                is_state = to.is_state;
+                place_is = to.code_is ∙ ap (code_of (to.state * stride_of width)) ends;
+                held = is ∙ ap Some (sym to.word_is);
+              },
+              ends_by (Some word) is ∙ ends,
+            )
             by_ending (Some i) ends =
                 let large = to.code_is ∙ ap (code_of (to.state * stride_of width)) ends in
                 absurd (omega (arith, large))
 
     -- one from 2^31 on leads to a state with whose word a match ends
-    pub on_with_end : 2 ^ 31 ≤ code → ¬ (code ≡ nothing) → (end : ℕ) → end ≡ start + length text + 1
-        → IsBehind kind patterns width rows recognises start (text ++ symbol ∷ []) (code - 2 ^ 31)
-        (Some (record { pattern = get_or rows (code - 2 ^ 31 + width) 0; end = end }))
-    on_with_end is_large alive end end_is =
-        by_held (held (root_kind_of kind) patterns (text ++ symbol ∷ [])) refl leads_more
+    pub at_with_end : 2 ^ 31 ≤ code → ¬ (code ≡ nothing)
+        → IsAt kind patterns width rows recognises (text ++ symbol ∷ []) (code - 2 ^ 31)
+        × (ending kind patterns (text ++ symbol ∷ []) ≡ Some (get_or rows (code - 2 ^ 31 + width) 0))
+    at_with_end is_large alive = by_held (held kind patterns (text ++ symbol ∷ [])) refl leads_more
       where
-        by_held : (o : Option (List ℕ)) → held (root_kind_of kind) patterns (text ++ symbol ∷ []) ≡ o
-            → MatchOption o (code ≡ nothing) (LeadsTo (root_kind_of kind) patterns recognises.words width code)
-            → IsBehind kind patterns width rows recognises start (text ++ symbol ∷ []) (code - 2 ^ 31)
-            (Some (record { pattern = get_or rows (code - 2 ^ 31 + width) 0; end = end }))
+        by_held : (o : Option (List ℕ)) → held kind patterns (text ++ symbol ∷ []) ≡ o
+            → MatchOption o (code ≡ nothing) (LeadsTo kind patterns recognises.words width code)
+            → IsAt kind patterns width rows recognises (text ++ symbol ∷ []) (code - 2 ^ 31)
+            × (ending kind patterns (text ++ symbol ∷ []) ≡ Some (get_or rows (code - 2 ^ 31 + width) 0))
         by_held None is dead = absurd (alive dead)
-        by_held (Some word) is to = by_ending (ending (root_kind_of kind) patterns word) refl
+        by_held (Some word) is to = by_ending (ending kind patterns word) refl
           where
-            by_ending : (o : Option ℕ) → ending (root_kind_of kind) patterns word ≡ o
-                → IsBehind kind patterns width rows recognises start (text ++ symbol ∷ []) (code - 2 ^ 31)
-                (Some (record { pattern = get_or rows (code - 2 ^ 31 + width) 0; end = end }))
+            by_ending : (o : Option ℕ) → ending kind patterns word ≡ o
+                → IsAt kind patterns width rows recognises (text ++ symbol ∷ []) (code - 2 ^ 31)
+                × (ending kind patterns (text ++ symbol ∷ []) ≡ Some (get_or rows (code - 2 ^ 31 + width) 0))
             by_ending None ends =
                 let small_is = to.code_is ∙ ap (code_of (to.state * stride_of width)) ends in
                 absurd (omega (arith, small_is, small to.state to.is_state))
@@ -247,40 +259,70 @@ module _ (kind : MatchKind) (patterns : List (List ℕ)) (some : NoneIsEmpty pat
                 let pattern_is : get_or rows (code - 2 ^ 31 + width) 0 ≡ i =
                 ap (λ p. get_or rows (p + width) 0) place_is
                 ∙ (recognises.ends to.state to.is_state
-                ∙ ap (λ o. unwrap_or o nothing) (ap (ending (root_kind_of kind) patterns) to.word_is ∙ ends)) in
-                record {
-                  state = to.state;
-                  is_state = to.is_state;
-                  place_is = place_is;
-                  held = is ∙ ap Some (sym to.word_is);
-                  found = found_end kind patterns some start (text ++ symbol ∷ [])
-                      (get_or rows (code - 2 ^ 31 + width) 0) end
-                      (ending_held kind patterns (text ++ symbol ∷ []) word is ∙ (ends ∙ ap Some (sym pattern_is)))
-                      (omega (arith, end_is, length-append text (symbol ∷ [])));
-                }
+                ∙ ap (λ o. unwrap_or o nothing) (ap (ending kind patterns) to.word_is ∙ ends)) in (
+                  record {
+                    state = to.state;
+                    is_state = to.is_state;
+                    place_is = place_is;
+                    held = is ∙ ap Some (sym to.word_is);
+                  },
+                  ends_by (Some word) is ∙ (ends ∙ ap Some (sym pattern_is)),
+                )
 
-    -- where it leads to none the last match is that of the text, however it goes on
-    pub dead_on : code ≡ nothing → (more : List ℕ) → IsFound kind patterns start (text ++ symbol ∷ more) last
-    dead_on is_dead more = by_held (held (root_kind_of kind) patterns (text ++ symbol ∷ [])) refl leads_more
+    -- where it leads to none nothing is held, and no match ends
+    pub at_dead : code ≡ nothing
+        → (held kind patterns (text ++ symbol ∷ []) ≡ None) × (ending kind patterns (text ++ symbol ∷ []) ≡ None)
+    at_dead is_dead = by_held (held kind patterns (text ++ symbol ∷ [])) refl leads_more
       where
-        by_held : (o : Option (List ℕ)) → held (root_kind_of kind) patterns (text ++ symbol ∷ []) ≡ o
-            → MatchOption o (code ≡ nothing) (LeadsTo (root_kind_of kind) patterns recognises.words width code)
-            → IsFound kind patterns start (text ++ symbol ∷ more) last
-        by_held None is dead =
-            subst (λ t. IsFound kind patterns start t last) (append_assoc text (symbol ∷ []) more)
-            (found_dead kind patterns some start (text ++ symbol ∷ []) more last is
-            (found_push kind patterns some start text symbol last (ending_dead kind patterns (text ++ symbol ∷ []) is)
-            behind.found))
-        by_held (Some word) is to = by_ending (ending (root_kind_of kind) patterns word) refl
+        by_held : (o : Option (List ℕ)) → held kind patterns (text ++ symbol ∷ []) ≡ o
+            → MatchOption o (code ≡ nothing) (LeadsTo kind patterns recognises.words width code)
+            → (held kind patterns (text ++ symbol ∷ []) ≡ None) × (ending kind patterns (text ++ symbol ∷ []) ≡ None)
+        by_held None is dead = (is, ends_by None is)
+        by_held (Some word) is to = by_ending (ending kind patterns word) refl
           where
-            by_ending : (o : Option ℕ) → ending (root_kind_of kind) patterns word ≡ o
-                → IsFound kind patterns start (text ++ symbol ∷ more) last
+            by_ending : (o : Option ℕ) → ending kind patterns word ≡ o
+                → (held kind patterns (text ++ symbol ∷ []) ≡ None)
+                × (ending kind patterns (text ++ symbol ∷ []) ≡ None)
             by_ending None ends =
                 let code_is = to.code_is ∙ ap (code_of (to.state * stride_of width)) ends in
                 absurd (omega (arith, code_is, small to.state to.is_state))
             by_ending (Some i) ends =
                 let code_is = to.code_is ∙ ap (code_of (to.state * stride_of width)) ends in
                 absurd (omega (arith, code_is, small to.state to.is_state))
+
+-- the same for a walk that keeps the best match
+module _ (kind : MatchKind) (patterns : List (List ℕ)) (some : NoneIsEmpty patterns) (width : ℕ) (rows : List ℕ)
+    (recognises : Recognises (root_kind_of kind) patterns width rows) (start : ℕ) (text : List ℕ) (place : ℕ)
+    (last : Option Ended) (behind : IsBehind kind patterns width rows recognises start text place last) (symbol : ℕ)
+    (below : symbol < width) (code : ℕ) (code_is : code ≡ get_or rows (place + symbol) 0)
+  where
+    pub on_without_end : code < 2 ^ 31
+        → IsBehind kind patterns width rows recognises start (text ++ symbol ∷ []) code last
+    on_without_end is_small =
+        let on = at_without_end (root_kind_of kind) patterns width rows recognises text place behind.at symbol below
+        code code_is is_small in
+        record { at = on.0; found = found_push kind patterns some start text symbol last on.1 behind.found }
+
+    pub on_with_end : 2 ^ 31 ≤ code → ¬ (code ≡ nothing) → (end : ℕ) → end ≡ start + length text + 1
+        → IsBehind kind patterns width rows recognises start (text ++ symbol ∷ []) (code - 2 ^ 31)
+        (Some (record { pattern = get_or rows (code - 2 ^ 31 + width) 0; end = end }))
+    on_with_end is_large alive end end_is =
+        let on = at_with_end (root_kind_of kind) patterns width rows recognises text place behind.at symbol below code
+        code_is is_large alive in
+        record {
+          at = on.0;
+          found = found_end kind patterns some start (text ++ symbol ∷ []) (get_or rows (code - 2 ^ 31 + width) 0) end
+              on.1 (omega (arith, end_is, length-append text (symbol ∷ [])));
+        }
+
+    -- where it leads to none the last match is that of the text, however it goes on
+    pub dead_on : code ≡ nothing → (more : List ℕ) → IsFound kind patterns start (text ++ symbol ∷ more) last
+    dead_on is_dead more =
+        let on = at_dead (root_kind_of kind) patterns width rows recognises text place behind.at symbol below code
+        code_is is_dead in
+        subst (λ t. IsFound kind patterns start t last) (append_assoc text (symbol ∷ []) more)
+        (found_dead kind patterns some start (text ++ symbol ∷ []) more last on.0
+        (found_push kind patterns some start text symbol last on.1 behind.found))
 
 -- a part of a text in two
 pub slice_halves : (text : List ℕ) (from at to : ℕ) → from ≤ at → at ≤ to
@@ -297,7 +339,15 @@ slice_halves text from at to after before =
     ∙ (drop-take n (to - at) rest
     ∙ (ap (take (to - at)) (drop-drop n from text) ∙ ap (λ k. take (to - at) (drop k text)) at_is))))
 
-slice_push : (text : List ℕ) (from at : ℕ) → from ≤ at → at < length text
+-- and of the classes of a haystack's bytes
+pub text_halves : (classes haystack : List ℕ) (from at to : ℕ) → from ≤ at → at ≤ to
+    → text_of classes haystack (between from to)
+    ≡ text_of classes haystack (between from at) ++ text_of classes haystack (between at to)
+text_halves classes haystack from at to after before =
+    ap (symbols_in classes) (slice_halves haystack from at to after before)
+    ∙ map-append (λ byte. get_or classes byte 0) (slice_range haystack from at) (slice_range haystack at to)
+
+pub slice_push : (text : List ℕ) (from at : ℕ) → from ≤ at → at < length text
     → slice_range text from (at + 1) ≡ slice_range text from at ++ get_or text at 0 ∷ []
 slice_push text from at after inside =
     let long : (at + 1) - from ≡ (at - from) + 1 = omega arith in
@@ -321,12 +371,33 @@ module _ (classes haystack : List ℕ) (start at : ℕ) (after : start ≤ at) (
       ≡ text_of classes haystack (between start at)
       ++ get_or classes (get_or haystack at 0) 0 ∷ text_of classes haystack (between (at + 1) end)
   text_split end before =
-      ap (symbols_in classes) (slice_halves haystack start (at + 1) end (omega arith) (omega arith))
-      ∙ (map-append (λ byte. get_or classes byte 0) (slice_range haystack start (at + 1))
-      (slice_range haystack (at + 1) end)
+      text_halves classes haystack start (at + 1) end (omega arith) (omega arith)
       ∙ (ap (λ l. l ++ text_of classes haystack (between (at + 1) end)) text_push
       ∙ append_assoc (text_of classes haystack (between start at)) (get_or classes (get_or haystack at 0) 0 ∷ [])
-      (text_of classes haystack (between (at + 1) end))))
+      (text_of classes haystack (between (at + 1) end)))
+
+-- a walk that read nothing
+pub at_start : (kind : search.MatchKind) (patterns : List (List ℕ)) (width : ℕ) (rows : List ℕ)
+    (recognises : Recognises kind patterns width rows) → IsAt kind patterns width rows recognises [] 0
+at_start kind patterns width rows recognises = record {
+  state = 0;
+  is_state = recognises.some;
+  place_is = zero_row;
+  held = ap Some (sym recognises.root);
+}
+  where
+    zero_row : 0 ≡ 0 * stride_of width
+    zero_row = grind arith
+
+-- the row of where a walk stands lies in the rows
+pub row_at : (kind : search.MatchKind) (patterns : List (List ℕ)) (width : ℕ) (rows : List ℕ)
+    (recognises : Recognises kind patterns width rows) (text : List ℕ) (place : ℕ)
+    → IsAt kind patterns width rows recognises text place → IsRow width rows place
+row_at kind patterns width rows recognises text place at = record {
+  state = at.state;
+  place_is = at.place_is;
+  fits = omega (arith, at.place_is, row_fits kind patterns width rows recognises at.state at.is_state);
+}
 
 module _ (width : ℕ) (rows : List ℕ) (table : IsTable width rows) (start : ℕ) where
   -- before the first byte
@@ -334,16 +405,10 @@ module _ (width : ℕ) (rows : List ℕ) (table : IsTable width rows) (start : �
   reads_start = record {
     row = table.some;
     behind = λ kind patterns recognises some. record {
-      state = 0;
-      is_state = recognises.some;
-      place_is = zero_row;
-      held = ap Some (sym recognises.root);
+      at = at_start (root_kind_of kind) patterns width rows recognises;
       found = refl;
     };
   }
-    where
-      zero_row : 0 ≡ 0 * stride_of width
-      zero_row = grind arith
 
   module _ (text : List ℕ) (place : ℕ) (last : Option Ended) (reads : Reads width rows start text place last)
       (symbol : ℕ) (below : symbol < width) (code : ℕ) (code_is : code ≡ get_or rows (place + symbol) 0)
@@ -398,11 +463,11 @@ pub reads_near : (width : ℕ) (rows : List ℕ) (start : ℕ) (text : List ℕ)
 reads_near width rows start text place None reads = λ kind patterns recognises some longest short. tt
 reads_near width rows start text place (Some e) reads = λ kind patterns recognises some longest short.
     let behind = reads.behind kind patterns recognises some in
-    let word = word_of recognises.words behind.state in
+    let word = word_of recognises.words behind.at.state in
     let end = behind.found.end in
-    let size = held_is_short kind patterns longest short text word behind.held in
+    let size = held_is_short kind patterns longest short text word behind.at.held in
     let least = from_match_short kind patterns word in
-    let same = ap (λ (l : List ℕ). length l) (from_match_held kind patterns text word behind.held) in
+    let same = ap (λ (l : List ℕ). length l) (from_match_held kind patterns text word behind.at.held) in
     omega arith
 
 -- a place before one that is near is near
@@ -461,3 +526,148 @@ pub got_is : (numbers : List ℕ) (i : ℕ) (answer : Option (Bor ℕ)) (item : 
     → answer ≡ Some item → item.now ≡ get_or numbers i 0
 got_is numbers i answer item is some =
     sym (ap (λ (o : Option (Bor ℕ)). unwrap_or (option_map (λ (b : Bor ℕ). b.now) o) 0) some) ∙ is.4 (omega arith) 0
+
+-- a walk that stood at a row as it began to read
+module _ (width : ℕ) (rows : List ℕ) (from : ℕ) (classes haystack : List ℕ) (start : ℕ) where
+  read_push : (text : List ℕ) (at : ℕ) → start ≤ at → at < length haystack
+      → read_to text classes haystack start (at + 1)
+      ≡ read_to text classes haystack start at ++ get_or classes (get_or haystack at 0) 0 ∷ []
+  read_push text at after inside =
+      ap (λ l. text ++ l) (text_push classes haystack start at after inside)
+      ∙ sym (append_assoc text (text_of classes haystack (between start at))
+      (get_or classes (get_or haystack at 0) 0 ∷ []))
+
+  read_nothing : (text : List ℕ) → read_to text classes haystack start start ≡ text
+  read_nothing text =
+      let none : start - start ≡ 0 = omega arith in
+      ap (λ n. text ++ symbols_in classes (take n (drop start haystack))) none ∙ append-nil text
+
+  none_push : (kind : search.MatchKind) (patterns : List (List ℕ)) (text : List ℕ) (at : ℕ)
+      → NoneEnds kind patterns text classes haystack start at
+      → ending kind patterns (read_to text classes haystack start (at + 1)) ≡ None
+      → NoneEnds kind patterns text classes haystack start (at + 1)
+  none_push kind patterns text at none here end after upto = elim (cases_lt at end) [
+    | inl last ↦
+        let is : at + 1 ≡ end = omega arith in
+        subst (λ e. ending kind patterns (read_to text classes haystack start e) ≡ None) is here
+    | inr before ↦ none end after before
+  ]
+
+  pub goes_start : IsRow width rows from → GoesOn width rows from classes haystack start start from
+  goes_start row = record {
+    row = row;
+    stands = λ kind patterns recognises text at. (
+      subst (λ t. IsAt kind patterns width rows recognises t from) (sym (read_nothing text)) at,
+      λ end after upto. absurd (omega arith),
+    );
+  }
+
+  module _ (table : IsTable width rows) (at place : ℕ)
+      (goes : GoesOn width rows from classes haystack start at place) (after : start ≤ at)
+      (inside : at < length haystack) (below : get_or classes (get_or haystack at 0) 0 < width) (code : ℕ)
+      (code_is : code ≡ get_or rows (place + get_or classes (get_or haystack at 0) 0) 0)
+    where
+      row_next : ¬ (code ≡ nothing) → IsRow width rows (place_of code)
+      row_next alive = elim (table.leads place (get_or classes (get_or haystack at 0) 0) goes.row below) [
+        | inl dead ↦ absurd (alive (code_is ∙ dead))
+        | inr row ↦ subst (λ n. IsRow width rows (place_of n)) (sym code_is) row
+      ]
+
+      -- behind one byte more nothing ends
+      pub goes_further : code < 2 ^ 31 → GoesOn width rows from classes haystack start (at + 1) code
+      goes_further small = record {
+        row = subst (IsRow width rows) (cond-true _ _ _ (lt-ltb code (2 ^ 31) small)) (row_next (λ is. omega arith));
+        stands = λ kind patterns recognises text begins.
+            let stood = goes.stands kind patterns recognises text begins in
+            let on = at_without_end kind patterns width rows recognises (read_to text classes haystack start at) place
+            stood.0 _ below code code_is small in
+            let more = sym (read_push text at after inside) in (
+              subst (λ t. IsAt kind patterns width rows recognises t code) more on.0,
+              none_push kind patterns text at stood.1
+                  (subst (λ t. ending kind patterns t ≡ None) more on.1),
+            );
+      }
+
+      -- something ends
+      pub finds_end : 2 ^ 31 ≤ code → ¬ (code ≡ nothing) → (span : Span) → span.start ≡ start
+          → FindsEnd width rows from classes haystack span (Some (record { place = code - 2 ^ 31; end = at + 1 }))
+      finds_end large alive span same = λ kind patterns recognises text begins.
+          let stood = goes.stands kind patterns recognises text begins in
+          let on = at_with_end kind patterns width rows recognises (read_to text classes haystack start at) place
+          stood.0 _ below code code_is large alive in
+          let more = sym (read_push text at after inside) in
+          let stop : Stop = record { place = code - 2 ^ 31; end = at + 1 } in
+          let last : at ≡ at + 1 - 1 = omega arith in
+          subst (λ from. IsFirstEnd kind patterns width rows recognises text classes haystack from stop) (sym same)
+          (record {
+            none = subst (λ upto. NoneEnds kind patterns text classes haystack start upto) last stood.1;
+            ends = subst (λ t. IsSome (ending kind patterns t)) more
+                (subst (λ (o : Option ℕ). IsSome o) (sym on.1) refl);
+            at = subst (λ t. IsAt kind patterns width rows recognises t (code - 2 ^ 31)) more on.0;
+          })
+
+      -- nothing is held any more, and so nothing ends however far the text goes on
+      pub finds_dead_end : code ≡ nothing → (span : Span) → span.start ≡ start → span.end ≤ length haystack
+          → FindsEnd width rows from classes haystack span None
+      finds_dead_end is_dead span same short = λ kind patterns recognises text begins end begun upto.
+          let stood = goes.stands kind patterns recognises text begins in
+          let on = at_dead kind patterns width rows recognises (read_to text classes haystack start at) place stood.0 _
+          below code code_is is_dead in
+          let more = sym (read_push text at after inside) in
+          let later : start < end = omega (arith, same) in
+          subst (λ from. ending kind patterns (read_to text classes haystack from end) ≡ None) (sym same)
+          (elim (cases_lt at end) [
+            | inl longer ↦
+                dead_for_good kind patterns text end longer (omega arith)
+                (subst (λ t. held kind patterns t ≡ None) more on.0)
+            | inr before ↦ stood.1 end later before
+          ])
+        where
+          dead_for_good : (kind : search.MatchKind) (patterns : List (List ℕ)) (text : List ℕ) (end : ℕ) → at < end
+              → end ≤ length haystack → held kind patterns (read_to text classes haystack start (at + 1)) ≡ None
+              → ending kind patterns (read_to text classes haystack start end) ≡ None
+          dead_for_good kind patterns text end longer short dead =
+              let first = text_of classes haystack (between start (at + 1)) in
+              let rest = text_of classes haystack (between (at + 1) end) in
+              let split : read_to text classes haystack start end ≡ read_to text classes haystack start (at + 1) ++
+              rest =
+              ap (λ l. text ++ l) (text_halves classes haystack start (at + 1) end (omega arith) (omega arith))
+              ∙ sym (append_assoc text first rest) in
+              ap (ending kind patterns) split
+              ∙ (ending_by_held kind patterns (read_to text classes haystack start (at + 1) ++ rest)
+              ∙ ap (ending_held kind patterns)
+              (sym (held_push kind patterns (read_to text classes haystack start (at + 1)) rest)
+              ∙ ap (λ o. held_on kind patterns o rest) dead))
+
+  -- behind all bytes
+  pub finds_no_end : (place : ℕ) (span : Span) → span.start ≡ start
+      → GoesOn width rows from classes haystack start span.end place
+      → FindsEnd width rows from classes haystack span None
+  finds_no_end place span same goes = λ kind patterns recognises text begins.
+      subst (λ first. NoneEnds kind patterns text classes haystack first span.end) (sym same)
+      (goes.stands kind patterns recognises text begins).1
+
+-- where all occurrences are wanted something is always held
+pub always_held : (patterns : List (List ℕ)) (text : List ℕ) → ¬ (held Standard patterns text ≡ None)
+always_held patterns [] is = cc
+always_held patterns (symbol ∷ text) is =
+    by_begun (begins_one Standard patterns (symbol ∷ text)) refl (always_held patterns text)
+  where
+    by_begun : (b : Bool) → begins_one Standard patterns (symbol ∷ text) ≡ b
+        → ¬ (held Standard patterns text ≡ None) → ⊥
+    by_begun true begun further =
+        let some : held Standard patterns (symbol ∷ text) ≡ Some (symbol ∷ text) = cond-true _ _ _ begun in cc
+    by_begun false unbegun further =
+        let same : held Standard patterns (symbol ∷ text) ≡ held Standard patterns text = cond-false _ _ _ unbegun in
+        further (sym same ∙ is)
+
+-- what ends where a walk stands
+pub ends_at : (kind : search.MatchKind) (patterns : List (List ℕ)) (width : ℕ) (rows : List ℕ)
+    (recognises : Recognises kind patterns width rows) (text : List ℕ) (place : ℕ)
+    → IsAt kind patterns width rows recognises text place
+    → get_or rows (place + width) 0 ≡ unwrap_or (ending kind patterns text) nothing
+ends_at kind patterns width rows recognises text place at =
+    ap (λ p. get_or rows (p + width) 0) at.place_is
+    ∙ (recognises.ends at.state at.is_state
+    ∙ ap (λ o. unwrap_or o nothing)
+    (sym (ending_by_held kind patterns text ∙ ap (ending_held kind patterns) at.held)))

@@ -1,17 +1,20 @@
 -- What a walk through the rows of an automaton finds.
-use Rattle.std.specs.Prelude.{◌≡◌, ℕ, ◌+◌, ◌*◌, ◌-◌, ◌<◌, ◌≤◌, ◌⊎◌, ◌^◌, true, false, List, [], ◌∷◌, Option, Some}
-use Rattle.std.specs.Prelude.{MatchOption, IfSome, length}
+use Rattle.std.specs.Prelude.{◌≡◌, ℕ, ◌+◌, ◌*◌, ◌-◌, ◌<◌, ◌≤◌, ◌⊎◌, ◌^◌, true, false, List, [], ◌∷◌, ◌++◌, Option}
+use Rattle.std.specs.Prelude.{None, Some}
+use Rattle.std.specs.Prelude.{MatchOption, IfSome, IsSome, length}
 use Rattle.std.specs.Prelude.{if◌then◌else◌, nat_eq, nat_lt, slice_index, slice_range}
 use Rattle.std.specs.List.{starts_with}
 use Rattle.literal_base.specs.declared.packed.MatchKind.{MatchKind}
+use Rattle.literal_base.specs.declared.search.MatchKind as search
 use Rattle.literal_base.specs.declared.search.Span.{Span}
 use Rattle.literal_base.specs.Kinds.{root_kind_of}
 use Rattle.literal_base.specs.Leftmost.{IsBetter}
-use Rattle.literal_base.specs.Occurs.{NoneIsEmpty, pattern_at}
+use Rattle.literal_base.specs.Occurs.{NoneIsEmpty, between, pattern_at}
 use Rattle.literal_automaton.specs.Inside.Classes.{symbols_in}
 use Rattle.literal_automaton.specs.Table.{Recognises, nothing, stride_of}
-use Rattle.literal_automaton.specs.Words.{held, one_stands, word_of}
+use Rattle.literal_automaton.specs.Words.{ending, held, one_stands, word_of}
 use Rattle.literal_automaton.specs.declared.walk.Ended.{Ended}
+use Rattle.literal_automaton.specs.declared.walk.Stop.{Stop}
 
 -- at the place the row of a state begins
 pub record IsRow (width : ℕ) (rows : List ℕ) (place : ℕ) : Type 0 where
@@ -65,14 +68,19 @@ FindsIn width rows start text answer =
     (kind : MatchKind) (patterns : List (List ℕ)) → Recognises (root_kind_of kind) patterns width rows
     → NoneIsEmpty patterns → IsFound kind patterns start text answer
 
+-- a walk that read a text stands at the state of what is held of it
+pub record IsAt (kind : search.MatchKind) (patterns : List (List ℕ)) (width : ℕ) (rows : List ℕ)
+    (recognises : Recognises kind patterns width rows) (text : List ℕ) (place : ℕ) : Type 0 where
+  pub state : ℕ
+  pub is_state : state < length recognises.words
+  pub place_is : place ≡ state * stride_of width
+  pub held : held kind patterns text ≡ Some (word_of recognises.words state)
+
 -- what a walk knows of a text that it read: it is at the state of what is held of the text, and has the best match
 pub record IsBehind (kind : MatchKind) (patterns : List (List ℕ)) (width : ℕ) (rows : List ℕ)
     (recognises : Recognises (root_kind_of kind) patterns width rows) (start : ℕ) (text : List ℕ) (place : ℕ)
     (last : Option Ended) : Type 0 where
-  pub state : ℕ
-  pub is_state : state < length recognises.words
-  pub place_is : place ≡ state * stride_of width
-  pub held : held (root_kind_of kind) patterns text ≡ Some (word_of recognises.words state)
+  pub at : IsAt (root_kind_of kind) patterns width rows recognises text place
   pub found : IsFound kind patterns start text last
 
 -- the same for all patterns, none empty, that the rows recognise
@@ -90,3 +98,37 @@ StopsNear width rows place answer =
     (kind : MatchKind) (patterns : List (List ℕ)) → Recognises (root_kind_of kind) patterns width rows
     → NoneIsEmpty patterns → (longest : ℕ) → ((i : ℕ) → length (pattern_at patterns i) ≤ longest)
     → IfSome answer (λ e. place + length (pattern_at patterns e.pattern) ≤ e.end + longest)
+
+-- a text that goes on with the classes of the haystack's bytes from one place to another
+abbrev pub read_to : List ℕ → List ℕ → List ℕ → ℕ → ℕ → List ℕ
+read_to text classes haystack start end = text ++ text_of classes haystack (between start end)
+
+-- no pattern ends with it as far as it goes on
+abbrev pub NoneEnds : search.MatchKind → List (List ℕ) → List ℕ → List ℕ → List ℕ → ℕ → ℕ → Type 0
+NoneEnds kind patterns text classes haystack start upto =
+    (end : ℕ) → start < end → end ≤ upto → ending kind patterns (read_to text classes haystack start end) ≡ None
+
+-- where a pattern ends first as it goes on, and the row of the state there
+pub record IsFirstEnd (kind : search.MatchKind) (patterns : List (List ℕ)) (width : ℕ) (rows : List ℕ)
+    (recognises : Recognises kind patterns width rows) (text classes haystack : List ℕ) (start : ℕ) (stop : Stop)
+    : Type 0 where
+  pub none : NoneEnds kind patterns text classes haystack start (stop.end - 1)
+  pub ends : IsSome (ending kind patterns (read_to text classes haystack start stop.end))
+  pub at : IsAt kind patterns width rows recognises (read_to text classes haystack start stop.end) stop.place
+
+-- the first such place in a span, for all patterns that the rows recognise, from all texts whose state has the row
+abbrev pub FindsEnd : ℕ → List ℕ → ℕ → List ℕ → List ℕ → Span → Option Stop → Type 0
+FindsEnd width rows place classes haystack span answer =
+    (kind : search.MatchKind) (patterns : List (List ℕ)) (recognises : Recognises kind patterns width rows)
+    (text : List ℕ) → IsAt kind patterns width rows recognises text place
+    → MatchOption answer (NoneEnds kind patterns text classes haystack span.start span.end)
+    (IsFirstEnd kind patterns width rows recognises text classes haystack span.start)
+
+-- a walk that stood at a row stands at another, and no pattern has ended since
+pub record GoesOn (width : ℕ) (rows : List ℕ) (from : ℕ) (classes haystack : List ℕ) (start at place : ℕ)
+    : Type 0 where
+  pub row : IsRow width rows place
+  pub stands : (kind : search.MatchKind) (patterns : List (List ℕ)) (recognises : Recognises kind patterns width rows)
+      (text : List ℕ) → IsAt kind patterns width rows recognises text from
+      → IsAt kind patterns width rows recognises (read_to text classes haystack start at) place
+      × NoneEnds kind patterns text classes haystack start at

@@ -1,6 +1,7 @@
 use Rattle.std.proofs.Common.{◌≡◌, ◌+◌, ◌-◌, ◌<◌, ◌≤◌, ◌∙◌, ℕ, List, None, Some, [], ap, arith, length, map, subst, sym}
 use Rattle.std.proofs.lemmas.List.{get_or-map, length-map}
 use Rattle.std.specs.List.{All}
+use Rattle.literal_base.specs.Kinds.{root_kind_of}
 use Rattle.literal_base.specs.Leftmost.{IsLeftmostMatch}
 use Rattle.literal_base.specs.MatchValue.{MatchValue}
 use Rattle.literal_base.specs.Occurs.{NothingOccurs, pattern_at}
@@ -17,7 +18,7 @@ pub last_ended-requires-clause-table : goal.last_ended-requires-clause-table
 last_ended-requires-clause-table c =
     let a = c.self.inside in
     subst (IsTable a.classes.width) (sym c.deref.ensures.value)
-    (table_of a.kind (map (symbols_in a.classes.table) (patterns_in a)) a.classes.width a.rows.items
+    (table_of (root_kind_of a.kind) (map (symbols_in a.classes.table) (patterns_in a)) a.classes.width a.rows.items
     c.self.invariant.recognises)
 
 pub returns-in_default-clause-leftmost : goal.returns-in_default-clause-leftmost

@@ -1,6 +1,7 @@
 use Rattle.std.proofs.Common.{ℕ, List, map, subst}
 use Rattle.std.specs.Global.{Global}
 use Rattle.std.specs.declared.vec.Vec.{Vec}
+use Rattle.literal_base.specs.Kinds.{root_kind_of}
 use Rattle.literal_automaton.specs.DfaValue.{NeedTooManyStates}
 use Rattle.literal_automaton.specs.Inside.Classes.{Tells}
 use Rattle.literal_automaton.specs.States.{HasTooManyStates}
@@ -30,7 +31,7 @@ returns-in_err-rows-clause-error g c =
     (map (λ (pattern : Vec ℕ Global). pattern.items) patterns)) c.deref.ensures.value
     c.classes_for-classes.ensures.tells in
     refused_rows g.I.IntoIterator.into_iter_gives g.I.IntoIter.Iterator.next_gives c.args.patterns
-    (NeedTooManyStates c.args.kind c.args.ignore_case)
+    (NeedTooManyStates (root_kind_of c.args.kind) c.args.ignore_case)
     (map (λ (pattern : Vec ℕ Global). pattern.items) patterns) c.in_ok-patterns.ensures.ok c.in_err-rows.field-0.0
     (λ is. (
       classes.table,

@@ -3,7 +3,7 @@ use Rattle.std.specs.Prelude.{codes}
 use Rattle.literal_base.specs.declared.packed.MatchKind.TheVariants.{LeftmostFirst}
 use Rattle.literal_packed.proofs.lemmas.Callers.{array_gives}
 use Rattle.literal_automaton.proofs.lemmas.Callers.{dfa_is_for}
-use Rattle.literal_callers.proofs.lemmas.Tested.{greedy_if_tested}
+use Rattle.literal_base.proofs.lemmas.Tested.{greedy_if_tested}
 use Rattle.literal_callers.proofs.given.found_in_readme.Goals as goal
 
 words : List (List ℕ)

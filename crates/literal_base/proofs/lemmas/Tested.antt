@@ -1,6 +1,6 @@
 -- Whether a list of matches is the greedy one, as a test: with case kept, and for the kind by which the pattern added
 -- first is taken.
--- For `found_in_readme`.
+-- For callers.
 use Rattle.std.proofs.Common.{◌≡◌, ◌==◌, ℕ, ◌+◌, ◌<◌, ◌&&◌, ◌||◌, Bool, true, false, not, List, [], ◌∷◌, length, arith}
 use Rattle.std.proofs.Common.{nat_lt, nat_le, slice_range, zero, suc, inl, inr, sym, ap, subst, ◌∙◌}
 use Rattle.std.specs.Str.{bytes_eq}

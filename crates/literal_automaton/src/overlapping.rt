@@ -1,0 +1,339 @@
+//! A search for everything that occurs.
+ghost use Rattle.std.specs.Prelude.{◌≡◌, ◌+◌, ◌<◌, length, IfErr, IfOk, IfSome, MatchOption, None, Some};
+ghost use Rattle.literal_base.specs.MatchValue.{MatchValue};
+ghost use Rattle.literal_base.specs.Occurs.{IsValidSpan, whole_of};
+ghost use Rattle.literal_base.specs.declared.search.MatchKind.TheVariants.{Standard};
+ghost use Rattle.literal_packed.specs.Lending.{CanBeTaken};
+ghost use Rattle.literal_automaton.specs.DfaValue.{CanBeKept, NeedFewStates, NeedTooManyStates, RefusesDfa};
+ghost use Rattle.literal_automaton.specs.Overlapping.{BuildsOverlapping};
+ghost use Rattle.literal_automaton.specs.OverlappingMatchesValue.{GivesOverlapping, IsNextToCome, IsToCome};
+ghost use Rattle.literal_automaton.specs.OverlappingMatchesValue.{gone_on, most_overlapping};
+ghost use Rattle.literal_automaton.specs.declared.overlapping.Standing.{Standing};
+ghost use Rattle.literal_automaton.specs.Inside.Standing.{AreParts, HaveSameToCome, IsStanding, longest_at};
+ghost use Rattle.literal_automaton.specs.Inside.Standing.{overlapping_value, standing_at, standing_value};
+
+use crate::classes::{Classes, classes_for};
+use crate::ends::{Lists, Recognised};
+use crate::grow::grow;
+use crate::walk::{Stop, first_ended};
+use crate::{BuildError, copies};
+use literal_base::count::Tally;
+use literal_base::search::MatchKind;
+use literal_base::{Match, Span};
+use std::alloc::Global;
+use std::marker::Model;
+
+/// Searches for every occurrence of any number of patterns: those that overlap others, and those that stand within
+/// others, too. Contracts see the patterns, and whether ASCII case is ignored.
+///
+/// A search looks each byte up once. It has the states of an automaton, and for each pattern the list of those that
+/// are an end of it. `literal_search` has it under the same name.
+///
+/// ```rust
+/// let search = Overlapping::new(alloc, false, [b"append".as_slice(), b"app", b"end"])?;
+/// let mut matches = search.find_overlapping_iter(b"append");
+/// let first = matches.next().ok_or("nothing is found")?;
+/// assert!(rt; first.pattern().as_usize() == 1 && first.range() == (0..3));
+/// ```
+#[derive(Drop)]
+pub struct Overlapping {
+    parts: Parts,
+}
+
+/// What a search and its iterations read.
+#[derive(Drop)]
+struct Parts {
+    ignore_case: bool,
+    patterns: Vec<Vec<u8>>,
+    classes: Classes,
+    rows: Vec<u32>,
+    lists: Lists,
+}
+
+impl Model for Overlapping {
+    ghost use Rattle.literal_automaton.specs.Overlapping.{OverlappingValue};
+    ghost use Rattle.literal_automaton.specs.Inside.Standing.{AreParts, overlapping_value};
+
+    ghost Value = { OverlappingValue };
+
+    ghost view = { λ o. overlapping_value o.parts };
+
+    ghost invariant = { λ o. AreParts o.parts };
+}
+
+impl Overlapping {
+    /// The search for the patterns that the iterator gives, with ASCII case ignored or not. The iterator has to end;
+    /// the first empty pattern stops it. There may be no pattern: then nothing is found. Memory is asked for only for
+    /// a pattern that is kept, and behind the last of them.
+    pub fn new<'a, I: IntoIterator<Item = &'a [u8]>>(
+        alloc: Global,
+        ignore_case: bool,
+        patterns: I,
+    ) -> Result<Overlapping, BuildError>
+        requires { CanBeTaken I.into_iter_gives I.IntoIter.can_next I.IntoIter.remaining patterns }
+        ensures ok { IfOk result
+            (BuildsOverlapping I.into_iter_gives I.IntoIter.next_gives patterns ignore_case) }
+        ensures few { IfOk result (λ search. NeedFewStates Standard ignore_case search.patterns) }
+        ensures error { IfErr result (RefusesDfa I.into_iter_gives I.IntoIter.next_gives patterns
+            (NeedTooManyStates Standard ignore_case)) }
+    {
+        let patterns = copies(alloc, patterns)?;
+        let classes = classes_for(ignore_case, &patterns);
+        let rows = grow(
+            alloc,
+            MatchKind::Standard,
+            &classes.table,
+            classes.width,
+            &patterns,
+        )?;
+        let recognised = Recognised {
+            classes: &classes.table,
+            width: classes.width,
+            rows: &rows,
+            patterns: &patterns,
+        };
+        let lists = recognised.lists(alloc)?;
+        let parts = Parts {
+            ignore_case,
+            patterns,
+            classes,
+            rows,
+            lists,
+        };
+        Ok(Overlapping { parts })
+    }
+
+    /// Every occurrence in the haystack: [`Overlapping::find_overlapping_in`] of all of it.
+    pub fn find_overlapping_iter<'s, 'h>(&'s self, haystack: &'h [u8]) -> OverlappingMatches<'s, 'h>
+        ensures { result ≡ record {
+          search = self.now;
+          haystack = haystack.now;
+          span = whole_of haystack.now;
+          end = 0;
+          pattern = 0;
+        } }
+    {
+        let end = haystack.len();
+        self.find_overlapping_in(haystack, Span { start: 0, end })
+    }
+
+    /// Every occurrence of every pattern that lies whole in a span of the haystack, in the order of ends and, at one
+    /// end, of identifiers. Offsets, in the matches too, are in bytes of the whole haystack. The span has to be
+    /// valid: its `start` at most its `end`, and that at most the haystack's length. The iterator borrows the
+    /// haystack, and ends with the first `None`.
+    pub fn find_overlapping_in<'s, 'h>(
+        &'s self,
+        haystack: &'h [u8],
+        span: Span,
+    ) -> OverlappingMatches<'s, 'h>
+        requires { IsValidSpan haystack.now span }
+        ensures { result ≡ record {
+          search = self.now;
+          haystack = haystack.now;
+          span = span;
+          end = span.start;
+          pattern = 0;
+        } }
+    {
+        OverlappingMatches {
+            parts: &self.parts,
+            haystack,
+            span,
+            standing: self.parts.before_all(haystack, span),
+            tally: Tally::new(),
+        }
+    }
+
+    /// How many patterns there are, none of them empty.
+    pub fn patterns_len(&self) -> usize
+        ensures len { result ≡ length self.now.patterns }
+        ensures patterns { CanBeKept self.now.patterns }
+    {
+        self.parts.patterns.len()
+    }
+}
+
+/// Where a search stands in its haystack.
+#[derive(Clone, Copy)]
+struct Standing {
+    /// How far it has read.
+    at: usize,
+    /// The row of its state.
+    place: usize,
+    /// From which identifier on the patterns that end here are still to come.
+    pattern: usize,
+    /// Where in the lists these begin and end.
+    next: usize,
+    end: usize,
+}
+
+impl Parts {
+    /// Where the next occurrence ends: here, as long as the list has more, or else at the next end of a pattern.
+    fn next_end(
+        &self,
+        haystack: &[u8],
+        span: Span,
+        standing: Standing,
+        tally: &mut Tally,
+    ) -> Option<Standing>
+        requires parts { AreParts self.now }
+        requires valid { IsValidSpan haystack.now span }
+        requires standing { IsStanding self.now haystack.now span standing }
+        ensures stands { IfSome result (IsStanding self.now haystack.now span) }
+        ensures more { IfSome result (λ here. here.next < here.end) }
+        ensures to_come { MatchOption result
+            ((found : MatchValue) → ¬ IsToCome (standing_value self.now haystack.now span standing) found)
+            (λ here. HaveSameToCome (standing_value self.now haystack.now span standing)
+            (standing_value self.now haystack.now span here)) }
+    {
+        if standing.next < standing.end {
+            return Some(standing);
+        }
+        if standing.at == span.end {
+            return None;
+        }
+        let rest = Span {
+            start: standing.at,
+            end: span.end,
+        };
+        let (table, width) = (&self.classes.table, self.classes.width);
+        let place = standing.place;
+        let stop = first_ended(table, &self.rows, width, haystack, place, rest, tally)?;
+        Some(self.standing_at(stop))
+    }
+
+    /// Where a walk stands that stopped where a pattern ends: before all patterns that end there.
+    fn standing_at(&self, stop: Stop) -> Standing
+        requires row { stop.place + self.now.classes.width < length self.now.rows.items }
+        requires listed { longest_at self.now stop + 1 < length self.now.lists.starts.items }
+        ensures { result ≡ standing_at self.now stop }
+    {
+        let longest = self.rows[stop.place + self.classes.width] as usize;
+        Standing {
+            at: stop.end,
+            place: stop.place,
+            pattern: 0,
+            next: self.lists.starts[longest],
+            end: self.lists.starts[longest + 1],
+        }
+    }
+
+    /// The next occurrence of those that end where a search stands, and where it then stands.
+    fn first_of(&self, haystack: &[u8], span: Span, here: Standing) -> (Match, Standing)
+        requires parts { AreParts self.now }
+        requires valid { IsValidSpan haystack.now span }
+        requires standing { IsStanding self.now haystack.now span here }
+        requires left { here.next < here.end }
+        ensures stands { IsStanding self.now haystack.now span result.1 }
+        ensures next { IsNextToCome (standing_value self.now haystack.now span here) result.0 }
+        ensures goes_on { standing_value self.now haystack.now span result.1
+            ≡ gone_on (standing_value self.now haystack.now span here) (Some result.0) }
+    {
+        prove!(here.at <= span.end && span.end <= haystack.len());
+        let pattern = self.lists.ends[here.next] as usize;
+        let start = here.at - self.patterns[pattern].len();
+        let standing = Standing {
+            at: here.at,
+            place: here.place,
+            pattern: pattern + 1,
+            next: here.next + 1,
+            end: here.end,
+        };
+        let found = Match::must(
+            pattern,
+            Span {
+                start,
+                end: here.at,
+            },
+        );
+        (found, standing)
+    }
+
+    /// Where a search stands behind all that occurs in the span.
+    fn behind_all(&self, haystack: &[u8], span: Span) -> Standing
+        requires parts { AreParts self.now }
+        requires valid { IsValidSpan haystack.now span }
+        ensures stands { IsStanding self.now haystack.now span result }
+        ensures goes_on { (s : Standing) → standing_value self.now haystack.now span result
+            ≡ gone_on (standing_value self.now haystack.now span s) None }
+    {
+        prove!(span.end <= haystack.len());
+        Standing {
+            at: span.end,
+            place: 0,
+            pattern: self.patterns.len(),
+            next: 0,
+            end: 0,
+        }
+    }
+
+    /// Where a search stands before all that occurs in the span.
+    fn before_all(&self, haystack: &[u8], span: Span) -> Standing
+        requires parts { AreParts self.now }
+        requires valid { IsValidSpan haystack.now span }
+        ensures stands { IsStanding self.now haystack.now span result }
+        ensures from_start { standing_value self.now haystack.now span result ≡ record {
+          search = overlapping_value self.now;
+          haystack = haystack.now;
+          span = span;
+          end = span.start;
+          pattern = 0;
+        } }
+    {
+        prove!(span.end <= haystack.len());
+        Standing {
+            at: span.start,
+            place: 0,
+            pattern: 0,
+            next: 0,
+            end: 0,
+        }
+    }
+}
+
+/// What [`Overlapping::find_overlapping_in`] goes over. Contracts see the search, the haystack, the span, and from
+/// which end and, at that one, from which identifier on occurrences are still to come. After its first `None` it keeps
+/// answering `None`.
+#[derive(Drop)]
+pub struct OverlappingMatches<'s, 'h> {
+    parts: &'s Parts,
+    haystack: &'h [u8],
+    span: Span,
+    standing: Standing,
+    tally: Tally,
+}
+
+impl<'s, 'h> Model for OverlappingMatches<'s, 'h> {
+    ghost use Rattle.literal_automaton.specs.OverlappingMatchesValue.{OverlappingMatchesValue};
+    ghost use Rattle.literal_automaton.specs.Inside.Standing.{AreParts, IsStanding, standing_value};
+    ghost use Rattle.literal_base.specs.Occurs.{IsValidSpan};
+
+    ghost Value = { OverlappingMatchesValue };
+
+    ghost view = { λ m. standing_value m.parts.now m.haystack.now m.span m.standing };
+
+    ghost invariant = { λ m. AreParts m.parts.now × IsValidSpan m.haystack.now m.span
+        × IsStanding m.parts.now m.haystack.now m.span m.standing };
+}
+
+impl<'s, 'h> Iterator for OverlappingMatches<'s, 'h> {
+    type Item = Match;
+
+    ghost next_gives = { GivesOverlapping };
+
+    ghost remaining = { most_overlapping };
+
+    fn next(&mut self) -> Option<Match> {
+        let tally = &mut self.tally;
+        let next_end = self
+            .parts
+            .next_end(self.haystack, self.span, self.standing, tally);
+        let Some(here) = next_end else {
+            self.standing = self.parts.behind_all(self.haystack, self.span);
+            return None;
+        };
+        let (found, standing) = self.parts.first_of(self.haystack, self.span, here);
+        self.standing = standing;
+        Some(found)
+    }
+}
