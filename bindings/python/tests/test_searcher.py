@@ -50,6 +50,10 @@ class Rows(unittest.TestCase):
         self.assertEqual(Searcher([b"ab", b"abc"], LONGEST).find(b"xabc"), Match(1, 1, 4))
         self.assertEqual(Searcher([b"ab", b"ab"], LONGEST).find(b"ab"), Match(0, 0, 2))
 
+    def test_a_word_in_the_beginning_of_another(self):
+        self.assertEqual(Searcher(["a", "baa"], LONGEST).findall("ba"), [Match(0, 1, 2)])
+        self.assertEqual(Searcher([b"abcd", b"bc"], LONGEST).findall(b"abcabcd"), [Match(1, 1, 3), Match(0, 3, 7)])
+
     def test_case(self):
         self.assertIsNone(Searcher([b"AB"]).find(b"ab"))
         self.assertEqual(Searcher([b"AB"], ignore_case=True).find(b"xaB"), Match(0, 1, 3))
