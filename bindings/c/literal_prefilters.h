@@ -194,8 +194,8 @@ int32_t literal_check_prepared(const uint32_t *prepared, size_t prepared_len);
 
 /* The functions that follow search by an array that literal_prepare wrote. They look at its version and its lengths,
  * and not at all of it. Of an array with other words each of them still returns, and writes to the lent places alone;
- * but what it answers need not be right, whether that is LITERAL_DAMAGED or not, and with LITERAL_DAMAGED some places
- * for matches or answers may be written. */
+ * what it finds lies in the bytes that were searched. But the answer need not be right, whether that is LITERAL_DAMAGED
+ * or not, and with LITERAL_DAMAGED some places for matches or answers may be written. */
 
 /* As literal_find.
  *

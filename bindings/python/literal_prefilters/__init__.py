@@ -46,7 +46,8 @@ class Searcher(Search[AnyStr]):
     write into it.
 
     Raises ValueError if a pattern is empty or has a lone surrogate, MemoryError, and OverflowError if the table of the
-    search would have 2^31 places.
+    search would have 2^31 places. Each call raises TypeError for what is no text, or one of the other type, BufferError
+    for a view with gaps or an array of objects, and ValueError for a str with a lone surrogate.
 
     >>> Searcher([b"ab", b"abcd"], Kind.LEFTMOST_LONGEST).find(b"xabcd")
     Match(pattern=1, start=1, end=5)

@@ -19,7 +19,7 @@ enum {
     FIRST_PAGE = 32,      /* room for so many matches at first */
     LARGEST_PAGE = 4096,  /* and for so many later */
     READ_AHEAD = 1 << 22, /* bytes that the matches of a page may be looked at beyond their ends, all together */
-    SCRATCH = 1 << 20     /* words in which a search is written whose length is not known yet */
+    SCRATCH = 1 << 24     /* numbers, at most, in which a search is written whose length is not known yet */
 };
 
 /* Of which type the texts of a searcher are, as its patterns are. */
@@ -650,15 +650,28 @@ static int32_t prepare(const Search *self, const Pieces *pieces, void *words, si
     return status;
 }
 
+/* How many numbers the array of a search for some pieces will have, more or less: one row for each of their bytes, with
+ * a number for each different one. */
+static size_t likely_len(const Pieces *pieces) {
+    bool seen[256] = {false};
+    size_t different = 0;
+    for (size_t i = 0; i < pieces->len; i++) {
+        different += !seen[pieces->bytes[i]];
+        seen[pieces->bytes[i]] = true;
+    }
+    size_t len = (pieces->len + 1) * (different + 2) + pieces->count + 512;
+    return len < SCRATCH ? len : SCRATCH;
+}
+
 /* The array of a search for some pieces. How long it is turns out when it is written, so it is written where there is
- * room, and once more where there was too little. */
+ * likely room, and once more where that was too little. */
 static PyObject *prepared_for(const Search *self, const Pieces *pieces) {
-    size_t needed = 0;
+    size_t needed = 0, likely = likely_len(pieces);
     PyObject *prepared = NULL;
-    void *scratch = PyMem_RawMalloc(SCRATCH * sizeof(uint32_t));
+    void *scratch = PyMem_RawMalloc(likely * sizeof(uint32_t));
     if (!scratch)
         return PyErr_NoMemory();
-    int32_t status = prepare(self, pieces, scratch, SCRATCH, &needed);
+    int32_t status = prepare(self, pieces, scratch, likely, &needed);
     if (status == LITERAL_OK || status == LITERAL_TOO_SHORT) {
         const char *written = status == LITERAL_OK ? scratch : NULL;
         prepared = PyBytes_FromStringAndSize(written, (Py_ssize_t)(needed * sizeof(uint32_t)));

@@ -50,6 +50,10 @@ class Rows(unittest.TestCase):
         self.assertEqual(Searcher([b"ab", b"abc"], LONGEST).find(b"xabc"), Match(1, 1, 4))
         self.assertEqual(Searcher([b"ab", b"ab"], LONGEST).find(b"ab"), Match(0, 0, 2))
 
+    def test_a_word_in_the_beginning_of_another(self):
+        self.assertEqual(Searcher(["a", "baa"], LONGEST).findall("ba"), [Match(0, 1, 2)])
+        self.assertEqual(Searcher([b"abcd", b"bc"], LONGEST).findall(b"abcabcd"), [Match(1, 1, 3), Match(0, 3, 7)])
+
     def test_case(self):
         self.assertIsNone(Searcher([b"AB"]).find(b"ab"))
         self.assertEqual(Searcher([b"AB"], ignore_case=True).find(b"xaB"), Match(0, 1, 3))
@@ -108,6 +112,13 @@ class Rows(unittest.TestCase):
                     words = [b"%05d" % i for i in range(count)]
                     found = Searcher(words, kind, ignore_case).find(b"x%05d" % (count - 1))
                     self.assertEqual(found, Match(count - 1, 1, 6))
+
+    def test_a_large_table(self):
+        """Its length turns out when it is written."""
+        pattern = bytes(range(100)) * 2000
+        searcher = Searcher([pattern, b"b"])
+        self.assertGreater(len(searcher._prepared), 1 << 26)
+        self.assertEqual(searcher.findall(b"b" + pattern), [(1, 0, 1), (0, 1, 1 + len(pattern))])
 
     def test_all_bytes(self):
         every = bytes(range(256))
