@@ -1,7 +1,7 @@
 -- An iteration over everything that occurs gives each occurrence once, in order.
-use Rattle.std.proofs.Common.{IsNone}
+use Rattle.std.proofs.Common.{IsNone, refl}
 use Rattle.std.proofs.Common.{◌≡◌, ℕ, ◌+◌, ◌<◌, ◌≤◌, List, [], ◌∷◌, length, get_or, suc, zero, None, Some}
-use Rattle.std.proofs.Common.{inl, inr, ◌⊎◌, sym, ap, subst, ◌∙◌, arith}
+use Rattle.std.proofs.Common.{Option, inl, inr, ◌⊎◌, sym, ap, subst, ◌∙◌, arith}
 use Rattle.std.proofs.lemmas.Bool.{cases_lt}
 use Rattle.std.specs.Iterator.{Yields}
 use Rattle.std.specs.List.{All, AllPairs, IsAmong}
