@@ -1,5 +1,5 @@
 -- An iteration over everything that occurs gives each occurrence once, in order.
-use Rattle.std.proofs.Common.{IsNone}
+use Rattle.std.proofs.Common.{IsNone, Option, refl}
 use Rattle.std.proofs.Common.{◌≡◌, ℕ, ◌+◌, ◌<◌, ◌≤◌, List, [], ◌∷◌, length, get_or, suc, zero, None, Some}
 use Rattle.std.proofs.Common.{inl, inr, ◌⊎◌, sym, ap, subst, ◌∙◌, arith}
 use Rattle.std.proofs.lemmas.Bool.{cases_lt}
