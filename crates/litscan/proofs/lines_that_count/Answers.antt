@@ -35,7 +35,8 @@ loop-at-preserved c =
                 (omega (arith, lines, so_far.counted, count, one));
           }
       | else-byte-eq10 w ↦
-          let lines = ap (count_by test) (in_line text start at so_far.start inside (ne_eqb _ _ w.if-byte-eq10.false)) in
+          let lines =
+          ap (count_by test) (in_line text start at so_far.start inside (ne_eqb _ _ w.if-byte-eq10.false)) in
           let is : c.if-byte-eq10.start ≡ start = w.start-is in
           let count : c.if-byte-eq10.count ≡ c.loop-at.count = w.count-is in
           record {
