@@ -16,7 +16,7 @@ from rattle_source import (
 
 # Crates of callers, tests and examples, which no crate of another sort stands on and no rule here reads.
 TEST_CRATES = (
-    "literal_promise", "literal_callers", "literal_calls", "literal_compared", "literal_examples", "literal_shown",
+    "literal_callers", "literal_calls", "literal_compared", "literal_examples", "literal_examples_tests",
     "litscan", "refused_memory", "worked_cases",
 )
 
@@ -73,8 +73,8 @@ HASHES = ((RABIN_KARP, "RabinKarp::find_at"),)
 PATTERN_NAMES = ("pattern", "patterns", "bytes", "by_id", "lists", "classes")
 BYTES = re.compile(r"\[u8\]|\bVec<u8>|\bstr\b")
 
-# The types that may keep a slice of bytes: four a haystack, one a pattern, and one what C hands over of either.
-KEEPERS = ("FindIter", "Matches", "OverlappingMatches", "Input", "Pattern", "Pieces")
+# The types that may keep a slice of bytes: a haystack, patterns, or what C hands over of either.
+KEEPERS = ("FindIter", "Matches", "OverlappingMatches", "Input", "Pattern", "Asked", "Pieces")
 
 # The fields of `BucketEntries` that tell nothing of an entry, and the functions that may name the others: the one that
 # reads an entry, and those that make and copy it.
