@@ -146,6 +146,19 @@ int32_t literal_find_all(uint32_t kind, bool ignore_case, const uint8_t *pattern
                          const size_t *ends, size_t ends_len, const uint8_t *haystack, size_t haystack_len,
                          size_t from, literal_match *found, size_t found_len, literal_page *page);
 
+/* Every occurrence of every pattern in the bytes from start up to and not including end, those that overlap others too,
+ * in the order of their ends and, at one end, of their numbers, as many as there is room for. The rest of found stays as
+ * it was. page->next is the end of the last that is written, or start, and page->is_last is 1 if there are no more, else
+ * 0: then call again with more room, from the same start.
+ *
+ * LITERAL_OK             found and page are written
+ * LITERAL_NO_SEARCHER    the patterns can't be searched for
+ * LITERAL_OUT_OF_MEMORY  there is not enough memory for the search
+ * LITERAL_BAD_ARGUMENTS  the ends fall or pass the buffer, start is above end, or end above haystack_len */
+int32_t literal_find_overlapping(bool ignore_case, const uint8_t *patterns, size_t patterns_len,
+                                 const size_t *ends, size_t ends_len, const uint8_t *haystack, size_t haystack_len,
+                                 size_t start, size_t end, literal_match *found, size_t found_len, literal_page *page);
+
 /* The leftmost match of each of many haystacks, which lie in one buffer like patterns. The search is built once for all
  * of them. answers[i] is the answer for haystack i, with offsets from the beginning of that haystack.
  *

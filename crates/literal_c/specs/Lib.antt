@@ -1,4 +1,5 @@
 pub mod Answers
 pub mod Arguments
 pub mod Inside
+pub mod Overlapping
 pub mod Pieces

@@ -3,6 +3,7 @@ ghost use Rattle.std.specs.Prelude.{◌≡◌, ◌↔◌, IsTrue, MatchOption, M
 ghost use Rattle.literal_automaton.specs.DfaValue.{CanBeKept, dfa_for};
 ghost use Rattle.literal_c.specs.Arguments.{Agree, IsKind, kind_of};
 ghost use Rattle.literal_c.specs.Inside.Refusal.{IsRefused, status_of};
+ghost use Rattle.literal_c.specs.Overlapping.{overlapping_for};
 ghost use Rattle.literal_c.specs.Pieces.{AreEnds, pieces};
 
 use crate::pieces::{Pieces, are_ends};
@@ -10,7 +11,7 @@ use crate::{
     LITERAL_BAD_ARGUMENTS, LITERAL_LEFTMOST_FIRST, LITERAL_LEFTMOST_LONGEST, LITERAL_NO_SEARCHER,
     LITERAL_OUT_OF_MEMORY, LITERAL_TOO_LARGE,
 };
-use literal_search::{BuildError, MatchKind, PatternID, Search};
+use literal_search::{BuildError, MatchKind, Overlapping, PatternID, Search};
 use std::alloc::Global;
 
 /// Why there is no search.
@@ -74,6 +75,31 @@ pub fn search_for(
         return Err(Refusal::NoSearcher);
     }
     match Search::new(alloc, kind, ignore_case, Pieces::new(patterns, ends)) {
+        Ok(search) => Ok(search),
+        Err(BuildError::OutOfMemory) => Err(Refusal::OutOfMemory),
+        Err(_) => Err(Refusal::TooLarge),
+    }
+}
+
+/// The same of a search for everything that occurs, which takes no kind.
+pub fn search_for_all(
+    alloc: Global,
+    ignore_case: bool,
+    patterns: &[u8],
+    ends: &[usize],
+) -> Result<Overlapping, Refusal>
+    ensures { MatchResult result
+        (λ search. AreEnds (length patterns.now) 0 ends.now × CanBeKept (pieces patterns.now 0 ends.now)
+        × (search ≡ overlapping_for (pieces patterns.now 0 ends.now) ignore_case))
+        (IsRefused (AreEnds (length patterns.now) 0 ends.now) (pieces patterns.now 0 ends.now)) }
+{
+    if !are_ends(patterns.len(), ends) {
+        return Err(Refusal::BadArguments);
+    }
+    if !can_be_searched(patterns, ends) {
+        return Err(Refusal::NoSearcher);
+    }
+    match Overlapping::new(alloc, ignore_case, Pieces::new(patterns, ends)) {
         Ok(search) => Ok(search),
         Err(BuildError::OutOfMemory) => Err(Refusal::OutOfMemory),
         Err(_) => Err(Refusal::TooLarge),

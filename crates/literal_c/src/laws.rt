@@ -1,10 +1,15 @@
 //! Laws of the definitions that the contracts of the exports cite.
-ghost use Rattle.std.specs.Prelude.{ℕ, List, Bool, ◌++◌, length};
+ghost use Rattle.std.specs.Prelude.{◌≡◌, map, take, ℕ, List, Bool, ◌++◌, length};
 ghost use Rattle.literal_base.specs.Greedy.{IsGreedy};
 ghost use Rattle.literal_base.specs.MatchValue.{MatchValue};
 ghost use Rattle.literal_base.specs.Occurs.{NothingOccurs, rest_from};
 ghost use Rattle.literal_base.specs.Query.{Query};
-ghost use Rattle.literal_c.specs.Answers.{AreNext};
+ghost use Rattle.literal_base.specs.declared.search.Span.{Span};
+ghost use Rattle.literal_automaton.specs.Overlapping.{IsOverlapping, OverlappingValue};
+ghost use Rattle.literal_c.specs.Answers.{AreNext, match_of};
+ghost use Rattle.literal_c.specs.Overlapping.{IsOverlappingPage, all_that_occurs};
+ghost use Rattle.literal_c.specs.declared.LiteralMatch.{LiteralMatch};
+ghost use Rattle.literal_c.specs.declared.LiteralPage.{LiteralPage};
 
 /// The matches of pages one after another, each from where the one before it ends, are those of one page; and those of
 /// pages up to the last one are the greedy list.
@@ -17,4 +22,12 @@ pub fn pages_are_the_greedy_list()
         (all : List MatchValue) → AreNext query ignore_case haystack (length haystack) from all next
         → NothingOccurs query.patterns ignore_case haystack (rest_from haystack next)
         → IsGreedy query ignore_case haystack from all }
+{}
+
+/// A last page of what occurs has every occurrence in the span once, in the order of ends and, at one end, of numbers.
+pub fn last_pages_have_each_occurrence_once()
+    ensures { (search : OverlappingValue) (haystack : List ℕ) (span : Span) (old new : List LiteralMatch)
+        (page : LiteralPage) → IsOverlappingPage (all_that_occurs search haystack span) old new page
+        → page.is_last ≡ 1
+        → IsOverlapping search.patterns search.ignore_case haystack span (map match_of (take page.written new)) }
 {}

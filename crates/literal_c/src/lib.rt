@@ -14,6 +14,7 @@ ghost use Rattle.literal_automaton.specs.DfaValue.{CanBeKept};
 ghost use Rattle.literal_automaton.specs.Prepared.{ForPrepared, IsPrepared, IsWhole, LiesIn, WritesPrepared};
 ghost use Rattle.literal_c.specs.Answers.{IsAnswer, IsCount, IsPage, LieIn, LiesInside, match_of};
 ghost use Rattle.literal_c.specs.Arguments.{Agree, IsStatus, IsStatusBy, argument_query};
+ghost use Rattle.literal_c.specs.Overlapping.{IsOverlappingPage, all_that_occurs, overlapping_for};
 ghost use Rattle.literal_c.specs.Pieces.{AreEnds, pieces};
 
 mod answers;
@@ -26,8 +27,8 @@ mod prepared_tests;
 #[cfg(test)]
 mod tests;
 
-use answers::{answer_each, count_matches, match_for_c, write_page};
-use arguments::{can_be_searched, search_for};
+use answers::{answer_each, count_matches, match_for_c, write_overlapping, write_page};
+use arguments::{can_be_searched, search_for, search_for_all};
 use literal_search::{Damaged, PrepareError, Prepared, Span};
 use pieces::{Pieces, are_ends};
 use std::alloc::Global;
@@ -184,6 +185,43 @@ pub extern "C" fn literal_find_all(
                 LITERAL_OK
             }
         },
+    }
+}
+
+/// Every occurrence of every pattern in the bytes of the haystack from `start` up to and not including `end`, those that
+/// overlap others too, in the order of ends and, at one end, of numbers, as many as there is room for. The page says how
+/// many were written, the end of the last of them, or `start`, and whether there are no more. The rest of the array
+/// stays as it was. The statuses are those of [`literal_find`], but [`LITERAL_NONE`]. After any status but
+/// [`LITERAL_OK`] what was lent is as it was.
+#[unsafe(no_mangle)]
+pub extern "C" fn literal_find_overlapping(
+    alloc: Global,
+    ignore_case: bool,
+    patterns: &[u8],
+    ends: &[usize],
+    haystack: &[u8],
+    start: usize,
+    end: usize,
+    found: &mut [LiteralMatch],
+    page: &mut LiteralPage,
+) -> i32
+    ensures status { IsStatus (AreEnds (length patterns.now) 0 ends.now × IsValidSpan haystack.now (between start end))
+        (pieces patterns.now 0 ends.now) result }
+    ensures page { result ≡ LITERAL_OK → IsOverlappingPage
+        (all_that_occurs (overlapping_for (pieces patterns.now 0 ends.now) ignore_case) haystack.now (between start end))
+        found.old found.new page.new }
+    ensures as_before { (result ≡ LITERAL_OK) ⊎ ((found.new ≡ found.old) × (page.new ≡ page.old)) }
+    ensures not_none { ¬ (result ≡ LITERAL_NONE) }
+{
+    if start > end || end > haystack.len() {
+        return LITERAL_BAD_ARGUMENTS;
+    }
+    match search_for_all(alloc, ignore_case, patterns, ends) {
+        Err(refusal) => refusal.status(),
+        Ok(search) => {
+            *page = write_overlapping(&search, haystack, Span { start, end }, found);
+            LITERAL_OK
+        }
     }
 }
 

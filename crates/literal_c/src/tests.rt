@@ -2,7 +2,7 @@
 use crate::{
     LITERAL_BAD_ARGUMENTS, LITERAL_LEFTMOST_FIRST, LITERAL_LEFTMOST_LONGEST, LITERAL_NO_SEARCHER,
     LITERAL_NONE, LITERAL_OK, LiteralAnswer, LiteralMatch, LiteralPage, literal_can_search,
-    literal_find, literal_find_all, literal_find_each,
+    literal_find, literal_find_all, literal_find_each, literal_find_overlapping,
 };
 use std::process::Abort;
 use std::test::Fail;
@@ -114,5 +114,33 @@ fn finds_in_each(rt: HostRuntime) -> Result<(), Fail> {
         &mut answers,
     );
     assert!(rt; status == LITERAL_BAD_ARGUMENTS && answers[0].status == LITERAL_OK);
+    Ok(())
+}
+
+#[test]
+fn finds_all_that_occurs(rt: HostRuntime) -> Result<(), Fail> {
+    let alloc = rt.alloc();
+    let mut found = [BEFORE, BEFORE];
+    let mut page = LiteralPage {
+        written: 0,
+        next: 0,
+        is_last: 7,
+    };
+    let (words, ends) = (b"abab", [2, 3, 4]);
+    let status = literal_find_overlapping(
+        alloc, true, words, &ends, b"xAB", 0, 3, &mut found, &mut page,
+    );
+    assert!(rt; status == LITERAL_OK && page.written == 2 && page.next == 3 && page.is_last == 0);
+    assert_match(&rt, &found[0], (1, 1, 2));
+    assert_match(&rt, &found[1], (0, 1, 3));
+    let status = literal_find_overlapping(
+        alloc, true, words, &ends, b"xAB", 2, 3, &mut found, &mut page,
+    );
+    assert!(rt; status == LITERAL_OK && page.written == 1 && page.next == 3 && page.is_last == 1);
+    assert_match(&rt, &found[0], (2, 2, 3));
+    let status = literal_find_overlapping(
+        alloc, true, words, &ends, b"xAB", 2, 4, &mut found, &mut page,
+    );
+    assert!(rt; status == LITERAL_BAD_ARGUMENTS && page.written == 1);
     Ok(())
 }

@@ -1,17 +1,19 @@
 -- Matches that are written for C, one after another, and pages of them.
--- For `write_page`, `count_matches` and the laws.
+-- For `write_page`, `write_overlapping`, `count_matches` and the laws.
 use Rattle.std.proofs.Common.{◌≡◌, ℕ, ◌+◌, ◌<◌, ◌≤◌, Bool, List, [], ◌∷◌, ◌++◌, length, map, take}
-use Rattle.std.proofs.Common.{refl, sym, ap, ◌∙◌, subst, add-one, arith}
+use Rattle.std.proofs.Common.{Some, refl, sym, ap, ◌∙◌, subst, add-one, arith}
 use Rattle.std.proofs.Math.ListN.{set}
 use Rattle.std.proofs.Math.Seq.{take-suc-set}
 use Rattle.std.proofs.lemmas.List.{map-append}
 use Rattle.std.proofs.lemmas.List.Elements.{All-push}
+use Rattle.std.specs.Iterator.{Yields}
 use Rattle.std.specs.List.{All}
 use Rattle.literal_base.specs.Greedy.{IsGreedy}
 use Rattle.literal_base.specs.Leftmost.{IsLeftmostMatch}
 use Rattle.literal_base.specs.MatchValue.{MatchValue}
 use Rattle.literal_base.specs.Occurs.{NothingOccurs, between, rest_from}
 use Rattle.literal_base.specs.Query.{Query}
+use Rattle.literal_automaton.specs.OverlappingMatchesValue.{GivesOverlapping, OverlappingMatchesValue}
 use Rattle.literal_automaton.specs.Prepared.{LiesIn}
 use Rattle.literal_c.specs.Answers.{AreNext, match_of}
 use Rattle.literal_c.specs.declared.LiteralMatch.{LiteralMatch}
@@ -61,3 +63,21 @@ pub all_more : (P : LiteralMatch → Type 0) (i : ℕ) (written : List LiteralMa
 all_more P i written found lt before here =
     subst (All P) (sym (rw add-one (take-suc-set written i found lt)))
     (All-push P (take i written) found before here)
+
+-- an iteration that gave one more, which is written behind the others
+pub given_more : (first : OverlappingMatchesValue) (written : List LiteralMatch) (i : ℕ) (found : LiteralMatch)
+    (last next : OverlappingMatchesValue) → i < length written
+    → Yields GivesOverlapping first (map match_of (take i written)) last
+    → GivesOverlapping last (Some (match_of found)) next
+    → Yields GivesOverlapping first (map match_of (take (i + 1) (set written i found))) next
+given_more first written i found last next lt before here =
+    let list : map match_of (take (i + 1) (set written i found)) ≡ map match_of (take i written) ++ match_of found ∷ [] =
+    ap (map match_of) (rw add-one (take-suc-set written i found lt)) ∙ map-append match_of (take i written) (found ∷ [])
+    in
+    subst (λ all. Yields GivesOverlapping first all next) (sym list)
+    (pushed first (map match_of (take i written)) before)
+  where
+    pushed : (s : OverlappingMatchesValue) (xs : List MatchValue) → Yields GivesOverlapping s xs last
+        → Yields GivesOverlapping s (xs ++ match_of found ∷ []) next
+    pushed s [] stays = (next, subst (λ j. GivesOverlapping j (Some (match_of found)) next) (sym stays) here, refl)
+    pushed s (x ∷ xs) run = (run.0, run.1, pushed run.0 xs run.2)

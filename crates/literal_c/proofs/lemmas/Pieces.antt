@@ -11,6 +11,8 @@ use Rattle.std.specs.Iterator.{Drains, YieldsFirstRef}
 use Rattle.std.specs.List.{AllZip}
 use Rattle.literal_base.specs.declared.packed.MatchKind.{MatchKind}
 use Rattle.literal_base.specs.Occurs.{NoneIsEmpty}
+use Rattle.literal_automaton.specs.Overlapping.{BuildsOverlapping, OverlappingValue}
+use Rattle.literal_c.specs.Overlapping.{overlapping_for}
 use Rattle.literal_automaton.specs.DfaValue.{BuildsDfa, DfaValue, dfa_for}
 use Rattle.literal_c.specs.declared.LiteralAnswer.{LiteralAnswer}
 use Rattle.literal_c.specs.Pieces.{AreEnds, pieces}
@@ -58,6 +60,12 @@ pub built_for : (kind : MatchKind) (ignore_case : Bool) (left : List (List ℕ))
     ignore_case built → built ≡ dfa_for kind ignore_case left
 built_for kind ignore_case left built (patterns, (it, items, is_iterator, drains, are, can), is) =
     is ∙ ap (dfa_for kind ignore_case) (are ∙ (drained it items drains ∙ is_iterator))
+
+pub all_built_for : (ignore_case : Bool) (left : List (List ℕ)) (built : OverlappingValue)
+    → BuildsOverlapping (λ (patterns it : List (List ℕ)). it ≡ patterns) (YieldsFirstRef (λ (s : List (List ℕ)). s)) left
+    ignore_case built → built ≡ overlapping_for left ignore_case
+all_built_for ignore_case left built (patterns, (it, items, is_iterator, drains, are, can), is) =
+    is ∙ ap (λ (list : List (List ℕ)). overlapping_for list ignore_case) (are ∙ (drained it items drains ∙ is_iterator))
 
 -- whether a pattern is empty, among those that are left and those behind the first of these
 pub tail_not_empty : (first : List ℕ) (more : List (List ℕ)) → NoneIsEmpty (first ∷ more) → NoneIsEmpty more
