@@ -1,5 +1,5 @@
-/* Calls each function of the header, with lists of length 0 by NULL too, and ends with 1 where an answer is wrong, as it
- * then says. With the word `stack` it does so on a thread with a stack of 16 KiB. */
+/* Calls each function of the header, with lists of length 0 by NULL too, and ends with 1 where an answer is wrong, as
+ * it then says. With the word `stack` it does so on a thread with a stack of 16 KiB. */
 #include "literal_prefilters.h"
 
 #include <pthread.h>
@@ -49,6 +49,9 @@ static void by_patterns(const uint8_t *text, size_t len) {
     CHECK(page.written == 3 && page.is_last == 1 && is(&found[2], 2, 43, 50));
     CHECK(literal_find_all(0, false, patterns, 17, ends, 3, text, 20, 0, found, 3, &page) == LITERAL_OK);
     CHECK(page.written == 1 && page.is_last == 1); /* a shorter length is an earlier end */
+    CHECK(literal_find_overlapping(false, patterns, 17, ends, 3, text, len, 14, len, found, 3, &page) == LITERAL_OK);
+    CHECK(page.written == 3 && page.is_last == 1 && page.next == 50 && is(&found[0], 0, 28, 33));
+    CHECK(is(&found[1], 0, 45, 50) && is(&found[2], 2, 43, 50));
     CHECK(literal_find_each(0, false, patterns, 17, ends, 3, text, len, lines, 2, answers, 2) == LITERAL_OK);
     CHECK(answers[0].status == LITERAL_OK && is(&answers[0].found, 1, 13, 18));
     CHECK(answers[1].status == LITERAL_NONE && is(&answers[1].found, 0, 0, 0));
@@ -91,6 +94,8 @@ static void by_null(const uint8_t *text, size_t len) {
     CHECK(literal_find(1, true, patterns, 17, ends, 3, NULL, 0, 0, 0, &found) == LITERAL_NONE && is(&found, 7, 8, 9));
     CHECK(literal_find_all(0, false, patterns, 17, ends, 3, text, len, 0, NULL, 0, &page) == LITERAL_OK);
     CHECK(page.written == 0 && page.next == 0 && page.is_last == 0);
+    CHECK(literal_find_overlapping(false, NULL, 0, NULL, 0, NULL, 0, 0, 0, NULL, 0, &page) == LITERAL_OK);
+    CHECK(page.written == 0 && page.next == 0 && page.is_last == 1);
     CHECK(literal_find_each(0, false, patterns, 17, ends, 3, NULL, 0, NULL, 0, NULL, 0) == LITERAL_OK);
     CHECK(literal_check_prepared(NULL, 0) == LITERAL_DAMAGED);
     CHECK(literal_find_in(NULL, 0, text, len, 0, len, &found) == LITERAL_DAMAGED);

@@ -14,10 +14,10 @@
  *
  * With ignore_case A to Z are the same as a to z, in patterns and haystacks; other bytes are themselves.
  *
- * There are two ways to search. literal_find, literal_find_all and literal_find_each take the patterns, and build their
- * search anew. Whoever searches more than once lets literal_prepare write the search into an array, and gives this
- * array to the functions whose names end in _in. They build nothing, and take no memory. The array may be copied, or
- * kept in a file for machines of the same byte order.
+ * There are two ways to search. literal_find, literal_find_all, literal_find_overlapping and literal_find_each take the
+ * patterns, and build their search anew. Whoever searches more than once lets literal_prepare write the search into an
+ * array, and gives this array to the functions whose names end in _in. They build nothing, and take no memory. The
+ * array may be copied, or kept in a file for machines of the same byte order.
  *
  * Each call checks its arguments and answers one of the statuses below. The checks come in their order: first
  * LITERAL_BAD_ARGUMENTS, then LITERAL_NO_SEARCHER, then the two that come while the search is built,
@@ -146,18 +146,19 @@ int32_t literal_find_all(uint32_t kind, bool ignore_case, const uint8_t *pattern
                          const size_t *ends, size_t ends_len, const uint8_t *haystack, size_t haystack_len,
                          size_t from, literal_match *found, size_t found_len, literal_page *page);
 
-/* Every occurrence of every pattern in the bytes from start up to and not including end, those that overlap others too,
- * in the order of their ends and, at one end, of their numbers, as many as there is room for. The rest of found stays as
- * it was. page->next is the end of the last that is written, or start, and page->is_last is 1 if there are no more, else
- * 0: then call again with more room, from the same start.
+/* Every occurrence of every pattern in the bytes of the haystack from start up to and not including end, those that
+ * overlap others too, in the order of their ends and, at one end, of their numbers, as many as there is room for. The
+ * rest of found stays as it was. page->next is the end of the last one that is written, or start where none is: what
+ * ends before that is all written. page->is_last is 1 if there are no more, else 0: then call again with more room, from
+ * the same start.
  *
- * LITERAL_OK             found and page are written
+ * LITERAL_OK             found and page are written, also where no pattern occurs (then page->written is 0)
  * LITERAL_NO_SEARCHER    the patterns can't be searched for
  * LITERAL_OUT_OF_MEMORY  there is not enough memory for the search
- * LITERAL_BAD_ARGUMENTS  the ends fall or pass the buffer, start is above end, or end above haystack_len */
-int32_t literal_find_overlapping(bool ignore_case, const uint8_t *patterns, size_t patterns_len,
-                                 const size_t *ends, size_t ends_len, const uint8_t *haystack, size_t haystack_len,
-                                 size_t start, size_t end, literal_match *found, size_t found_len, literal_page *page);
+ * LITERAL_BAD_ARGUMENTS  the ends fall or pass the buffer; or start is above end, or end above haystack_len */
+int32_t literal_find_overlapping(bool ignore_case, const uint8_t *patterns, size_t patterns_len, const size_t *ends,
+                                 size_t ends_len, const uint8_t *haystack, size_t haystack_len, size_t start,
+                                 size_t end, literal_match *found, size_t found_len, literal_page *page);
 
 /* The leftmost match of each of many haystacks, which lie in one buffer like patterns. The search is built once for all
  * of them. answers[i] is the answer for haystack i, with offsets from the beginning of that haystack.

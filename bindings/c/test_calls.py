@@ -68,6 +68,12 @@ class Statuses(unittest.TestCase):
             self.assertEqual(status, self.wanted(patterns, ends, kind < 2 and start <= 6), case)
             self.assertTrue(status == OK or (*fields(page), *fields(room[0])) == (*BEFORE, *BEFORE), case)
 
+            found, page = Match(*BEFORE), Page(*BEFORE)
+            room = (Match * 2)(found, found)
+            status = CALLS.literal_find_overlapping(True, *asked, text, 6, start, end, room, 2, page)
+            self.assertEqual(status, self.wanted(patterns, ends, valid), case)
+            self.assertTrue(status == OK or (*fields(page), *fields(room[0])) == (*BEFORE, *BEFORE), case)
+
             status = CALLS.literal_find_each(kind, True, *asked, text, 6, lines, 2, answers, count)
             self.assertEqual(status, self.wanted(patterns, ends, kind < 2 and count == 2 and valid), case)
             self.assertTrue(status == OK or not any(bytes(answers)), case)
@@ -118,6 +124,18 @@ class Pages(unittest.TestCase):
             by_array = lambda at, *lent: CALLS.literal_find_all_in(*array, TEXT, len(TEXT), at, len(TEXT), *lent)
             self.assertEqual(self.spans(by_patterns, room), wanted)
             self.assertEqual(self.spans(by_array, room), wanted)
+
+
+    def test_overlapping(self):
+        words, text = [b"a", b"aa", b"baa"], b"baabaaa"
+        wanted = [(0, 1, 2), (0, 2, 3), (1, 1, 3), (2, 0, 3)]
+        wanted += [(0, 4, 5), (0, 5, 6), (1, 4, 6), (2, 3, 6), (0, 6, 7), (1, 5, 7)]
+        for room in range(len(wanted) + 2):
+            found, page = (Match * 12)(*[Match(*BEFORE)] * 12), Page()
+            self.assertEqual(CALLS.literal_find_overlapping(False, *joined(words), text, 7, 0, 7, found, room, page), OK)
+            self.assertEqual([fields(it) for it in found], [*wanted[:room], *[BEFORE] * 12][:12])
+            self.assertEqual((page.written, page.is_last), (min(room, 10), room >= 10))
+            self.assertEqual(page.next, wanted[min(room, 10) - 1][2] if room else 0)
 
 
 class Arrays(unittest.TestCase):
@@ -178,6 +196,7 @@ class RefusedMemory(unittest.TestCase):
         statuses = (
             CALLS.literal_find(*asked, *text, 0, 5, found),
             CALLS.literal_find_all(*asked, *text, 0, room, 1, page),
+            CALLS.literal_find_overlapping(*asked[1:], *text, 0, 5, room, 1, page),
             CALLS.literal_find_each(*asked, *text, ends, 1, answers, 1),
             CALLS.literal_prepare(*asked, lent, 4, needed),
             CALLS.literal_can_search(*asked[2:]),
@@ -185,7 +204,7 @@ class RefusedMemory(unittest.TestCase):
             CALLS.literal_count_in(*array, *text, 0, len(TEXT), number),
         )
         process.unsetenv(b"REFUSED_REQUEST")
-        self.assertEqual(statuses, (*4 * [OUT_OF_MEMORY], *3 * [OK]))
+        self.assertEqual(statuses, (*5 * [OUT_OF_MEMORY], *3 * [OK]))
         self.assertEqual([fields(it) for it in (found, room[0], answers[0].found, page)], 4 * [BEFORE])
         self.assertEqual((answers[0].status, needed.value, tuple(lent[:3]), number.value), (7, 7, BEFORE, 3))
 

@@ -106,7 +106,8 @@ class Build(unittest.TestCase):
 
     def test_in_a_folder_with_a_space(self):
         """What a second build makes takes the place of the first: nobody writes into files that programs may run by."""
-        shutil.copytree(HERE.parent, self.room / "bindings", ignore=shutil.ignore_patterns("out", "*.so", "__pycache__"))
+        built = shutil.ignore_patterns("out", "*.so", "__pycache__")
+        shutil.copytree(HERE.parent, self.room / "bindings", ignore=built)
         for licence in ("LICENSE-MIT", "UNLICENSE"):
             shutil.copy(HERE.parents[1] / licence, self.room)
         build = [sys.executable, str(self.room / "bindings/build"), "--no-proof", str(LIBRARY)]
@@ -138,7 +139,8 @@ class Build(unittest.TestCase):
         (self.room / "python").mkdir(parents=True)
         shutil.copy(HERE.parent / "python/setup.py", self.room / "python")
         status, said = run(sys.executable, "setup.py", "build", cwd=self.room / "python")
-        self.assertEqual((status, said), (1, f"{self.room}/out/libliteral_prefilters.a is not there: run bindings/build first\n"))
+        why = f"{self.room}/out/libliteral_prefilters.a is not there: run bindings/build first\n"
+        self.assertEqual((status, said), (1, why))
 
 
 if __name__ == "__main__":

@@ -22,7 +22,7 @@ setup(
             ["literal_prefilters/_native.c"],
             include_dirs=["../c"],
             extra_objects=[LIBRARY],
-            depends=[LIBRARY, HEADER],
+            depends=[LIBRARY, HEADER, "literal_prefilters/_text.h"],
             extra_compile_args=["-std=c11", "-fvisibility=hidden"],
         )
     ],

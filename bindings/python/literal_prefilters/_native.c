@@ -9,9 +9,8 @@
 #include <Python.h>
 #include <structmember.h>
 
+#include "_text.h"
 #include "literal_prefilters.h"
-
-#define ONES UINT64_C(0x0101010101010101)
 
 enum {
     PIECE = 1 << 20,      /* bytes of a piece, unless the longest pattern is longer */
@@ -19,36 +18,27 @@ enum {
     FIRST_PAGE = 32,      /* room for so many matches at first */
     LARGEST_PAGE = 4096,  /* and for so many later */
     READ_AHEAD = 1 << 22, /* bytes that the matches of a page may be looked at beyond their ends, all together */
+    MOST_ROOM = 1 << 16,  /* room for so many occurrences, unless more end at one place */
+    WORTH = 256,          /* bytes of text for each byte of patterns are worth to build a search anew */
     SCRATCH = 1 << 24     /* numbers, at most, in which a search is written whose length is not known yet */
 };
 
-/* Of which type the texts of a searcher are, as its patterns are. */
-typedef enum { NOT_PREPARED, TAKES_EITHER, TAKES_BYTES, TAKES_STR } Takes;
+/* The patterns as they cross to C: one buffer, and where each ends. */
+typedef struct {
+    uint8_t *bytes;
+    size_t *ends;
+    size_t len, count, longest; /* (the longest pattern) */
+} Pieces;
 
 typedef struct {
     PyObject_HEAD
     PyObject *patterns; /* a tuple */
+    Pieces pieces;      /* the same */
     PyObject *prepared; /* the array of the library, as bytes */
-    size_t longest;     /* the bytes of the longest pattern */
     int kind;
     char ignore_case;
     Takes takes;
 } Search;
-
-/* A text that is held, and its bytes. */
-typedef struct {
-    PyObject *str;    /* the text if it is a str, and else NULL */
-    Py_buffer buffer; /* the buffer of any other text, of which the object is NULL once it is given back */
-    const uint8_t *bytes;
-    size_t len;
-    bool is_wide; /* whether it is a str in which a character has more than one byte */
-} Text;
-
-/* A place in a text: how many bytes, and how many of what its offsets count, stand before it. */
-typedef struct {
-    size_t byte;
-    size_t offset;
-} Place;
 
 /* A search for all matches on its way through a text. */
 typedef struct {
@@ -90,150 +80,6 @@ static int refuse(int32_t status) {
     return -1;
 }
 
-/* ---- Texts ---- */
-
-/* Whether a buffer's items are, or hold, objects: their bytes are addresses. */
-static bool has_objects(const char *format) {
-    bool in_name = false; /* a field's name stands between colons */
-    for (; format && *format; format++) {
-        if (*format == ':')
-            in_name = !in_name;
-        else if (*format == 'O' && !in_name)
-            return true;
-    }
-    return false;
-}
-
-static int hold_buffer(Text *text, PyObject *of) {
-    if (!PyObject_CheckBuffer(of)) {
-        PyErr_Format(PyExc_TypeError, "a text is a str or lends its bytes, and %.200s does neither",
-                     Py_TYPE(of)->tp_name);
-        return -1;
-    }
-    if (PyObject_GetBuffer(of, &text->buffer, PyBUF_FULL_RO))
-        return -1;
-    if (!PyBuffer_IsContiguous(&text->buffer, 'C') || has_objects(text->buffer.format)) {
-        PyBuffer_Release(&text->buffer);
-        PyErr_SetString(PyExc_BufferError,
-                        "a text lends plain bytes, one after another: no view with gaps, and no array of objects");
-        return -1;
-    }
-    text->bytes = text->buffer.buf;
-    text->len = (size_t)text->buffer.len;
-    return 0;
-}
-
-static int hold_str(Text *text, PyObject *of) {
-    Py_ssize_t len;
-    text->bytes = (const uint8_t *)PyUnicode_AsUTF8AndSize(of, &len);
-    if (!text->bytes) {
-        if (PyErr_ExceptionMatches(PyExc_UnicodeEncodeError)) {
-            PyErr_Clear();
-            PyErr_SetString(PyExc_ValueError, "the text has a lone surrogate, which is no character");
-        }
-        return -1;
-    }
-    text->len = (size_t)len;
-    text->is_wide = len != PyUnicode_GET_LENGTH(of);
-    Py_INCREF(of);
-    text->str = of;
-    return 0;
-}
-
-/* Holds a text, of the type that the searcher takes. */
-static int hold(Text *text, const Search *search, PyObject *of) {
-    bool is_str = PyUnicode_Check(of);
-    text->str = NULL;
-    text->buffer.obj = NULL;
-    text->is_wide = false;
-    if (search->takes == NOT_PREPARED)
-        PyErr_SetString(PyExc_RuntimeError, "this searcher has no patterns yet: its __init__ was not called");
-    else if (is_str && search->takes == TAKES_BYTES)
-        PyErr_SetString(PyExc_TypeError, "the patterns are bytes, and the text is str: encode it, as by text.encode()");
-    else if (!is_str && search->takes == TAKES_STR && PyObject_CheckBuffer(of))
-        PyErr_SetString(PyExc_TypeError, "the patterns are str, and the text is bytes: decode it, as by text.decode()");
-    else
-        return is_str ? hold_str(text, of) : hold_buffer(text, of);
-    return -1;
-}
-
-static void give_back(Text *text) {
-    Py_CLEAR(text->str);
-    PyBuffer_Release(&text->buffer); /* (which does nothing if there is no object) */
-}
-
-/* How many characters begin in some bytes of UTF-8. */
-static size_t characters(const uint8_t *bytes, size_t len) {
-    size_t count = 0, i = 0;
-    for (; len - i >= 8; i += 8) {
-        uint64_t eight;
-        memcpy(&eight, bytes + i, 8);
-        count += 8 - (size_t)(((eight >> 7 & ~(eight >> 6) & ONES) * ONES) >> 56); /* (less those that go on) */
-    }
-    for (; i < len; i++)
-        count += (bytes[i] & 0xC0) != 0x80;
-    return count;
-}
-
-/* Moves a place on to a byte with which a character begins or the text ends. */
-static size_t offset_of(const Text *text, Place *place, size_t byte) {
-    size_t len = byte - place->byte;
-    place->offset += text->is_wide ? characters(text->bytes + place->byte, len) : len;
-    place->byte = byte;
-    return place->offset;
-}
-
-/* Moves a place on to an offset. */
-static size_t byte_of(const Text *text, Place *place, size_t offset) {
-    enum { BLOCK = 64 };
-    if (!text->is_wide)
-        return place->byte = place->offset = offset;
-    while (text->len - place->byte > BLOCK) {
-        size_t count = characters(text->bytes + place->byte, BLOCK);
-        if (count > offset - place->offset)
-            break;
-        place->offset += count;
-        place->byte += BLOCK;
-    }
-    for (; place->byte < text->len; place->byte++) {
-        bool begins = (text->bytes[place->byte] & 0xC0) != 0x80;
-        if (begins && place->offset == offset)
-            break;
-        place->offset += begins;
-    }
-    return place->byte;
-}
-
-/* An offset as it stands in a slice. */
-static int slice_offset(PyObject *given, Py_ssize_t otherwise, Py_ssize_t *offset) {
-    *offset = otherwise;
-    if (!given || given == Py_None)
-        return 0;
-    if (!PyIndex_Check(given)) {
-        PyErr_Format(PyExc_TypeError, "an offset is an int or None, not %.200s", Py_TYPE(given)->tp_name);
-        return -1;
-    }
-    *offset = PyNumber_AsSsize_t(given, NULL);
-    return *offset == -1 && PyErr_Occurred() ? -1 : 0;
-}
-
-/* From which to which byte text[start:end] goes, and the place of the first. */
-static int bounds(const Text *text, PyObject *start, PyObject *end, Place *first, size_t *last) {
-    Py_ssize_t len = text->str ? PyUnicode_GET_LENGTH(text->str) : (Py_ssize_t)text->len, low, high;
-    if (slice_offset(start, 0, &low) || slice_offset(end, PY_SSIZE_T_MAX, &high))
-        return -1;
-    PySlice_AdjustIndices(len, &low, &high, 1);
-    *first = (Place){0, 0};
-    byte_of(text, first, (size_t)low);
-    if (high >= len) {
-        *last = text->len;
-    } else {
-        Place place = *first;
-        *last = high > low ? byte_of(text, &place, (size_t)high) : first->byte;
-    }
-    return 0;
-}
-
 /* ---- Searches ---- */
 
 /* Lets other threads run during a search of so many bytes, if it is long. */
@@ -254,9 +100,9 @@ static const uint32_t *prepared_words(const Search *search, size_t *len) {
 /* Cuts the next piece from the bytes between `at` and `end`. Every occurrence that begins before the cut ends within
  * the piece. So the matches of the piece that begin there are right; what follows is searched again from the cut on. */
 static size_t cut_piece(const Search *search, size_t at, size_t end, size_t *piece_end) {
-    size_t len = search->longest > PIECE ? search->longest : PIECE;
+    size_t len = search->pieces.longest > PIECE ? search->pieces.longest : PIECE;
     size_t cut = end - at > len ? at + len : end;
-    *piece_end = end - cut > search->longest ? cut + search->longest : end;
+    *piece_end = end - cut > search->pieces.longest ? cut + search->pieces.longest : end;
     return *piece_end == end ? end : cut;
 }
 
@@ -295,13 +141,13 @@ static int find_first(const Search *search, const Text *text, size_t at, size_t 
 /* How many matches to find at once. With a long pattern they are fewer, since behind each match the library may look as
  * far ahead; and two are the least, since a page of one would search twice. */
 static size_t most_matches(const Search *search, size_t wanted) {
-    size_t most = READ_AHEAD / (search->longest + 1);
+    size_t most = READ_AHEAD / (search->pieces.longest + 1);
     return most < 2 ? 2 : most < wanted ? most : wanted;
 }
 
 /* Begins a walk through text[start:end]. */
 static int walk_begin(Walk *walk, Search *search, PyObject *text, PyObject *start, PyObject *end) {
-    if (hold(&walk->text, search, text))
+    if (hold(&walk->text, search->takes, text))
         return -1;
     if (bounds(&walk->text, start, end, &walk->place, &walk->end)) {
         give_back(&walk->text);
@@ -415,6 +261,91 @@ static PyObject *match_at(const Text *text, Place *place, const literal_match *f
     return new_match(found->pattern, start, offset_of(text, place, found->end));
 }
 
+/* A search for all that occurs on its way through a text. What ends at `done` or before it is found. */
+typedef struct {
+    const Search *search;
+    Text text;
+    size_t start, done, end;
+    Place place; /* how far offsets are counted */
+    literal_match *found;
+    size_t room, written;
+} Sweep;
+
+static int sweep_begin(Sweep *sweep, const Search *search, PyObject *const asked[3]) {
+    if (hold(&sweep->text, search->takes, asked[0]))
+        return -1;
+    sweep->search = search;
+    sweep->room = FIRST_PAGE * 4;
+    sweep->found = PyMem_New(literal_match, sweep->room);
+    if (!sweep->found)
+        PyErr_NoMemory();
+    if (!sweep->found || bounds(&sweep->text, asked[1], asked[2], &sweep->place, &sweep->end)) {
+        PyMem_Free(sweep->found);
+        give_back(&sweep->text);
+        return -1;
+    }
+    sweep->start = sweep->done = sweep->place.byte;
+    return 0;
+}
+
+static void sweep_end(Sweep *sweep) {
+    PyMem_Free(sweep->found);
+    give_back(&sweep->text);
+}
+
+static int sweep_widen(Sweep *sweep) {
+    PyMem_Free(sweep->found);
+    sweep->room *= 4;
+    sweep->found = PyMem_New(literal_match, sweep->room);
+    if (sweep->found)
+        return 0;
+    PyErr_NoMemory();
+    return -1;
+}
+
+/* Adds what was found, and ends behind `done` and not behind `next`, to a list. */
+static int add_found(Sweep *sweep, size_t next, PyObject *all) {
+    for (size_t i = 0; i < sweep->written; i++) {
+        const literal_match *it = &sweep->found[i];
+        size_t len = it->end - it->start;
+        if (it->end <= sweep->done || it->end > next)
+            continue;
+        size_t end = offset_of(&sweep->text, &sweep->place, it->end);
+        size_t start = end - (sweep->text.is_wide ? characters(sweep->text.bytes + it->start, len) : len);
+        PyObject *match = new_match(it->pattern, start, end);
+        int status = match ? PyList_Append(all, match) : -1;
+        Py_XDECREF(match);
+        if (status)
+            return -1;
+    }
+    return 0;
+}
+
+/* Searches a piece further: from where something may begin that ends behind `done`. Where there was not room for all of
+ * the piece, what ends with the last that was written may not be whole, and is searched for again. */
+static int sweep_on(Sweep *sweep, PyObject *all) {
+    const Pieces *pieces = &sweep->search->pieces;
+    size_t again = pieces->longest > 0 ? pieces->longest - 1 : 0, len = pieces->len * WORTH;
+    size_t from = sweep->done - sweep->start > again ? sweep->done - again : sweep->start;
+    len = len > PIECE ? len : PIECE;
+    size_t to = sweep->end - sweep->done > len ? sweep->done + len : sweep->end;
+    literal_page page;
+    PyThreadState *state = let_others_run(to - from + pieces->len);
+    int32_t status = literal_find_overlapping(sweep->search->ignore_case, pieces->bytes, pieces->len, pieces->ends,
+                                              pieces->count, sweep->text.bytes, sweep->text.len, from, to, sweep->found,
+                                              sweep->room, &page);
+    come_back(state);
+    if (status != LITERAL_OK)
+        return refuse(status);
+    size_t next = page.is_last ? to : page.next - 1;
+    sweep->written = page.written;
+    if (add_found(sweep, next, all) || PyErr_CheckSignals())
+        return -1;
+    bool goes_on = next > sweep->done;
+    sweep->done = goes_on ? next : sweep->done;
+    return !page.is_last && (sweep->room < MOST_ROOM || !goes_on) ? sweep_widen(sweep) : 0;
+}
+
 /* ---- Methods ---- */
 
 /* The arguments text, start and end of a call, by place or by name. */
@@ -450,7 +381,7 @@ static PyObject *first_of(Search *self, PyObject *const *given, Py_ssize_t count
     Place place;
     size_t end;
     literal_match found;
-    if (arguments(given, count, names, asked) || hold(&text, self, asked[0]))
+    if (arguments(given, count, names, asked) || hold(&text, self->takes, asked[0]))
         return NULL;
     if (!bounds(&text, asked[1], asked[2], &place, &end)) {
         int is_found = find_first(self, &text, place.byte, end, &found);
@@ -518,6 +449,24 @@ static PyObject *search_count(PyObject *self, PyObject *const *given, Py_ssize_t
     return PyErr_Occurred() ? NULL : PyLong_FromSize_t(matches);
 }
 
+PyDoc_STRVAR(find_overlapping_doc, "find_overlapping($self, /, text, start=0, end=None)\n--\n\n"
+"The list of every occurrence of every pattern in text[start:end], those that overlap others too, in the order of\n"
+"their ends and, at one end, of their patterns. The kind plays no part. The search is built anew for each call.");
+
+static PyObject *search_find_overlapping(PyObject *self, PyObject *const *given, Py_ssize_t count, PyObject *names) {
+    PyObject *asked[3], *all;
+    Sweep sweep;
+    if (arguments(given, count, names, asked) || sweep_begin(&sweep, (Search *)self, asked))
+        return NULL;
+    all = PyList_New(0);
+    while (all && sweep.done < sweep.end) {
+        if (sweep_on(&sweep, all))
+            Py_CLEAR(all);
+    }
+    sweep_end(&sweep);
+    return all;
+}
+
 static PyTypeObject matches_type;
 
 PyDoc_STRVAR(finditer_doc, "finditer($self, /, text, start=0, end=None)\n--\n\n"
@@ -546,7 +495,7 @@ PyDoc_STRVAR(own_doc, "_own($self, text, /)\n--\n\n"
 
 static PyObject *search_own(PyObject *self, PyObject *of) {
     Text text;
-    if (hold(&text, (Search *)self, of))
+    if (hold(&text, ((Search *)self)->takes, of))
         return NULL;
     PyObject *own = text.str || PyBytes_CheckExact(of)
         ? Py_NewRef(of) : PyBytes_FromStringAndSize((const char *)text.bytes, (Py_ssize_t)text.len);
@@ -607,13 +556,6 @@ static PyTypeObject matches_type = {
 };
 
 /* ---- How a search is prepared ---- */
-
-/* The patterns as they cross to C: one buffer, and where each ends. */
-typedef struct {
-    uint8_t *bytes;
-    size_t *ends;
-    size_t len, count, longest;
-} Pieces;
 
 static void free_pieces(Pieces *pieces) {
     PyMem_Free(pieces->bytes);
@@ -704,27 +646,25 @@ PyDoc_STRVAR(prepare_doc, "_prepare($self, patterns, pieces, kind, ignore_case, 
 static PyObject *search_prepare(PyObject *of, PyObject *given) {
     Search *self = (Search *)of, new = {.takes = TAKES_EITHER};
     PyObject *pieces_of, *kept;
-    Pieces pieces;
     int ignore_case;
     if (!PyArg_ParseTuple(given, "O!O!ipO:_prepare", &PyTuple_Type, &new.patterns, &PyTuple_Type, &pieces_of, &new.kind,
-                          &ignore_case, &kept) || join_pieces(&pieces, pieces_of))
+                          &ignore_case, &kept) || join_pieces(&new.pieces, pieces_of))
         return NULL;
     new.ignore_case = (char)ignore_case;
-    new.longest = pieces.longest;
     if (PyTuple_GET_SIZE(new.patterns) > 0)
         new.takes = PyUnicode_Check(PyTuple_GET_ITEM(new.patterns, 0)) ? TAKES_STR : TAKES_BYTES;
-    new.prepared = kept == Py_None ? prepared_for(&new, &pieces) : checked(kept);
-    free_pieces(&pieces);
-    if (!new.prepared)
-        return NULL;
-    if (self->takes != NOT_PREPARED) {
-        Py_DECREF(new.prepared);
+    new.prepared = kept == Py_None ? prepared_for(&new, &new.pieces) : checked(kept);
+    if (new.prepared && self->takes != NOT_PREPARED) {
+        Py_CLEAR(new.prepared);
         PyErr_SetString(PyExc_RuntimeError, "a searcher never changes: make another one");
+    }
+    if (!new.prepared) {
+        free_pieces(&new.pieces);
         return NULL;
     }
     self->patterns = Py_NewRef(new.patterns);
+    self->pieces = new.pieces;
     self->prepared = new.prepared;
-    self->longest = new.longest;
     self->kind = new.kind;
     self->ignore_case = new.ignore_case;
     self->takes = new.takes;
@@ -735,6 +675,7 @@ static void search_dealloc(PyObject *of) {
     Search *self = (Search *)of;
     Py_XDECREF(self->patterns);
     Py_XDECREF(self->prepared);
+    free_pieces(&self->pieces);
     Py_TYPE(of)->tp_free(of);
 }
 
@@ -746,6 +687,7 @@ static PyMethodDef search_methods[] = {
     CALL(findall),
     CALL(finditer),
     CALL(count),
+    CALL(find_overlapping),
     {"_own", search_own, METH_O, own_doc},
     {"_prepare", search_prepare, METH_VARARGS, prepare_doc},
     {"__class_getitem__", Py_GenericAlias, METH_O | METH_CLASS, "Search[str] and Search[bytes], for annotations."},

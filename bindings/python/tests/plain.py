@@ -18,6 +18,13 @@ def find(patterns, longest, ignore_case, text, start, end):
     return None
 
 
+def find_overlapping(patterns, ignore_case, text, start, end):
+    """Every occurrence, in the order of ends and patterns."""
+    words, text = [_folded(it, ignore_case) for it in patterns], _folded(text, ignore_case)
+    return [(i, at - len(word), at) for at in range(start, end + 1) for i, word in enumerate(words)
+            if at - len(word) >= start and text[at - len(word) : at] == word]
+
+
 def find_all(patterns, longest, ignore_case, text, start, end):
     """All matches that do not overlap, from the left."""
     all_found, found = [], find(patterns, longest, ignore_case, text, start, end)

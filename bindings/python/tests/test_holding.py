@@ -22,6 +22,7 @@ LONG, WAIT = 1 << 32, 0.5
 def calls_of(searcher):
     """Each call that takes one text."""
     yield from (searcher.find, searcher.is_match, searcher.findall, searcher.count, searcher.split)
+    yield searcher.find_overlapping
     yield lambda text: list(searcher.finditer(text))
     yield lambda text: searcher.sub(b"-", text)
     yield lambda text: searcher.find_each([text])
@@ -87,7 +88,8 @@ class Leaks(unittest.TestCase):
     def test_no_call_keeps_memory(self):
         """Neither one that answers, nor one that refuses what it is given."""
         calls = [*calls_of(Searcher(WORDS)), *calls_of(Searcher(["apple", "ä"])), lambda it: Searcher([it, b"b"])]
-        texts = [TEXT, bytearray(TEXT * 3), TEXT.decode(), "ä" + TEXT.decode() + "äppleä", memoryview(TEXT)[::2], "\ud800", 5]
+        texts = [TEXT, bytearray(TEXT * 3), TEXT.decode(), "ä" + TEXT.decode() + "äppleä"]
+        texts += [memoryview(TEXT)[::2], "\ud800", 5]
 
         def all_calls():
             for call in calls:
@@ -177,7 +179,8 @@ class Threads(unittest.TestCase):
         self.addCleanup(other.join)
         self.addCleanup(done.set)
         with zeros(LONG >> 3) as text:
-            for call in (searcher.find, searcher.findall, searcher.count, lambda it: next(searcher.finditer(it), None)):
+            for call in (searcher.find, searcher.findall, searcher.count, searcher.find_overlapping,
+                         lambda it: next(searcher.finditer(it), None)):
                 started = time.perf_counter()
                 call(text)
                 quarter = (time.perf_counter() - started) / 4
@@ -213,7 +216,8 @@ class Signals(unittest.TestCase):
 
     def test_a_long_text(self):
         searcher = Searcher([b"needle"])
-        for call in (searcher.find, searcher.findall, searcher.count, lambda it: next(searcher.finditer(it))):
+        for call in (searcher.find, searcher.findall, searcher.count, searcher.find_overlapping,
+                     lambda it: next(searcher.finditer(it))):
             with zeros(LONG) as text:
                 self.assertLess(self.interrupted(call, text), 2)
             # (the block ends by closing the text, which can be done since no call holds it)

@@ -73,6 +73,7 @@ class Rows(unittest.TestCase):
                     self.assertEqual(searcher.find(end=end, start=start, text=text), (*wanted, None)[0])
                     self.assertIs(searcher.is_match(text, start, end), bool(wanted))
                     self.assertEqual(searcher.count(text, start, end), len(wanted))
+                    self.assertEqual(searcher.find_overlapping(text, start, end=end), wanted)
 
     def test_many_pages(self):
         for text in (b"ab" * 30000, "äb" * 30000):
@@ -125,6 +126,33 @@ class Rows(unittest.TestCase):
         for byte in range(256):
             self.assertEqual(Searcher([bytes([byte])]).find(every), Match(0, byte, byte + 1))
         self.assertEqual(len(Searcher([b"\0", b"\xff"]).findall(every * 2)), 4)
+
+
+class Overlapping(unittest.TestCase):
+    def test_rows(self):
+        searcher = Searcher([b"aa", b"a", b"baa", b"a"])
+        wanted = [(1, 1, 2), (3, 1, 2), (0, 1, 3), (1, 2, 3), (2, 0, 3), (3, 2, 3)]
+        self.assertEqual(searcher.find_overlapping(b"baa"), wanted)
+        self.assertEqual(Searcher(["ö🐍", "🐍", "ö"]).find_overlapping("äö🐍"), [(2, 1, 2), (0, 1, 3), (1, 2, 3)])
+        self.assertEqual(Searcher([b"aA"], ignore_case=True).find_overlapping(b"AAa"), [(0, 0, 2), (0, 1, 3)])
+        self.assertEqual(Searcher([]).find_overlapping("abc"), [])
+
+    def test_words_at_the_cuts(self):
+        piece, words = 2**20, [b"abcd", b"bc", b"abcdefgh", b"d", b"xbcd"]
+        for at in range(-9, 3):
+            text = bytearray(2 * piece + 100)
+            text[piece + at : piece + at + 9] = b"abcdefghd"
+            text[2 * piece + at : 2 * piece + at + 4] = b"xbcd"
+            wanted = [(i, it.start(), it.end()) for i, word in enumerate(words) for it in re.finditer(word, text)]
+            self.assertEqual(Searcher(words).find_overlapping(text), sorted(wanted, key=lambda it: (it[2], it[0])))
+
+    def test_more_than_there_is_room_for(self):
+        words = [b"a" * (i + 1) for i in range(300)] + [b"a"] * 300
+        for size in (1, 2, 299, 300, 301, 1000):
+            found = Searcher(words).find_overlapping(b"a" * size)
+            fitting = [(i, at - len(word), at) for at in range(1, size + 1) for i, word in enumerate(words)]
+            self.assertEqual(found, [it for it in fitting if it[1] >= 0])
+        self.assertEqual(len(Searcher([b"a", b"a" * 5000]).find_overlapping(b"a" * 300000)), 300000 + 295001)
 
 
 class Replacing(unittest.TestCase):
@@ -195,8 +223,8 @@ class Copies(unittest.TestCase):
     def test_comparing(self):
         searcher = Searcher([b"a"])
         self.assertEqual(eval(repr(searcher)), searcher)
-        for other in (Searcher([b"b"]), Searcher(["a"]), Searcher([b"a"], LONGEST), Searcher([b"a"], FIRST, True), b"a"):
-            self.assertNotEqual(searcher, other)
+        for given in (([b"b"],), (["a"],), ([b"a"], LONGEST), ([b"a"], FIRST, True)):
+            self.assertNotEqual(searcher, Searcher(*given))
         self.assertIs(Searcher.__eq__(searcher, 5), NotImplemented)
         self.assertEqual(hash(searcher), hash(Searcher([bytearray(b"a")])))
 
@@ -211,7 +239,7 @@ class Copies(unittest.TestCase):
 
     def test_without_init(self):
         empty = Searcher.__new__(Searcher)
-        for call in (empty.find, empty.findall, empty.finditer, empty.count, empty.split):
+        for call in (empty.find, empty.findall, empty.finditer, empty.count, empty.split, empty.find_overlapping):
             with self.assertRaisesRegex(RuntimeError, "__init__"):
                 call(b"a")
 
@@ -283,9 +311,10 @@ class Refusals(unittest.TestCase):
             Searcher(["a", b"b"])
 
     def test_texts_of_the_other_type(self):
-        for patterns, text, word in (([b"a"], "a", "encode"), (["a"], b"a", "decode"), (["a"], bytearray(b"a"), "decode")):
-            it = Searcher(patterns)
-            for call in (it.find, it.findall, it.finditer, it.count, it.is_match, it.split, lambda text: it.sub("", text)):
+        for pattern, text, word in ((b"a", "a", "encode"), ("a", b"a", "decode"), ("a", bytearray(b"a"), "decode")):
+            it = Searcher([pattern])
+            for call in (it.find, it.findall, it.finditer, it.count, it.is_match, it.find_overlapping, it.split,
+                         lambda text: it.sub("", text)):
                 with self.assertRaisesRegex(TypeError, word):
                     call(text)
             with self.assertRaisesRegex(TypeError, word):
@@ -312,9 +341,10 @@ class Refusals(unittest.TestCase):
 
     def test_arguments(self):
         searcher = Searcher([b"a"])
-        for call in (searcher.find, searcher.findall, searcher.finditer, searcher.count, searcher.is_match):
-            for given, named in (((), {}), ((b"", 0, 1, 2), {}), ((b"",), {"text": b""}), ((b"",), {"pos": 1}), ((5,), {}),
-                                 ((None,), {}), ((b"", 1.5), {}), ((b"",), {"end": "1"}), (([b"a"],), {})):
+        for call in (searcher.find, searcher.findall, searcher.finditer, searcher.count, searcher.is_match,
+                     searcher.find_overlapping):
+            for given, named in (((), {}), ((b"", 0, 1, 2), {}), ((b"",), {"text": b""}), ((b"",), {"pos": 1}),
+                                 ((5,), {}), ((None,), {}), ((b"", 1.5), {}), ((b"",), {"end": "1"}), (([b"a"],), {})):
                 with self.assertRaises(TypeError):
                     call(*given, **named)
         with self.assertRaises(TypeError):
@@ -341,6 +371,8 @@ class Random(unittest.TestCase):
             asked = (patterns, longest, ignore_case, haystack, start, end)
             self.assertEqual(searcher.find(haystack, start, end), plain.find(*asked), asked)
             self.assertEqual(searcher.findall(haystack, start, end), plain.find_all(*asked), asked)
+            wanted = plain.find_overlapping(patterns, *asked[2:])
+            self.assertEqual(searcher.find_overlapping(haystack, start, end), wanted, asked)
             if case % 16 == 0:
                 texts = [haystack, haystack[:0], haystack[start:]]
                 wanted = [plain.find(*asked[:3], it, 0, len(it)) for it in texts]

@@ -12,6 +12,7 @@ of_bytes = Searcher([b"a", bytearray(b"b")])
 one: Optional[Match] = of_str.find("text", 1, None)
 iterator: Iterator[Match] = of_bytes.finditer(memoryview(b"text"), end=-1)
 many: List[List[Match]] = of_bytes.findall_each([b"text", array("B")])
+every: List[Match] = of_str.find_overlapping("text")
 number: int = of_bytes.count(bytearray(b"text"))
 parts: List[str] = of_str.split("text")
 text: str = of_str.sub(lambda match: str(match.start), "text")
@@ -23,6 +24,7 @@ loaded: "Searcher[str]" = Searcher.load("file")
 of_str.find(b"text")  # type: ignore
 of_bytes.find("text")  # type: ignore
 of_str.findall(5)  # type: ignore
+of_bytes.find_overlapping("text")  # type: ignore
 of_str.count("text", "0")  # type: ignore
 of_bytes.sub("x", b"text")  # type: ignore
 of_str.sub(lambda match: match.start, "text")  # type: ignore
