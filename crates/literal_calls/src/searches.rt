@@ -1,6 +1,7 @@
 //! `Search` and `Overlapping`.
 use literal_base::count::Tally;
 use literal_search::{Match, MatchKind, Overlapping, Search, Span};
+use std::alloc::{AllocError, Global};
 use std::process::Abort;
 use std::test::Fail;
 
@@ -55,25 +56,37 @@ fn example_of_overlapping(rt: HostRuntime) -> Result<(), Fail> {
     Ok(())
 }
 
-/// What all calls answer of `ba` and two `a`, with case ignored.
-fn assert_overlapping(rt: &impl Abort, search: &Overlapping) {
-    let [of_ba, of_a] = [Span { start: 0, end: 2 }, Span { start: 1, end: 2 }];
-    assert!(rt; search.patterns_len() == 3);
-    let mut matches = search.find_overlapping_iter(b"bA");
-    assert!(rt; matches.next() == Some(Match::must(0, of_a)));
-    assert!(rt; matches.next() == Some(Match::must(1, of_ba)));
-    assert!(rt; matches.next() == Some(Match::must(2, of_a)));
-    assert!(rt; matches.next().is_none() && matches.next().is_none());
-    let mut within = search.find_overlapping_in(b"bA", of_a);
-    assert!(rt; within.next() == Some(Match::must(0, of_a)));
-    assert!(rt; within.next() == Some(Match::must(2, of_a)));
-    assert!(rt; within.next().is_none());
+/// Every occurrence, by both calls.
+fn overlapping(
+    alloc: Global,
+    search: &Overlapping,
+    haystack: &[u8],
+) -> Result<(Vec<Match>, Vec<Match>), AllocError> {
+    let end = haystack.len();
+    let all = search.find_overlapping_iter(haystack).collect(alloc)?;
+    let rest = Span {
+        start: end.min(1),
+        end,
+    };
+    Ok((
+        all,
+        search.find_overlapping_in(haystack, rest).collect(alloc)?,
+    ))
 }
 
 #[test]
 fn finds_what_overlaps(rt: HostRuntime) -> Result<(), Fail> {
     let words = [b"a".as_slice(), b"Ba", b"A"];
     let search = Overlapping::new(rt.alloc(), true, words)?;
-    assert_overlapping(&rt, &search);
+    assert!(rt; search.patterns_len() == 3);
+    let (all, rest) = overlapping(rt.alloc(), &search, b"bA")?;
+    let [of_ba, of_a] = [Span { start: 0, end: 2 }, Span { start: 1, end: 2 }];
+    let [first, second, third] = [
+        Match::must(0, of_a),
+        Match::must(1, of_ba),
+        Match::must(2, of_a),
+    ];
+    assert!(rt; all.as_slice() == [first, second, third].as_slice());
+    assert!(rt; rest.as_slice() == [first, third].as_slice());
     Ok(())
 }
