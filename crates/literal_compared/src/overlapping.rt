@@ -16,7 +16,7 @@ static SPANS: [(usize, usize); 2] = [(0, 5), (1, 4)];
 /// Patterns, and the searches for them.
 #[derive(Clone, Copy)]
 struct Compared<'c> {
-    list: &'c [&'c [u8]],
+    list: &'static [&'static [u8]],
     ignore_case: bool,
     all: &'c Overlapping,
     leftmost: &'c Search,
@@ -80,7 +80,7 @@ fn compare(rt: &impl Abort, of: Compared<'_>, digits: &[u8; 5]) -> u32 {
 fn assert_list(
     rt: &impl Abort,
     alloc: Global,
-    list: &[&[u8]],
+    list: &'static [&'static [u8]],
     ignore_case: bool,
 ) -> Result<(), Fail> {
     let all = Overlapping::new(alloc, ignore_case, list.iter().copied())?;
@@ -101,8 +101,8 @@ fn assert_list(
 #[test]
 fn finds_all_that_occurs(rt: HostRuntime) -> Result<(), Fail> {
     for list in &LISTS {
-        assert_list(&rt, rt.alloc(), list, false)?;
-        assert_list(&rt, rt.alloc(), list, true)?;
+        assert_list(&rt, rt.alloc(), *list, false)?;
+        assert_list(&rt, rt.alloc(), *list, true)?;
     }
     Ok(())
 }
