@@ -149,8 +149,8 @@ int32_t literal_find_all(uint32_t kind, bool ignore_case, const uint8_t *pattern
 /* Every occurrence of every pattern in the bytes of the haystack from start up to and not including end, those that
  * overlap others too, in the order of their ends and, at one end, of their numbers, as many as there is room for. The
  * rest of found stays as it was. page->next is the end of the last one that is written, or start where none is: what
- * ends before that is all written. page->is_last is 1 if there are no more, else 0: then call again with more room, from
- * the same start.
+ * ends before that is all written. page->is_last is 1 if there are no more, else 0: then call again with more room,
+ * from the same start.
  *
  * LITERAL_OK             found and page are written, also where no pattern occurs (then page->written is 0)
  * LITERAL_NO_SEARCHER    the patterns can't be searched for
