@@ -90,7 +90,7 @@ impl<'p> Recognised<'p> {
     }
 
     /// The lists of the patterns that are an end of a pattern, for each that is the first of its equals.
-    pub fn lists(&self, alloc: Global) -> Result<Lists, AllocError>
+    pub(crate) fn lists(&self, alloc: Global) -> Result<Lists, AllocError>
         requires { Recognise self.now }
         ensures { IfOk result (λ lists. AreLists (symbols_of self.now) lists.ends.items lists.starts.items
             (length self.now.patterns.now)) }
