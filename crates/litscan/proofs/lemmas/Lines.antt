@@ -4,7 +4,6 @@ use Rattle.std.proofs.Common.{◌≡◌, ◌==◌, ℕ, ◌+◌, ◌-◌, ◌<�
 use Rattle.std.proofs.Common.{drop, take, get_or, slice_range, refl, sym, ap, ◌∙◌, arith}
 use Rattle.std.proofs.lemmas.Bool.{cond-false, cond-true}
 use Rattle.std.proofs.lemmas.List.{at_drop_all, at_drop_more, get_or-drop, length-drop, length-take, take_more}
-use Rattle.std.specs.List.{count_by}
 use Rattle.litscan.specs.Lines.{last_line, lines_from}
 
 module _ (text : List ℕ) (start at : ℕ) (after : start ≤ at) where

@@ -1,4 +1,4 @@
-use Rattle.std.proofs.Common.{◌≡◌, ⊎_elim, refl, map, take, None, arith}
+use Rattle.std.proofs.Common.{⊎_elim, refl, map, take, None, arith}
 use Rattle.literal_automaton.proofs.lemmas.Overlapping.{overlapping_from_yields}
 use Rattle.literal_automaton.specs.OverlappingMatchesValue.{gone_on}
 use Rattle.literal_c.specs.Answers.{match_of}
