@@ -4,8 +4,8 @@ pub mod Buckets
 pub mod Callers
 pub mod CutHaystack
 pub mod Entries
-pub mod Given
 pub mod GreedyLists
+pub mod IteratedPatterns
 pub mod Iterations
 pub mod LaidOut
 pub mod Layout

@@ -31,22 +31,22 @@ searcher_of b =
     (record { kind = b.config.kind; patterns = kept_of b.state }) else None
 
 -- patterns of which a searcher is built: one up to a limit, none of them empty
-pub record HaveSearcher (limit : ℕ) (patterns : List (List ℕ)) : Type 0 where
+pub record AreBuildable (limit : ℕ) (patterns : List (List ℕ)) : Type 0 where
   pub some : 0 < length patterns
   pub few : length patterns ≤ limit
   pub not_empty : NoneIsEmpty patterns
 
 -- what a searcher searches for: one pattern up to the largest limit, none of them empty
-abbrev pub IsSearcher : Query → Type 0
-IsSearcher query = HaveSearcher max_pattern_limit query.patterns
+abbrev pub IsBuildableQuery : Query → Type 0
+IsBuildableQuery query = AreBuildable max_pattern_limit query.patterns
 
 -- the builder after patterns were added, which are given by references
 abbrev pub AddsAll : BuilderValue → List (Bor (List ℕ)) → BuilderValue → Type 0
 AddsAll old more new = new ≡ with_added old (map (λ p. p.now) more)
 
 -- the answer is what a new builder builds from all the items of an iterator
-abbrev pub BuildsItems : {U T : Type 0} → (U → T → Type 0) → (T → Option (Bor (List ℕ)) → T → Type 0) → U → Option Query
-    → Type 0
-BuildsItems {U} {T} becomes steps patterns answer =
+abbrev pub BuildsSearcher : {U T : Type 0} → (U → T → Type 0) → (T → Option (Bor (List ℕ)) → T → Type 0) → U
+    → Option Query → Type 0
+BuildsSearcher {U} {T} becomes steps patterns answer =
     (it : T) × (items : List (Bor (List ℕ))) × becomes patterns it × Drains steps it items
     × (answer ≡ searcher_of (builder_of default_config (map (λ p. p.now) items)))

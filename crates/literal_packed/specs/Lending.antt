@@ -5,7 +5,7 @@ use Rattle.std.specs.Iterator.{Count, Drains, IsFinite, Yields}
 use Rattle.literal_packed.specs.BuilderValue.{AddsAll, BuilderValue, IsBuildable, builder_of}
 use Rattle.literal_packed.specs.ConfigValue.{default_config}
 use Rattle.literal_packed.specs.State.{WouldKeep}
-use Rattle.literal_packed.specs.declared.api.Lent.{Lent}
+use Rattle.literal_packed.specs.declared.api.LentBuilder.{LentBuilder}
 use Rattle.literal_packed.specs.contracts.api.Builder.{the_row}
 
 -- the patterns can be taken to their end: whatever iterator they become, it may be asked, and it ends
@@ -19,8 +19,8 @@ abbrev pub HoldsAfterErr : {E : Type 0} → (BuilderValue → Type 0) → MutBor
 HoldsAfterErr P b r = RestsIfErr the_row b (λ (x : MutBor BuilderValue). x.ghost_name) r P
 
 -- the same for an answer that holds the builder in a struct
-abbrev pub LentHoldsAfterErr : {E : Type 0} → (BuilderValue → Type 0) → MutBor BuilderValue → Result Lent E → Fml
-LentHoldsAfterErr P b r = RestsIfErr the_row b (λ (l : Lent). l.builder.ghost_name) r P
+abbrev pub LentHoldsAfterErr : {E : Type 0} → (BuilderValue → Type 0) → MutBor BuilderValue → Result LentBuilder E → Fml
+LentHoldsAfterErr P b r = RestsIfErr the_row b (λ (l : LentBuilder). l.builder.ghost_name) r P
 
 module _ {U T : Type 0} (becomes : U → T → Type 0) (steps : T → Option (Bor (List ℕ)) → T → Type 0) (patterns : U)
     (old new : BuilderValue) where
@@ -45,7 +45,7 @@ module _ {U T : Type 0} (becomes : U → T → Type 0) (steps : T → Option (Bo
 module _ {U T : Type 0} (becomes : U → T → Type 0) (steps : T → Option (Bor (List ℕ)) → T → Type 0) (patterns : U) where
   -- memory was refused where a new builder takes the items of an iterator and builds: for an item that it would keep,
   -- or after all items, where a searcher can be built
-  pub record RefusedItems : Type 0 where
+  pub record RefusesSearcher : Type 0 where
     pub builder : BuilderValue
     pub why : HoldsTaken becomes steps patterns (builder_of default_config []) builder
         ⊎ (HoldsAll becomes steps patterns (builder_of default_config []) builder × IsBuildable builder)

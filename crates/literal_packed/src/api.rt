@@ -7,7 +7,7 @@ ghost use Rattle.literal_base.specs.Leftmost.{IsLeftmost};
 ghost use Rattle.literal_base.specs.Greedy.{IsGreedy};
 ghost use Rattle.literal_base.specs.Counts.{none_yet};
 ghost use Rattle.literal_packed.specs.PatternsValue.{minimum_len_of};
-ghost use Rattle.literal_packed.specs.BuilderValue.{IsSearcher, BuildsItems, IsBuildable, builder_of};
+ghost use Rattle.literal_packed.specs.BuilderValue.{IsBuildableQuery, BuildsSearcher, IsBuildable, builder_of};
 ghost use Rattle.literal_packed.specs.BuilderValue.{searcher_of, with_added};
 ghost use Rattle.literal_packed.specs.ConfigValue.{IsPatternLimit, default_config};
 ghost use Rattle.literal_packed.specs.State.{IsState, WouldKeep, kept_of};
@@ -15,7 +15,7 @@ ghost use Rattle.literal_packed.specs.Pairs.{counts_after};
 ghost use Rattle.literal_packed.specs.FindIterValue.{FindsNext, bytes_left};
 ghost use Rattle.literal_packed.specs.Spending.{SpendsWithin, counts_after_all};
 ghost use Rattle.literal_packed.specs.Lending.{CanBeTaken, HoldsAfterErr, LentHoldsAfterErr, HoldsTaken, HoldsAll};
-ghost use Rattle.literal_packed.specs.Lending.{RefusedItems};
+ghost use Rattle.literal_packed.specs.Lending.{RefusesSearcher};
 
 use crate::pattern::Patterns;
 use crate::rabinkarp::RabinKarp;
@@ -208,14 +208,14 @@ impl Builder {
         unwrapped(self.try_add(bytes))
     }
 
-    fn try_add(&mut self, bytes: &[u8]) -> Result<Lent<'_>, AllocError>
+    fn try_add(&mut self, bytes: &[u8]) -> Result<LentBuilder<'_>, AllocError>
         ensures* as_before { sem 𝓛 (LentHoldsAfterErr (λ b. b ≡ self.old) self.entry result) }
         ensures same { IfOk result (λ l. l.builder.ghost_name ≡ self.entry.ghost_name) }
         ensures ok { IfOk result (λ l. l.builder.now ≡ with_added self.old (bytes.now ∷ [])) }
         ensures no_memory { OnErr result (WouldKeep self.old.config.pattern_limit self.old.state bytes.now) }
     {
         self.put(bytes)?;
-        Ok(Lent { builder: self })
+        Ok(LentBuilder { builder: self })
     }
 
     fn put(&mut self, bytes: &[u8]) -> Result<(), AllocError>
@@ -256,7 +256,7 @@ impl Builder {
     fn try_extend<'a, I: IntoIterator<Item = &'a [u8]>>(
         &mut self,
         patterns: I,
-    ) -> Result<Lent<'_>, AllocError>
+    ) -> Result<LentBuilder<'_>, AllocError>
         requires { CanBeTaken I.into_iter_gives I.IntoIter.can_next I.IntoIter.remaining patterns }
         ensures* taken { sem 𝓛 (LentHoldsAfterErr
             (HoldsTaken I.into_iter_gives I.IntoIter.next_gives patterns self.old) self.entry result) }
@@ -265,7 +265,7 @@ impl Builder {
             HoldsAll I.into_iter_gives I.IntoIter.next_gives patterns self.old l.builder.now) }
     {
         self.put_all(patterns)?;
-        Ok(Lent { builder: self })
+        Ok(LentBuilder { builder: self })
     }
 
     fn put_all<'a, I: IntoIterator<Item = &'a [u8]>>(
@@ -329,15 +329,15 @@ impl fmt::Debug for Builder {
 
 /// The builder, after an addition.
 #[derive(Drop)]
-struct Lent<'b> {
+struct LentBuilder<'b> {
     builder: &'b mut Builder,
 }
 
-fn unwrapped(lent: Result<Lent<'_>, AllocError>) -> Result<&mut Builder, AllocError>
+fn unwrapped(lent: Result<LentBuilder<'_>, AllocError>) -> Result<&mut Builder, AllocError>
     ensures { MatchResult lent.entry (λ l. result ≡ Ok l.builder) (λ e. result ≡ Err e) }
 {
     match lent {
-        Ok(Lent { builder }) => Ok(builder),
+        Ok(LentBuilder { builder }) => Ok(builder),
         Err(error) => Err(error),
     }
 }
@@ -372,8 +372,8 @@ impl Searcher {
         patterns: I,
     ) -> Result<Option<Searcher>, AllocError>
         requires { CanBeTaken I.into_iter_gives I.IntoIter.can_next I.IntoIter.remaining patterns }
-        ensures ok { IfOk result (BuildsItems I.into_iter_gives I.IntoIter.next_gives patterns) }
-        ensures no_memory { OnErr result (RefusedItems I.into_iter_gives I.IntoIter.next_gives patterns) }
+        ensures ok { IfOk result (BuildsSearcher I.into_iter_gives I.IntoIter.next_gives patterns) }
+        ensures no_memory { OnErr result (RefusesSearcher I.into_iter_gives I.IntoIter.next_gives patterns) }
     {
         let mut builder = Builder::new(alloc);
         builder.put_all(patterns)?;
@@ -476,7 +476,7 @@ impl Searcher {
     pub fn find_all(&self, haystack: &[u8], tally: &mut Tally) -> Result<Vec<Match>, AllocError>
         ensures greedy { IfOk result (λ all. IsGreedy self.now false haystack.now 0 all.items) }
         ensures exact { IfOk result (λ all. tally.new ≡ counts_after_all tally.old self.now haystack.now 0 all.items) }
-        ensures counted { SpendsWithin self.now haystack.now tally.old tally.new }
+        ensures bounded { SpendsWithin self.now haystack.now tally.old tally.new }
         ensures no_memory { OnErr result
             (¬ NothingOccurs self.now.patterns false haystack.now (whole_of haystack.now)) }
     {
@@ -497,7 +497,7 @@ impl Searcher {
     /// of them empty.
     pub fn match_kind(&self) -> &MatchKind
         ensures kind { result.now ≡ self.now.kind }
-        ensures patterns { IsSearcher self.now }
+        ensures patterns { IsBuildableQuery self.now }
     {
         let _ = self.patterns.len(); // (its contract says that no pattern is empty)
         self.patterns.match_kind()

@@ -16,7 +16,7 @@ ghost use Rattle.literal_base.specs.Occurs.{IsValidSpan, NoneIsEmpty, NothingOcc
 ghost use Rattle.literal_base.specs.Leftmost.{IsBetter, IsLeftmost, is_better};
 ghost use Rattle.literal_base.specs.Greedy.{IsGreedy};
 ghost use Rattle.literal_base.specs.Query.{Query};
-ghost use Rattle.literal_packed.specs.BuilderValue.{HaveSearcher, IsBuildable, builder_of, searcher_of};
+ghost use Rattle.literal_packed.specs.BuilderValue.{AreBuildable, IsBuildable, builder_of, searcher_of};
 ghost use Rattle.literal_packed.specs.ConfigValue.{ConfigValue};
 ghost use Rattle.literal_packed.specs.PatternsValue.{minimum_len_of};
 ghost use Rattle.literal_packed.specs.Sum.{sum_of};
@@ -53,10 +53,10 @@ pub fn minimum_len_is_the_least_length()
 /// A configuration builds a searcher of exactly the lists of non-empty patterns, one to its limit. It is
 /// for these patterns and the kind that is configured.
 pub fn lists_up_to_the_limit_build()
-    ensures searcher { (config : ConfigValue) (added : List (List ℕ)) → HaveSearcher config.pattern_limit added
+    ensures searcher { (config : ConfigValue) (added : List (List ℕ)) → AreBuildable config.pattern_limit added
         → searcher_of (builder_of config added) ≡ Some (record { kind = config.kind; patterns = added }) }
     ensures no_others { (config : ConfigValue) (added : List (List ℕ)) → IsBuildable (builder_of config added)
-        → HaveSearcher config.pattern_limit added }
+        → AreBuildable config.pattern_limit added }
 {}
 
 /// A builder keeps the limit that its configuration had when it was made, whatever limit is set later.

@@ -174,7 +174,7 @@ impl Patterns {
         requires in_haystack { at ≤ length haystack.now }
         ensures stands { IsTrue result
             ↔ StandsAt ignore_case (pattern_at self.now.patterns id) haystack.now at }
-        ensures counted { tally.new ≡ record tally.old { compared = tally.old.compared + 1 } }
+        ensures exact { tally.new ≡ record tally.old { compared = tally.old.compared + 1 } }
     {
         tally.tick_compared();
         let bytes = self.get(id).bytes();

@@ -5,8 +5,8 @@ use Rattle.std.proofs.Common.{Result, Ok, Err, IsOk, IfOk, OnErr, ◌⊎◌, inl
 use Rattle.std.specs.Borrow.{Bor}
 use Rattle.literal_base.specs.Query.{Query}
 use Rattle.literal_packed.specs.ConfigValue.{default_config}
-use Rattle.literal_packed.specs.Lending.{HoldsAll, RefusedItems}
-use Rattle.literal_packed.specs.BuilderValue.{BuilderValue, BuildsItems, IsBuildable, builder_of}
+use Rattle.literal_packed.specs.Lending.{HoldsAll, RefusesSearcher}
+use Rattle.literal_packed.specs.BuilderValue.{BuilderValue, BuildsSearcher, IsBuildable, builder_of}
 use Rattle.literal_packed.specs.BuilderValue.{searcher_of, with_added}
 use Rattle.literal_packed.proofs.lemmas.Callers.{added_more}
 
@@ -15,7 +15,7 @@ pub builds_items : {U T E : Type 0} (becomes : U → T → Type 0) (steps : T �
     (patterns : U)
     (start new : BuilderValue) (built : Result (Option Query) E) → start ≡ builder_of default_config []
     → HoldsAll becomes steps patterns start new → IfOk built (λ b. b ≡ searcher_of new)
-    → IfOk built (BuildsItems becomes steps patterns)
+    → IfOk built (BuildsSearcher becomes steps patterns)
 builds_items becomes steps patterns start new (Ok answer) starts (it, items, is_iterator, adds, drains) is =
     let all : new ≡ builder_of default_config (map (λ p. p.now) items) =
     adds ∙ (ap (λ b. with_added b (map (λ p. p.now) items)) starts
@@ -27,7 +27,7 @@ builds_items becomes steps patterns start new (Err error) starts holds is = tt
 pub refuses_items : {U T A E : Type 0} (becomes : U → T → Type 0) (steps : T → Option (Bor (List ℕ)) → T → Type 0)
     (patterns : U) (start new : BuilderValue) (built : Result A E) → start ≡ builder_of default_config []
     → HoldsAll becomes steps patterns start new → IsOk built ⊎ IsBuildable new
-    → OnErr built (RefusedItems becomes steps patterns)
+    → OnErr built (RefusesSearcher becomes steps patterns)
 refuses_items becomes steps patterns start new (Ok answer) starts holds why = tt
 refuses_items becomes steps patterns start new (Err error) starts holds why =
     let all = subst (λ b. HoldsAll becomes steps patterns b new) starts holds in

@@ -3,7 +3,8 @@
 -- For callers.
 use Rattle.std.proofs.Common.{◌≡◌, ◌<◌, ◌^◌, ℕ, Bool, true, false, cond, nat_lt, List, [], ◌∷◌, length, map}
 use Rattle.std.proofs.Common.{Option, Some, None, IfSome, refl, sym, ap, ◌∙◌, subst, ⊎_elim, ◌++◌, ltb, arith}
-use Rattle.std.proofs.Common.{append_assoc, append-nil}
+use Rattle.std.proofs.Common.{Result, Ok, Err, IsOk, OnErr, ◌⊎◌, inl, inr}
+use Rattle.std.proofs.Common.{◌&&◌, append_assoc, append-nil, get_or, is_some, nat_le, suc, take, zero}
 use Rattle.std.specs.Array.Iter.{array_into_iter_items, array_steps, array_steps_back}
 use Rattle.std.specs.Borrow.{Bor}
 use Rattle.std.specs.declared.array.IntoIter.{IntoIter}
@@ -15,7 +16,7 @@ use Rattle.std.specs.Iterator.Adapters.{copied_source, copied_steps}
 use Rattle.std.specs.Iterator.Runs.{EveryRun, ItemsAre, ItemsAreReversed}
 use Rattle.std.specs.Slice.Iter.{iter_rest, iter_steps}
 use Rattle.std.specs.Vec.Iter.{into_iter_items, into_iter_len, into_iter_steps}
-use Rattle.std.proofs.lemmas.Bool.{cases_Bool, cond-true, cond-false}
+use Rattle.std.proofs.lemmas.Bool.{cases_Bool, cond-true, cond-false, ltb-true}
 use Rattle.std.proofs.lemmas.Iterator.{YieldsList, YieldsList-from_slice, items_from_drains}
 use Rattle.std.proofs.lemmas.Iterator.Adapters.{YieldsList-from_vec}
 use Rattle.std.proofs.lemmas.Iterator.Consumers.{YieldsList-from_copied, YieldsList-from_shown}
@@ -25,18 +26,19 @@ use Rattle.std.proofs.lemmas.List.Folds.{list_all-append}
 use Rattle.std.proofs.lemmas.List.FromFn.{length-range_with_len}
 use Rattle.std.proofs.lemmas.List.Sorted.{length_permutation}
 use Rattle.std.specs.Iterator.{Drains, Yields}
-use Rattle.std.specs.List.{range_with_len}
+use Rattle.std.specs.List.{list_all, range_with_len}
 use Rattle.literal_base.specs.Counts.{none_yet}
 use Rattle.literal_base.specs.MatchValue.{MatchValue}
 use Rattle.literal_base.specs.Occurs.{NothingOccurs, pattern_at, rest_from, whole_of}
 use Rattle.literal_base.specs.Greedy.{IsGreedy}
 use Rattle.literal_base.specs.Query.{Query}
-use Rattle.literal_packed.specs.BuilderValue.{BuilderValue, BuildsItems, builder_of, searcher_of, with_added}
+use Rattle.literal_packed.specs.BuilderValue.{BuilderValue, BuildsSearcher, IsBuildable, builder_of, searcher_of}
+use Rattle.literal_packed.specs.BuilderValue.{with_added}
 use Rattle.literal_packed.specs.ConfigValue.{ConfigValue, default_config}
 use Rattle.literal_packed.specs.FindIterValue.{FindIterValue, FindsNext}
 use Rattle.literal_packed.specs.Lending.{HoldsAll}
 use Rattle.literal_packed.specs.PatternsValue.{PatternsValue, IsWellFormed, in_order}
-use Rattle.literal_packed.specs.State.{may_keep, state_after, state_of}
+use Rattle.literal_packed.specs.State.{WouldKeep, kept_of, may_keep, state_after, state_of}
 use Rattle.literal_packed.proofs.lemmas.GreedyLists.{found_occurs}
 
 -- whichever iterator the given value becomes, that gives this list and ends
@@ -110,14 +112,14 @@ module _ {U T A : Type 0} {becomes : U → T → Type 0} {steps : T → Option A
 module _ {U T : Type 0} {becomes : U → T → Type 0} {steps : T → Option (Bor (List ℕ)) → T → Type 0} {given : U}
     {list : List (Bor (List ℕ))} (gives : GivesList becomes steps given list) where
   -- `Searcher::new` builds what a builder of the list does
-  pub built_of : (built : Option Query) → BuildsItems becomes steps given built
+  pub built_of : (built : Option Query) → BuildsSearcher becomes steps given built
       → built ≡ searcher_of (builder_of default_config (map (λ p. p.now) list))
   built_of built (it, items, is_iterator, drains, is) =
       is ∙ ap (λ (all : List (Bor (List ℕ))). searcher_of (builder_of default_config (map (λ p. p.now) all)))
       (items_are gives it items is_iterator drains)
 
   -- so a searcher that it builds is for the list
-  pub searches_for : (built : Option Query) → BuildsItems becomes steps given built
+  pub searches_for : (built : Option Query) → BuildsSearcher becomes steps given built
       → IfSome built (λ query. query ≡ record { kind = default_config.kind; patterns = map (λ p. p.now) list })
   searches_for built builds = built_for default_config (map (λ p. p.now) list) built (built_of built builds)
 
@@ -140,6 +142,56 @@ after_state : (limit : ℕ) (a b : List (List ℕ)) (first : List ℕ) (kept : B
 after_state limit a b first true is = refl
 after_state limit a b first false is =
     sym (ap (λ k. cond k (Some (a ++ first ∷ b)) None) (past_for_good limit a (first ∷ b) is))
+
+-- where patterns are kept, the first is not empty
+first_if_kept : (limit : ℕ) (first : List ℕ) (more : List (List ℕ)) → is_some (state_of limit (first ∷ more)) ≡ true
+    → 0 < length first
+first_if_kept limit first more = from (has_a_byte first) refl
+  where
+    from : (some : Bool) → has_a_byte first ≡ some
+        → is_some (cond ((some && list_all has_a_byte more) && nat_le (length (first ∷ more)) limit)
+        (Some (first ∷ more)) None) ≡ true
+        → 0 < length first
+    from true is kept = ltb-true 0 (length first) is
+    from false is kept = absurd cc
+
+would_keep_is : (limit : ℕ) (state : Option (List (List ℕ))) (bytes : List ℕ) → WouldKeep limit state bytes
+    → (0 < length bytes) × (is_some state ≡ true)
+would_keep_is limit (Some kept) bytes keeps = (keeps.0, refl)
+would_keep_is limit None bytes keeps = absurd keeps
+
+-- so it is where a later one would be kept after those before it, as a loop over them has it
+pub first_if_keeps : {A : Type 0} (limit : ℕ) (f : A → List ℕ) (list : List A) (i : ℕ) (d : A) → i < length list
+    → WouldKeep limit (state_of limit (map f (take i list))) (f (get_or list i d))
+    → 0 < length (pattern_at (map f list) 0)
+first_if_keeps limit f [] i d below keeps = absurd (omega (arith, below))
+first_if_keeps limit f (x ∷ more) zero d below keeps = (would_keep_is limit _ (f x) keeps).0
+first_if_keeps limit f (x ∷ more) (suc i) d below keeps =
+    first_if_kept limit (f x) (map f (take i more)) (would_keep_is limit _ (f (get_or more i d)) keeps).1
+
+kept_is : (state : Option (List (List ℕ))) → 0 < length (kept_of state) → is_some state ≡ true
+kept_is (Some kept) some = refl
+kept_is None some = absurd (omega (arith, some))
+
+-- and where any is kept
+pub first_if_some : (limit : ℕ) (added : List (List ℕ)) → 0 < length (kept_of (state_of limit added))
+    → 0 < length (pattern_at added 0)
+first_if_some limit [] some = from (nat_le 0 limit) some
+  where
+    from : (fits : Bool) → 0 < length (kept_of (cond fits (Some []) None)) → 0 < length (pattern_at [] 0)
+    from true some = absurd (omega (arith, some))
+    from false some = absurd (omega (arith, some))
+first_if_some limit (first ∷ more) some =
+    first_if_kept limit first more (kept_is (state_of limit (first ∷ more)) some)
+
+-- and where a build is refused memory
+pub first_if_refused : {A E : Type 0} (config : ConfigValue) (added : List (List ℕ)) (builder : BuilderValue)
+    → builder ≡ builder_of config added → (built : Result A E) → IsOk built ⊎ IsBuildable builder
+    → OnErr built (0 < length (pattern_at added 0))
+first_if_refused config added builder added_all (Ok answer) why = tt
+first_if_refused config added builder added_all (Err error) why =
+    let kept : IsBuildable builder = elim why [ inl succeeded ↦ absurd cc | inr able ↦ able ] in
+    first_if_some config.pattern_limit added (subst IsBuildable added_all kept)
 
 -- one addition after another is one of both, of the state of any builder with a limit
 pub state_after-state_of : (limit : ℕ) (a b : List (List ℕ))

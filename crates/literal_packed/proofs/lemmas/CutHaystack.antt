@@ -1,5 +1,5 @@
 -- A search of a haystack that is cut at the end of the span.
--- For `Searcher::find_in_counted`, `Memmem` and confirming searches.
+-- For `Searcher::find_in_counted` and confirming searches.
 use Rattle.std.proofs.Common.{◌≡◌, ℕ, ◌+◌, ◌-◌, ◌%◌, ◌<◌, ◌≤◌, Bool, false, ◌&&◌, eqb, List, length, take, drop, get_or}
 use Rattle.std.proofs.Common.{Some, None, Option, refl, sym, ap, subst, ◌∙◌, arith}
 use Rattle.std.specs.List.{All, slice_range, sum_by, count_by, range_with_len}

@@ -7,7 +7,7 @@ use Rattle.std.proofs.lemmas.List.Sums.{AllPass-from_list_all, list_all-from_All
 use Rattle.literal_base.specs.Occurs.{NoneIsEmpty}
 use Rattle.literal_packed.specs.State.{kept_of, may_keep}
 use Rattle.literal_packed.specs.ConfigValue.{ConfigValue}
-use Rattle.literal_packed.specs.BuilderValue.{HaveSearcher, IsBuildable, builder_of, searcher_of}
+use Rattle.literal_packed.specs.BuilderValue.{AreBuildable, IsBuildable, builder_of, searcher_of}
 
 -- what may be kept
 pub may_keep_if : (limit : ℕ) (added : List (List ℕ)) → NoneIsEmpty added → length added ≤ limit
@@ -17,18 +17,18 @@ may_keep_if limit added not_empty few =
     (λ k d below. lt-ltb 0 (length (get_or added k d)) (not_empty k d below)) in
     rw (each, le-leb (length added) limit few) refl
 
-pub builds_if : (config : ConfigValue) (added : List (List ℕ)) → HaveSearcher config.pattern_limit added
+pub builds_if : (config : ConfigValue) (added : List (List ℕ)) → AreBuildable config.pattern_limit added
     → searcher_of (builder_of config added) ≡ Some (record { kind = config.kind; patterns = added })
 builds_if config added have =
     rw (may_keep_if config.pattern_limit added have.not_empty have.few, lt-ltb 0 (length added) have.some) refl
 
 -- what is kept
 pub builds_only_if : (config : ConfigValue) (added : List (List ℕ)) → IsBuildable (builder_of config added)
-    → HaveSearcher config.pattern_limit added
+    → AreBuildable config.pattern_limit added
 builds_only_if config added = from (may_keep config.pattern_limit added) refl
   where
     from : (may : Bool) → may_keep config.pattern_limit added ≡ may → 0 < length (kept_of (cond may (Some added) None))
-        → HaveSearcher config.pattern_limit added
+        → AreBuildable config.pattern_limit added
     from true is some =
         let parts = and_parts _ _ is in
         let each = AllPass-from_list_all (λ bytes. nat_lt 0 (length bytes)) added parts.0 in

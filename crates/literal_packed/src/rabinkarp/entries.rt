@@ -13,7 +13,8 @@ use literal_ids::PatternID;
 use std::alloc::AllocError;
 use std::marker::Model;
 
-/// How many buckets there are: a power of two, so that a sum's bucket is its last bits.
+/// How many buckets there are, as in the original: a power of two, so that a sum's bucket is its last bits, and as many
+/// as a word has bits, so that one tells of each.
 pub const BUCKETS: usize = 64;
 
 /// The entries of all buckets, a sum and an identifier each. Contracts see the list of the entries of each bucket.
@@ -75,7 +76,7 @@ impl BucketEntries {
 
     /// How many entries a bucket has.
     pub fn len(&self, bucket: usize) -> usize
-        requires { bucket < 64 }
+        requires { bucket < BUCKETS }
         ensures { result ≡ length (slice_index_or self.now bucket []) }
     {
         self.starts[bucket + 1] - self.starts[bucket]
@@ -83,7 +84,7 @@ impl BucketEntries {
 
     /// Whether a bucket has more than two entries.
     pub fn is_longer(&self, bucket: usize) -> bool
-        requires { bucket < 64 }
+        requires { bucket < BUCKETS }
         ensures { IsTrue result ↔ (2 < length (slice_index_or self.now bucket [])) }
     {
         self.longer >> bucket & 1 == 1
@@ -92,12 +93,12 @@ impl BucketEntries {
     /// Reads one entry of a bucket, and counts it. The first two of a bucket may be asked for where it has none: then
     /// nothing counts, and the sum that is answered is no sum of the bucket.
     pub fn entry(&self, bucket: usize, k: usize, tally: &mut Tally) -> (usize, PatternID)
-        requires is_bucket { bucket < 64 }
+        requires is_bucket { bucket < BUCKETS }
         requires within { 2 ≤ k → k < length (slice_index_or self.now bucket []) }
         ensures entry { k < length (slice_index_or self.now bucket [])
             → slice_get (slice_index_or self.now bucket []) k ≡ Some result }
-        ensures none { length (slice_index_or self.now bucket []) ≤ k → result.0 % 64 ≢ bucket }
-        ensures counted { tally.new ≡ record tally.old {
+        ensures none { length (slice_index_or self.now bucket []) ≤ k → result.0 % BUCKETS ≢ bucket }
+        ensures exact { tally.new ≡ record tally.old {
           entries = tally.old.entries + (if nat_lt k (length (slice_index_or self.now bucket [])) then 1 else 0);
         } }
     {

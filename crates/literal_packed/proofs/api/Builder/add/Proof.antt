@@ -31,10 +31,10 @@ use Rattle.literal_packed.specs.BuilderValue.{BuilderValue}
 use Rattle.literal_packed.specs.State.{WouldKeep}
 use Rattle.literal_packed.specs.BuilderValue.{with_added}
 use Rattle.literal_packed.specs.Lending.{LentHoldsAfterErr}
-use Rattle.literal_packed.specs.declared.api.Lent.{Lent}
+use Rattle.literal_packed.specs.declared.api.LentBuilder.{LentBuilder}
 use Rattle.literal_packed.specs.contracts.api.Builder.{the_row as R}
-use Rattle.literal_packed.specs.contracts.api.Lent.{the_row as lent_row}
-use Rattle.literal_packed.proofs.api.Lent.TheLaws.{the_row_laws as lent_laws}
+use Rattle.literal_packed.specs.contracts.api.LentBuilder.{the_row as lent_row}
+use Rattle.literal_packed.proofs.api.LentBuilder.TheLaws.{the_row_laws as lent_laws}
 use Rattle.literal_packed.proofs.lemmas.Lending.{Unwraps, rests_of_lent, ok_of_lent, err_of_lent}
 use Rattle.literal_packed.specs.contracts.api.Builder.try_add as g
 use Rattle.literal_packed.proofs.api.Builder.try_add.Met.{met as try_add_met}
@@ -74,7 +74,7 @@ add_spec 𝓤 𝓛 𝓜 𝓡 wired =
     sets ! (addr ! (through ! refl (stop !))) refl (tt, tt) $
     calls_at ! F G (try_add_met 𝓤 𝓛 𝓜 𝓡 (code.calls-literal_packed::api::Builder::try_add 𝓡.env wired)) y
     (and_then ! (get ! refl) (and_then ! (get ! refl) (no_more !))) (λ v.
-    use1 𝓛 (later (some (λ (r : Result Lent AllocError). ((κ ⊛ others) ⊛ ‵ (X.own_val r (v ∷ [])))
+    use1 𝓛 (later (some (λ (r : Result LentBuilder AllocError). ((κ ⊛ others) ⊛ ‵ (X.own_val r (v ∷ [])))
     ⊛ some (λ (ws : Lasts g.ended κs a). ‵ (lasts g.ended κs a ws) ⊛ ‵ (LentHoldsAfterErr (λ n. n ≡ a.0.now) a.0 r)
     ⊛ raw
     (fact 𝓤 (IfOk r (λ x. Named x.builder))) ⊛ raw (fact 𝓤 (IfOk r (λ x. Added x.builder))) ⊛ raw

@@ -35,10 +35,10 @@ use Rattle.std.specs.contracts.alloc.AllocError.{the_row as E}
 use Rattle.std.proofs.alloc.AllocError.TheLaws.{the_row_laws as refusal_laws}
 use Rattle.literal_packed.specs.BuilderValue.{BuilderValue}
 use Rattle.literal_packed.specs.Lending.{LentHoldsAfterErr, HoldsAll, HoldsTaken}
-use Rattle.literal_packed.specs.declared.api.Lent.{Lent}
+use Rattle.literal_packed.specs.declared.api.LentBuilder.{LentBuilder}
 use Rattle.literal_packed.specs.contracts.api.Builder.{the_row as R}
-use Rattle.literal_packed.specs.contracts.api.Lent.{the_row as lent_row}
-use Rattle.literal_packed.proofs.api.Lent.TheLaws.{the_row_laws as lent_laws}
+use Rattle.literal_packed.specs.contracts.api.LentBuilder.{the_row as lent_row}
+use Rattle.literal_packed.proofs.api.LentBuilder.TheLaws.{the_row_laws as lent_laws}
 use Rattle.literal_packed.proofs.lemmas.Lending.{Unwraps, rests_of_lent, ok_of_lent}
 use Rattle.literal_packed.specs.contracts.api.Builder.try_extend as g
 use Rattle.literal_packed.proofs.api.Builder.try_extend.Met.{met as try_extend_met}
@@ -83,7 +83,7 @@ extend_spec 𝓤 𝓛 𝓜 𝓡 wired I T LI LT gi di gt dt dd P mi mt md =
     (try_extend_met 𝓤 𝓛 𝓜 𝓡 (code.calls-literal_packed::api::Builder::try_extend 𝓡.env wired) I T LI LT gi di gt dt
     dd P mi mt md y))
     (and_then ! (get ! refl) (and_then ! (get ! refl) (no_more !))) (λ v.
-    use1 𝓛 (later (some (λ (r : Result Lent AllocError). ((κ ⊛ others) ⊛ ‵ (X.own_val r (v ∷ [])))
+    use1 𝓛 (later (some (λ (r : Result LentBuilder AllocError). ((κ ⊛ others) ⊛ ‵ (X.own_val r (v ∷ [])))
     ⊛ some (λ (ws : Lasts (g.ended I T gi di gt dt dd P) κs a). ‵ (lasts (g.ended I T gi di gt dt dd P) κs a ws) ⊛ ‵
     (LentHoldsAfterErr Taken a.0 r) ⊛ raw (fact 𝓤 (IfOk r (λ x. Named x.builder))) ⊛ raw
     (fact 𝓤 (IfOk r (λ x. Added x.builder))))))) (id⊢ 𝓤 _) $

@@ -10,8 +10,8 @@ use Rattle.literal_packed.proofs.lemmas.GreedyLists.{CountsBefore, IsGreedyBefor
 use Rattle.literal_packed.proofs.lemmas.GreedyLists.{counts_all, found_occurs}
 use Rattle.literal_packed.proofs.api.Searcher.find_all.Goals as goal
 
-pub returns-in_err-push-clause-counted : goal.returns-in_err-push-clause-counted
-returns-in_err-push-clause-counted c =
+pub returns-in_err-push-clause-bounded : goal.returns-in_err-push-clause-bounded
+returns-in_err-push-clause-bounded c =
     spends_within c.args.self.now c.args.haystack.now c.in-Some.found.end c.args.tally.now c.find_in_counted.new.tally
     (spends_found c.args.self.now c.args.haystack.now c.loop-found.rest c.args.tally.now c.loop-found.tally
     c.find_in_counted.new.tally c.in-Some.found
@@ -75,8 +75,8 @@ returns-clause-exact c =
     (subst (λ (s : Span). c.find_in_counted.new.tally ≡ counts_after c.loop-found.tally query haystack s None)
     (rest_is haystack c.loop-found.rest c.loop-found.invariant.to_end) c.in_default.ensures.exact)
 
-pub returns-clause-counted : goal.returns-clause-counted
-returns-clause-counted c =
+pub returns-clause-bounded : goal.returns-clause-bounded
+returns-clause-bounded c =
     spends_within c.args.self.now c.args.haystack.now
     (length c.args.haystack.now) c.args.tally.now c.find_in_counted.new.tally
     (spends_last c.args.self.now c.args.haystack.now c.loop-found.rest c.args.tally.now c.loop-found.tally

@@ -45,7 +45,7 @@ loop-k-preserved c = record {
       let k = c.loop-k.k in
       let more : c.args.tally.now.hashed + (k - c.args.at) + 1 ≡ c.args.tally.now.hashed + (k + 1 - c.args.at) =
       omega arith in
-      c.push.ensures.counted ∙ (ap step c.loop-k.invariant.counted ∙ ap f more);
+      c.push.ensures.exact ∙ (ap step c.loop-k.invariant.counted ∙ ap f more);
 }
 
 pub loop-place-preserved : goal.loop-place-preserved
@@ -67,7 +67,7 @@ loop-place-preserved c =
           c.in_default.ensures.best;
       counted = counts_rolled patterns haystack c.args.at c.args.tally.now c.loop-place.tally c.look_up.new.tally
           c.roll.new.tally place c.loop-place.auto.place
-          c.loop-place.invariant.counted c.in_default.ensures.counted c.roll.ensures.counted;
+          c.loop-place.invariant.counted c.in_default.ensures.exact c.roll.ensures.exact;
     }
 
 pub returns-in-Some-clause-exact : goal.returns-in-Some-clause-exact
@@ -75,7 +75,7 @@ returns-in-Some-clause-exact c =
     counts_some c.args.patterns.now c.args.haystack.now c.args.at c.args.tally.now c.loop-place.tally
     c.look_up.new.tally c.loop-place.place c.in-Some.id c.found_at.result
     (ap start c.found_at.ensures) (ap pattern c.found_at.ensures) c.loop-place.invariant.counted
-    c.in-Some.ensures.counted
+    c.in-Some.ensures.exact
 
 pub returns-in_err-id-clause-leftmost : goal.returns-in_err-id-clause-leftmost
 returns-in_err-id-clause-leftmost c =
@@ -117,7 +117,7 @@ returns-in_err-id-clause-exact c =
     (counts_end patterns haystack at c.args.tally.now c.loop-place.tally c.look_up-2.new.tally last (omega arith)
     (omega arith)
     (subst (λ k. c.loop-place.tally ≡ before patterns haystack at c.args.tally.now k) at_end
-    c.loop-place.invariant.counted) c.in_err-id.ensures.counted)
+    c.loop-place.invariant.counted) c.in_err-id.ensures.exact)
 
 pub returns-clause-exact : goal.returns-clause-exact
 returns-clause-exact c =
@@ -133,4 +133,4 @@ returns-clause-exact c =
     c.look_up-2.new.tally last c.in_ok-id.id c.found_at-2.result
     (ap start c.found_at-2.ensures) (ap pattern c.found_at-2.ensures)
     (subst (λ k. c.loop-place.tally ≡ before c.args.patterns.now c.args.haystack.now c.args.at c.args.tally.now k)
-    at_end c.loop-place.invariant.counted) c.in_ok-id.ensures.counted
+    at_end c.loop-place.invariant.counted) c.in_ok-id.ensures.exact

@@ -7,7 +7,7 @@ use Rattle.literal_packed.specs.Sum.{sum_of}
 use Rattle.literal_packed.specs.Pairs.{key_of}
 use Rattle.literal_packed.specs.PatternsValue.{minimum_len_of}
 use Rattle.literal_base.specs.Occurs.{pattern_at}
-use Rattle.literal_packed.proofs.lemmas.Given.{head_below, split_next, split_more}
+use Rattle.literal_packed.proofs.lemmas.IteratedPatterns.{head_below, split_next, split_more}
 use Rattle.literal_packed.proofs.lemmas.MinimumLen.{minimum_len_of_some, minimum_len_of-le}
 use Rattle.literal_packed.proofs.lemmas.Entries.{pattern_of_head, entries_all, hashed_more, hashed_of, length_all}
 use Rattle.literal_packed.proofs.lemmas.Entries.{entry_of}
@@ -58,7 +58,7 @@ loop-id-preserved c =
           ∙ (ap (λ s. map (entry_of patterns) c.loop-id.yielded ++ (s, c.in-Some.id) ∷ []) key
           ∙ sym (map_push (entry_of patterns) c.loop-id.yielded x)));
       counted = hashed_more c.args.tally.now c.loop-id.tally _ c.loop-id.yielded x _ c.loop-id.invariant.counted
-          c.sum_of_first.ensures.counted;
+          c.sum_of_first.ensures.exact;
     }
 
 pub returns-clause-made : goal.returns-clause-made
@@ -75,8 +75,8 @@ returns-clause-made c =
       buckets = λ k below. c.in_ok-new.ensures.has k below ∙ ap (filter (in_bucket k)) all;
     }
 
-pub returns-clause-counted : goal.returns-clause-counted
-returns-clause-counted c =
+pub returns-clause-exact : goal.returns-clause-exact
+returns-clause-exact c =
     let patterns = c.args.patterns.now in
     let all = sym (append-nil c.loop-id.yielded)
     ∙ (ap (λ ps. c.loop-id.yielded ++ ps) (sym c.in-None.ensures.steps.0) ∙ c.loop-id.invariant.split) in
