@@ -54,13 +54,14 @@ pub struct Prefilter {
     finder: Finder,
 }
 
-/// By how much the ranks of a start table may sum to more than the ranks of a rare table.
+/// By how much the ranks of a start table may sum to more than the ranks of a rare table. This and the next are the
+/// original's numbers, so that the choice is the same; a start table is worth more, since it never proposes too early.
 const NEARLY_AS_RARE: u16 = 50;
 
 /// How many patterns a list has at most for which a packed search is better than full tables.
 const SHORT_LIST: usize = 16;
 
-/// How many patterns a packed search is built for at most.
+/// How many patterns a packed search is built for at most, by the usual configuration.
 const PACKED_LIMIT: usize = 128;
 
 /// The kinds of prefilter.
@@ -317,8 +318,9 @@ impl Builder {
             return Ok(None);
         }
         if self.is_one_pattern() {
-            // What is hashed of the pattern itself is no step of a search.
-            let memmem = Memmem::new(&self.patterns, &mut Tally::new())?;
+            let Some(memmem) = Memmem::new(self.alloc, &self.patterns)? else {
+                return Ok(None);
+            };
             return Ok(Some(Prefilter {
                 finder: Finder::Memmem(memmem),
             }));
@@ -409,7 +411,7 @@ impl Builder {
     fn packed(&self) -> Result<Option<Prefilter>, AllocError>
         requires picked { pick self.now ≡ packed_search self.now }
         requires suits { IsTrue (suits_packed self.now) }
-        requires few { length (kept_of self.now.state) ≤ 128 }
+        requires few { length (kept_of self.now.state) ≤ PACKED_LIMIT }
         requires some { 0 < length (kept_of self.now.state) }
         ensures pick { IfOk result (λ built. built ≡ pick self.now) }
         ensures no_memory { OnErr result (IsSomeAnd (pick self.now) TakesMemory) }

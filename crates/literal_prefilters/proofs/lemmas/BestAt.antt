@@ -14,7 +14,7 @@ use Rattle.literal_packed.specs.PatternsValue.{PatternsValue, IsWellFormed, IsIn
 use Rattle.literal_packed.specs.Inside.Place.{IsBestAt, NoneStandsAt}
 use Rattle.literal_packed.proofs.lemmas.Lists.{count_by-all, count_by-append, count_by-cons, count_by-none}
 use Rattle.literal_packed.proofs.lemmas.Ties.{better_asymmetric, is_up_to, up_to_better, up_to_self, up_to_worse}
-use Rattle.literal_packed.proofs.lemmas.Given.{head_at, head_below, length-order}
+use Rattle.literal_packed.proofs.lemmas.IteratedPatterns.{head_at, head_below, length-order}
 use Rattle.literal_prefilters.specs.Confirming.{compared_at}
 
 module _ (c : PatternsValue) where

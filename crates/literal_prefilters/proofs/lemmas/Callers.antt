@@ -2,21 +2,25 @@
 -- For callers: their proofs cite this file, and no other of this crate's proofs.
 use Rattle.std.proofs.Common.{◌≡◌, ◌↔◌, ℕ, ◌+◌, ◌-◌, ◌<◌, ◌≤◌, Bool, false, List, length, get_or, map, Option, Some}
 use Rattle.std.proofs.Common.{None, IfSome, is_some, option_map, position, slice_range, slice_index, refl, sym, ap}
-use Rattle.std.proofs.Common.{◌∙◌, subst, ⊎_elim, arith}
+use Rattle.std.proofs.Common.{◌∙◌, ◌==◌, true, if◌then◌else◌, subst, ⊎_elim, take, inl, inr, arith}
+use Rattle.std.proofs.lemmas.Iterator.{YieldsList, items_from_drains}
+use Rattle.std.proofs.lemmas.Iterator.Consumers.{YieldsList-so_far, YieldsList-turn}
 use Rattle.std.specs.Borrow.{Bor}
 use Rattle.std.proofs.lemmas.Bool.{cases_Bool, cond-true, cond-false}
-use Rattle.std.proofs.lemmas.List.{get_or_default}
+use Rattle.std.proofs.lemmas.List.{get_or_default, map-id}
 use Rattle.std.proofs.lemmas.List.Edits.{length-between, get_or-between}
 use Rattle.std.proofs.lemmas.List.Quantifiers.{position-Some}
 use Rattle.literal_base.specs.declared.packed.MatchKind.{MatchKind}
+use Rattle.literal_base.specs.declared.search.MatchKind.{MatchKind as RootKind}
 use Rattle.literal_base.specs.declared.search.Span.{Span}
 use Rattle.literal_base.specs.Bytes.{AreBytes}
 use Rattle.literal_base.specs.Kinds.{root_kind_of}
-use Rattle.literal_base.specs.Occurs.{IsValidSpan}
-use Rattle.literal_packed.specs.State.{kept_of, may_keep}
-use Rattle.literal_packed.proofs.lemmas.Callers.{GivesList, items_are}
+use Rattle.literal_base.specs.Occurs.{IsValidSpan, pattern_at}
+use Rattle.literal_packed.specs.State.{WouldKeep, kept_of, may_keep, state_of}
+use Rattle.literal_packed.proofs.lemmas.Callers.{GivesList, first_if_keeps, first_if_some, items_are}
 use Rattle.literal_prefilters.specs.Choice.{pick}
 use Rattle.literal_prefilters.specs.ConfirmingValue.{BuildsConfirming, ConfirmingValue, confirming_of}
+use Rattle.literal_prefilters.specs.ConfirmingValue.{RefusesConfirming}
 use Rattle.literal_prefilters.specs.ConfirmingValue.{prefilter_builder}
 use Rattle.literal_prefilters.specs.PrefilterBuilderValue.{PrefilterBuilderValue, prefilter_limit}
 use Rattle.literal_prefilters.specs.PrefilterValue.{PrefilterValue}
@@ -75,6 +79,23 @@ confirms_where_picked kind builder =
     })
     (pick builder)
 
+kept_going : {T : Type 0} (none : Bool) (rest : Option T) → is_some (if none then None else rest) ≡ true → none ≡ false
+kept_going true rest some = absurd cc
+kept_going false rest some = refl
+
+kept_if_picked : (builder : PrefilterBuilderValue) → is_some (pick builder) ≡ true → 0 < length (kept_of builder.state)
+kept_if_picked builder some =
+    let not_empty : (length (kept_of builder.state) == 0) ≡ false = kept_going _ _ some in
+    grind (arith, not_empty)
+
+-- and a prefilter only where the first pattern is not empty
+pub first_if_picked : (kind : RootKind) (ignore_case : Bool) (added : List (List ℕ))
+    → is_some (pick (record { kind = kind; ignore_case = ignore_case; state = state_of prefilter_limit added })) ≡ true
+    → 0 < length (pattern_at added 0)
+first_if_picked kind ignore_case added some =
+    first_if_some prefilter_limit added (kept_if_picked
+    (record { kind = kind; ignore_case = ignore_case; state = state_of prefilter_limit added }) some)
+
 module _ {U T : Type 0} {becomes : U → T → Type 0} {steps : T → Option (Bor (List ℕ)) → T → Type 0} {given : U}
     {list : List (Bor (List ℕ))} (gives : GivesList becomes steps given list) (kind : MatchKind) (ignore_case : Bool)
   where
@@ -93,6 +114,29 @@ module _ {U T : Type 0} {becomes : U → T → Type 0} {steps : T → Option (Bo
         × (search.ignore_case ≡ ignore_case))
     confirming_searches_for built builds =
         confirms_for kind ignore_case (map (λ p. p.now) list) built (confirming_built_of built builds)
+
+-- where that is refused memory for a list that an iterator gives, the first pattern is not empty
+module _ {U T : Type 0} {becomes : U → T → Type 0} {steps : T → Option (Bor (List ℕ)) → T → Type 0} {given : U}
+    {all : List (List ℕ)} (gives : (it : T) → becomes given it → YieldsList steps (λ r. r.now) it all)
+    (kind : MatchKind) (ignore_case : Bool) where
+  pub first_if_refuses_confirming : RefusesConfirming becomes steps kind ignore_case given
+      → 0 < length (pattern_at all 0)
+  first_if_refuses_confirming (inl kept) =
+      let each = gives kept.iterator kept.is_iterator in
+      let so_far = YieldsList-so_far each kept.items kept.before kept.gave in
+      let turn = YieldsList-turn each kept.items kept.before kept.gave (Some kept.refused) kept.after kept.refused refl
+      kept.gives in
+      let n = length kept.items in
+      let state = state_of prefilter_limit (map (λ p. p) (take n all)) in
+      let before = subst (λ taken. WouldKeep prefilter_limit (state_of prefilter_limit taken) kept.refused.now)
+      (so_far ∙ sym (map-id (take n all))) kept.would_keep in
+      let keeps = subst (λ bytes. WouldKeep prefilter_limit state bytes) turn.1 before in
+      subst (λ list. 0 < length (pattern_at list 0)) (map-id all)
+      (first_if_keeps prefilter_limit (λ p. p) all n kept.refused.now turn.0 keeps)
+  first_if_refuses_confirming (inr (it, items, is_iterator, drains, some)) =
+      subst (λ list. 0 < length (pattern_at list 0))
+      (items_from_drains items (drains.1.0, drains.1.1, λ _. (drains.0, drains.1.2)) (gives it is_iterator))
+      (first_if_picked (root_kind_of kind) ignore_case (map (λ p. p.now) items) some)
 
 -- what a slice of `u8` holds is bytes
 pub are_bytes : (bytes : List ℕ) → ((k : ℕ) → get_or bytes k 0 < 256) → AreBytes bytes

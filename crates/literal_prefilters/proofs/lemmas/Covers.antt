@@ -15,8 +15,8 @@ use Rattle.literal_prefilters.specs.Tables.{if_small, is_start_byte, start_bytes
 use Rattle.literal_prefilters.specs.Tables.{largest_offset, rare_bytes, rare_table}
 use Rattle.literal_prefilters.proofs.lemmas.Lists.{position_is, position-None}
 use Rattle.literal_prefilters.proofs.lemmas.Offsets.{offset-le-offset_below}
-use Rattle.literal_prefilters.proofs.lemmas.Reach.{reach_of-start_bytes}
-use Rattle.literal_prefilters.proofs.lemmas.RareSet.{rare_closed, rare_reached, offset-le-largest_offset}
+use Rattle.literal_prefilters.proofs.lemmas.FurthestDistance.{reach_of-start_bytes}
+use Rattle.literal_prefilters.proofs.lemmas.RareSetCovers.{rare_closed, rare_reached, offset-le-largest_offset}
 use Rattle.literal_prefilters.proofs.lemmas.TableOf.{distance_of-table_of, is_in-table_of}
 use Rattle.literal_prefilters.proofs.lemmas.Variants.{same_length, same_byte_at, same_byte_turned}
 
@@ -74,7 +74,7 @@ rare_bytes-covers c ps i below some v bytes same =
     ∙ cond-true (set b) (Some (far b)) None (sym (is_in-table_of set far b byte) ∙ here) in
     let low = offset-le-offset_below c b p (length p) j (omega arith) (same_byte_at c v p same j inside) in
     if_some_at (distance_of (rare_bytes c ps) b) (far b) j value
-    (omega (arith, offset-le-largest_offset c ps i b below)))
+    (omega (arith, offset-le-largest_offset c ps i b)))
 
 if_small_is : (t u : List (Option ℕ)) → if_small t ≡ Some u → t ≡ u
 if_small_is t u e = (cond_some (nat_le 1 (size t) && nat_le (size t) 3) t u e).1

@@ -1,20 +1,20 @@
 -- The largest offset of a byte in a pattern, one offset more.
--- For `largest_offsets`, `raise_all` and `Running`.
-use Rattle.std.proofs.Common.{◌≡◌, ℕ, ◌+◌, ◌-◌, ◌<◌, ◌≤◌, ◌||◌, zero, suc, max, cond, Bool, true, false, List, [], ◌∷◌}
-use Rattle.std.proofs.Common.{length, get_or, fold, slice_index, add-one, ap, ◌∙◌, ⊎_elim, arith}
+-- For `raise_all` and `Running`.
+use Rattle.std.proofs.Common.{◌≡◌, ℕ, ◌+◌, ◌-◌, ◌<◌, ◌≤◌, ◌||◌, zero, suc, max, cond, Bool, true, false, List}
+use Rattle.std.proofs.Common.{slice_index, add-one, ap, ◌∙◌, ⊎_elim, arith}
 use Rattle.std.proofs.lemmas.Bool.{cases_Bool, cases_eq, cond-true, cond-false}
 use Rattle.literal_base.specs.Occurs.{same_byte}
-use Rattle.std.specs.List.{All}
-use Rattle.literal_prefilters.specs.Tables.{offset_below, largest_offset}
+use Rattle.literal_prefilters.specs.Tables.{offset_below}
 
-offset_below-le : (c : Bool) (b : ℕ) (p : List ℕ) (n : ℕ) → offset_below c b p n ≤ n
-offset_below-le c b p zero = omega arith
-offset_below-le c b p (suc n) =
+-- the offset is below the length, where there is one
+pub offset_below-lt : (c : Bool) (b : ℕ) (p : List ℕ) (n : ℕ) → offset_below c b p n ≤ n - 1
+offset_below-lt c b p zero = omega arith
+offset_below-lt c b p (suc n) =
     ⊎_elim
     (λ (e : same_byte c b (slice_index p n) ≡ true). let is : offset_below c b p (suc n) ≡ n = cond-true _ _ _ e in
     omega arith)
     (λ (e : same_byte c b (slice_index p n) ≡ false). let is : offset_below c b p (suc n) ≡ offset_below c b p n =
-    cond-false _ _ _ e in omega (arith, offset_below-le c b p n))
+    cond-false _ _ _ e in omega (arith, offset_below-lt c b p n))
     (cases_Bool (same_byte c b (slice_index p n)))
 
 -- each offset at which the byte stands is at most that one
@@ -40,7 +40,7 @@ offset_below-more c b p n start old new was now =
     rw add-one (⊎_elim
     (λ (e : same_byte c b (slice_index p n) ≡ true).
     let is : offset_below c b p (suc n) ≡ n = cond-true _ _ _ e in
-    let value : new ≡ max old n = now ∙ cond-true _ _ _ e in omega (arith, offset_below-le c b p n))
+    let value : new ≡ max old n = now ∙ cond-true _ _ _ e in omega (arith, offset_below-lt c b p n))
     (λ (e : same_byte c b (slice_index p n) ≡ false).
     let is : offset_below c b p (suc n) ≡ offset_below c b p n = cond-false _ _ _ e in
     let value : new ≡ old = now ∙ cond-false _ _ _ e in omega arith)
@@ -53,27 +53,3 @@ raised_twice true true n old one new first second = omega arith
 raised_twice true false n old one new first second = omega arith
 raised_twice false true n old one new first second = omega arith
 raised_twice false false n old one new first second = omega arith
-
--- the offset is below the length, where there is one
-pub offset_below-lt : (c : Bool) (b : ℕ) (p : List ℕ) (n : ℕ) → offset_below c b p n ≤ n - 1
-offset_below-lt c b p zero = omega arith
-offset_below-lt c b p (suc n) =
-    ⊎_elim
-    (λ (e : same_byte c b (slice_index p n) ≡ true). let is : offset_below c b p (suc n) ≡ n = cond-true _ _ _ e in
-    omega arith)
-    (λ (e : same_byte c b (slice_index p n) ≡ false). let is : offset_below c b p (suc n) ≡ offset_below c b p n =
-    cond-false _ _ _ e in omega (arith, offset_below-lt c b p n))
-    (cases_Bool (same_byte c b (slice_index p n)))
-
-most_below : (f : List ℕ → ℕ) (m : ℕ) (ps : List (List ℕ)) (a : ℕ) → a ≤ m → All (λ p. f p ≤ m) ps
-    → fold (λ most p. max most (f p)) a ps ≤ m
-most_below f m [] a low each = low
-most_below f m (p ∷ ps) a low each =
-    let first : f p ≤ m = each 0 [] (omega arith) in
-    most_below f m ps (max a (f p)) (omega arith) (λ k d below. each (suc k) d (omega arith))
-
-pub largest_offset-near : (c : Bool) (ps : List (List ℕ)) (b : ℕ) → All (λ p. length p ≤ 255) ps
-    → largest_offset c ps b ≤ 254
-largest_offset-near c ps b short =
-    most_below (λ p. offset_below c b p (length p)) 254 ps 0 (omega arith)
-    (λ k d below. omega (arith, short k d below, offset_below-lt c b (get_or ps k d) (length (get_or ps k d))))

@@ -12,7 +12,7 @@ use Rattle.literal_prefilters.specs.Tables.{of_set, table_of, if_low, if_small, 
 use Rattle.literal_prefilters.specs.Tables.{is_rare_byte, offset_below, largest_offset, rare_table}
 use Rattle.literal_prefilters.specs.Inside.Running.{IsUpTo, are_short}
 use Rattle.literal_prefilters.proofs.lemmas.Lists.{or_false}
-use Rattle.literal_prefilters.proofs.lemmas.Rare.{is_rare_byte-push, with_rarest-agree}
+use Rattle.literal_prefilters.proofs.lemmas.RareSetSteps.{is_rare_byte-push, with_rarest-agree}
 use Rattle.literal_prefilters.proofs.lemmas.Sets.{size-of_set, size-agree, size-grows}
 use Rattle.literal_prefilters.proofs.lemmas.TableOf.{table_of_agree}
 

@@ -12,15 +12,12 @@ use Rattle.literal_base.specs.Rank.{rank_of}
 use Rattle.literal_base.proofs.lemmas.Callers.{by_byte_is, length-by_byte, get_or-by_byte}
 use Rattle.literal_prefilters.specs.Table.{size, rank_at, rank_sum_of}
 use Rattle.literal_prefilters.specs.Tables.{of_set, table_of}
+use Rattle.literal_prefilters.proofs.lemmas.Sizes.{one}
 use Rattle.literal_prefilters.proofs.lemmas.TableOf.{length-table_of, table_of_agree}
 
 -- what a byte has in such a table
 abbrev entry : Bool → Option ℕ
 entry q = cond q (Some 0) None
-
--- its number of bytes, whatever the distances
-abbrev one : Option ℕ → ℕ
-one o = cond (is_some o) 1 0
 
 sum_agree : {X : Type 0} (f g : X → ℕ) (xs ys : List X) → length xs ≡ length ys → ((k : ℕ) (d : X) → k < length xs
     → f (get_or xs k d) ≡ g (get_or ys k d)) → sum_by f xs ≡ sum_by g ys
@@ -36,6 +33,7 @@ some_is : (q : Bool) (m n : ℕ) → is_some (cond q (Some m) None) ≡ is_some 
 some_is true m n = refl
 some_is false m n = refl
 
+-- its number of bytes, whatever the distances
 pub size-of_set : (p : ℕ → Bool) (f : ℕ → ℕ) → size (table_of p f) ≡ size (of_set p)
 size-of_set p f =
     sum_agree one one (table_of p f) (of_set p) (length-table_of p f ∙ sym (length-table_of p (λ _. 0)))

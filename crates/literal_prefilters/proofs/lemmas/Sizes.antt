@@ -7,7 +7,8 @@ use Rattle.std.proofs.lemmas.List.{length-drop, get_or-drop, get_or_default}
 use Rattle.std.proofs.lemmas.List.Sums.{get_or-le-sum_by, sum_by-le}
 use Rattle.literal_prefilters.specs.Table.{size, is_in}
 
-abbrev one : Option ℕ → ℕ
+-- what a byte counts
+abbrev pub one : Option ℕ → ℕ
 one o = cond (is_some o) 1 0
 
 pub size_some : (t : List (Option ℕ)) (b : ℕ) → b < length t → is_in t b ≡ true → 1 ≤ size t

@@ -20,9 +20,9 @@ use Rattle.literal_prefilters.specs.PrefilterValue.{PrefilterValue, CoveredBy, b
 use Rattle.literal_prefilters.specs.PrefilterValue.{prefilter_table}
 use Rattle.literal_prefilters.specs.Table.{Covers, first_place}
 use Rattle.literal_prefilters.proofs.lemmas.Callers.{free_from_first, is_first_from}
-use Rattle.literal_prefilters.proofs.lemmas.Reached.{reached_count-joined}
+use Rattle.literal_prefilters.proofs.lemmas.PlacesNear.{reached_count-joined}
 use Rattle.literal_prefilters.proofs.lemmas.Sound.{first_in_occurrence, nothing_from_free}
-use Rattle.literal_prefilters.proofs.lemmas.Tries.{counts_are}
+use Rattle.literal_prefilters.proofs.lemmas.OneTry.{counts_are}
 
 module _ (table : List (Option ℕ)) (query : Query) (ignore_case : Bool)
     (covers : All (Covers table ignore_case) query.patterns) (haystack : List ℕ) (bytes : AreBytes haystack)

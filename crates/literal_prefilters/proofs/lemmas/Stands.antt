@@ -10,8 +10,8 @@ use Rattle.literal_base.specs.Occurs.{NoneIsEmpty, AreEqualBytes, same_byte, pat
 use Rattle.literal_prefilters.specs.Tables.{largest_offset, offset_below}
 use Rattle.literal_prefilters.specs.Variants.{StandsIn, StartsVariants, IsLargestOffset}
 use Rattle.literal_prefilters.proofs.lemmas.Offsets.{offset-le-offset_below}
-use Rattle.literal_prefilters.proofs.lemmas.Rare.{same_byte_refl}
-use Rattle.literal_prefilters.proofs.lemmas.RareSet.{offset-le-largest_offset}
+use Rattle.literal_prefilters.proofs.lemmas.RareSetSteps.{same_byte_refl}
+use Rattle.literal_prefilters.proofs.lemmas.RareSetCovers.{offset-le-largest_offset}
 use Rattle.literal_prefilters.proofs.lemmas.Variants.{same_length, same_byte_at, same_from_bytes}
 
 -- the pattern with one byte in the other case
@@ -120,5 +120,5 @@ is_largest_offset c ps b = record {
         omega (
           arith,
           offset-le-offset_below c b p (length p) k at.0 at.1,
-          offset-le-largest_offset c ps s.pattern b s.is_pattern,
+          offset-le-largest_offset c ps s.pattern b,
         )

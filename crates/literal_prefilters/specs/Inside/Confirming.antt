@@ -1,36 +1,37 @@
--- The fields of a confirming search, and what one by a table keeps between two tries.
+-- The fields of a confirming search, and what one by a table keeps between two search.
 use Rattle.std.specs.Prelude.{◌≡◌, ⊤, ℕ, ◌+◌, ◌<◌, ◌≤◌, false, List, [], ◌∷◌, Option, None, Some, IfSome, slice_index}
 use Rattle.literal_base.specs.Occurs.{NoneIsEmpty}
 use Rattle.literal_packed.specs.PatternsValue.{IsInOrder, query_of}
 use Rattle.literal_prefilters.specs.ConfirmingValue.{ConfirmingValue}
 use Rattle.literal_prefilters.specs.PrefilterValue.{CoveredBy, by_table, by_pattern, by_search}
-use Rattle.literal_prefilters.specs.declared.prefilter.confirming.Way.{Way}
-use Rattle.literal_prefilters.specs.declared.prefilter.confirming.Way.TheVariants.{Pattern, Packed, Table}
+use Rattle.literal_prefilters.specs.declared.prefilter.confirming.Strategy.{Strategy}
+use Rattle.literal_prefilters.specs.declared.prefilter.confirming.Strategy.TheVariants.{Pattern, Packed, Table}
 use Rattle.literal_prefilters.specs.declared.prefilter.byte_table.TableByte.{TableByte}
 use Rattle.literal_prefilters.specs.Table.{distance_of, is_in}
 
 -- what a caller sees of a `ConfirmingSearch`, by how it goes
-abbrev pub value_of_way : Way → ConfirmingValue
-value_of_way (Pattern pattern kind) = record {
+abbrev pub value_of_strategy : Strategy → ConfirmingValue
+value_of_strategy (Pattern pattern kind) = record {
   query = record { kind = kind; patterns = pattern ∷ [] };
   ignore_case = false;
   prefilter = by_pattern pattern;
 }
-value_of_way (Packed query) = record { query = query; ignore_case = false; prefilter = by_search query }
-value_of_way (Table tries) =
-    record { query = query_of tries.patterns; ignore_case = tries.ignore_case; prefilter = by_table tries.table }
+value_of_strategy (Packed query) = record { query = query; ignore_case = false; prefilter = by_search query }
+value_of_strategy (Table search) =
+    record { query = query_of search.patterns; ignore_case = search.ignore_case; prefilter = by_table search.table }
 
 -- the patterns that are tried are in match order
-abbrev pub AreTriedInOrder : Way → Type 0
+abbrev pub AreTriedInOrder : Strategy → Type 0
 AreTriedInOrder (Pattern pattern kind) = ⊤
 AreTriedInOrder (Packed query) = ⊤
-AreTriedInOrder (Table tries) = IsInOrder tries.patterns
+AreTriedInOrder (Table search) = IsInOrder search.patterns
 
 -- what the fields of a `ConfirmingSearch` keep
-pub record IsReady (way : Way) : Type 0 where
-  pub covered : CoveredBy (value_of_way way).prefilter (value_of_way way).query (value_of_way way).ignore_case
-  pub not_empty : NoneIsEmpty (value_of_way way).query.patterns
-  pub in_order : AreTriedInOrder way
+pub record IsReady (strategy : Strategy) : Type 0 where
+  pub covered : CoveredBy (value_of_strategy strategy).prefilter (value_of_strategy strategy).query
+      (value_of_strategy strategy).ignore_case
+  pub not_empty : NoneIsEmpty (value_of_strategy strategy).query.patterns
+  pub in_order : AreTriedInOrder strategy
 
 -- up to where the haystack was read, by the last byte of the table that was found
 abbrev pub read_to : ℕ → Option TableByte → ℕ

@@ -10,6 +10,7 @@ ghost use Rattle.literal_prefilters.specs.Table.{bytes_scanned};
 ghost use Rattle.literal_prefilters.specs.Tables.{if_low, if_small, of_set, start_table, rare_table, table_of};
 
 use super::counted_set::CountedSet;
+use super::running::Running;
 use super::tables;
 use crate::prefilter::Candidate;
 use literal_base::count::Tally;
@@ -69,7 +70,7 @@ impl ByteTable {
         ensures none_back { IfSome result (λ t. reach_of t ≡ 0) }
         ensures covers { IfSome result (λ t. All (Covers t ignore_case) patterns.now.patterns) }
     {
-        ByteTable::of_start_bytes(&tables::start_set(patterns, ignore_case))
+        Running::of(patterns, ignore_case).start_table()
     }
 
     /// The table of a rare byte of each pattern, in both cases where ASCII case is ignored. The
@@ -82,13 +83,7 @@ impl ByteTable {
         ensures table { result ≡ rare_table ignore_case patterns.now.patterns }
         ensures covers { IfSome result (λ t. All (Covers t ignore_case) patterns.now.patterns) }
     {
-        if patterns.len() == 0 || !tables::all_short(patterns) {
-            return None;
-        }
-        ByteTable::if_small(
-            &tables::rare_set(patterns, ignore_case),
-            &tables::largest_offsets(patterns, ignore_case),
-        )
+        Running::of(patterns, ignore_case).rare_table()
     }
 
     /// The table of the bytes with which patterns begin, where these are one to three bytes, all at
@@ -160,7 +155,7 @@ impl ByteTable {
     pub fn scan(&self, haystack: &[u8], span: Span, tally: &mut Tally) -> Option<usize>
         requires { IsValidSpan haystack.now span }
         ensures place { result ≡ first_place self.now haystack.now span }
-        ensures scanned { tally.new ≡ record tally.old { scanned = tally.old.scanned + bytes_scanned span result } }
+        ensures exact { tally.new ≡ record tally.old { scanned = tally.old.scanned + bytes_scanned span result } }
     {
         let found = self.find(haystack, span, tally)?;
         Some(found.place)
@@ -172,7 +167,7 @@ impl ByteTable {
         ensures place { option_map (λ f. f.place) result ≡ first_place self.now haystack.now span }
         ensures distance { IfSome result (λ f. distance_of self.now (slice_index haystack.now f.place)
             ≡ Some f.distance) }
-        ensures scanned { tally.new ≡ record tally.old
+        ensures exact { tally.new ≡ record tally.old
             { scanned = tally.old.scanned + bytes_scanned span (option_map (λ f. f.place) result) } }
     {
         for place in span.start..span.end {

@@ -16,7 +16,7 @@ ghost use Rattle.literal_prefilters.specs.Choice.{IsBuiltFor, pick};
 ghost use Rattle.literal_base.specs.Kinds.{root_kind_of};
 ghost use Rattle.literal_prefilters.specs.ConfirmingValue.{BuildsConfirming, RefusesConfirming};
 ghost use Rattle.literal_prefilters.specs.ConfirmingValue.{confirming_by, confirming_of};
-ghost use Rattle.literal_prefilters.specs.Inside.Confirming.{IsReady, IsKept, read_to, value_of_way};
+ghost use Rattle.literal_prefilters.specs.Inside.Confirming.{IsReady, IsKept, read_to, value_of_strategy};
 ghost use Rattle.literal_prefilters.specs.Table.{Covers, distance_of, first_place};
 
 use super::byte_table::TableByte;
@@ -46,7 +46,7 @@ fn best_at(
     ensures best { MatchOption result
         (NoneStandsAt patterns.now.patterns ignore_case (take span.end haystack.now) at)
         (IsBestAt (query_of patterns.now) ignore_case (take span.end haystack.now) at) }
-    ensures counted { tally.new ≡ record tally.old
+    ensures exact { tally.new ≡ record tally.old
         { compared = tally.old.compared + compared_at (query_of patterns.now) result } }
 {
     // An occurrence that runs past the end of the span is none.
@@ -130,7 +130,7 @@ fn next_byte(
     requires kept { IsKept table.now haystack.now start rest.start rest.end kept }
     ensures place { option_map (λ f. f.place) result ≡ first_place table.now haystack.now rest }
     ensures distance { IfSome result (λ f. distance_of table.now (slice_index haystack.now f.place) ≡ Some f.distance) }
-    ensures scanned { tally.new ≡ record tally.old
+    ensures exact { tally.new ≡ record tally.old
         { scanned = tally.old.scanned + (read_to rest.end result - read_to start kept) } }
 {
     match kept {
@@ -153,7 +153,7 @@ fn confirm_by_table(
     requires covered { All (Covers table.now ignore_case) patterns.now.patterns }
     requires valid { IsValidSpan haystack.now span }
     ensures leftmost { IsLeftmost (query_of patterns.now) ignore_case haystack.now span result }
-    ensures counted { tally.new
+    ensures exact { tally.new
         ≡ counts_after_tries tally.old table.now (query_of patterns.now) haystack.now span result }
 
     // What follows of the counts for whoever adds up searches.
@@ -199,21 +199,21 @@ fn confirm_by_table(
 #[derive(Drop)]
 pub struct ConfirmingSearch {
     alloc: Global,
-    way: Way,
+    strategy: Strategy,
 }
 
-/// How a confirming search goes. An exact prefilter answers the match itself, and holds the patterns.
+/// The strategy of a confirming search. An exact prefilter answers the match itself, and holds the patterns.
 #[derive(Drop)]
-enum Way {
+enum Strategy {
     /// By one pattern. The kind of match makes no difference to it, and contracts alone see the kind.
     Pattern(Memmem, packed::MatchKind),
     Packed(Searcher),
-    Table(Tries),
+    Table(TableSearch),
 }
 
 /// A table, and the patterns that are tried where it proposes a place.
 #[derive(Drop)]
-struct Tries {
+struct TableSearch {
     table: ByteTable,
     patterns: Patterns,
     ignore_case: bool,
@@ -224,34 +224,34 @@ impl Model for ConfirmingSearch {
 
     ghost Value = { ConfirmingValue };
 
-    ghost use Rattle.literal_prefilters.specs.Inside.Confirming.{IsReady, value_of_way};
+    ghost use Rattle.literal_prefilters.specs.Inside.Confirming.{IsReady, value_of_strategy};
 
-    ghost view = { λ s. value_of_way s.way };
+    ghost view = { λ s. value_of_strategy s.strategy };
 
-    ghost invariant = { λ s. IsReady s.way };
+    ghost invariant = { λ s. IsReady s.strategy };
 }
 
-impl Way {
-    /// The way of a search by the prefilter of a builder, which is for the match kind of this name.
+impl Strategy {
+    /// The strategy of a search by the prefilter of a builder, which is for the match kind of this name.
     fn of(
         prefilter: Prefilter,
         builder: Builder,
         kind: packed::MatchKind,
-    ) -> Result<Way, AllocError>
+    ) -> Result<Strategy, AllocError>
         requires kind { builder.kind ≡ root_kind_of kind }
         requires built { IsBuiltFor builder prefilter }
-        ensures value { IfOk result (λ way. value_of_way way ≡ confirming_by kind builder prefilter) }
+        ensures value { IfOk result (λ strategy. value_of_strategy strategy ≡ confirming_by kind builder prefilter) }
         ensures keeps { IfOk result IsReady }
     {
         match prefilter.finder {
-            Finder::Memmem(memmem) => Ok(Way::Pattern(memmem, kind)),
-            Finder::Packed(packed) => Ok(Way::Packed(packed.searcher)),
-            Finder::StartBytesOne(pre) => Way::by_table(pre.0, builder, kind),
-            Finder::StartBytesTwo(pre) => Way::by_table(pre.0, builder, kind),
-            Finder::StartBytesThree(pre) => Way::by_table(pre.0, builder, kind),
-            Finder::RareBytesOne(pre) => Way::by_table(pre.0, builder, kind),
-            Finder::RareBytesTwo(pre) => Way::by_table(pre.0, builder, kind),
-            Finder::RareBytesThree(pre) => Way::by_table(pre.0, builder, kind),
+            Finder::Memmem(memmem) => Ok(Strategy::Pattern(memmem, kind)),
+            Finder::Packed(packed) => Ok(Strategy::Packed(packed.searcher)),
+            Finder::StartBytesOne(pre) => Strategy::by_table(pre.0, builder, kind),
+            Finder::StartBytesTwo(pre) => Strategy::by_table(pre.0, builder, kind),
+            Finder::StartBytesThree(pre) => Strategy::by_table(pre.0, builder, kind),
+            Finder::RareBytesOne(pre) => Strategy::by_table(pre.0, builder, kind),
+            Finder::RareBytesTwo(pre) => Strategy::by_table(pre.0, builder, kind),
+            Finder::RareBytesThree(pre) => Strategy::by_table(pre.0, builder, kind),
         }
     }
 
@@ -260,15 +260,16 @@ impl Way {
         table: ByteTable,
         builder: Builder,
         kind: packed::MatchKind,
-    ) -> Result<Way, AllocError>
+    ) -> Result<Strategy, AllocError>
         requires kind { builder.kind ≡ root_kind_of kind }
         requires built { IsBuiltFor builder (by_table table) }
-        ensures value { IfOk result (λ way. value_of_way way ≡ confirming_by kind builder (by_table table)) }
+        ensures value { IfOk result (λ strategy. value_of_strategy strategy
+            ≡ confirming_by kind builder (by_table table)) }
         ensures keeps { IfOk result IsReady }
     {
         let ignore_case = builder.ascii_case_insensitive;
         let patterns = builder.into_patterns(kind)?;
-        Ok(Way::Table(Tries {
+        Ok(Strategy::Table(TableSearch {
             table,
             patterns,
             ignore_case,
@@ -315,8 +316,8 @@ impl ConfirmingSearch {
             return Ok(None);
         };
         let alloc = builder.alloc;
-        let way = Way::of(prefilter, builder, kind)?;
-        Ok(Some(ConfirmingSearch { alloc, way }))
+        let strategy = Strategy::of(prefilter, builder, kind)?;
+        Ok(Some(ConfirmingSearch { alloc, strategy }))
     }
 
     /// The leftmost match in a span of the haystack, which has to be a valid span of it: as
@@ -337,18 +338,18 @@ impl ConfirmingSearch {
     pub fn find_in_counted(&self, haystack: &[u8], span: Span, tally: &mut Tally) -> Option<Match>
         requires { IsValidSpan haystack.now span }
         ensures leftmost { IsLeftmost self.now.query self.now.ignore_case haystack.now span result }
-        ensures counted { tally.new ≡ counts_after_confirming tally.old self.now.prefilter self.now.query haystack.now
+        ensures exact { tally.new ≡ counts_after_confirming tally.old self.now.prefilter self.now.query haystack.now
             span result }
         ensures compared { IfSome (prefilter_table self.now.prefilter) (λ _. tally.new.compared ≤ tally.old.compared
             + (tally.new.tried - tally.old.tried) * length self.now.query.patterns) }
         ensures within { tally.new.scanned ≤ tally.old.scanned + (answer_end span result - span.start) }
     {
-        match &self.way {
-            Way::Pattern(memmem, _) => memmem.find(haystack, span, tally),
-            Way::Packed(searcher) => searcher.find_in_counted(haystack, span, tally),
-            Way::Table(tries) => {
-                let (patterns, ignore_case) = (&tries.patterns, tries.ignore_case);
-                confirm_by_table(&tries.table, patterns, ignore_case, haystack, span, tally)
+        match &self.strategy {
+            Strategy::Pattern(memmem, _) => memmem.find(haystack, span, tally),
+            Strategy::Packed(searcher) => searcher.find_in_counted(haystack, span, tally),
+            Strategy::Table(search) => {
+                let (patterns, ignore_case) = (&search.patterns, search.ignore_case);
+                confirm_by_table(&search.table, patterns, ignore_case, haystack, span, tally)
             }
         }
     }
@@ -366,7 +367,7 @@ impl ConfirmingSearch {
         ensures exact { IfOk result (λ all. tally.new ≡ counts_after_answers tally.old self.now.prefilter self.now.query
             haystack.now 0 (answers_of all.items ++ None ∷ [])) }
         ensures no_memory { OnErr result (RefusesList self.now haystack.now tally.old tally.new) }
-        ensures counted { SpendsConfirming self.now.prefilter self.now.query.patterns haystack.now
+        ensures bounded { SpendsConfirming self.now.prefilter self.now.query.patterns haystack.now
             tally.old tally.new }
     {
         self.covers_its_patterns(); // (for the proof alone)
@@ -388,7 +389,7 @@ impl ConfirmingSearch {
         ensures covered { CoveredBy self.now.prefilter self.now.query self.now.ignore_case }
         ensures not_empty { NoneIsEmpty self.now.query.patterns }
     {
-        let _ = &self.way; // (a read, after which the proof has what the fields keep)
+        let _ = &self.strategy; // (a read, after which the proof has what the fields keep)
     }
 }
 

@@ -1,6 +1,6 @@
 //! The kinds of prefilter that search exactly: each answers a match or nothing, and never a mere
 //! place at which one may begin.
-ghost use Rattle.std.specs.Prelude.{◌≡◌, ◌∷◌, [], length, IfOk, false};
+ghost use Rattle.std.specs.Prelude.{◌≡◌, length, IfOk, Some, false};
 ghost use Rattle.literal_base.specs.Leftmost.{IsLeftmost};
 ghost use Rattle.literal_base.specs.Occurs.{IsValidSpan, pattern_at};
 ghost use Rattle.literal_base.specs.declared.packed.MatchKind.TheVariants.{LeftmostFirst};
@@ -16,47 +16,41 @@ use literal_base::count::Tally;
 use literal_base::packed::MatchKind;
 use literal_base::search::{Match, Span};
 use literal_packed::pattern::Patterns;
-use literal_packed::rabinkarp::RabinKarp;
 use literal_packed::{Config, Searcher};
 use std::alloc::{AllocError, Global};
 use std::marker::Model;
 
-/// Finds one pattern, by its rolling sum. Contracts see the pattern.
+/// Finds one pattern, by a packed search. Contracts see the pattern.
 #[derive(Drop)]
 pub struct Memmem {
-    patterns: Patterns,
-    rabin_karp: RabinKarp,
+    searcher: Searcher,
 }
 
 impl Model for Memmem {
     ghost use Rattle.std.specs.Prelude.{◌≡◌, ℕ, List};
     ghost use Rattle.literal_base.specs.Occurs.{pattern_at};
-    ghost use Rattle.literal_packed.specs.PatternsValue.{query_of};
-    ghost use Rattle.literal_packed.specs.RabinKarpValue.{IsMadeFor};
     ghost use Rattle.literal_prefilters.specs.Exact.{query_of_one};
 
     ghost Value = { List ℕ };
 
-    ghost view = { λ pre. pattern_at pre.patterns.patterns 0 };
+    ghost view = { λ pre. pattern_at pre.searcher.patterns 0 };
 
-    ghost invariant = { λ pre. IsMadeFor pre.patterns pre.rabin_karp
-        × (query_of pre.patterns ≡ query_of_one (pattern_at pre.patterns.patterns 0)) };
+    ghost invariant = { λ pre. pre.searcher ≡ query_of_one (pattern_at pre.searcher.patterns 0) };
 }
 
 impl Memmem {
-    /// Finds the one pattern of a list. What is hashed of it goes into the tally.
-    pub(super) fn new(patterns: &Patterns, tally: &mut Tally) -> Result<Memmem, AllocError>
+    /// Finds the one pattern of a list.
+    pub(super) fn new(alloc: Global, patterns: &Patterns) -> Result<Option<Memmem>, AllocError>
         requires one { length patterns.now.patterns ≡ 1 }
-        requires first { patterns.now.kind ≡ LeftmostFirst }
-        requires in_order { IsInOrder patterns.now }
-        ensures { IfOk result (λ built. built ≡ pattern_at patterns.now.patterns 0) }
+        ensures { IfOk result (λ built. built ≡ Some (pattern_at patterns.now.patterns 0)) }
     {
-        let patterns = patterns.try_clone()?;
-        let rabin_karp = RabinKarp::new(&patterns, tally)?;
-        Ok(Memmem {
-            patterns,
-            rabin_karp,
-        })
+        let _ = patterns.len(); // (its contract says that no pattern is empty)
+        let Some(packed) = Packed::new(alloc, patterns, MatchKind::LeftmostFirst)? else {
+            return Ok(None);
+        };
+        Ok(Some(Memmem {
+            searcher: packed.searcher,
+        }))
     }
 
     /// A copy, for the same pattern.
@@ -64,8 +58,7 @@ impl Memmem {
         ensures { IfOk result (λ copy. copy ≡ self.now) }
     {
         Ok(Memmem {
-            patterns: self.patterns.try_clone()?,
-            rabin_karp: self.rabin_karp.try_clone()?,
+            searcher: self.searcher.try_clone()?,
         })
     }
 
@@ -75,10 +68,7 @@ impl Memmem {
         ensures leftmost { IsLeftmost (query_of_one self.now) false haystack.now span result }
         ensures exact { tally.new ≡ counts_after tally.old (query_of_one self.now) haystack.now span result }
     {
-        // `find_at` searches to the end of its haystack, which is the end of the span.
-        let haystack = &haystack[..span.end];
-        self.rabin_karp
-            .find_at(&self.patterns, haystack, span.start, tally)
+        self.searcher.find_in_counted(haystack, span, tally)
     }
 }
 

@@ -1,12 +1,14 @@
 //! What a builder keeps of its patterns beside them, so that it makes their tables without a walk over
 //! the list.
 ghost use Rattle.std.specs.Prelude.{◌≡◌, ◌<◌, ◌≤◌, ◌++◌, ◌∷◌, [], ℕ, Bool, List, length, slice_index};
+ghost use Rattle.literal_base.specs.Occurs.{NoneIsEmpty};
 ghost use Rattle.literal_prefilters.specs.Inside.Running.{AreSame, IsRunning, IsRunningRare, IsRunningStart};
 ghost use Rattle.literal_prefilters.specs.Tables.{start_table, rare_table};
 
 use super::ByteTable;
 use super::counted_set::CountedSet;
-use super::tables::{LONGEST, add_rarest, add_start, raise_all};
+use super::tables::{LONGEST, add_rarest, add_start, bytes_of, raise_all};
+use literal_packed::pattern::Patterns;
 
 /// What is kept of the patterns so far.
 #[derive(Drop)]
@@ -24,6 +26,18 @@ impl Running {
             start: RunningStart::new(),
             rare: RunningRare::new(),
         }
+    }
+
+    /// All patterns of a list.
+    pub(super) fn of(patterns: &Patterns, ignore_case: bool) -> Running
+        ensures running { IsRunning ignore_case patterns.now.patterns result }
+        ensures not_empty { NoneIsEmpty patterns.now.patterns }
+    {
+        let mut running = Running::new();
+        for id in 0..patterns.len() {
+            running.push(bytes_of(patterns, id), ignore_case);
+        }
+        running
     }
 
     /// Takes one pattern more.

@@ -38,17 +38,6 @@ pub(super) fn add_start(set: &mut CountedSet, pattern: &[u8], ignore_case: bool)
     set.mark(pattern[0], ignore_case);
 }
 
-pub(super) fn start_set(patterns: &Patterns, ignore_case: bool) -> CountedSet
-    ensures each { (b : ℕ) → contains result b ≡ is_start_byte ignore_case patterns.now.patterns b }
-    ensures not_empty { NoneIsEmpty patterns.now.patterns }
-{
-    let mut set = CountedSet::empty();
-    for id in 0..patterns.len() {
-        add_start(&mut set, bytes_of(patterns, id), ignore_case);
-    }
-    set
-}
-
 /// The earliest byte of least rank.
 fn rarest(pattern: &[u8]) -> u8
     requires { 0 < length pattern.now }
@@ -74,17 +63,6 @@ pub(super) fn add_rarest(set: &mut CountedSet, pattern: &[u8], ignore_case: bool
     }
 }
 
-pub(super) fn rare_set(patterns: &Patterns, ignore_case: bool) -> CountedSet
-    ensures each { (b : ℕ) → contains result b ≡ is_rare_byte ignore_case patterns.now.patterns b }
-    ensures some { 0 < length patterns.now.patterns → 1 ≤ size (of_set (contains result)) }
-{
-    let mut set = CountedSet::empty();
-    for id in 0..patterns.len() {
-        add_rarest(&mut set, bytes_of(patterns, id), ignore_case);
-    }
-    set
-}
-
 fn raise(offsets: &mut [u8; 256], byte: u8, offset: u8)
     ensures { (b : ℕ) → slice_index offsets.new b ≡
         (if b == byte then max (slice_index offsets.old b) offset else slice_index offsets.old b) }
@@ -108,29 +86,6 @@ pub(super) fn raise_all(offsets: &mut [u8; 256], pattern: &[u8], ignore_case: bo
             raise(offsets, opposite_ascii_case(*byte), offset as u8);
         }
     }
-}
-
-pub(super) fn largest_offsets(patterns: &Patterns, ignore_case: bool) -> [u8; 256]
-    requires { All (λ p. length p ≤ 255) patterns.now.patterns }
-    ensures value { (b : ℕ) → slice_index result b ≡ largest_offset ignore_case patterns.now.patterns b }
-    ensures near { (b : ℕ) → slice_index result b ≤ 254 }
-{
-    let mut offsets = [0; 256];
-    for id in 0..patterns.len() {
-        raise_all(&mut offsets, bytes_of(patterns, id), ignore_case);
-    }
-    offsets
-}
-
-pub(super) fn all_short(patterns: &Patterns) -> bool
-    ensures { result ≡ list_all (λ p. nat_le (length p) 255) patterns.now.patterns }
-{
-    for id in 0..patterns.len() {
-        if bytes_of(patterns, id).len() > LONGEST {
-            return false;
-        }
-    }
-    true
 }
 
 /// The distance of each byte of the set.

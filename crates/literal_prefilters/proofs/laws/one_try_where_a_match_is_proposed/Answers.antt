@@ -13,7 +13,7 @@ use Rattle.literal_prefilters.specs.Reached.{is_reached, reached_count}
 use Rattle.literal_prefilters.specs.Table.{IsFirst, distance_of, first_place, is_in, step_back}
 use Rattle.literal_prefilters.specs.Tables.{table_of}
 use Rattle.literal_prefilters.proofs.lemmas.Callers.{first_is, is_first_from}
-use Rattle.literal_prefilters.proofs.lemmas.Reached.{first_later, reached_count-tried, valid_rest}
+use Rattle.literal_prefilters.proofs.lemmas.PlacesNear.{first_later, reached_count-tried, valid_rest}
 use Rattle.literal_prefilters.proofs.laws.one_try_where_a_match_is_proposed.Goals as goal
 
 -- by the first place of the table

@@ -1,4 +1,4 @@
-use Rattle.literal_prefilters.proofs.lemmas.Reach.{distance-le-reach_of, reach_of-reached}
+use Rattle.literal_prefilters.proofs.lemmas.FurthestDistance.{distance-le-reach_of, reach_of-reached}
 use Rattle.literal_prefilters.proofs.laws.reach_is_the_largest_distance.Goals as goal
 
 pub returns-clause-bound : goal.returns-clause-bound

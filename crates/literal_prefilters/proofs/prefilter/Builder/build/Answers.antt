@@ -1,4 +1,4 @@
-use Rattle.std.proofs.Common.{◌∙◌, Some, None, true, false, sym, ap, subst}
+use Rattle.std.proofs.Common.{◌≡◌, ◌∙◌, Some, None, true, false, sym, ap, subst}
 use Rattle.std.specs.Option.{option_copied}
 use Rattle.literal_base.specs.Occurs.{pattern_at}
 use Rattle.literal_prefilters.proofs.lemmas.Choice.{IsByTables, covers_one, kept_of_list, tables_of, pick_short}
@@ -41,6 +41,7 @@ returns-in-Some-None-clause-pick c =
 
 pub returns-then-is_one_pattern-clause-covers : goal.returns-then-is_one_pattern-clause-covers
 returns-then-is_one_pattern-clause-covers c kind serves =
-    covers_one c.args.self.now kind c.in_ok-memmem.memmem (sym c.is_one_pattern.ensures ∙ c.if-is_one_pattern.true)
-    (c.in_ok-memmem.ensures ∙ ap (λ ps. pattern_at ps 0)
-    (sym (kept_of_list c.self.inside c.args.self.now c.self.invariant c.self.view_is)))
+    let both = sym c.in-Some.is ∙ c.in_ok-memmem.ensures in
+    let is : c.in-Some.memmem ≡ pattern_at c.self.inside.patterns.patterns 0 = cc in
+    covers_one c.args.self.now kind c.in-Some.memmem (sym c.is_one_pattern.ensures ∙ c.if-is_one_pattern.true)
+    (is ∙ ap (λ ps. pattern_at ps 0) (sym (kept_of_list c.self.inside c.args.self.now c.self.invariant c.self.view_is)))

@@ -4,7 +4,7 @@ use Rattle.std.proofs.lemmas.List.{length_push}
 use Rattle.std.proofs.lemmas.List.Elements.{All-push}
 use Rattle.literal_base.specs.Counts.{Counts}
 use Rattle.literal_base.specs.Occurs.{StandsAt, pattern_at}
-use Rattle.literal_packed.proofs.lemmas.Given.{head_below, split_next, split_more}
+use Rattle.literal_packed.proofs.lemmas.IteratedPatterns.{head_below, split_next, split_more}
 use Rattle.literal_prefilters.proofs.lemmas.BestAt.{best_from_front, none_from_all, given_at_most, compared_up_to}
 use Rattle.literal_prefilters.proofs.prefilter.confirming.best_at.Goals as goal
 
@@ -20,14 +20,14 @@ returns-then-matches_at-clause-best c =
     (split_next c.loop-id.yielded c.loop-id.invariant.split c.in-Some.ensures.steps) c.loop-id.invariant.none
     (c.if-matches_at.ensures.stands.0 refl)
 
-pub returns-then-matches_at-clause-counted : goal.returns-then-matches_at-clause-counted
-returns-then-matches_at-clause-counted c =
+pub returns-then-matches_at-clause-exact : goal.returns-then-matches_at-clause-exact
+returns-then-matches_at-clause-exact c =
     let old = c.args.tally.now in
     let up_to = compared_up_to c.args.patterns.now c.iter-id-items.ensures.well_formed c.requires.in_order
     c.loop-id.yielded _ (c.in-Some.id, c.in-Some.field-0-1)
     (split_next c.loop-id.yielded c.loop-id.invariant.split c.in-Some.ensures.steps) in
     let step : Counts → Counts = λ t. record t { compared = t.compared + 1 } in
-    c.matches_at.ensures.counted ∙ (ap step c.loop-id.invariant.counted
+    c.matches_at.ensures.exact ∙ (ap step c.loop-id.invariant.counted
     ∙ ap (λ k. record old { compared = k }) (omega (arith, up_to)))
 
 pub loop-id-preserved : goal.loop-id-preserved
@@ -44,7 +44,7 @@ loop-id-preserved c =
       none = All-push (λ p. ¬ StandsAt c.args.ignore_case (pattern_at c.args.patterns.now.patterns p.0)
           (take c.args.span.end c.args.haystack.now) c.args.at) _ _ c.loop-id.invariant.none
           (λ stands. false≢true (c.if-matches_at.ensures.stands.1 stands));
-      counted = c.matches_at.ensures.counted ∙ (ap step c.loop-id.invariant.counted ∙ ap f e);
+      counted = c.matches_at.ensures.exact ∙ (ap step c.loop-id.invariant.counted ∙ ap f e);
     }
 
 pub returns-clause-best : goal.returns-clause-best
@@ -53,8 +53,8 @@ returns-clause-best c =
     c.iter-id-items.ensures.well_formed _ (ap (λ ps. c.loop-id.yielded ++ ps) (sym c.in-None.ensures.steps.0)
     ∙ c.loop-id.invariant.split) c.loop-id.invariant.none
 
-pub returns-clause-counted : goal.returns-clause-counted
-returns-clause-counted c =
+pub returns-clause-exact : goal.returns-clause-exact
+returns-clause-exact c =
     let old = c.args.tally.now in
     let all = given_at_most c.args.patterns.now c.args.ignore_case (take c.args.span.end c.args.haystack.now)
     c.args.at c.iter-id-items.ensures.well_formed c.loop-id.yielded []

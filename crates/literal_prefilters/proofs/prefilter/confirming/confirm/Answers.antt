@@ -2,7 +2,7 @@ use Rattle.std.proofs.Common.{◌≡◌, ℕ, ◌+◌, ◌-◌, ◌*◌, length,
 use Rattle.literal_base.specs.MatchValue.{MatchValue}
 use Rattle.literal_base.specs.Leftmost.{IsLeftmostMatch}
 use Rattle.literal_packed.specs.PatternsValue.{query_of}
-use Rattle.literal_prefilters.proofs.lemmas.Asks.{none_before_possible, none_before_next, leftmost_here}
+use Rattle.literal_prefilters.proofs.lemmas.RestOfSpan.{none_before_possible, none_before_next, leftmost_here}
 use Rattle.literal_prefilters.proofs.prefilter.confirming.confirm.Goals as goal
 
 pub returns-in-Some-clause-leftmost : goal.returns-in-Some-clause-leftmost
@@ -42,8 +42,8 @@ loop-found-preserved g c =
     let asked_scanned = reach.scanned in
     let ticked_tried = ap (λ t. t.tried) c.tick_tried.ensures in
     let ticked_scanned = ap (λ t. t.scanned) c.tick_tried.ensures in
-    let best_tried = ap (λ t. t.tried) c.best_at.ensures.counted in
-    let best_scanned = ap (λ t. t.scanned) c.best_at.ensures.counted in
+    let best_tried = ap (λ t. t.tried) c.best_at.ensures.exact in
+    let best_scanned = ap (λ t. t.scanned) c.best_at.ensures.exact in
     let grows = c.loop-found.invariant.grows in
     let tried = c.loop-found.invariant.tried in
     let scanned = c.loop-found.invariant.scanned in

@@ -1,5 +1,5 @@
 use Rattle.std.proofs.Common.{◌≤◌, ◌-◌, ◌+◌, ◌*◌}
-use Rattle.literal_prefilters.proofs.lemmas.Asks.{NoneBefore}
+use Rattle.literal_prefilters.proofs.lemmas.RestOfSpan.{NoneBefore}
 use Rattle.literal_prefilters.proofs.prefilter.confirming.confirm.Given as goal
 
 abbrev pub invariant-loop-found : goal.invariant-loop-found

@@ -12,11 +12,11 @@ use Rattle.literal_prefilters.specs.Inside.Confirming.{read_to}
 use Rattle.literal_prefilters.proofs.lemmas.Callers.{are_bytes}
 use Rattle.literal_prefilters.proofs.lemmas.Callers.{free_from_first}
 use Rattle.literal_packed.specs.PatternsValue.{query_of}
-use Rattle.literal_prefilters.proofs.lemmas.Asks.{none_before_next, leftmost_here}
-use Rattle.literal_prefilters.proofs.lemmas.Reached.{valid_rest, reached_count-free}
+use Rattle.literal_prefilters.proofs.lemmas.RestOfSpan.{none_before_next, leftmost_here}
+use Rattle.literal_prefilters.proofs.lemmas.PlacesNear.{valid_rest, reached_count-free}
 use Rattle.literal_prefilters.proofs.lemmas.Spends.{scan_ends_in_match}
-use Rattle.literal_prefilters.proofs.lemmas.Tries.{compared_by_tries_at_most, counts_are, counts_of_try, one_try}
-use Rattle.literal_prefilters.proofs.lemmas.Tries.{none_before_tried, nothing_from_rest}
+use Rattle.literal_prefilters.proofs.lemmas.OneTry.{compared_by_tries_at_most, counts_are, counts_of_try, one_try}
+use Rattle.literal_prefilters.proofs.lemmas.OneTry.{none_before_tried, nothing_from_rest}
 use Rattle.literal_prefilters.proofs.prefilter.confirming.confirm_by_table.Goals as goal
 
 pub returns-in-Some-best_at-clause-leftmost : goal.returns-in-Some-best_at-clause-leftmost
@@ -44,8 +44,8 @@ returns-in-Some-best_at-clause-leftmost c =
     (leftmost_here ps ic h span c.requires.valid kind s c.in-Some-best_at.id (omega arith)
     (λ i j before o. absurd (omega (arith, none i j o, y.tried))) c.in-Some-best_at.ensures.best)
 
-pub returns-in-Some-best_at-clause-counted : goal.returns-in-Some-best_at-clause-counted
-returns-in-Some-best_at-clause-counted c =
+pub returns-in-Some-best_at-clause-exact : goal.returns-in-Some-best_at-clause-exact
+returns-in-Some-best_at-clause-exact c =
     let t = c.args.table.now in
     let h = c.args.haystack.now in
     let span = c.args.span in
@@ -65,8 +65,8 @@ returns-in-Some-best_at-clause-counted c =
     (reached_count t h span c.loop-found.at * n) (read_to span.start c.loop-found.kept - span.start)
     (reached_count t h span c.loop-found.at) (found.place + 1 - read_to span.start c.loop-found.kept)
     last (reached_count t h span start * n + last) scanned
-    (reached_count t h span (start + 1)) c.loop-found.invariant.counts c.in-Some.ensures.scanned c.tick_tried.ensures
-    c.in-Some-best_at.ensures.counted (ap (λ m. m * n + last) (sym y.before))
+    (reached_count t h span (start + 1)) c.loop-found.invariant.counts c.in-Some.ensures.exact c.tick_tried.ensures
+    c.in-Some-best_at.ensures.exact (ap (λ m. m * n + last) (sym y.before))
     (omega (arith, place, k.after_start, k.behind, y.read)) (sym y.counted))
 
 pub returns-in-Some-best_at-clause-within : goal.returns-in-Some-best_at-clause-within
@@ -75,7 +75,7 @@ returns-in-Some-best_at-clause-within c =
     let within = scan_ends_in_match c.args.table.now (query_of c.args.patterns.now) c.args.ignore_case
     c.requires.covered h (are_bytes h (λ k. omega (arith, c.type_inv.haystack k))) c.args.span c.requires.valid
     c.new.result (returns-in-Some-best_at-clause-leftmost c) in
-    let counted = ap (λ (n : Counts). n.scanned) (returns-in-Some-best_at-clause-counted c) in
+    let counted = ap (λ (n : Counts). n.scanned) (returns-in-Some-best_at-clause-exact c) in
     omega (arith, within, counted)
 
 pub returns-in-Some-best_at-clause-compared : goal.returns-in-Some-best_at-clause-compared
@@ -90,7 +90,7 @@ returns-in-Some-best_at-clause-compared c =
     compared_by_tries_at_most c.args.tally.now c.best_at.new.tally t (query_of c.args.patterns.now) h span c.new.result
     (subst (λ (f : MatchValue). reached_count t h span (f.start + 1) ≡ reached_count t h span f.start + 1)
     (sym c.new.ensures) (y.counted ∙ ap (λ m. m + 1) (sym y.before)))
-    (returns-in-Some-best_at-clause-counted c)
+    (returns-in-Some-best_at-clause-exact c)
 
 pub loop-found-preserved : goal.loop-found-preserved
 loop-found-preserved c =
@@ -119,8 +119,8 @@ loop-found-preserved c =
           c.best_at.new.tally (reached_count t h span at * n) (read_to span.start c.loop-found.kept - span.start)
           (reached_count t h span at) (found.place + 1 - read_to span.start c.loop-found.kept) n
           (reached_count t h span (start + 1) * n) (found.place + 1 - span.start) (reached_count t h span (start + 1))
-          c.loop-found.invariant.counts c.in-Some.ensures.scanned c.tick_tried.ensures
-          c.in_default-best_at.ensures.counted (rw y.counted (omega arith))
+          c.loop-found.invariant.counts c.in-Some.ensures.exact c.tick_tried.ensures
+          c.in_default-best_at.ensures.exact (rw y.counted (omega arith))
           (omega (arith, k.after_start, k.behind, y.read)) (sym y.counted);
     }
 
@@ -138,8 +138,8 @@ returns-clause-leftmost c =
     (are_bytes h (λ k. omega (arith, c.type_inv.haystack k))) c.requires.valid at below
     c.loop-found.invariant.none_before free
 
-pub returns-clause-counted : goal.returns-clause-counted
-returns-clause-counted c =
+pub returns-clause-exact : goal.returns-clause-exact
+returns-clause-exact c =
     let t = c.args.table.now in
     let h = c.args.haystack.now in
     let span = c.args.span in
@@ -150,7 +150,7 @@ returns-clause-counted c =
     let free = free_from_first t h (record { start = at; end = span.end })
     (valid_rest t h span c.requires.valid at below) (sym c.in_default.ensures.place) in
     let count = reached_count-free t h span c.requires.valid at k.after_start below free in
-    c.in_default.ensures.scanned
+    c.in_default.ensures.exact
     ∙ (ap (λ (m : Counts). record m { scanned = m.scanned + (span.end - read_to span.start c.loop-found.kept) })
     c.loop-found.invariant.counts
     ∙ counts_are _ _ refl refl (rw count refl) (omega (arith, k.after_start, k.behind, k.within))

@@ -2,7 +2,7 @@ use Rattle.std.proofs.Common.{get_or, sym, ap, ◌∙◌, arith}
 use Rattle.std.proofs.lemmas.Bool.{or_right}
 use Rattle.std.proofs.lemmas.List.Folds.{Any-from_list_any}
 use Rattle.literal_base.specs.Bytes.{contains}
-use Rattle.literal_prefilters.proofs.lemmas.Rare.{same_byte_refl}
+use Rattle.literal_prefilters.proofs.lemmas.RareSetSteps.{same_byte_refl}
 use Rattle.literal_prefilters.proofs.lemmas.TableOf.{set_some}
 use Rattle.literal_prefilters.proofs.lemmas.Callers.{are_bytes}
 use Rattle.literal_prefilters.proofs.prefilter.tables.add_rarest.Goals as goal

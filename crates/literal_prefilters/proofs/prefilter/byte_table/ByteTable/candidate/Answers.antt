@@ -1,7 +1,7 @@
 use Rattle.std.proofs.Common.{slice_index, sym, ap, subst, arith, rules}
 use Rattle.literal_prefilters.specs.declared.prefilter.Candidate.{Candidate}
 use Rattle.literal_prefilters.specs.Sound.{Sound}
-use Rattle.literal_prefilters.proofs.lemmas.Reach.{distance-le-reach_of}
+use Rattle.literal_prefilters.proofs.lemmas.FurthestDistance.{distance-le-reach_of}
 use Rattle.literal_prefilters.proofs.lemmas.Sound.{step-sound}
 use Rattle.literal_prefilters.proofs.lemmas.Callers.{are_bytes}
 use Rattle.literal_prefilters.proofs.prefilter.byte_table.ByteTable.candidate.Goals as goal
@@ -34,7 +34,7 @@ returns-in-Some-clause-sound c = record {
 
 pub returns-in-Some-clause-reach : goal.returns-in-Some-clause-reach
 returns-in-Some-clause-reach c =
-    let counted = c.in-Some.ensures.scanned in
+    let counted = c.in-Some.ensures.exact in
     let far = distance-le-reach_of c.args.self.now
     (slice_index c.args.haystack.now c.in-Some.found.place) c.in-Some.found.distance c.in-Some.ensures.distance in
     let scanned = ap (λ t. t.scanned) counted in

@@ -1,4 +1,4 @@
-use Rattle.literal_prefilters.proofs.lemmas.Reach.{reach_of-le}
+use Rattle.literal_prefilters.proofs.lemmas.FurthestDistance.{reach_of-le}
 use Rattle.literal_prefilters.proofs.prefilter.byte_table.ByteTable.count.Goals as goal
 
 pub returns-clause-near : goal.returns-clause-near

@@ -3,7 +3,7 @@ use Rattle.std.proofs.lemmas.Bool.{and_parts, cond-true, cond-false, leb-true}
 use Rattle.literal_base.specs.Bytes.{contains}
 use Rattle.literal_prefilters.specs.Table.{rank_sum_of, size}
 use Rattle.literal_prefilters.specs.Tables.{of_set, table_of}
-use Rattle.literal_prefilters.proofs.lemmas.Reach.{distance_of-table_of-le}
+use Rattle.literal_prefilters.proofs.lemmas.FurthestDistance.{distance_of-table_of-le}
 use Rattle.literal_prefilters.proofs.lemmas.Sets.{rank_sum-of_set, size-of_set}
 use Rattle.literal_prefilters.proofs.lemmas.TableOf.{length-table_of}
 use Rattle.literal_prefilters.proofs.prefilter.byte_table.ByteTable.if_small.Goals as goal

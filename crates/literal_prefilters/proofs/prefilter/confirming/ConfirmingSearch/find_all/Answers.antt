@@ -4,7 +4,8 @@ use Rattle.literal_base.specs.MatchValue.{MatchValue}
 use Rattle.literal_base.specs.Occurs.{NothingOccurs}
 use Rattle.literal_packed.proofs.lemmas.GreedyLists.{greedy_all}
 use Rattle.literal_packed.proofs.lemmas.Spending.{rest_is}
-use Rattle.literal_prefilters.proofs.lemmas.Answered.{SoFar, counted_all, one_more, refused, spent_all, spent_before}
+use Rattle.literal_prefilters.proofs.lemmas.MatchesSoFar.{SoFar, counted_all, one_more, refused, spent_all}
+use Rattle.literal_prefilters.proofs.lemmas.MatchesSoFar.{spent_before}
 use Rattle.literal_prefilters.proofs.lemmas.Callers.{are_bytes}
 use Rattle.literal_prefilters.proofs.prefilter.confirming.ConfirmingSearch.find_all.Goals as goal
 
@@ -16,16 +17,16 @@ returns-in_err-push-clause-no_memory c =
     (one_more c.args.self.now haystack c.args.tally.now
     (are_bytes haystack (λ k. omega (arith, c.type_inv.haystack k))) c.covers_its_patterns.ensures.covered _ _ _
     c.loop-found.rest c.loop-found.invariant.to_end c.loop-found.invariant.so_far c.in-Some.ensures.compared
-    c.covers_its_patterns.ensures.not_empty c.in-Some.found c.in-Some.ensures.leftmost c.in-Some.ensures.counted)
+    c.covers_its_patterns.ensures.not_empty c.in-Some.found c.in-Some.ensures.leftmost c.in-Some.ensures.exact)
 
-pub returns-in_err-push-clause-counted : goal.returns-in_err-push-clause-counted
-returns-in_err-push-clause-counted c =
+pub returns-in_err-push-clause-bounded : goal.returns-in_err-push-clause-bounded
+returns-in_err-push-clause-bounded c =
     let haystack = c.args.haystack.now in
     spent_before c.args.self.now haystack c.args.tally.now _ _ _
     (one_more c.args.self.now haystack c.args.tally.now
     (are_bytes haystack (λ k. omega (arith, c.type_inv.haystack k))) c.covers_its_patterns.ensures.covered _ _ _
     c.loop-found.rest c.loop-found.invariant.to_end c.loop-found.invariant.so_far c.in-Some.ensures.compared
-    c.covers_its_patterns.ensures.not_empty c.in-Some.found c.in-Some.ensures.leftmost c.in-Some.ensures.counted)
+    c.covers_its_patterns.ensures.not_empty c.in-Some.found c.in-Some.ensures.leftmost c.in-Some.ensures.exact)
 
 pub loop-found-preserved : goal.loop-found-preserved
 loop-found-preserved c =
@@ -33,7 +34,7 @@ loop-found-preserved c =
     let so_far = one_more c.args.self.now haystack c.args.tally.now
     (are_bytes haystack (λ k. omega (arith, c.type_inv.haystack k))) c.covers_its_patterns.ensures.covered _ _ _
     c.loop-found.rest c.loop-found.invariant.to_end c.loop-found.invariant.so_far c.in-Some.ensures.compared
-    c.covers_its_patterns.ensures.not_empty c.in-Some.found c.in-Some.ensures.leftmost c.in-Some.ensures.counted in
+    c.covers_its_patterns.ensures.not_empty c.in-Some.found c.in-Some.ensures.leftmost c.in-Some.ensures.exact in
     record {
       to_end = c.loop-found.invariant.to_end;
       so_far = subst (λ (xs : List MatchValue). SoFar c.args.self.now haystack c.args.tally.now
@@ -58,12 +59,12 @@ returns-clause-exact c =
     counted_all c.args.self.now haystack c.args.tally.now
     (are_bytes haystack (λ k. omega (arith, c.type_inv.haystack k))) c.covers_its_patterns.ensures.covered _ _ _
     c.loop-found.rest c.loop-found.invariant.to_end c.loop-found.invariant.so_far c.in_default.ensures.compared
-    c.in_default.ensures.counted
+    c.in_default.ensures.exact
 
-pub returns-clause-counted : goal.returns-clause-counted
-returns-clause-counted c =
+pub returns-clause-bounded : goal.returns-clause-bounded
+returns-clause-bounded c =
     let haystack = c.args.haystack.now in
     spent_all c.args.self.now haystack c.args.tally.now
     (are_bytes haystack (λ k. omega (arith, c.type_inv.haystack k))) c.covers_its_patterns.ensures.covered _ _ _
     c.loop-found.rest c.loop-found.invariant.to_end c.loop-found.invariant.so_far c.in_default.ensures.compared
-    c.in_default.ensures.leftmost c.in_default.ensures.counted
+    c.in_default.ensures.leftmost c.in_default.ensures.exact

@@ -1,5 +1,5 @@
 use Rattle.std.proofs.Common.{◌≡◌, ◌-◌, length}
-use Rattle.literal_prefilters.proofs.lemmas.Answered.{SoFar}
+use Rattle.literal_prefilters.proofs.lemmas.MatchesSoFar.{SoFar}
 use Rattle.literal_prefilters.proofs.prefilter.confirming.ConfirmingSearch.find_all.Given as goal
 
 abbrev pub invariant-loop-found : goal.invariant-loop-found

@@ -6,8 +6,9 @@ use Rattle.literal_prefilters.specs.Tables.{is_rare_byte, largest_offset, offset
 use Rattle.literal_prefilters.proofs.lemmas.Offsets.{offset_below-lt}
 use Rattle.literal_prefilters.proofs.lemmas.Running.{fits, largest_offset-push, rare_left, rare_more, short_more}
 use Rattle.literal_prefilters.proofs.lemmas.Running.{are_short-push, some_more}
-use Rattle.literal_prefilters.proofs.lemmas.Rare.{is_rare_byte-push, with_rarest-agree}
-use Rattle.literal_prefilters.proofs.lemmas.Taken.{rare_taken-behind, rare_taken-long, rare_taken-more, rare_taken-past}
+use Rattle.literal_prefilters.proofs.lemmas.RareSetSteps.{is_rare_byte-push, with_rarest-agree}
+use Rattle.literal_prefilters.proofs.lemmas.BuilderSets.{rare_taken-behind, rare_taken-long, rare_taken-more}
+use Rattle.literal_prefilters.proofs.lemmas.BuilderSets.{rare_taken-past}
 use Rattle.literal_prefilters.specs.Inside.Running.{rare_taken}
 use Rattle.literal_prefilters.proofs.prefilter.running.RunningRare.add.Goals as goal
 use Rattle.literal_prefilters.proofs.prefilter.running.RunningRare.add.Goals.{

@@ -3,7 +3,7 @@ use Rattle.literal_base.specs.Bytes.{contains}
 use Rattle.literal_base.specs.Occurs.{same_byte}
 use Rattle.literal_prefilters.specs.Tables.{is_start_byte}
 use Rattle.literal_prefilters.proofs.lemmas.Running.{fits, is_start_byte-push, start_left, start_more}
-use Rattle.literal_prefilters.proofs.lemmas.Taken.{taken_more, taken_past}
+use Rattle.literal_prefilters.proofs.lemmas.BuilderSets.{taken_more, taken_past}
 use Rattle.literal_prefilters.specs.Inside.Running.{start_taken}
 use Rattle.literal_prefilters.proofs.prefilter.running.RunningStart.add.Goals as goal
 

@@ -21,8 +21,9 @@ use Rattle.literal_base.specs.Occurs.{NothingOccurs}
 use Rattle.literal_prefilters.specs.Table.{distance_of, first_place, step_back, Covers}
 use Rattle.literal_prefilters.specs.Table.{IsFirst}
 use Rattle.literal_prefilters.proofs.lemmas.Callers.{IsFree, is_first_from, first_is}
-use Rattle.literal_prefilters.proofs.lemmas.Asks.{in_rest}
-use Rattle.literal_prefilters.proofs.lemmas.Reached.{valid_rest, first_later, reached_count-before, reached_count-tried}
+use Rattle.literal_prefilters.proofs.lemmas.RestOfSpan.{in_rest}
+use Rattle.literal_prefilters.proofs.lemmas.PlacesNear.{valid_rest, first_later, reached_count-before}
+use Rattle.literal_prefilters.proofs.lemmas.PlacesNear.{reached_count-tried}
 use Rattle.literal_prefilters.proofs.lemmas.Sound.{none_before_step, nothing_from_free}
 
 module _ (table : List (Option ℕ)) (haystack : List ℕ) (span : Span) where

@@ -1,6 +1,6 @@
 -- The set of rare bytes holds a byte of each pattern, in every case.
 -- For what `ByteTable::rare` covers.
-use Rattle.std.proofs.Common.{◌≡◌, ℕ, ◌<◌, ◌≤◌, ◌&&◌, ◌⊎◌, not, zero, suc, max, fold, nat_lt, Bool, true, false, List}
+use Rattle.std.proofs.Common.{◌≡◌, ℕ, ◌<◌, ◌≤◌, ◌&&◌, ◌⊎◌, not, zero, suc, fold, nat_lt, Bool, true, false, List}
 use Rattle.std.proofs.Common.{[], ◌∷◌, length, get_or, slice_index, inl, inr, refl, sym, ap, ◌∙◌, ⊎_elim, arith}
 use Rattle.std.specs.List.{list_any}
 use Rattle.std.proofs.lemmas.Bool.{cases_Bool, cases_cond, or_left, or_right, or_cases, and_parts, and_from}
@@ -10,7 +10,8 @@ use Rattle.std.proofs.lemmas.List.Folds.{Any-from_list_any}
 use Rattle.literal_base.specs.Rank.{rank_of}
 use Rattle.literal_base.specs.Occurs.{same_byte}
 use Rattle.literal_prefilters.specs.Tables.{rarer, rarest, with_rarest, is_rare_byte, offset_below, largest_offset}
-use Rattle.literal_prefilters.proofs.lemmas.Rare.{same_byte_refl}
+use Rattle.literal_prefilters.proofs.lemmas.Lists.{value-le-largest}
+use Rattle.literal_prefilters.proofs.lemmas.RareSetSteps.{same_byte_refl}
 use Rattle.literal_prefilters.proofs.lemmas.Variants.{same_byte_joined}
 
 -- the byte stands in the list
@@ -85,16 +86,6 @@ pub rare_reached : (c : Bool) (ps : List (List ℕ)) (i : ℕ) → i < length ps
     × (k < length (get_or ps i [])) × (is_rare_byte c ps (slice_index (get_or ps i []) k) ≡ true)
 rare_reached c ps = reached c ps (λ (_ : ℕ). false)
 
-most_kept : (f : List ℕ → ℕ) (ps : List (List ℕ)) (a : ℕ) → a ≤ fold (λ most p. max most (f p)) a ps
-most_kept f [] a = omega arith
-most_kept f (p ∷ ps) a = omega (arith, most_kept f ps (max a (f p)))
-
-most_at : (f : List ℕ → ℕ) (ps : List (List ℕ)) (a i : ℕ) → i < length ps
-    → f (get_or ps i []) ≤ fold (λ most p. max most (f p)) a ps
-most_at f [] a i below = absurd (omega arith)
-most_at f (p ∷ ps) a zero below = omega (arith, most_kept f ps (max a (f p)))
-most_at f (p ∷ ps) a (suc i) below = most_at f ps (max a (f p)) i (omega arith)
-
-pub offset-le-largest_offset : (c : Bool) (ps : List (List ℕ)) (i b : ℕ) → i < length ps
+pub offset-le-largest_offset : (c : Bool) (ps : List (List ℕ)) (i b : ℕ)
     → offset_below c b (get_or ps i []) (length (get_or ps i [])) ≤ largest_offset c ps b
-offset-le-largest_offset c ps i b below = most_at (λ p. offset_below c b p (length p)) ps 0 i below
+offset-le-largest_offset c ps i b = value-le-largest (λ p. offset_below c b p (length p)) ps 0 i [] (omega arith)

@@ -1,10 +1,9 @@
 -- The set of rare bytes, one pattern more.
--- For `rare_set`, `add_rarest` and `Running`.
-use Rattle.std.proofs.Common.{◌≡◌, ℕ, ◌+◌, ◌++◌, ◌<◌, ◌||◌, ◌&&◌, not, Bool, true, false, List, [], ◌∷◌, length, get_or}
-use Rattle.std.proofs.Common.{take}
+-- For `add_rarest` and `Running`.
+use Rattle.std.proofs.Common.{◌≡◌, ℕ, ◌++◌, ◌||◌, ◌&&◌, not, Bool, true, false, List, [], ◌∷◌}
 use Rattle.std.proofs.Common.{refl, ap, ◌∙◌, eq-eqb}
 use Rattle.std.specs.List.{list_any}
-use Rattle.std.proofs.lemmas.List.Sums.{fold_more, fold_push}
+use Rattle.std.proofs.lemmas.List.Sums.{fold_push}
 use Rattle.literal_prefilters.proofs.lemmas.Lists.{list_any_agree}
 use Rattle.literal_base.specs.Occurs.{same_byte}
 use Rattle.literal_prefilters.specs.Tables.{rarest, with_rarest, is_rare_byte}
@@ -15,10 +14,6 @@ pub with_rarest-agree : (c : Bool) (f g : ℕ → Bool) → ((b : ℕ) → f b �
 with_rarest-agree c f g same p b =
     ap (λ t. t || (not (list_any f p) && same_byte c b (rarest p))) (same b)
     ∙ ap (λ t. g b || (not t && same_byte c b (rarest p))) (list_any_agree f g same p)
-
-pub rare_more : (c : Bool) (ps : List (List ℕ)) (i b : ℕ) → i < length ps
-    → is_rare_byte c (take (i + 1) ps) b ≡ with_rarest c (is_rare_byte c (take i ps)) (get_or ps i []) b
-rare_more c ps i b below = ap (λ f. f b) (fold_more (with_rarest c) (λ (_ : ℕ). false) ps i [] below)
 
 pub same_byte_refl : (c : Bool) (b : ℕ) → same_byte c b b ≡ true
 same_byte_refl true b = eq-eqb _ _ refl

@@ -1,9 +1,9 @@
 use Rattle.std.proofs.Common.{◌≡◌, ◌∙◌, sym, ap, subst}
-use Rattle.literal_prefilters.proofs.lemmas.Ways.{by_one_pattern, by_packed}
+use Rattle.literal_prefilters.proofs.lemmas.Strategies.{by_one_pattern, by_packed}
 use Rattle.literal_prefilters.specs.Choice.{IsBuiltFor}
 use Rattle.literal_prefilters.specs.Inside.Prefilter.{value_of_finder}
 use Rattle.literal_prefilters.specs.PrefilterValue.{by_pattern, by_search}
-use Rattle.literal_prefilters.proofs.prefilter.confirming.Way.of.Goals as goal
+use Rattle.literal_prefilters.proofs.prefilter.confirming.Strategy.of.Goals as goal
 
 pub returns-in-Memmem-clause-value : goal.returns-in-Memmem-clause-value
 returns-in-Memmem-clause-value c =

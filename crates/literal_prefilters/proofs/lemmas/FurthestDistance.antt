@@ -6,17 +6,8 @@ use Rattle.std.proofs.lemmas.Bool.{cases_lt}
 use Rattle.std.proofs.lemmas.List.{get_or_past}
 use Rattle.literal_prefilters.specs.Table.{distance_of, reach_of}
 use Rattle.literal_prefilters.specs.Tables.{is_start_byte, start_bytes, table_of}
+use Rattle.literal_prefilters.proofs.lemmas.Lists.{value-le-largest}
 use Rattle.literal_prefilters.proofs.lemmas.TableOf.{distance_of-table_of, length-table_of}
-
-most_from : (table : List (Option ℕ)) (a : ℕ) → a ≤ fold (λ most o. max most (unwrap_or o 0)) a table
-most_from [] a = omega arith
-most_from (o ∷ table) a = omega (arith, most_from table (max a (unwrap_or o 0)))
-
-most_at : (table : List (Option ℕ)) (a b : ℕ)
-    → unwrap_or (distance_of table b) 0 ≤ fold (λ most o. max most (unwrap_or o 0)) a table
-most_at [] a b = omega arith
-most_at (o ∷ table) a zero = omega (arith, most_from table (max a (unwrap_or o 0)))
-most_at (o ∷ table) a (suc b) = most_at table (max a (unwrap_or o 0)) b
 
 most_below : (m : ℕ) (table : List (Option ℕ)) (a : ℕ) → a ≤ m → ((b : ℕ) → IfSome (distance_of table b) (λ d. d ≤ m))
     → fold (λ most o. max most (unwrap_or o 0)) a table ≤ m
@@ -58,7 +49,7 @@ reach_of-start_bytes c ps =
 pub distance-le-reach_of : (table : List (Option ℕ)) (b d : ℕ) → distance_of table b ≡ Some d → d ≤ reach_of table
 distance-le-reach_of table b d e =
     let value : unwrap_or (distance_of table b) 0 ≡ d = ap (λ o. unwrap_or o 0) e in
-    omega (arith, most_at table 0 b)
+    omega (arith, value-le-largest (λ o. unwrap_or o 0) table 0 b None (omega arith))
 
 -- the largest is the start, or the distance of a byte
 most_is : (table : List (Option ℕ)) (a : ℕ)

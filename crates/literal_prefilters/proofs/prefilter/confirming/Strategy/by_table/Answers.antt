@@ -1,8 +1,8 @@
 use Rattle.std.proofs.Common.{ap}
 use Rattle.literal_prefilters.proofs.lemmas.Choice.{kept_not_empty}
-use Rattle.literal_prefilters.proofs.lemmas.Ways.{covers_search}
+use Rattle.literal_prefilters.proofs.lemmas.Strategies.{covers_search}
 use Rattle.literal_prefilters.specs.PrefilterValue.{by_table}
-use Rattle.literal_prefilters.proofs.prefilter.confirming.Way.by_table.Goals as goal
+use Rattle.literal_prefilters.proofs.prefilter.confirming.Strategy.by_table.Goals as goal
 
 pub returns-clause-keeps : goal.returns-clause-keeps
 returns-clause-keeps c =

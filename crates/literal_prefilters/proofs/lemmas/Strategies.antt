@@ -1,5 +1,5 @@
 -- What a confirming search is made from.
--- For `Way::of` and `Way::by_table`.
+-- For `Strategy::of` and `Strategy::by_table`.
 use Rattle.std.proofs.Common.{◌≡◌, ℕ, false, List, [], ◌∷◌, refl, sym}
 use Rattle.literal_base.specs.declared.packed.MatchKind.{MatchKind}
 use Rattle.literal_base.specs.declared.packed.MatchKind.TheVariants.{LeftmostFirst, LeftmostLongest}
