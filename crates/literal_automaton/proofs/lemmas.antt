@@ -13,12 +13,15 @@ pub mod Growing
 pub mod Grown
 pub mod Held
 pub mod Iterations
+pub mod LentTables
 pub mod Links
 pub mod Lists
+pub mod Numbers
 pub mod Overlapping
 pub mod Places
 pub mod Prepared
 pub mod Recognised
+pub mod Rows
 pub mod Standard
 pub mod Standing
 pub mod States

@@ -59,7 +59,7 @@ module _ {U T : Type 0} (becomes : U → T → Type 0) (steps : T → Option (Bo
       (patterns : List (List ℕ)) × GivesAll patterns × (answer ≡ dfa_for kind ignore_case patterns)
 
   -- why there is none: an item is the first that is empty, it is not empty and one too many, all items need too many
-  -- states; or memory was refused, for an item that is kept, or after all items
+  -- states; or memory was refused, for an item that is kept, or after all items, of which there is one or more
   abbrev pub RefusesDfa : (List (List ℕ) → Type 0) → BuildError → Type 0
   RefusesDfa NeedTooMany (EmptyPattern number) =
       (patterns : List (List ℕ)) × (next : List ℕ) × GivesNext patterns next × (length next ≡ 0)
@@ -71,7 +71,7 @@ module _ {U T : Type 0} (becomes : U → T → Type 0) (steps : T → Option (Bo
   RefusesDfa NeedTooMany OutOfMemory =
       ((patterns : List (List ℕ)) × (next : List ℕ) × GivesNext patterns next × (0 < length next)
       × (length patterns < PatternID.LIMIT))
-      ⊎ ((patterns : List (List ℕ)) × GivesAll patterns)
+      ⊎ ((patterns : List (List ℕ)) × GivesAll patterns × (0 < length patterns))
 
 -- whether a byte is one of the patterns', once these are folded where case is ignored
 abbrev pub is_in_patterns : Bool → List (List ℕ) → ℕ → Bool
@@ -79,7 +79,7 @@ is_in_patterns ignore_case patterns byte =
     list_any (λ pattern. list_any (λ b. folded ignore_case b == byte) pattern) patterns
 
 -- how many classes there are: one for each such byte and one for all others, at most 256
-abbrev pub width_for : Bool → List (List ℕ) → ℕ
+unfoldable pub width_for : Bool → List (List ℕ) → ℕ
 width_for ignore_case patterns =
     min (count_by (is_in_patterns ignore_case patterns) (range_with_len 0 256) + 1) 256
 
@@ -90,7 +90,7 @@ HoldsInClasses P ignore_case patterns =
     × P (map (symbols_in classes) patterns) (width_for ignore_case patterns)
 
 -- the automaton for the patterns has more states than the numbers in its rows reach
-abbrev pub NeedTooManyStates : search.MatchKind → Bool → List (List ℕ) → Type 0
+unfoldable pub NeedTooManyStates : search.MatchKind → Bool → List (List ℕ) → Type 0
 NeedTooManyStates kind ignore_case patterns = HoldsInClasses (HasTooManyStates kind) ignore_case patterns
 
 -- the numbers in its rows reach all its states

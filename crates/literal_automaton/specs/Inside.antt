@@ -4,7 +4,9 @@ pub mod Dfa
 pub mod Ends
 pub mod Growing
 pub mod Grown
+pub mod LentTables
 pub mod Lists
 pub mod Prepared
+pub mod Rows
 pub mod Standing
 pub mod Walk

@@ -5,6 +5,7 @@ pub mod MatchesValue
 pub mod Overlapping
 pub mod OverlappingMatchesValue
 pub mod Prepared
+pub mod PreparedOverlapping
 pub mod States
 pub mod Table
 pub mod Words

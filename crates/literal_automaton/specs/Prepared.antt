@@ -7,11 +7,13 @@ use Rattle.literal_base.specs.MatchValue.{MatchValue}
 use Rattle.literal_base.specs.Query.{Query}
 use Rattle.literal_base.specs.declared.search.Span.{Span}
 use Rattle.literal_ids.specs.declared.primitives.pattern_id.TheConstants.PatternID
-use Rattle.literal_automaton.specs.DfaValue.{CanBeKept}
+use Rattle.literal_automaton.specs.DfaValue.{CanBeKept, HoldsInClasses}
 use Rattle.literal_automaton.specs.Inside.Classes.{AreClasses, Tells, symbols_in}
+use Rattle.literal_automaton.specs.States.{IsRowsLength}
 use Rattle.literal_automaton.specs.Table.{Recognises}
 use Rattle.literal_automaton.specs.declared.prepared.PrepareError.{PrepareError}
-use Rattle.literal_automaton.specs.declared.prepared.PrepareError.TheVariants.{ArrayTooShort, PatternTooLong}
+use Rattle.literal_automaton.specs.declared.prepared.PrepareError.TheVariants.{ArrayTooShort, ListsTooLong}
+use Rattle.literal_automaton.specs.declared.prepared.PrepareError.TheVariants.{PatternTooLong}
 use Rattle.literal_automaton.specs.declared.prepared.TheConstants.{CLASSES_AT, LENGTHS_AT, PREPARED_VERSION}
 
 -- how many classes of bytes there are, by the third number
@@ -42,16 +44,15 @@ rows_in numbers = slice_range numbers (rows_at numbers) (prepared_len numbers)
 unfoldable pub check_of : List ℕ → ℕ
 check_of numbers = fold (λ check number. (check * 16777619 + number) % 2 ^ 32) 0 numbers
 
--- the first number is that of prepared searches, there are identifiers for the patterns, and the array is as long as
--- its numbers say
-pub record HasParts (numbers : List ℕ) : Type 0 where
-  pub version : slice_index numbers 0 ≡ PREPARED_VERSION
+-- the first number is a version, there are identifiers for the patterns, and the array is as long as its numbers say
+pub record HasParts (version : ℕ) (numbers : List ℕ) : Type 0 where
+  pub version_is : slice_index numbers 0 ≡ version
   pub few : slice_index numbers 3 ≤ PatternID.LIMIT
   pub fits : prepared_len numbers ≤ length numbers
 
--- the same, and the second number is the check over those of the search behind it
+-- the array has the parts of a search for the leftmost match, and the second number is the check over those behind it
 pub record IsWhole (numbers : List ℕ) : Type 0 where
-  pub parts : HasParts numbers
+  pub parts : HasParts PREPARED_VERSION numbers
   pub check : slice_index numbers 1 ≡ check_of (slice_range numbers 2 (prepared_len numbers))
 
 -- the array begins with a whole search for the patterns: classes that tell their bytes, the length of each, and rows
@@ -70,24 +71,42 @@ abbrev pub ForPrepared : List ℕ → (Query → Bool → Type 0) → Type 0
 ForPrepared numbers P =
     (query : Query) (ignore_case : Bool) → IsPrepared query ignore_case numbers → P query ignore_case
 
--- the search is written into the first places of an array, whose other places stay as they were
-pub record WritesPrepared (query : Query) (ignore_case : Bool) (old new : List ℕ) (needed : ℕ) : Type 0 where
+-- how many places a search takes: those in front, one for each pattern, and the rows of all states
+unfoldable pub TakesPlaces : Query → Bool → ℕ → Type 0
+TakesPlaces query ignore_case needed =
+    HoldsInClasses (λ texts width. (rows : ℕ) × IsRowsLength (root_kind_of query.kind) texts width rows
+    × (needed ≡ LENGTHS_AT + length query.patterns + rows)) ignore_case query.patterns
+
+-- numbers that are for a search are written into the first places of an array, as many as it takes, and the others stay
+-- as they were
+pub record WritesNumbers (AreFor : List ℕ → Type 0) (Takes : ℕ → Type 0) (old new : List ℕ) (needed : ℕ) : Type 0 where
   pub len : length new ≡ length old
   pub fits : needed ≤ length new
-  pub prepared : IsPrepared query ignore_case (take needed new)
+  pub takes : Takes needed
+  pub prepared : AreFor (take needed new)
   pub others : drop needed new ≡ drop needed old
+
+-- the search for the leftmost match is written into an array
+abbrev pub WritesPrepared : Query → Bool → List ℕ → List ℕ → ℕ → Type 0
+WritesPrepared query ignore_case = WritesNumbers (IsPrepared query ignore_case) (TakesPlaces query ignore_case)
 
 -- the length of each pattern is below 2^32
 abbrev pub AreShort : List (List ℕ) → Type 0
 AreShort patterns = All (λ (bytes : List ℕ). length bytes < 2 ^ 32) patterns
 
--- why a search is not written into an array: not all patterns are short; or they are, and the array is shorter than
--- the numbers of the search
+-- why a search for patterns is not written into an array: not all patterns are short; or they are, and its lists are
+-- too long, or the array has fewer places than it takes, which would be enough
+abbrev pub RefusesNumbers : List (List ℕ) → Type 0 → (List ℕ → Type 0) → (ℕ → Type 0) → List ℕ → PrepareError → Type 0
+RefusesNumbers patterns HasLongLists AreFor Takes array PatternTooLong = ¬ AreShort patterns
+RefusesNumbers patterns HasLongLists AreFor Takes array ListsTooLong = AreShort patterns × HasLongLists
+RefusesNumbers patterns HasLongLists AreFor Takes array (ArrayTooShort needed) =
+    AreShort patterns × (length array < needed) × Takes needed
+    × ((numbers : List ℕ) × AreFor numbers × (length numbers ≡ needed))
+
+-- why the search for the leftmost match is not, which has no lists
 abbrev pub RefusesToPrepare : Query → Bool → List ℕ → PrepareError → Type 0
-RefusesToPrepare query ignore_case array PatternTooLong = ¬ AreShort query.patterns
-RefusesToPrepare query ignore_case array (ArrayTooShort needed) =
-    AreShort query.patterns × (length array < needed)
-    × ((numbers : List ℕ) × IsPrepared query ignore_case numbers × (length numbers ≡ needed))
+RefusesToPrepare query ignore_case =
+    RefusesNumbers query.patterns ⊥ (IsPrepared query ignore_case) (TakesPlaces query ignore_case)
 
 -- a match lies in the span, and is not empty
 pub record LiesIn (span : Span) (found : MatchValue) : Type 0 where

@@ -1,15 +1,18 @@
 //! The patterns that are an end of a pattern, for each pattern of which one is found first.
-ghost use Rattle.std.specs.Prelude.{◌≡◌, ◌<◌, ◌≤◌, ◌++◌, ◌∷◌, [], IfOk, Some, drop, length};
+ghost use Rattle.std.specs.Prelude.{◌≡◌, ◌<◌, ◌≤◌, ◌++◌, ◌∷◌, [], IfOk, OnErr, Some, drop, length};
 ghost use Rattle.std.specs.Option.{unwrap_or};
 ghost use Rattle.literal_base.specs.Occurs.{pattern_at};
 ghost use Rattle.literal_base.specs.declared.search.MatchKind.TheVariants.{Standard};
 ghost use Rattle.literal_automaton.specs.Table.{nothing};
 ghost use Rattle.literal_automaton.specs.Words.{ending};
 ghost use Rattle.literal_automaton.specs.Inside.Ends.{AreEnds, Ascends, HasOneMore};
-ghost use Rattle.literal_automaton.specs.Inside.Lists.{AreLinks, AreLists, Recognise, symbols_of};
+ghost use Rattle.literal_automaton.specs.Inside.Lists.{AreLinks, AreLists, Recognise, starts_of, symbols_of};
 
 use crate::walk::{ENDS, NOTHING};
 use std::alloc::{AllocError, Global};
+
+/// Where the last of no lists ends.
+const NO_LIST: [usize; 1] = [0];
 
 /// Patterns, and the rows of an automaton for all that occurs of them.
 #[derive(Clone, Copy)]
@@ -24,7 +27,8 @@ pub struct Recognised<'p> {
 #[derive(Drop)]
 pub struct Lists {
     pub ends: Vec<u32>,
-    pub starts: Vec<usize>,
+    /// Empty where there is no list.
+    starts: Vec<usize>,
 }
 
 impl<'p> Recognised<'p> {
@@ -72,10 +76,12 @@ impl<'p> Recognised<'p> {
         requires recognise { Recognise self.now }
         requires links { AreLinks (symbols_of self.now) links.now 0 }
         requires is_pattern { pattern < length self.now.patterns.now }
-        ensures { IfOk result (λ list. ending Standard (symbols_of self.now)
+        ensures ends { IfOk result (λ list. ending Standard (symbols_of self.now)
             (pattern_at (symbols_of self.now) pattern) ≡ Some pattern
             → AreEnds (symbols_of self.now) (pattern_at (symbols_of self.now) pattern) 0 list.items 0
             (length list.items)) }
+        ensures none { IfOk result (λ list. ¬ (ending Standard (symbols_of self.now)
+            (pattern_at (symbols_of self.now) pattern) ≡ Some pattern) → list.items ≡ []) }
     {
         let mut list = Vec::new(alloc);
         if self.longest_end(pattern, 0) as usize != pattern {
@@ -89,12 +95,20 @@ impl<'p> Recognised<'p> {
         Ok(list)
     }
 
-    /// The lists of the patterns that are an end of a pattern, for each that is the first of its equals.
+    /// The lists of the patterns that are an end of a pattern, for each that is the first of its equals. Where there
+    /// is no pattern, there is none, and no memory is asked for.
     pub(crate) fn lists(&self, alloc: Global) -> Result<Lists, AllocError>
         requires { Recognise self.now }
-        ensures { IfOk result (λ lists. AreLists (symbols_of self.now) lists.ends.items lists.starts.items
-            (length self.now.patterns.now)) }
+        ensures lists { IfOk result (λ lists. AreLists (symbols_of self.now) lists.ends.items
+            (starts_of lists.starts.items) (length self.now.patterns.now)) }
+        ensures not_empty { OnErr result (0 < length self.now.patterns.now) }
     {
+        if self.patterns.is_empty() {
+            return Ok(Lists {
+                ends: Vec::new(alloc),
+                starts: Vec::new(alloc),
+            });
+        }
         let links = self.links(alloc)?;
         let mut lists = Lists {
             ends: Vec::new(alloc),
@@ -109,6 +123,16 @@ impl<'p> Recognised<'p> {
 }
 
 impl Lists {
+    /// Where each begins, and the last ends.
+    pub fn starts(&self) -> &[usize]
+        ensures { result.now ≡ starts_of self.now.starts.items }
+    {
+        if self.starts.is_empty() {
+            return &NO_LIST;
+        }
+        &self.starts
+    }
+
     /// Adds a list behind the others.
     fn push(&mut self, list: &[u32]) -> Result<(), AllocError>
         ensures ends { IfOk result (λ _. self.new.ends.items ≡ self.old.ends.items ++ list.now) }

@@ -11,7 +11,7 @@ ghost use Rattle.literal_automaton.specs.Words.{first_equal, word_of};
 ghost use Rattle.literal_automaton.specs.Inside.Classes.{AreClasses, symbols_in};
 ghost use Rattle.literal_automaton.specs.Inside.Grown.{AreWords, IsLonger, LeadsBy, ending_held, goes_on, held_else};
 ghost use Rattle.literal_automaton.specs.Inside.Grown.{list_for, up_to_whole};
-ghost use Rattle.literal_automaton.specs.States.{AreStates, HasTooManyStates};
+ghost use Rattle.literal_automaton.specs.States.{AreStates, HasTooManyStates, IsRowsLength};
 ghost use Rattle.literal_automaton.specs.Inside.Growing.{AreTexts, Grows, IsCode, IsState, list_in, texts_of};
 ghost use Rattle.literal_automaton.specs.Inside.Growing.{word_in, words_of};
 
@@ -461,6 +461,8 @@ pub fn grow(
     requires few { length patterns.now ≤ 2 ^ 31 - 1 }
     ensures recognises { IfOk result (λ rows. Recognises kind
         (map (λ pattern. symbols_in classes.now pattern.items) patterns.now) width rows.items) }
+    ensures states { IfOk result (λ rows. IsRowsLength kind
+        (map (λ pattern. symbols_in classes.now pattern.items) patterns.now) width (length rows.items)) }
     ensures few { IfOk result (λ _. HasTooManyStates kind
         (map (λ pattern. symbols_in classes.now pattern.items) patterns.now) width → ⊥) }
     ensures too_many { IfErr result (λ error. error ≡ GrowError.TooManyStates → HasTooManyStates kind

@@ -1,5 +1,5 @@
 //! What follows from the definitions, for callers: call a law where its fact is needed.
-ghost use Rattle.std.specs.Prelude.{◌≡◌, ◌≤◌, ℕ, Bool, List, length, take, IsNone, Option, None};
+ghost use Rattle.std.specs.Prelude.{◌≡◌, ◌<◌, ◌≤◌, ◌^◌, ◌++◌, ◌∷◌, ℕ, Bool, List, length, take, IsNone, Option, None};
 ghost use Rattle.std.specs.Iterator.{Yields};
 ghost use Rattle.literal_base.specs.declared.search.Span.{Span};
 ghost use Rattle.literal_base.specs.Greedy.{IsGreedy};
@@ -8,7 +8,8 @@ ghost use Rattle.literal_base.specs.Query.{Query};
 ghost use Rattle.literal_automaton.specs.MatchesValue.{GivesMatch, MatchesValue};
 ghost use Rattle.literal_automaton.specs.Overlapping.{IsOverlapping, OverlappingValue};
 ghost use Rattle.literal_automaton.specs.OverlappingMatchesValue.{GivesOverlapping, OverlappingMatchesValue};
-ghost use Rattle.literal_automaton.specs.Prepared.{IsPrepared, prepared_len};
+ghost use Rattle.literal_automaton.specs.Prepared.{IsPrepared, check_of, prepared_len};
+ghost use Rattle.literal_automaton.specs.PreparedOverlapping.{IsPreparedOverlapping, listed_len};
 
 /// An iterator that answers `None` stands at the end of the haystack then, and there it answers `None` and stays.
 pub fn none_is_for_good()
@@ -42,6 +43,17 @@ pub fn first_places_are_enough()
     ensures shorter { (query : Query) (ignore_case : Bool) (numbers : List ℕ) (n : ℕ)
         → IsPrepared query ignore_case numbers → prepared_len numbers ≤ n
         → IsPrepared query ignore_case (take n numbers) }
+    ensures longer_overlapping { (search : OverlappingValue) (numbers : List ℕ) (n : ℕ)
+        → IsPreparedOverlapping search (take n numbers) → IsPreparedOverlapping search numbers }
+    ensures shorter_overlapping { (search : OverlappingValue) (numbers : List ℕ) (n : ℕ)
+        → IsPreparedOverlapping search numbers → listed_len numbers ≤ n
+        → IsPreparedOverlapping search (take n numbers) }
+{}
+
+/// The check over numbers finds a change of one of them: if it is the same, so is that number.
+pub fn changed_number_is_found()
+    ensures { (before behind : List ℕ) (one other : ℕ) → one < 2 ^ 32 → other < 2 ^ 32
+        → check_of (before ++ one ∷ behind) ≡ check_of (before ++ other ∷ behind) → one ≡ other }
 {}
 
 /// An iterator over everything that occurs that answers `None` keeps doing so, and stays where it is.

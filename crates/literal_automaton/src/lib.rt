@@ -21,10 +21,13 @@ mod grow;
 pub mod laws;
 mod overlapping;
 mod prepared;
+mod prepared_overlapping;
+mod rows;
+mod standing;
 mod walk;
 
 use classes::{Classes, classes_for};
-use grow::{GrowError, grow};
+use grow::GrowError;
 use literal_base::count::Tally;
 pub use literal_base::packed::MatchKind;
 use literal_base::search;
@@ -32,6 +35,8 @@ pub use literal_base::{Match, Span};
 pub use literal_ids::PatternID;
 pub use overlapping::{Overlapping, OverlappingMatches};
 pub use prepared::{Damaged, PrepareError, Prepared};
+pub use prepared_overlapping::{PreparedMatches, PreparedOverlapping};
+use rows::{Rows, rows_for};
 use std::alloc::{AllocError, Global};
 use std::error::Error;
 use std::fmt;
@@ -110,7 +115,7 @@ pub struct Dfa {
     ignore_case: bool,
     patterns: Vec<Vec<u8>>,
     classes: Classes,
-    rows: Vec<u32>,
+    rows: Rows,
 }
 
 impl Model for Dfa {
@@ -127,8 +132,8 @@ impl Model for Dfa {
 impl Dfa {
     /// The automaton for the patterns that the iterator gives, by this kind of match, and with ASCII case
     /// ignored or not. The iterator has to end; the first empty pattern stops it. There may be no pattern:
-    /// then nothing is found. Memory is asked for only for a pattern that is kept, and behind the last of
-    /// them.
+    /// then nothing is found, and no memory is asked for. Else it is asked for only for a pattern that is kept,
+    /// and behind the last of them.
     pub fn new<'a, I: IntoIterator<Item = &'a [u8]>>(
         alloc: Global,
         kind: MatchKind,
@@ -144,13 +149,7 @@ impl Dfa {
     {
         let patterns = copies(alloc, patterns)?;
         let classes = classes_for(ignore_case, &patterns);
-        let rows = grow(
-            alloc,
-            root_kind(kind),
-            &classes.table,
-            classes.width,
-            &patterns,
-        )?;
+        let rows = rows_for(alloc, root_kind(kind), &classes, &patterns)?;
         Ok(Dfa {
             kind,
             ignore_case,
@@ -188,10 +187,11 @@ impl Dfa {
         requires { IsValidSpan haystack.now span }
         ensures leftmost { IsLeftmost self.now.query self.now.ignore_case haystack.now span result }
         ensures not_empty { IfSome result (λ found. found.start < found.end) }
-        ensures scanned { ScansAtMost self.now.query.patterns span result tally.old tally.new }
+        ensures bounded { ScansAtMost self.now.query.patterns span result tally.old tally.new }
     {
         let (table, width) = (&self.classes.table, self.classes.width);
-        let Some(ended) = last_ended(table, &self.rows, width, haystack, span, tally) else {
+        let Some(ended) = last_ended(table, self.rows.as_slice(), width, haystack, span, tally)
+        else {
             return None;
         };
         let pattern = ended.pattern as usize;
@@ -232,7 +232,7 @@ impl Dfa {
     ) -> Result<Vec<Match>, AllocError>
         ensures greedy { IfOk result
             (λ all. IsGreedy self.now.query self.now.ignore_case haystack.now 0 all.items) }
-        ensures scanned { IfOk result (λ all. ScansListAtMost self.now.query.patterns haystack.now (length all.items)
+        ensures bounded { IfOk result (λ all. ScansListAtMost self.now.query.patterns haystack.now (length all.items)
             tally.old tally.new) }
         ensures no_memory { OnErr result (¬ NothingOccurs self.now.query.patterns self.now.ignore_case haystack.now
             (whole_of haystack.now)) }
@@ -269,10 +269,11 @@ impl Dfa {
     ) -> Option<usize>
         requires { IsValidSpan haystack.now span }
         ensures end { IsEarliestEnd self.now.query.patterns self.now.ignore_case haystack.now span result }
-        ensures scanned { ScansToEnd span result tally.old tally.new }
+        ensures bounded { ScansToEnd span result tally.old tally.new }
     {
         let (table, width) = (&self.classes.table, self.classes.width);
-        let Some(stop) = first_ended(table, &self.rows, width, haystack, 0, span, tally) else {
+        let Some(stop) = first_ended(table, self.rows.as_slice(), width, haystack, 0, span, tally)
+        else {
             return None;
         };
         Some(stop.end)
@@ -295,7 +296,16 @@ impl Dfa {
         ensures error { IfErr result (RefusesToPrepare self.now.query self.now.ignore_case array.old) }
         ensures as_before { OnErr result (array.new ≡ array.old) }
     {
-        prepared::write(&self.classes, &self.patterns, &self.rows, array)
+        let version = prepared::PREPARED_VERSION;
+        prepared::write(
+            version,
+            &self.classes,
+            &self.patterns,
+            self.rows.as_slice(),
+            &[],
+            &[],
+            array,
+        )
     }
 
     /// How many patterns there are, none of them empty.

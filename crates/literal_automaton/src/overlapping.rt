@@ -1,20 +1,25 @@
 //! A search for everything that occurs.
-ghost use Rattle.std.specs.Prelude.{◌≡◌, ◌+◌, ◌<◌, length, IfErr, IfOk, IfSome, MatchOption, None, Some};
+ghost use Rattle.std.specs.Prelude.{◌≡◌, ◌+◌, ◌<◌, length, IfErr, IfOk, IfSome, MatchOption, None, OnErr, Some};
+ghost use Rattle.std.specs.Option.{option_map};
 ghost use Rattle.literal_base.specs.MatchValue.{MatchValue};
-ghost use Rattle.literal_base.specs.Occurs.{IsValidSpan, whole_of};
+ghost use Rattle.literal_base.specs.Occurs.{IsValidSpan, between, whole_of};
 ghost use Rattle.literal_base.specs.declared.search.MatchKind.TheVariants.{Standard};
 ghost use Rattle.literal_packed.specs.Lending.{CanBeTaken};
 ghost use Rattle.literal_automaton.specs.DfaValue.{CanBeKept, NeedFewStates, NeedTooManyStates, RefusesDfa};
+ghost use Rattle.literal_automaton.specs.Earliest.{ScansToEnd};
 ghost use Rattle.literal_automaton.specs.Overlapping.{BuildsOverlapping};
 ghost use Rattle.literal_automaton.specs.OverlappingMatchesValue.{GivesOverlapping, IsNextToCome, IsToCome};
 ghost use Rattle.literal_automaton.specs.OverlappingMatchesValue.{gone_on, most_overlapping};
-ghost use Rattle.literal_automaton.specs.declared.overlapping.Standing.{Standing};
-ghost use Rattle.literal_automaton.specs.Inside.Standing.{AreParts, HaveSameToCome, IsStanding, longest_at};
-ghost use Rattle.literal_automaton.specs.Inside.Standing.{overlapping_value, standing_at, standing_value};
+ghost use Rattle.literal_automaton.specs.PreparedOverlapping.{AreTables, RefusesOverlapping, WritesOverlapping};
+ghost use Rattle.literal_automaton.specs.declared.standing.Standing.{Standing};
+ghost use Rattle.literal_automaton.specs.Inside.Standing.{HaveSameToCome, IsStanding, longest_at};
+ghost use Rattle.literal_automaton.specs.Inside.Standing.{overlapping_value, standing_at, standing_value, tables_of};
 
 use crate::classes::{Classes, classes_for};
 use crate::ends::{Lists, Recognised};
-use crate::grow::grow;
+use crate::prepared::{OVERLAPPING_VERSION, PrepareError, write};
+use crate::rows::{Rows, rows_for};
+use crate::standing::Standing;
 use crate::walk::{Stop, first_ended};
 use crate::{BuildError, copies};
 use literal_base::count::Tally;
@@ -26,8 +31,9 @@ use std::marker::Model;
 /// Searches for every occurrence of any number of patterns: those that overlap others, and those that stand within
 /// others, too. Contracts see the patterns, and whether ASCII case is ignored.
 ///
-/// A search looks each byte up once. It has the states of an automaton, and for each pattern the list of those that
-/// are an end of it. `literal_search` has it under the same name.
+/// An iteration looks up each byte at most once ([`OverlappingMatches::next_counted`]). The search has the states of
+/// an automaton, and for each pattern the list of those that are an end of it. `literal_search` has it under the same
+/// name.
 ///
 /// ```rust
 /// let search = Overlapping::new(alloc, false, [b"append".as_slice(), b"app", b"end"])?;
@@ -46,25 +52,26 @@ struct Parts {
     ignore_case: bool,
     patterns: Vec<Vec<u8>>,
     classes: Classes,
-    rows: Vec<u32>,
+    rows: Rows,
     lists: Lists,
 }
 
 impl Model for Overlapping {
     ghost use Rattle.literal_automaton.specs.Overlapping.{OverlappingValue};
-    ghost use Rattle.literal_automaton.specs.Inside.Standing.{AreParts, overlapping_value};
+    ghost use Rattle.literal_automaton.specs.PreparedOverlapping.{AreSized, AreTables};
+    ghost use Rattle.literal_automaton.specs.Inside.Standing.{overlapping_value, tables_of};
 
     ghost Value = { OverlappingValue };
 
-    ghost view = { λ o. overlapping_value o.parts };
+    ghost view = { λ o. overlapping_value (tables_of o.parts) };
 
-    ghost invariant = { λ o. AreParts o.parts };
+    ghost invariant = { λ o. AreTables (tables_of o.parts) × AreSized (tables_of o.parts) };
 }
 
 impl Overlapping {
     /// The search for the patterns that the iterator gives, with ASCII case ignored or not. The iterator has to end;
-    /// the first empty pattern stops it. There may be no pattern: then nothing is found. Memory is asked for only for
-    /// a pattern that is kept, and behind the last of them.
+    /// the first empty pattern stops it. There may be no pattern: then nothing is found, and no memory is asked for.
+    /// Else it is asked for only for a pattern that is kept, and behind the last of them.
     pub fn new<'a, I: IntoIterator<Item = &'a [u8]>>(
         alloc: Global,
         ignore_case: bool,
@@ -79,17 +86,11 @@ impl Overlapping {
     {
         let patterns = copies(alloc, patterns)?;
         let classes = classes_for(ignore_case, &patterns);
-        let rows = grow(
-            alloc,
-            MatchKind::Standard,
-            &classes.table,
-            classes.width,
-            &patterns,
-        )?;
+        let rows = rows_for(alloc, MatchKind::Standard, &classes, &patterns)?;
         let recognised = Recognised {
             classes: &classes.table,
             width: classes.width,
-            rows: &rows,
+            rows: rows.as_slice(),
             patterns: &patterns,
         };
         let lists = recognised.lists(alloc)?;
@@ -140,8 +141,33 @@ impl Overlapping {
             haystack,
             span,
             standing: self.parts.before_all(haystack, span),
-            tally: Tally::new(),
         }
+    }
+
+    /// Writes the search into the first places of an array, and answers how many these are: about as many as the
+    /// automaton has numbers. [`PreparedOverlapping`](crate::PreparedOverlapping) searches by them. After an error the
+    /// array is as it was.
+    pub fn prepare(&self, array: &mut [u32]) -> Result<usize, PrepareError>
+        ensures ok { IfOk result (WritesOverlapping self.now array.old array.new) }
+        ensures error { IfErr result (RefusesOverlapping self.now array.old) }
+        ensures as_before { OnErr result (array.new ≡ array.old) }
+    {
+        let Parts {
+            classes,
+            patterns,
+            rows,
+            lists,
+            ..
+        } = &self.parts;
+        write(
+            OVERLAPPING_VERSION,
+            classes,
+            patterns,
+            rows.as_slice(),
+            lists.starts(),
+            &lists.ends,
+            array,
+        )
     }
 
     /// How many patterns there are, none of them empty.
@@ -153,20 +179,6 @@ impl Overlapping {
     }
 }
 
-/// Where a search stands in its haystack.
-#[derive(Clone, Copy)]
-struct Standing {
-    /// How far it has read.
-    at: usize,
-    /// The row of its state.
-    place: usize,
-    /// From which identifier on the patterns that end here are still to come.
-    pattern: usize,
-    /// Where in the lists these begin and end.
-    next: usize,
-    end: usize,
-}
-
 impl Parts {
     /// Where the next occurrence ends: here, as long as the list has more, or else at the next end of a pattern.
     fn next_end(
@@ -176,15 +188,17 @@ impl Parts {
         standing: Standing,
         tally: &mut Tally,
     ) -> Option<Standing>
-        requires parts { AreParts self.now }
+        requires parts { AreTables (tables_of self.now) }
         requires valid { IsValidSpan haystack.now span }
-        requires standing { IsStanding self.now haystack.now span standing }
-        ensures stands { IfSome result (IsStanding self.now haystack.now span) }
+        requires standing { IsStanding (tables_of self.now) haystack.now span standing }
+        ensures stands { IfSome result (IsStanding (tables_of self.now) haystack.now span) }
         ensures more { IfSome result (λ here. here.next < here.end) }
         ensures to_come { MatchOption result
-            ((found : MatchValue) → ¬ IsToCome (standing_value self.now haystack.now span standing) found)
-            (λ here. HaveSameToCome (standing_value self.now haystack.now span standing)
-            (standing_value self.now haystack.now span here)) }
+            ((found : MatchValue) → ¬ IsToCome (standing_value (tables_of self.now) haystack.now span standing) found)
+            (λ here. HaveSameToCome (standing_value (tables_of self.now) haystack.now span standing)
+            (standing_value (tables_of self.now) haystack.now span here)) }
+        ensures bounded { ScansToEnd (between standing.at span.end) (option_map (λ here. here.at) result)
+            tally.old tally.new }
     {
         if standing.next < standing.end {
             return Some(standing);
@@ -198,36 +212,46 @@ impl Parts {
         };
         let (table, width) = (&self.classes.table, self.classes.width);
         let place = standing.place;
-        let stop = first_ended(table, &self.rows, width, haystack, place, rest, tally)?;
+        let stop = first_ended(
+            table,
+            self.rows.as_slice(),
+            width,
+            haystack,
+            place,
+            rest,
+            tally,
+        )?;
         Some(self.standing_at(stop))
     }
 
     /// Where a walk stands that stopped where a pattern ends: before all patterns that end there.
     fn standing_at(&self, stop: Stop) -> Standing
-        requires row { stop.place + self.now.classes.width < length self.now.rows.items }
-        requires listed { longest_at self.now stop + 1 < length self.now.lists.starts.items }
-        ensures { result ≡ standing_at self.now stop }
+        requires row { stop.place + self.now.classes.width < length self.now.rows }
+        requires listed { longest_at (tables_of self.now) stop + 1 < length (tables_of self.now).starts }
+        ensures { result ≡ standing_at (tables_of self.now) stop }
     {
-        let longest = self.rows[stop.place + self.classes.width] as usize;
+        let longest = self.rows.as_slice()[stop.place + self.classes.width] as usize;
+        let starts = self.lists.starts();
         Standing {
             at: stop.end,
             place: stop.place,
             pattern: 0,
-            next: self.lists.starts[longest],
-            end: self.lists.starts[longest + 1],
+            next: starts[longest],
+            end: starts[longest + 1],
         }
     }
 
     /// The next occurrence of those that end where a search stands, and where it then stands.
     fn first_of(&self, haystack: &[u8], span: Span, here: Standing) -> (Match, Standing)
-        requires parts { AreParts self.now }
+        requires parts { AreTables (tables_of self.now) }
         requires valid { IsValidSpan haystack.now span }
-        requires standing { IsStanding self.now haystack.now span here }
+        requires standing { IsStanding (tables_of self.now) haystack.now span here }
         requires left { here.next < here.end }
-        ensures stands { IsStanding self.now haystack.now span result.1 }
-        ensures next { IsNextToCome (standing_value self.now haystack.now span here) result.0 }
-        ensures goes_on { standing_value self.now haystack.now span result.1
-            ≡ gone_on (standing_value self.now haystack.now span here) (Some result.0) }
+        ensures stands { IsStanding (tables_of self.now) haystack.now span result.1 }
+        ensures next { IsNextToCome (standing_value (tables_of self.now) haystack.now span here) result.0 }
+        ensures goes_on { standing_value (tables_of self.now) haystack.now span result.1
+            ≡ gone_on (standing_value (tables_of self.now) haystack.now span here) (Some result.0) }
+        ensures end { result.0.end ≡ here.at }
     {
         prove!(here.at <= span.end && span.end <= haystack.len());
         let pattern = self.lists.ends[here.next] as usize;
@@ -251,11 +275,11 @@ impl Parts {
 
     /// Where a search stands behind all that occurs in the span.
     fn behind_all(&self, haystack: &[u8], span: Span) -> Standing
-        requires parts { AreParts self.now }
+        requires parts { AreTables (tables_of self.now) }
         requires valid { IsValidSpan haystack.now span }
-        ensures stands { IsStanding self.now haystack.now span result }
-        ensures goes_on { (s : Standing) → standing_value self.now haystack.now span result
-            ≡ gone_on (standing_value self.now haystack.now span s) None }
+        ensures stands { IsStanding (tables_of self.now) haystack.now span result }
+        ensures goes_on { (s : Standing) → standing_value (tables_of self.now) haystack.now span result
+            ≡ gone_on (standing_value (tables_of self.now) haystack.now span s) None }
     {
         prove!(span.end <= haystack.len());
         Standing {
@@ -269,11 +293,11 @@ impl Parts {
 
     /// Where a search stands before all that occurs in the span.
     fn before_all(&self, haystack: &[u8], span: Span) -> Standing
-        requires parts { AreParts self.now }
+        requires parts { AreTables (tables_of self.now) }
         requires valid { IsValidSpan haystack.now span }
-        ensures stands { IsStanding self.now haystack.now span result }
-        ensures from_start { standing_value self.now haystack.now span result ≡ record {
-          search = overlapping_value self.now;
+        ensures stands { IsStanding (tables_of self.now) haystack.now span result }
+        ensures from_start { standing_value (tables_of self.now) haystack.now span result ≡ record {
+          search = overlapping_value (tables_of self.now);
           haystack = haystack.now;
           span = span;
           end = span.start;
@@ -300,31 +324,30 @@ pub struct OverlappingMatches<'s, 'h> {
     haystack: &'h [u8],
     span: Span,
     standing: Standing,
-    tally: Tally,
 }
 
 impl<'s, 'h> Model for OverlappingMatches<'s, 'h> {
     ghost use Rattle.literal_automaton.specs.OverlappingMatchesValue.{OverlappingMatchesValue};
-    ghost use Rattle.literal_automaton.specs.Inside.Standing.{AreParts, IsStanding, standing_value};
+    ghost use Rattle.literal_automaton.specs.PreparedOverlapping.{AreTables};
+    ghost use Rattle.literal_automaton.specs.Inside.Standing.{IsStanding, standing_value, tables_of};
     ghost use Rattle.literal_base.specs.Occurs.{IsValidSpan};
 
     ghost Value = { OverlappingMatchesValue };
 
-    ghost view = { λ m. standing_value m.parts.now m.haystack.now m.span m.standing };
+    ghost view = { λ m. standing_value (tables_of m.parts.now) m.haystack.now m.span m.standing };
 
-    ghost invariant = { λ m. AreParts m.parts.now × IsValidSpan m.haystack.now m.span
-        × IsStanding m.parts.now m.haystack.now m.span m.standing };
+    ghost invariant = { λ m. AreTables (tables_of m.parts.now) × IsValidSpan m.haystack.now m.span
+        × IsStanding (tables_of m.parts.now) m.haystack.now m.span m.standing };
 }
 
-impl<'s, 'h> Iterator for OverlappingMatches<'s, 'h> {
-    type Item = Match;
-
-    ghost next_gives = { GivesOverlapping };
-
-    ghost remaining = { most_overlapping };
-
-    fn next(&mut self) -> Option<Match> {
-        let tally = &mut self.tally;
+impl<'s, 'h> OverlappingMatches<'s, 'h> {
+    /// Answers as `next`, and adds each byte that it looks up to a tally, as scanned: those from the end where it stood
+    /// up to that of the match, each once. An iteration so looks up at most as many bytes as the span has.
+    pub fn next_counted(&mut self, tally: &mut Tally) -> Option<Match>
+        ensures gives { GivesOverlapping self.old result self.new }
+        ensures bounded { ScansToEnd (between self.old.end self.old.span.end)
+            (option_map (λ found. found.end) result) tally.old tally.new }
+    {
         let next_end = self
             .parts
             .next_end(self.haystack, self.span, self.standing, tally);
@@ -335,5 +358,17 @@ impl<'s, 'h> Iterator for OverlappingMatches<'s, 'h> {
         let (found, standing) = self.parts.first_of(self.haystack, self.span, here);
         self.standing = standing;
         Some(found)
+    }
+}
+
+impl<'s, 'h> Iterator for OverlappingMatches<'s, 'h> {
+    type Item = Match;
+
+    ghost next_gives = { GivesOverlapping };
+
+    ghost remaining = { most_overlapping };
+
+    fn next(&mut self) -> Option<Match> {
+        self.next_counted(&mut Tally::new())
     }
 }

@@ -39,8 +39,8 @@ pub fn last_ended(
     requires table { IsTable width rows.now }
     requires valid { IsValidSpan haystack.now span }
     ensures found { FindsIn width rows.now span.start (text_of classes.now haystack.now span) result }
-    ensures counted { tally.new ≡ record tally.old { scanned = tally.new.scanned } }
-    ensures scanned { tally.new.scanned ≤ tally.old.scanned + (span.end - span.start) }
+    ensures others { tally.new ≡ record tally.old { scanned = tally.new.scanned } }
+    ensures once { tally.new.scanned ≤ tally.old.scanned + (span.end - span.start) }
     ensures near { StopsNear width rows.now (span.start + (tally.new.scanned - tally.old.scanned) - 1) result }
 {
     let mut last = None;
@@ -77,8 +77,8 @@ pub fn last_ended_in_lent(
     ensures found { AreClasses classes.now width → IsTable width rows.now → IsOkAnd result
         (FindsIn width rows.now span.start (text_of classes.now haystack.now span)) }
     ensures inside { IfOk result (λ last. IfSome last (λ e. (span.start < e.end) × (e.end ≤ span.end))) }
-    ensures counted { tally.new ≡ record tally.old { scanned = tally.new.scanned } }
-    ensures scanned { tally.new.scanned ≤ tally.old.scanned + (span.end - span.start) }
+    ensures others { tally.new ≡ record tally.old { scanned = tally.new.scanned } }
+    ensures once { tally.new.scanned ≤ tally.old.scanned + (span.end - span.start) }
 {
     let mut last = None;
     let mut place = 0;
@@ -124,7 +124,7 @@ pub fn first_ended(
     requires valid { IsValidSpan haystack.now span }
     ensures first { FindsEnd width rows.now from classes.now haystack.now span result }
     ensures inside { IfSome result (λ stop. (span.start < stop.end) × (stop.end ≤ span.end)) }
-    ensures scanned { ScansToEnd span (option_map (λ stop. stop.end) result) tally.old tally.new }
+    ensures bounded { ScansToEnd span (option_map (λ stop. stop.end) result) tally.old tally.new }
 {
     let mut place = from;
     for at in span.start..span.end {
@@ -140,4 +140,44 @@ pub fn first_ended(
         }
     }
     None
+}
+
+/// The same by classes and rows that may be any numbers, from any place on. They are damaged where one leads out of the
+/// rows.
+pub fn first_ended_in_lent(
+    classes: &[u32],
+    rows: &[u32],
+    width: usize,
+    haystack: &[u8],
+    from: usize,
+    span: Span,
+    tally: &mut Tally,
+) -> Result<Option<Stop>, Damaged>
+    requires each { length classes.now ≡ 256 }
+    requires small { from < 2 ^ 32 }
+    requires valid { IsValidSpan haystack.now span }
+    ensures first { AreClasses classes.now width → IsTable width rows.now → IsRow width rows.now from
+        → IsOkAnd result (FindsEnd width rows.now from classes.now haystack.now span) }
+    ensures inside { IfOk result (λ answer. IfSome answer
+        (λ stop. (span.start < stop.end) × (stop.end ≤ span.end) × (stop.place < 2 ^ 32))) }
+    ensures others { tally.new ≡ record tally.old { scanned = tally.new.scanned } }
+    ensures once { tally.new.scanned ≤ tally.old.scanned + (span.end - span.start) }
+    ensures near { IfOk result (λ answer. IfSome answer
+        (λ stop. tally.new.scanned ≤ tally.old.scanned + (stop.end - span.start))) }
+{
+    let mut place = from;
+    for at in span.start..span.end {
+        tally.tick_scanned();
+        let class = classes[haystack[at] as usize] as usize;
+        let code = *rows.get(place + class).ok_or(Damaged)?;
+        if code < ENDS {
+            place = code as usize;
+        } else if code == NOTHING {
+            return Ok(None);
+        } else {
+            let place = (code - ENDS) as usize;
+            return Ok(Some(Stop { place, end: at + 1 }));
+        }
+    }
+    Ok(None)
 }

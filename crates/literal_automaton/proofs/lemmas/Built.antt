@@ -1,5 +1,6 @@
 -- What an automaton is built of, and why one is not built.
-use Rattle.std.proofs.Common.{◌≡◌, ◌∙◌, ℕ, Bool, List, Option, Result, Ok, Err, IfErr, ap, inr, map, refl, subst, sym}
+use Rattle.std.proofs.Common.{◌≡◌, ◌<◌, ◌∙◌, ℕ, Bool, List, Option, Result, Ok, Err, IfErr, ap, inr, length, map}
+use Rattle.std.proofs.Common.{refl, subst, sym}
 use Rattle.std.proofs.lemmas.Simd.{map-map}
 use Rattle.std.specs.Borrow.{Bor}
 use Rattle.std.specs.Global.{Global}
@@ -12,6 +13,7 @@ use Rattle.literal_automaton.specs.DfaValue.{GivesAll, HoldsInClasses, RefusesDf
 use Rattle.literal_automaton.specs.Inside.Classes.{AreClasses, Tells, symbols_in}
 use Rattle.literal_automaton.specs.Inside.Dfa.{IsErrorOf}
 use Rattle.literal_automaton.specs.declared.BuildError.{BuildError}
+use Rattle.literal_automaton.specs.declared.BuildError.TheVariants.{OutOfMemory}
 use Rattle.literal_automaton.specs.declared.grow.GrowError.{GrowError}
 use Rattle.literal_automaton.specs.declared.grow.GrowError.TheVariants as grow_error
 
@@ -52,11 +54,20 @@ holds_in P ignore_case classes width lent patterns same are tells width_is holds
 -- where all patterns were given, and the rows are refused
 pub refused_rows : {U T V : Type 0} (becomes : U → T → Type 0) (steps : T → Option (Bor (List ℕ)) → T → Type 0)
     (given : U) (NeedTooMany : List (List ℕ) → Type 0) (patterns : List (List ℕ))
-    → GivesAll becomes steps given patterns → (refused : GrowError)
+    → GivesAll becomes steps given patterns → 0 < length patterns → (refused : GrowError)
     → (refused ≡ grow_error.TooManyStates → NeedTooMany patterns) → (result : Result V BuildError)
     → IsErrAnd result (IsErrorOf refused) → IfErr result (RefusesDfa becomes steps given NeedTooMany)
-refused_rows becomes steps given NeedTooMany patterns all refused needs (Ok value) is = tt
-refused_rows becomes steps given NeedTooMany patterns all grow_error.OutOfMemory needs (Err error) is =
-    subst (RefusesDfa becomes steps given NeedTooMany) (sym is) (inr (patterns, all))
-refused_rows becomes steps given NeedTooMany patterns all grow_error.TooManyStates needs (Err error) is =
+refused_rows becomes steps given NeedTooMany patterns all some refused needs (Ok value) is = tt
+refused_rows becomes steps given NeedTooMany patterns all some grow_error.OutOfMemory needs (Err error) is =
+    subst (RefusesDfa becomes steps given NeedTooMany) (sym is) (inr (patterns, all, some))
+refused_rows becomes steps given NeedTooMany patterns all some grow_error.TooManyStates needs (Err error) is =
     subst (RefusesDfa becomes steps given NeedTooMany) (sym is) (patterns, all, needs refl)
+
+-- where all patterns were given, and memory for more than rows is refused
+pub refused_lists : {U T V : Type 0} (becomes : U → T → Type 0) (steps : T → Option (Bor (List ℕ)) → T → Type 0)
+    (given : U) (NeedTooMany : List (List ℕ) → Type 0) (patterns : List (List ℕ))
+    → GivesAll becomes steps given patterns → 0 < length patterns → (result : Result V BuildError)
+    → IsErrAnd result (λ error. error ≡ OutOfMemory) → IfErr result (RefusesDfa becomes steps given NeedTooMany)
+refused_lists becomes steps given NeedTooMany patterns all some (Ok value) is = tt
+refused_lists becomes steps given NeedTooMany patterns all some (Err error) is =
+    subst (RefusesDfa becomes steps given NeedTooMany) (sym is) (inr (patterns, all, some))

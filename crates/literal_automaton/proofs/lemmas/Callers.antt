@@ -12,21 +12,39 @@ use Rattle.std.proofs.lemmas.Iterator.{YieldsList, YieldsList-from_map_by, Yield
 use Rattle.std.proofs.lemmas.Iterator.{maps}
 use denote.Param.Members.{Mut}
 use Rattle.literal_base.specs.declared.packed.MatchKind.{MatchKind}
+use Rattle.literal_base.specs.declared.search.MatchKind as search
 use Rattle.literal_base.specs.Greedy.{IsGreedy}
 use Rattle.literal_base.specs.MatchValue.{MatchValue}
 use Rattle.literal_base.specs.Occurs.{NothingOccurs, rest_from}
 use Rattle.literal_packed.proofs.lemmas.Callers.{GivesList, items_are}
-use Rattle.literal_automaton.specs.DfaValue.{BuildsDfa, DfaValue, dfa_for}
+use Rattle.literal_automaton.specs.DfaValue.{BuildsDfa, DfaValue, GivesAll, NeedTooManyStates, dfa_for}
 use Rattle.literal_automaton.specs.MatchesValue.{GivesMatch, MatchesValue}
+use Rattle.literal_automaton.specs.Overlapping.{BuildsOverlapping, OverlappingValue}
+use Rattle.literal_automaton.specs.States.{HasTooManyStates}
+use Rattle.literal_automaton.proofs.lemmas.Rows.{none_few, one_class}
 
--- an automaton that is built of a list that is given, as by `array_gives`, is for that list
-pub dfa_is_for : {U T : Type 0} {becomes : U → T → Type 0} {steps : T → Option (Bor (List ℕ)) → T → Type 0} {given : U}
-    {list : List (Bor (List ℕ))} → GivesList becomes steps given list → (kind : MatchKind) (ignore_case : Bool)
-    (built : DfaValue) → BuildsDfa becomes steps given kind ignore_case built
-    → built ≡ dfa_for kind ignore_case (map (λ p. p.now) list)
-dfa_is_for gives kind ignore_case built (patterns, all, is) =
-    is ∙ ap (dfa_for kind ignore_case) (all.4
-    ∙ ap (map (λ (p : Bor (List ℕ)). p.now)) (items_are gives all.0 all.1 all.2 all.3))
+module _ {U T : Type 0} {becomes : U → T → Type 0} {steps : T → Option (Bor (List ℕ)) → T → Type 0} {given : U}
+    {list : List (Bor (List ℕ))} where
+  -- all the items of a list that is given, as by `array_gives`, are that list
+  all_are : GivesList becomes steps given list → {patterns : List (List ℕ)} → GivesAll becomes steps given patterns
+      → patterns ≡ map (λ p. p.now) list
+  all_are gives all =
+      all.4 ∙ ap (map (λ (p : Bor (List ℕ)). p.now)) (items_are gives all.0 all.1 all.2 all.3)
+
+  -- so an automaton that is built of it is for that list
+  pub dfa_is_for : GivesList becomes steps given list → (kind : MatchKind) (ignore_case : Bool) (built : DfaValue)
+      → BuildsDfa becomes steps given kind ignore_case built
+      → built ≡ dfa_for kind ignore_case (map (λ p. p.now) list)
+  dfa_is_for gives kind ignore_case built (patterns, all, is) =
+      is ∙ ap (dfa_for kind ignore_case) (all_are gives all)
+
+  -- and so is a search for everything that occurs
+  pub overlapping_is_for : GivesList becomes steps given list → (ignore_case : Bool) (built : OverlappingValue)
+      → BuildsOverlapping becomes steps given ignore_case built
+      → built ≡ record { patterns = map (λ p. p.now) list; ignore_case = ignore_case }
+  overlapping_is_for gives ignore_case built (patterns, all, is) =
+      is ∙ ap (λ (p : List (List ℕ)). let o : OverlappingValue = record { patterns = p; ignore_case = ignore_case }
+      in o) (all_are gives all)
 
 -- whichever iterator the given value becomes, that gives references to these byte strings and ends
 pub record GivesBytes {U T : Type 0} (becomes : U → T → Type 0) (steps : T → Option (Bor (List ℕ)) → T → Type 0)
@@ -72,3 +90,9 @@ pub greedy_from_matches : (searched : DfaValue) (haystack : List ℕ) (m : Match
 greedy_from_matches searched haystack m all n o start run nothing =
     subst (λ (it : MatchesValue). IsGreedy it.search.query it.search.ignore_case it.haystack it.at all) start
     (greedy_from_yields m all n o run nothing)
+
+-- where there is no pattern the states are not too many
+pub none_need_few : (kind : search.MatchKind) (ignore_case : Bool) → ¬ NeedTooManyStates kind ignore_case []
+unfolding NeedTooManyStates
+none_need_few kind ignore_case (classes, are, tells, many) =
+    none_few kind (subst (HasTooManyStates kind []) (one_class ignore_case) many)

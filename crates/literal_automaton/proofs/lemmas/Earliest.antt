@@ -60,24 +60,24 @@ module _ (a : Inside) (sound : IsSound a) (haystack : List ℕ) (bytes : (i : �
         (ap (λ e. from_match words (read e)) (sym there)
         ∙ none_stands upto (omega arith) none (upto - span.start) (omega arith))
 
-    pub none_earliest : FindsEnd a.classes.width a.rows.items 0 a.classes.table haystack span None
+    pub none_earliest : FindsEnd a.classes.width a.rows 0 a.classes.table haystack span None
         → NothingOccurs (patterns_in a) a.ignore_case haystack span
     none_earliest finds =
         let none = finds (root_kind_of a.kind) words sound.recognises []
-        (at_start (root_kind_of a.kind) words a.classes.width a.rows.items sound.recognises) in
+        (at_start (root_kind_of a.kind) words a.classes.width a.rows sound.recognises) in
         nothing_upto span.end valid.ordered (omega arith) none
 
     pub ends_earliest : (stop : Stop)
-        → FindsEnd a.classes.width a.rows.items 0 a.classes.table haystack span (Some stop)
+        → FindsEnd a.classes.width a.rows 0 a.classes.table haystack span (Some stop)
         → span.start < stop.end → stop.end ≤ span.end
         → EndsEarliest (patterns_in a) a.ignore_case haystack span stop.end
     ends_earliest stop finds after inside =
         by (ending (root_kind_of a.kind) words (read stop.end)) refl first.ends
       where
-        first : IsFirstEnd (root_kind_of a.kind) words a.classes.width a.rows.items sound.recognises []
+        first : IsFirstEnd (root_kind_of a.kind) words a.classes.width a.rows sound.recognises []
             a.classes.table haystack span.start stop
         first = finds (root_kind_of a.kind) words sound.recognises []
-            (at_start (root_kind_of a.kind) words a.classes.width a.rows.items sound.recognises)
+            (at_start (root_kind_of a.kind) words a.classes.width a.rows sound.recognises)
 
         before : NothingOccurs (patterns_in a) a.ignore_case haystack (between span.start (stop.end - 1))
         before = nothing_upto (stop.end - 1) (omega arith) (omega arith) first.none

@@ -42,8 +42,9 @@ module _ (patterns : List (List ℕ)) where
   pub lists_more : (ends starts list : List ℕ) (count : ℕ) → AreLists patterns ends starts count
       → (ending Standard patterns (pattern_at patterns count) ≡ Some count
       → AreEnds patterns (pattern_at patterns count) 0 list 0 (length list))
+      → (¬ (ending Standard patterns (pattern_at patterns count) ≡ Some count) → list ≡ [])
       → AreLists patterns (ends ++ list) (starts ++ length (ends ++ list) ∷ []) (count + 1)
-  lists_more ends starts list count are here = record {
+  lists_more ends starts list count are here none = record {
     long = omega (arith, length-append starts (length (ends ++ list) ∷ []), are.long);
     ordered = λ i below. elim (cases_lt i count) [
       | inl before ↦ omega (arith, old i (omega arith), old (i + 1) (omega arith), are.ordered i before)
@@ -85,6 +86,16 @@ module _ (patterns : List (List ℕ)) where
           subst (λ n. AreEnds patterns (pattern_at patterns n) 0 (ends ++ list) (get_or (started ends starts list) n 0)
           (get_or (started ends starts list) (n + 1) 0)) is
           (added (subst (λ n. ending Standard patterns (pattern_at patterns n) ≡ Some n) (sym is) first))
+    ];
+    others = λ i below other. elim (cases_lt i count) [
+      | inl before ↦
+          omega (arith, old i (omega arith), old (i + 1) (omega arith), are.others i before other)
+      | inr past ↦
+          let is : count ≡ i = omega arith in
+          let empty = none (λ first. other
+          (subst (λ n. ending Standard patterns (pattern_at patterns n) ≡ Some n) is first)) in
+          subst (λ n. get_or (started ends starts list) n 0 ≡ get_or (started ends starts list) (n + 1) 0) is
+          (omega (arith, old count (omega arith), are.last, last, size, ap (λ (l : List ℕ). length l) empty))
     ];
   }
     where

@@ -267,7 +267,7 @@ module _ (ignore_case : Bool) (classes : List ℕ) (patterns : List (List ℕ)) 
             }
 
 -- what a walk by the rows of a `Dfa` finds
-pub first_of : (a : Inside) → IsSound a → (haystack : List ℕ) (span : Span) (rows : List ℕ) → rows ≡ a.rows.items
+pub first_of : (a : Inside) → IsSound a → (haystack : List ℕ) (span : Span) (rows : List ℕ) → rows ≡ a.rows
     → (answer : Option Ended)
     → FindsIn a.classes.width rows span.start (text_of a.classes.table haystack span) answer
     → IsFound a.kind (map (symbols_in a.classes.table) (patterns_in a)) span.start
@@ -279,7 +279,7 @@ first_of a sound haystack span rows same answer finds =
     (some_symbols a.classes.table (patterns_in a) sound.kept.some)
 
 -- how far a walk by these rows goes behind the place of its match
-pub near_of : (a : Inside) → IsSound a → (haystack : List ℕ) (span : Span) (rows : List ℕ) → rows ≡ a.rows.items
+pub near_of : (a : Inside) → IsSound a → (haystack : List ℕ) (span : Span) (rows : List ℕ) → rows ≡ a.rows
     → (e : Ended) (place : ℕ) → StopsNear a.classes.width rows place (Some e) → (longest : ℕ)
     → All (λ (bytes : List ℕ). length bytes ≤ longest) (patterns_in a)
     → place + length (pattern_at (patterns_in a) e.pattern) ≤ e.end + longest

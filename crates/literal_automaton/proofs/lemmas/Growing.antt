@@ -274,7 +274,7 @@ module _ (t : Texts) where
       }
 
   -- where each state has its row, the rows recognise the patterns
-  pub recognises : (states : List State) (lists rows : List ℕ) → IsGrowing t states lists rows
+  unfoldable pub recognises : (states : List State) (lists rows : List ℕ) → IsGrowing t states lists rows
       → length rows ≡ length states * stride_of t.width → Recognises t.kind (texts_of t) t.width rows
   recognises states lists rows g full =
       let known = words_length states in

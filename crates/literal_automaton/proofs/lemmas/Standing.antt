@@ -8,8 +8,7 @@ use Rattle.std.proofs.lemmas.Bool.Decides.{Decides-eqb}
 use Rattle.std.proofs.lemmas.List.{length-drop, length-map, take-append-drop}
 use Rattle.std.proofs.lemmas.Slice.Eq.{starts_is}
 use Rattle.std.specs.List.{starts_with}
-use Rattle.std.specs.Global.{Vec}
-use Rattle.std.specs.Iterator.{size}
+use Rattle.std.specs.Iterator.{MakesProgress, size}
 use Rattle.std.specs.Option.{unwrap_or}
 use Rattle.literal_base.specs.declared.search.MatchKind.TheVariants.{Standard}
 use Rattle.literal_base.specs.declared.search.Span.{Span}
@@ -17,17 +16,17 @@ use Rattle.literal_base.specs.MatchValue.{MatchValue}
 use Rattle.literal_base.specs.Occurs.{IsValidSpan, NoneIsEmpty, between, pattern_at}
 use Rattle.literal_automaton.specs.Inside.Classes.{symbols_in}
 use Rattle.literal_automaton.specs.Inside.Ends.{AreEnds, IsEnd, IsFirstOfEnds}
-use Rattle.literal_automaton.specs.Inside.Standing.{AreParts, HaveSameToCome, IsStanding, patterns_of}
-use Rattle.literal_automaton.specs.Inside.Standing.{longest_at, read_of, standing_at, standing_value, texts_in}
+use Rattle.literal_automaton.specs.Inside.Standing.{HaveSameToCome, IsStanding}
+use Rattle.literal_automaton.specs.Inside.Standing.{longest_at, read_of, standing_at, standing_value}
 use Rattle.literal_automaton.specs.Inside.Walk.{FindsEnd, IsAt, IsFirstEnd, NoneEnds, read_to}
 use Rattle.literal_automaton.specs.Overlapping.{IsOccurrence}
 use Rattle.literal_automaton.specs.OverlappingMatchesValue.{GivesOverlapping, IsNextToCome, IsToCome}
 use Rattle.literal_automaton.specs.OverlappingMatchesValue.{OverlappingMatchesValue}
 use Rattle.literal_automaton.specs.OverlappingMatchesValue.{most_overlapping}
+use Rattle.literal_automaton.specs.PreparedOverlapping.{AreTables, Tables, texts_in}
 use Rattle.literal_automaton.specs.Table.{nothing}
 use Rattle.literal_automaton.specs.Words.{ending}
-use Rattle.literal_automaton.specs.declared.overlapping.Parts.{Parts}
-use Rattle.literal_automaton.specs.declared.overlapping.Standing.{Standing}
+use Rattle.literal_automaton.specs.declared.standing.Standing.{Standing}
 use Rattle.literal_automaton.specs.declared.walk.Stop.{Stop}
 use Rattle.literal_automaton.proofs.lemmas.Ends.{whole_if_long}
 use Rattle.literal_automaton.proofs.lemmas.Found.{occurs_where, some_symbols, stands_where, symbols_length, text_long}
@@ -35,22 +34,22 @@ use Rattle.literal_automaton.proofs.lemmas.Standard.{ends_length, ends_of_first,
 use Rattle.literal_automaton.proofs.lemmas.Standard.{end_of_itself, no_end_of_nothing, none_ends}
 use Rattle.literal_automaton.proofs.lemmas.Walk.{at_start, ends_at, row_at, text_halves}
 
-module _ (p : Parts) (parts : AreParts p) (haystack : List ℕ) (bytes : (i : ℕ) → get_or haystack i 0 < 256)
+module _ (p : Tables) (parts : AreTables p) (haystack : List ℕ) (bytes : (i : ℕ) → get_or haystack i 0 < 256)
     (span : Span) (valid : IsValidSpan haystack span)
   where
     pub some_texts : NoneIsEmpty (texts_in p)
-    some_texts = some_symbols p.classes.table (patterns_of p) parts.kept.some
+    some_texts = some_symbols p.classes p.patterns parts.kept.some
 
     valid_to : (at : ℕ) → span.start ≤ at → at ≤ span.end → IsValidSpan haystack (between span.start at)
     valid_to at after inside =
         let all = valid.in_haystack in record { ordered = after; in_haystack = omega arith }
 
-    known : length (texts_in p) ≡ length (patterns_of p)
-    known = length-map (patterns_of p) (symbols_in p.classes.table)
+    known : length (texts_in p) ≡ length p.patterns
+    known = length-map p.patterns (symbols_in p.classes)
 
     -- an occurrence is an end of what is read up to its own end
     pub occurrence_ends : (found : MatchValue)
-        → IsOccurrence (patterns_of p) p.ignore_case haystack span found
+        → IsOccurrence p.patterns p.ignore_case haystack span found
         → IsEnd (texts_in p) (read_of p haystack span found.end) found.pattern
     occurrence_ends found is =
         let begin = is.occurs.after_start in
@@ -61,15 +60,15 @@ module _ (p : Parts) (parts : AreParts p) (haystack : List ℕ) (bytes : (i : �
         let text = read_of p haystack span found.end in
         let word = pattern_at (texts_in p) found.pattern in
         let at = found.start - span.start in
-        let stands = stands_where p.ignore_case p.classes.table (patterns_of p) parts.tells haystack bytes here
+        let stands = stands_where p.ignore_case p.classes p.patterns parts.tells haystack bytes here
         valid_here found.pattern found.start (record {
           is_pattern = is.occurs.is_pattern;
           after_start = begin;
           before_end = omega arith;
           same = is.occurs.same;
         }) in
-        let long = text_long p.ignore_case p.classes.table (patterns_of p) parts.tells haystack bytes here valid_here in
-        let size = symbols_length p.classes.table (patterns_of p) found.pattern in
+        let long = text_long p.ignore_case p.classes p.patterns parts.tells haystack bytes here valid_here in
+        let size = symbols_length p.classes p.patterns found.pattern in
         let same : drop at text ≡ word =
         whole_if_long (drop at text) word stands (omega (arith, length-drop at text, long, size)) in
         record {
@@ -83,17 +82,17 @@ module _ (p : Parts) (parts : AreParts p) (haystack : List ℕ) (bytes : (i : �
     -- and an end of what is read occurs
     pub end_occurs : (i at : ℕ) → span.start ≤ at → at ≤ span.end
         → IsEnd (texts_in p) (read_of p haystack span at) i
-        → IsOccurrence (patterns_of p) p.ignore_case haystack span
-        (record { pattern = i; start = at - length (pattern_at (patterns_of p) i); end = at })
+        → IsOccurrence p.patterns p.ignore_case haystack span
+        (record { pattern = i; start = at - length (pattern_at p.patterns i); end = at })
     end_occurs i at after inside is =
         let here = between span.start at in
         let valid_here = valid_to at after inside in
         let text = read_of p haystack span at in
         let word = pattern_at (texts_in p) i in
         let front = is.ends.front in
-        let start = at - length (pattern_at (patterns_of p) i) in
-        let long = text_long p.ignore_case p.classes.table (patterns_of p) parts.tells haystack bytes here valid_here in
-        let size = symbols_length p.classes.table (patterns_of p) i in
+        let start = at - length (pattern_at p.patterns i) in
+        let long = text_long p.ignore_case p.classes p.patterns parts.tells haystack bytes here valid_here in
+        let size = symbols_length p.classes p.patterns i in
         let parts_long = ends_length text word is.ends in
         let place : length front ≡ start - span.start = omega (arith, long, size, parts_long) in
         let same : drop (start - span.start) text ≡ word =
@@ -101,7 +100,7 @@ module _ (p : Parts) (parts : AreParts p) (haystack : List ℕ) (bytes : (i : �
         let stands : starts_with nat_eq (drop (start - span.start) text) word ≡ true =
         (starts_is Decides-eqb (drop (start - span.start) text) word _ refl).1 [] (same ∙ sym (append-nil word)) in
         let is_pattern = is.is_pattern in
-        let occurs = occurs_where p.ignore_case p.classes.table (patterns_of p) parts.tells haystack bytes here
+        let occurs = occurs_where p.ignore_case p.classes p.patterns parts.tells haystack bytes here
         valid_here i start (omega (arith, known)) (omega (arith, long, size, parts_long)) (omega arith) stands in
         let before = occurs.before_end in
         record {
@@ -136,12 +135,12 @@ module _ (p : Parts) (parts : AreParts p) (haystack : List ℕ) (bytes : (i : �
       nothing_to_come empty last found is = omega (arith, ends_further empty found is, ends_inside found is)
 
       read_further : (end : ℕ) → s.at ≤ end
-          → read_to (read_of p haystack span s.at) p.classes.table haystack s.at end ≡ read_of p haystack span end
-      read_further end further = sym (text_halves p.classes.table haystack span.start s.at end standing.after further)
+          → read_to (read_of p haystack span s.at) p.classes haystack s.at end ≡ read_of p haystack span end
+      read_further end further = sym (text_halves p.classes haystack span.start s.at end standing.after further)
 
       -- nor where none ends further on
       none_further : (upto : ℕ)
-          → NoneEnds Standard (texts_in p) (read_of p haystack span s.at) p.classes.table haystack s.at upto
+          → NoneEnds Standard (texts_in p) (read_of p haystack span s.at) p.classes haystack s.at upto
           → s.end ≤ s.next → (found : MatchValue) → IsToCome (standing_value p haystack span s) found
           → upto < found.end
       none_further upto none empty found is =
@@ -154,7 +153,7 @@ module _ (p : Parts) (parts : AreParts p) (haystack : List ℕ) (bytes : (i : �
           ]
 
       pub none_to_come : s.at < span.end
-          → FindsEnd p.classes.width p.rows.items s.place p.classes.table haystack (between s.at span.end) None
+          → FindsEnd p.width p.rows s.place p.classes haystack (between s.at span.end) None
           → s.end ≤ s.next → (found : MatchValue) → ¬ IsToCome (standing_value p haystack span s) found
       none_to_come more finds empty found is =
           let none = finds Standard (texts_in p) parts.recognises (read_of p haystack span s.at)
@@ -163,17 +162,17 @@ module _ (p : Parts) (parts : AreParts p) (haystack : List ℕ) (bytes : (i : �
 
       -- where one ends next
       module _ (more : s.at < span.end) (stop : Stop)
-          (finds : FindsEnd p.classes.width p.rows.items s.place p.classes.table haystack (between s.at span.end)
+          (finds : FindsEnd p.width p.rows s.place p.classes haystack (between s.at span.end)
           (Some stop)) (after : s.at < stop.end) (inside : stop.end ≤ span.end)
         where
           abbrev pub text : List ℕ
           text = read_of p haystack span stop.end
 
-          same_text : read_to (read_of p haystack span s.at) p.classes.table haystack s.at stop.end ≡ text
+          same_text : read_to (read_of p haystack span s.at) p.classes haystack s.at stop.end ≡ text
           same_text = read_further stop.end (omega arith)
 
-          first : IsFirstEnd Standard (texts_in p) p.classes.width p.rows.items parts.recognises
-              (read_of p haystack span s.at) p.classes.table haystack s.at stop
+          first : IsFirstEnd Standard (texts_in p) p.width p.rows parts.recognises
+              (read_of p haystack span s.at) p.classes haystack s.at stop
           first = finds Standard (texts_in p) parts.recognises (read_of p haystack span s.at)
               (standing.stands more parts.recognises)
 
@@ -181,31 +180,29 @@ module _ (p : Parts) (parts : AreParts p) (haystack : List ℕ) (bytes : (i : �
           ends_first =
               by (ending Standard (texts_in p) text) refl
               (subst (λ t. IsSome (ending Standard (texts_in p) t)) same_text first.ends)
-              (ends_at Standard (texts_in p) p.classes.width p.rows.items parts.recognises _ stop.place first.at
+              (ends_at Standard (texts_in p) p.width p.rows parts.recognises _ stop.place first.at
               ∙ ap (λ t. unwrap_or (ending Standard (texts_in p) t) nothing) same_text)
             where
               by : (o : Option ℕ) → ending Standard (texts_in p) text ≡ o → IsSome o
-                  → get_or p.rows.items (stop.place + p.classes.width) 0 ≡ unwrap_or o nothing
-                  → o ≡ Some (get_or p.rows.items (stop.place + p.classes.width) 0)
+                  → get_or p.rows (stop.place + p.width) 0 ≡ unwrap_or o nothing
+                  → o ≡ Some (get_or p.rows (stop.place + p.width) 0)
               by None is some read = cc
               by (Some i) is some read = ap Some (sym read)
 
           is_first : IsFirstOfEnds (texts_in p) text (longest_at p stop)
           is_first = first_ends (texts_in p) some_texts text (longest_at p stop) ends_first
 
-          pub longest_below : (longest_at p stop) < length p.patterns.items
-          longest_below =
-              let below = is_first.is.is_pattern in
-              omega (arith, known, length-map p.patterns.items (λ (v : Vec ℕ). v.items))
+          pub longest_below : (longest_at p stop) < length p.patterns
+          longest_below = let below = is_first.is.is_pattern in omega (arith, known)
 
-          pub row_inside : stop.place + p.classes.width < length p.rows.items
+          pub row_inside : stop.place + p.width < length p.rows
           row_inside =
-              let row = row_at Standard (texts_in p) p.classes.width p.rows.items parts.recognises _ stop.place
+              let row = row_at Standard (texts_in p) p.width p.rows parts.recognises _ stop.place
               first.at in
               omega (arith, row.fits)
 
-          list : AreEnds (texts_in p) (pattern_at (texts_in p) (longest_at p stop)) 0 p.lists.ends.items
-              (get_or p.lists.starts.items (longest_at p stop) 0) (get_or p.lists.starts.items ((longest_at p stop) +
+          list : AreEnds (texts_in p) (pattern_at (texts_in p) (longest_at p stop)) 0 p.ends
+              (get_or p.starts (longest_at p stop) 0) (get_or p.starts ((longest_at p stop) +
               1) 0)
           list = parts.lists.each (longest_at p stop) longest_below (first_is_own (texts_in p) some_texts text
               (longest_at p stop) is_first)
@@ -217,7 +214,7 @@ module _ (p : Parts) (parts : AreParts p) (haystack : List ℕ) (bytes : (i : �
                 after = omega arith;
                 inside = inside;
                 stands = λ before recognises. subst
-                    (λ t. IsAt Standard (texts_in p) p.classes.width p.rows.items recognises t stop.place) same_text
+                    (λ t. IsAt Standard (texts_in p) p.width p.rows recognises t stop.place) same_text
                     (finds Standard (texts_in p) recognises (read_of p haystack span s.at)
                     (standing.stands more recognises)).at;
                 ordered = parts.lists.ordered (longest_at p stop) longest_below;
@@ -268,7 +265,7 @@ module _ (p : Parts) (parts : AreParts p) (haystack : List ℕ) (bytes : (i : �
       -- where the list has more
       module _ (left : s.next < s.end) where
         abbrev pub pattern : ℕ
-        pattern = get_or p.lists.ends.items s.next 0
+        pattern = get_or p.ends s.next 0
 
         here : IsEnd (texts_in p) (read_of p haystack span s.at) pattern × (s.pattern ≤ pattern)
         here = standing.left.each s.next (omega arith) left
@@ -276,11 +273,11 @@ module _ (p : Parts) (parts : AreParts p) (haystack : List ℕ) (bytes : (i : �
         abbrev pub found : MatchValue
         found = record {
           pattern = pattern;
-          start = s.at - length (pattern_at (patterns_of p) pattern);
+          start = s.at - length (pattern_at p.patterns pattern);
           end = s.at;
         }
 
-        pub is_pattern : pattern < length (patterns_of p)
+        pub is_pattern : pattern < length p.patterns
         is_pattern = let below = here.0.is_pattern in omega (arith, known)
 
         pub next_is : IsNextToCome (standing_value p haystack span s) found
@@ -305,7 +302,7 @@ module _ (p : Parts) (parts : AreParts p) (haystack : List ℕ) (bytes : (i : �
                         omega (arith, less.1, one.3, standing.left.ascends s.next one.0 (omega arith) later one.2)
                     | inr not ↦
                         let same : one.0 ≡ s.next = omega (arith, one.1) in
-                        omega (arith, less.1, one.3, ap (λ k. get_or p.lists.ends.items k 0) same)
+                        omega (arith, less.1, one.3, ap (λ k. get_or p.ends k 0) same)
                   ]
             ]
           ];
@@ -332,7 +329,7 @@ module _ (p : Parts) (parts : AreParts p) (haystack : List ℕ) (bytes : (i : �
                   | inl later ↦ (one.0, omega arith, one.2, one.3)
                   | inr not ↦
                       let same : one.0 ≡ s.next = omega (arith, one.1) in
-                      absurd (omega (arith, one.3, ap (λ k. get_or p.lists.ends.items k 0) same))
+                      absurd (omega (arith, one.3, ap (λ k. get_or p.ends k 0) same))
                 ];
           };
         }
@@ -344,8 +341,8 @@ module _ (p : Parts) (parts : AreParts p) (haystack : List ℕ) (bytes : (i : �
       after = omega arith;
       inside = valid.ordered;
       stands = λ before recognises. subst
-          (λ t. IsAt Standard (texts_in p) p.classes.width p.rows.items recognises t 0) (sym nothing_read)
-          (at_start Standard (texts_in p) p.classes.width p.rows.items recognises);
+          (λ t. IsAt Standard (texts_in p) p.width p.rows recognises t 0) (sym nothing_read)
+          (at_start Standard (texts_in p) p.width p.rows recognises);
       ordered = omega arith;
       within = omega arith;
       left = record {
@@ -360,9 +357,9 @@ module _ (p : Parts) (parts : AreParts p) (haystack : List ℕ) (bytes : (i : �
         nothing_read : read_of p haystack span span.start ≡ []
         nothing_read =
             let none : span.start - span.start ≡ 0 = omega arith in
-            ap (λ n. symbols_in p.classes.table (take n (drop span.start haystack))) none
+            ap (λ n. symbols_in p.classes (take n (drop span.start haystack))) none
 
-    pub stands_behind : (count : ℕ) → count ≡ length (patterns_of p)
+    pub stands_behind : (count : ℕ) → count ≡ length p.patterns
         → IsStanding p haystack span (record { at = span.end; place = 0; pattern = count; next = 0; end = 0 })
     stands_behind count is = record {
       after = valid.ordered;
@@ -408,8 +405,19 @@ takes_one m found is =
     one_more : (a b : ℕ) → (a + 1) * b ≡ a * b + b
     one_more a b = grind arith
 
-pub falls : (old new : OverlappingMatchesValue) (found : MatchValue) → GivesOverlapping old (Some found) new
+falls : (old new : OverlappingMatchesValue) (found : MatchValue) → GivesOverlapping old (Some found) new
     → size (most_overlapping new) < size (most_overlapping old)
 falls old new found gives =
     subst (λ (m : OverlappingMatchesValue). size (most_overlapping m) < size (most_overlapping old))
     (sym gives.goes_on) (takes_one old found gives.gives)
+
+-- so it comes to its end
+pub makes_progress : (old : OverlappingMatchesValue) (answer : Option MatchValue) (new : OverlappingMatchesValue)
+    → GivesOverlapping old answer new → MakesProgress (λ (m : OverlappingMatchesValue). Unit) most_overlapping old
+    answer new
+makes_progress old (Some found) new gives = record {
+  on = λ finite. (tt, tt, falls old new found gives);
+  keeps = tt;
+  rests = λ finite. tt;
+}
+makes_progress old None new gives = record { on = λ finite. tt; keeps = tt; rests = λ finite. tt }

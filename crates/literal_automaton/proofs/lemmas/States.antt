@@ -1,5 +1,5 @@
 -- How many states there are.
-use Rattle.std.proofs.Common.{◌≡◌, ◌≢◌, ℕ, ◌+◌, ◌*◌, ◌-◌, ◌<◌, ◌≤◌, ◌^◌, ◌⊎◌, true, List, [], ◌∷◌, ◌++◌, suc, zero}
+use Rattle.std.proofs.Common.{◌≡◌, ◌≢◌, ℕ, ◌+◌, ◌*◌, ◌<◌, ◌≤◌, ◌⊎◌, true, List, [], ◌∷◌, ◌++◌, suc, zero}
 use Rattle.std.proofs.Common.{length, get_or}
 use Rattle.std.proofs.Common.{map, take, drop, eqb, nat_eq, inl, inr, refl, sym, ap, ◌∙◌, arith, subst}
 use Rattle.std.proofs.lemmas.Bool.{cases_lt, cases_order, eqb-true, ne_eqb}
@@ -12,7 +12,6 @@ use Rattle.std.proofs.lemmas.List.Folds.{Any-from_list_any}
 use Rattle.std.proofs.lemmas.Map.Keys.{IsDistinct-from_apart}
 use Rattle.std.proofs.lemmas.Map.Steps.{length-le_from_distinct_below}
 use Rattle.std.proofs.lemmas.Slice.Eq.{starts_is}
-use Rattle.std.proofs.Math.Nat.{mul-le-mul_right}
 use Rattle.std.specs.Global.{Vec}
 use Rattle.std.specs.List.{All, starts_with}
 use Rattle.literal_base.specs.Occurs.{pattern_at}
@@ -85,8 +84,7 @@ module _ (kind : MatchKind) (patterns : List (List ℕ)) (width : ℕ)
       at first rest (suc k) d e inside = rest.2 k d e (omega arith)
 
   -- so there are no more texts than states
-  pub few_states : (texts : List (List ℕ)) → AreStates kind patterns texts
-      → length texts * stride_of width ≤ 2 ^ 31 - 1
+  pub few_states : (texts : List (List ℕ)) → AreStates kind patterns texts → length texts ≤ length r.words
   few_states texts are =
       let all = states_of texts are.begun in
       let distinct = IsDistinct-from_apart eqb all.0 (λ i j d before inside. ne_eqb _ _ (λ same.
@@ -97,9 +95,7 @@ module _ (kind : MatchKind) (patterns : List (List ℕ)) (width : ℕ)
       let one = Any-from_list_any (eqb q) all.0 is in
       let read = (all.2 one.0 one.1 [] (omega (arith, all.1, one.2))).0 in
       omega (arith, read, one.3, eqb-true q one.1 one.4)) in
-      let rows_fit = mul-le-mul_right {m = length texts} {n = length r.words} (stride_of width)
-      (omega (arith, fits, all.1)) in
-      omega (arith, rows_fit, r.full, r.few)
+      omega (arith, fits, all.1)
 
 -- words that are made one by one
 module _ (kind : MatchKind) (patterns words : List (List ℕ)) (width upto : ℕ)

@@ -7,7 +7,6 @@ use Rattle.std.proofs.lemmas.List.{drop-drop, length-take-le, take-append-drop, 
 use Rattle.std.specs.List.{slice_range}
 use Rattle.literal_automaton.specs.Inside.Prepared.{Puts, checked}
 use Rattle.literal_automaton.specs.Prepared.{check_of}
-use Rattle.literal_automaton.specs.declared.prepared.TheConstants.{PREPARED_VERSION}
 
 -- none
 pub puts_none : (at : ℕ) (old : List ℕ) → Puts at [] old old
@@ -69,39 +68,61 @@ puts_behind at front numbers old now new at_is before puts =
     ∙ sym (append_assoc front numbers (drop (length (front ++ numbers)) old))))
 
 -- the parts of a prepared search, one behind the other, and the check over them
-module _ (width patterns places : ℕ) (classes lengths rows old : List ℕ) (each : length classes ≡ 256)
-    (lengths_are : length lengths ≡ patterns) (rows_are : length rows ≡ places)
+module _ (version width patterns places : ℕ) (classes lengths rows starts ends old : List ℕ)
+    (each : length classes ≡ 256) (lengths_are : length lengths ≡ patterns) (rows_are : length rows ≡ places)
   where
-    -- how many they are
-    pub size_of_all : length (checked (width ∷ patterns ∷ places ∷ classes ++ lengths ++ rows))
-        ≡ 261 + patterns + places
-    size_of_all = omega (arith, length-append (classes ++ lengths) rows, length-append classes lengths)
+    abbrev body : List ℕ
+    body = width ∷ patterns ∷ places ∷ classes ++ lengths ++ rows ++ starts ++ ends
 
-    pub puts_all : (first second third last : List ℕ) (check : ℕ)
-        → Puts 0 (PREPARED_VERSION ∷ 0 ∷ width ∷ patterns ∷ places ∷ []) old first
-        → Puts 5 classes first second → Puts 261 lengths second third → Puts (261 + patterns) rows third last
-        → check ≡ check_of (slice_range last 2 (261 + patterns + places))
-        → Puts 0 (checked (width ∷ patterns ∷ places ∷ classes ++ lengths ++ rows)) old (set last 1 check)
-    puts_all first second third last check a b c d check_is =
-        let front = PREPARED_VERSION ∷ 0 ∷ width ∷ patterns ∷ places ∷ [] in
-        let size : length (checked (width ∷ patterns ∷ places ∷ classes ++ lengths ++ rows)) ≡ 261 + patterns + places =
-        size_of_all in
-        let rest = drop (261 + patterns + places) old in
-        let body = width ∷ patterns ∷ places ∷ classes ++ lengths ++ rows in
+    -- how many they are
+    pub size_of_all : length (checked version body) ≡ 261 + patterns + places + length starts + length ends
+    size_of_all = omega (
+      arith,
+      length-append (classes ++ lengths ++ rows ++ starts) ends,
+      length-append (classes ++ lengths ++ rows) starts,
+      length-append (classes ++ lengths) rows,
+      length-append classes lengths,
+    )
+
+    pub puts_all : (first second third fourth fifth last : List ℕ) (check : ℕ)
+        → Puts 0 (version ∷ 0 ∷ width ∷ patterns ∷ places ∷ []) old first
+        → Puts 5 classes first second → Puts 261 lengths second third → Puts (261 + patterns) rows third fourth
+        → Puts (261 + patterns + places) starts fourth fifth
+        → Puts (261 + patterns + places + length starts) ends fifth last
+        → check ≡ check_of (slice_range last 2 (261 + patterns + places + length starts + length ends))
+        → Puts 0 (checked version body) old (set last 1 check)
+    puts_all first second third fourth fifth last check a b c d e f check_is =
+        let front = version ∷ 0 ∷ width ∷ patterns ∷ places ∷ [] in
+        let needed = 261 + patterns + places + length starts + length ends in
+        let size : length (checked version body) ≡ needed = size_of_all in
+        let rest = drop needed old in
         let one = puts_behind 0 [] front old old first refl refl a in
         let two = puts_behind 5 front classes old first second refl one b in
         let three = puts_behind 261 (front ++ classes) lengths old second third
         (omega (arith, length-append front classes)) two c in
-        let four = puts_behind (261 + patterns) ((front ++ classes) ++ lengths) rows old third last
+        let four = puts_behind (261 + patterns) ((front ++ classes) ++ lengths) rows old third fourth
         (omega (arith, length-append (front ++ classes) lengths, length-append front classes)) three d in
-        let last_is : last ≡ PREPARED_VERSION ∷ 0 ∷ body ++ rest =
-        four ∙ ap (λ k. PREPARED_VERSION ∷ 0 ∷ body ++ drop k old) size in
-        let places_are : 261 + patterns + places
-        ≡ 0 + length (checked (width ∷ patterns ∷ places ∷ classes ++ lengths ++ rows)) = omega (arith, size) in
-        let all : length body ≡ (261 + patterns + places) - 2 = omega (arith, size) in
-        let over : slice_range last 2 (261 + patterns + places) ≡ body =
-        ap (λ l. slice_range l 2 (261 + patterns + places)) last_is
+        let upto_rows = length-append ((front ++ classes) ++ lengths) rows in
+        let upto_lengths = length-append (front ++ classes) lengths in
+        let upto_classes = length-append front classes in
+        let five = puts_behind (261 + patterns + places) (((front ++ classes) ++ lengths) ++ rows) starts old fourth
+        fifth (omega (arith, upto_rows, upto_lengths, upto_classes)) four e in
+        let six = puts_behind (261 + patterns + places + length starts)
+        ((((front ++ classes) ++ lengths) ++ rows) ++ starts) ends old fifth last
+        (omega (
+          arith,
+          length-append (((front ++ classes) ++ lengths) ++ rows) starts,
+          upto_rows,
+          upto_lengths,
+          upto_classes,
+        )) five f in
+        let last_is : last ≡ version ∷ 0 ∷ body ++ rest =
+        six ∙ ap (λ k. version ∷ 0 ∷ body ++ drop k old) size in
+        let places_are : needed ≡ 0 + length (checked version body) = omega (arith, size) in
+        let all : length body ≡ needed - 2 = omega (arith, size) in
+        let over : slice_range last 2 needed ≡ body =
+        ap (λ l. slice_range l 2 needed) last_is
         ∙ (ap (λ k. take k (body ++ rest)) (sym all) ∙ take-append_seam body rest) in
         ap (λ l. set l 1 check) last_is
-        ∙ (ap (λ k. PREPARED_VERSION ∷ k ∷ body ++ rest) (check_is ∙ ap check_of over)
-        ∙ ap (λ k. PREPARED_VERSION ∷ check_of body ∷ body ++ drop k old) places_are)
+        ∙ (ap (λ k. version ∷ k ∷ body ++ rest) (check_is ∙ ap check_of over)
+        ∙ ap (λ k. version ∷ check_of body ∷ body ++ drop k old) places_are)

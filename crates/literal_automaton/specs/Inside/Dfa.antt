@@ -3,8 +3,9 @@ use Rattle.std.specs.Prelude.{◌≡◌, ◌+◌, ◌*◌, ◌≤◌, ℕ, List,
 use Rattle.std.specs.List.{All}
 use Rattle.literal_base.specs.Counts.{Counts}
 use Rattle.literal_base.specs.Kinds.{root_kind_of}
-use Rattle.literal_automaton.specs.DfaValue.{CanBeKept, DfaValue, dfa_for}
+use Rattle.literal_automaton.specs.DfaValue.{CanBeKept, DfaValue, dfa_for, width_for}
 use Rattle.literal_automaton.specs.Inside.Classes.{AreClasses, Tells, symbols_in}
+use Rattle.literal_automaton.specs.States.{IsRowsLength}
 use Rattle.literal_automaton.specs.Table.{Recognises}
 use Rattle.literal_automaton.specs.declared.BuildError.{BuildError}
 use Rattle.literal_automaton.specs.declared.BuildError.TheVariants.{OutOfMemory, TooManyStates}
@@ -20,13 +21,16 @@ patterns_in a = map (λ pattern. pattern.items) a.patterns.items
 abbrev pub dfa_value : Inside → DfaValue
 dfa_value a = dfa_for a.kind a.ignore_case (patterns_in a)
 
--- what the fields keep: each byte has a class, by which those of the patterns are told from others, and the rows
--- recognise the classes of the patterns, none of which is empty
+-- what the fields keep: each byte has a class, by which those of the patterns are told from others, and the rows, one
+-- for each state, recognise the classes of the patterns, none of which is empty
 pub record IsSound (a : Inside) : Type 0 where
   pub classes : AreClasses a.classes.table a.classes.width
   pub tells : Tells a.ignore_case a.classes.table (patterns_in a)
   pub recognises : Recognises (root_kind_of a.kind) (map (symbols_in a.classes.table) (patterns_in a)) a.classes.width
-      a.rows.items
+      a.rows
+  pub width : a.classes.width ≡ width_for a.ignore_case (patterns_in a)
+  pub rows : IsRowsLength (root_kind_of a.kind) (map (symbols_in a.classes.table) (patterns_in a)) a.classes.width
+      (length a.rows)
   pub kept : CanBeKept (patterns_in a)
 
 -- the error of the same name

@@ -1,5 +1,5 @@
 -- The fields of `Recognised` and `Lists`.
-use Rattle.std.specs.Prelude.{◌≡◌, ℕ, ◌+◌, ◌-◌, ◌<◌, ◌≤◌, ◌^◌, List, Some, length, map, slice_index}
+use Rattle.std.specs.Prelude.{[], ◌∷◌, ◌≡◌, ℕ, ◌+◌, ◌-◌, ◌<◌, ◌≤◌, ◌^◌, List, Some, length, map, slice_index}
 use Rattle.literal_base.specs.Occurs.{NoneIsEmpty, pattern_at}
 use Rattle.literal_base.specs.declared.search.MatchKind.TheVariants.{Standard}
 use Rattle.literal_automaton.specs.Inside.Classes.{AreClasses, symbols_in}
@@ -26,7 +26,7 @@ pub record AreLinks (patterns : List (List ℕ)) (links : List ℕ) (from : ℕ)
   pub each : (i : ℕ) → from ≤ i → i < length patterns → IsLink patterns i (slice_index links i)
 
 -- lists for so many patterns, one behind another: each of these that is the first of its equals has in its list those
--- that are an end of it
+-- that are an end of it, and the others have none
 pub record AreLists (patterns : List (List ℕ)) (ends starts : List ℕ) (count : ℕ) : Type 0 where
   pub long : length starts ≡ count + 1
   pub ordered : (i : ℕ) → i < count → slice_index starts i ≤ slice_index starts (i + 1)
@@ -34,6 +34,13 @@ pub record AreLists (patterns : List (List ℕ)) (ends starts : List ℕ) (count
   pub last : slice_index starts count ≡ length ends
   pub each : (i : ℕ) → i < count → ending Standard patterns (pattern_at patterns i) ≡ Some i
       → AreEnds patterns (pattern_at patterns i) 0 ends (slice_index starts i) (slice_index starts (i + 1))
+  pub others : (i : ℕ) → i < count → ¬ (ending Standard patterns (pattern_at patterns i) ≡ Some i)
+      → slice_index starts i ≡ slice_index starts (i + 1)
+
+-- where the lists begin and the last ends, by those places that are kept: none are where there is no list
+abbrev pub starts_of : List ℕ → List ℕ
+starts_of [] = 0 ∷ []
+starts_of (start ∷ more) = start ∷ more
 
 -- a walk that read a text stands at a row
 pub record StandsBehind (r : Recognised) (place : ℕ) (text : List ℕ) : Type 0 where

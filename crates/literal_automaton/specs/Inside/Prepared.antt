@@ -1,36 +1,44 @@
 -- The parts of a prepared search, and how they are written.
-use Rattle.std.specs.Prelude.{◌≡◌, ◌+◌, ◌<◌, ◌^◌, ℕ, List, ◌∷◌, ◌++◌, length, map}
+use Rattle.std.specs.Prelude.{◌≡◌, ◌+◌, ◌<◌, ◌≤◌, ◌^◌, ℕ, List, ◌∷◌, ◌++◌, length, map}
 use Rattle.std.specs.List.{splice}
 use Rattle.literal_automaton.specs.Prepared.{AreShort, HasParts, check_of, classes_in, lengths_in, rows_in}
 use Rattle.literal_automaton.specs.Prepared.{width_in}
+use Rattle.literal_automaton.specs.declared.prepared.Front.{Front}
 use Rattle.literal_automaton.specs.declared.prepared.PrepareError.{PrepareError}
-use Rattle.literal_automaton.specs.declared.prepared.PrepareError.TheVariants.{ArrayTooShort, PatternTooLong}
-use Rattle.literal_automaton.specs.declared.prepared.TheConstants.{PREPARED_VERSION}
+use Rattle.literal_automaton.specs.declared.prepared.PrepareError.TheVariants.{ArrayTooShort, ListsTooLong}
+use Rattle.literal_automaton.specs.declared.prepared.PrepareError.TheVariants.{PatternTooLong}
 
--- the parts of an array that begins as a prepared search
-pub record IsSplit (numbers classes : List ℕ) (width : ℕ) (lengths rows : List ℕ) : Type 0 where
-  pub parts : HasParts numbers
+-- the parts of an array that begins as a prepared search of a version
+pub record IsSplit (version : ℕ) (numbers classes : List ℕ) (width : ℕ) (lengths rows : List ℕ) : Type 0 where
+  pub parts : HasParts version numbers
   pub classes_are : classes ≡ classes_in numbers
   pub width_is : width ≡ width_in numbers
   pub small : width < 2 ^ 32
   pub lengths_are : lengths ≡ lengths_in numbers
   pub rows_are : rows ≡ rows_in numbers
 
+-- the fields of a `Front` are these parts
+abbrev pub IsFront : ℕ → Front → Type 0
+IsFront version f = IsSplit version f.numbers.now f.classes.now f.width f.lengths.now f.rows.now
+
 -- numbers stand in a list from a place on, and the rest of it is as it was
 abbrev pub Puts : ℕ → List ℕ → List ℕ → List ℕ → Type 0
 Puts at numbers old new = new ≡ splice old at (at + length numbers) numbers
 
--- numbers behind the version and their check
-abbrev pub checked : List ℕ → List ℕ
-checked numbers = PREPARED_VERSION ∷ check_of numbers ∷ numbers
+-- numbers behind a version and their check
+abbrev pub checked : ℕ → List ℕ → List ℕ
+checked version numbers = version ∷ check_of numbers ∷ numbers
 
--- the numbers of a prepared search
-abbrev pub numbers_for : List ℕ → ℕ → List (List ℕ) → List ℕ → List ℕ
-numbers_for classes width patterns rows =
-    checked (width ∷ length patterns ∷ length rows ∷ classes ++ map (λ bytes. length bytes) patterns ++ rows)
+-- the numbers of a prepared search, which may have lists behind its rows
+abbrev pub numbers_for : ℕ → List ℕ → ℕ → List (List ℕ) → List ℕ → List ℕ → List ℕ → List ℕ
+numbers_for version classes width patterns rows starts ends =
+    checked version (width ∷ length patterns ∷ length rows
+    ∷ classes ++ map (λ bytes. length bytes) patterns ++ rows ++ starts ++ ends)
 
--- why numbers are not written over an array: not all patterns are short; or they are, and the array is too short
-abbrev pub RefusesArray : List (List ℕ) → List ℕ → List ℕ → PrepareError → Type 0
-RefusesArray patterns numbers array PatternTooLong = ¬ AreShort patterns
-RefusesArray patterns numbers array (ArrayTooShort needed) =
-    AreShort patterns × (length array < needed) × (needed ≡ length numbers)
+-- why numbers are not written over an array: not all patterns are short; or they are, and there are too many numbers in
+-- lists; or there are not, and the array is too short
+abbrev pub RefusesArray : List (List ℕ) → List ℕ → List ℕ → List ℕ → PrepareError → Type 0
+RefusesArray patterns ends numbers array PatternTooLong = ¬ AreShort patterns
+RefusesArray patterns ends numbers array ListsTooLong = AreShort patterns × (2 ^ 32 ≤ length ends)
+RefusesArray patterns ends numbers array (ArrayTooShort needed) =
+    AreShort patterns × (length ends < 2 ^ 32) × (length array < needed) × (needed ≡ length numbers)

@@ -13,8 +13,8 @@ use Rattle.literal_automaton.proofs.Dfa.earliest_end_counted.Goals as goal
 pub first_ended-requires-clause-table : goal.first_ended-requires-clause-table
 first_ended-requires-clause-table c =
     let a = c.self.inside in
-    subst (IsTable a.classes.width) (sym c.deref.ensures.value)
-    (table_of (root_kind_of a.kind) (map (symbols_in a.classes.table) (patterns_in a)) a.classes.width a.rows.items
+    subst (IsTable a.classes.width) (sym c.as_slice.ensures)
+    (table_of (root_kind_of a.kind) (map (symbols_in a.classes.table) (patterns_in a)) a.classes.width a.rows
     c.self.invariant.recognises)
 
 pub first_ended-requires-clause-row : goal.first_ended-requires-clause-row
@@ -28,7 +28,7 @@ returns-in_default-clause-end c =
     (none_earliest a c.self.invariant c.args.haystack.now (λ k. omega (arith, c.type_inv.haystack k)) c.args.span
     c.requires
     (subst (λ (rows : List ℕ). FindsEnd a.classes.width rows 0 a.classes.table c.args.haystack.now c.args.span None)
-    c.deref.ensures.value c.in_default.ensures.first))
+    c.as_slice.ensures c.in_default.ensures.first))
 
 pub returns-clause-end : goal.returns-clause-end
 returns-clause-end c =
@@ -39,4 +39,4 @@ returns-clause-end c =
     (ends_earliest a c.self.invariant c.args.haystack.now (λ k. omega (arith, c.type_inv.haystack k)) c.args.span
     c.requires c.in-Some.stop
     (subst (λ (rows : List ℕ). FindsEnd a.classes.width rows 0 a.classes.table c.args.haystack.now c.args.span
-    (Some c.in-Some.stop)) c.deref.ensures.value c.in-Some.ensures.first) ends.0 ends.1)
+    (Some c.in-Some.stop)) c.as_slice.ensures c.in-Some.ensures.first) ends.0 ends.1)

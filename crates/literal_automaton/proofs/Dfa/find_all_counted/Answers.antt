@@ -41,7 +41,7 @@ loop-found-preserved c =
           (subst (λ e. ScansTo query.patterns e (length (c.loop-found.all.items ++ found ∷ [])) c.args.tally.now
           c.find_in_counted.new.tally) (sym end_is)
           (scans_more query.patterns c.loop-found.all.items c.args.tally.now c.loop-found.tally
-          c.find_in_counted.new.tally c.loop-found.rest found so_far.scanned c.in-Some.ensures.scanned
+          c.find_in_counted.new.tally c.loop-found.rest found so_far.scanned c.in-Some.ensures.bounded
           c.in-Some.ensures.not_empty));
     }
 
@@ -54,8 +54,8 @@ returns-clause-greedy c =
     (subst (λ (s : Span). NothingOccurs query.patterns ignore_case haystack s)
     (rest_is haystack c.loop-found.rest c.loop-found.invariant.to_end) c.in_default.ensures.leftmost)
 
-pub returns-clause-scanned : goal.returns-clause-scanned
-returns-clause-scanned c =
+pub returns-clause-bounded : goal.returns-clause-bounded
+returns-clause-bounded c =
     scans_all c.args.self.now.query.patterns c.args.haystack.now (length c.loop-found.all.items) c.args.tally.now
     c.loop-found.tally c.find_in_counted.new.tally c.loop-found.rest c.loop-found.invariant.within
-    c.loop-found.invariant.to_end c.loop-found.invariant.scanned c.in_default.ensures.scanned
+    c.loop-found.invariant.to_end c.loop-found.invariant.scanned c.in_default.ensures.bounded

@@ -17,8 +17,8 @@ use Rattle.literal_automaton.proofs.Dfa.find_in_counted.Goals as goal
 pub last_ended-requires-clause-table : goal.last_ended-requires-clause-table
 last_ended-requires-clause-table c =
     let a = c.self.inside in
-    subst (IsTable a.classes.width) (sym c.deref.ensures.value)
-    (table_of (root_kind_of a.kind) (map (symbols_in a.classes.table) (patterns_in a)) a.classes.width a.rows.items
+    subst (IsTable a.classes.width) (sym c.as_slice.ensures)
+    (table_of (root_kind_of a.kind) (map (symbols_in a.classes.table) (patterns_in a)) a.classes.width a.rows
     c.self.invariant.recognises)
 
 pub returns-in_default-clause-leftmost : goal.returns-in_default-clause-leftmost
@@ -29,7 +29,7 @@ returns-in_default-clause-leftmost c =
     subst (λ (v : DfaValue). NothingOccurs v.query.patterns v.ignore_case haystack c.args.span) c.self.view_is
     (nothing_found a.ignore_case a.classes.table (patterns_in a) sound.tells haystack
     (λ k. omega (arith, c.type_inv.haystack k)) c.args.span c.requires sound.kept.some a.kind
-    (first_of a sound haystack c.args.span c.deref.result.now c.deref.ensures.value None c.in_default.ensures.found))
+    (first_of a sound haystack c.args.span c.as_slice.result.now c.as_slice.ensures None c.in_default.ensures.found))
 
 pub index-requires : goal.index-requires
 index-requires c =
@@ -38,7 +38,7 @@ index-requires c =
     let haystack = c.args.haystack.now in
     let is_pattern = found_pattern a.ignore_case a.classes.table (patterns_in a) sound.tells haystack
     (λ k. omega (arith, c.type_inv.haystack k)) c.args.span c.requires sound.kept.some a.kind c.in-Some.ended
-    (first_of a sound haystack c.args.span c.deref.result.now c.deref.ensures.value (Some c.in-Some.ended)
+    (first_of a sound haystack c.args.span c.as_slice.result.now c.as_slice.ensures (Some c.in-Some.ended)
     c.in-Some.ensures.found) in
     let each : length (patterns_in a) ≡ length a.patterns.items = length-map a.patterns.items _ in
     omega (arith, is_pattern, each, a.patterns.ok.0)
@@ -48,7 +48,7 @@ overflow_sub-start c =
     let a = c.self.inside in
     let sound = c.self.invariant in
     let haystack = c.args.haystack.now in
-    let first = first_of a sound haystack c.args.span c.deref.result.now c.deref.ensures.value (Some c.in-Some.ended)
+    let first = first_of a sound haystack c.args.span c.as_slice.result.now c.as_slice.ensures (Some c.in-Some.ended)
     c.in-Some.ensures.found in
     let id = c.in-Some.ended.pattern in
     let is_pattern = found_pattern a.ignore_case a.classes.table (patterns_in a) sound.tells haystack
@@ -71,7 +71,7 @@ must-requires-clause-pattern c =
     let haystack = c.args.haystack.now in
     let is_pattern = found_pattern a.ignore_case a.classes.table (patterns_in a) sound.tells haystack
     (λ k. omega (arith, c.type_inv.haystack k)) c.args.span c.requires sound.kept.some a.kind c.in-Some.ended
-    (first_of a sound haystack c.args.span c.deref.result.now c.deref.ensures.value (Some c.in-Some.ended)
+    (first_of a sound haystack c.args.span c.as_slice.result.now c.as_slice.ensures (Some c.in-Some.ended)
     c.in-Some.ensures.found) in
     let few = sound.kept.few in
     omega (arith, is_pattern, few)
@@ -82,7 +82,7 @@ returns-clause-leftmost c =
     let sound = c.self.invariant in
     let haystack = c.args.haystack.now in
     let e = c.in-Some.ended in
-    let first = first_of a sound haystack c.args.span c.deref.result.now c.deref.ensures.value (Some e)
+    let first = first_of a sound haystack c.args.span c.as_slice.result.now c.as_slice.ensures (Some e)
     c.in-Some.ensures.found in
     let is_pattern = found_pattern a.ignore_case a.classes.table (patterns_in a) sound.tells haystack
     (λ k. omega (arith, c.type_inv.haystack k)) c.args.span c.requires sound.kept.some a.kind e first in
@@ -114,7 +114,7 @@ returns-clause-not_empty c =
     let sound = c.self.invariant in
     let haystack = c.args.haystack.now in
     let e = c.in-Some.ended in
-    let first = first_of a sound haystack c.args.span c.deref.result.now c.deref.ensures.value (Some e)
+    let first = first_of a sound haystack c.args.span c.as_slice.result.now c.as_slice.ensures (Some e)
     c.in-Some.ensures.found in
     let is_pattern = found_pattern a.ignore_case a.classes.table (patterns_in a) sound.tells haystack
     (λ k. omega (arith, c.type_inv.haystack k)) c.args.span c.requires sound.kept.some a.kind e first in
@@ -137,13 +137,13 @@ returns-clause-not_empty c =
       ap (λ (m : MatchValue). m.end) c.must.ensures,
     )
 
-pub returns-clause-scanned : goal.returns-clause-scanned
-returns-clause-scanned c =
+pub returns-clause-bounded : goal.returns-clause-bounded
+returns-clause-bounded c =
     let a = c.self.inside in
     let sound = c.self.invariant in
     let haystack = c.args.haystack.now in
     let e = c.in-Some.ended in
-    let first = first_of a sound haystack c.args.span c.deref.result.now c.deref.ensures.value (Some e)
+    let first = first_of a sound haystack c.args.span c.as_slice.result.now c.as_slice.ensures (Some e)
     c.in-Some.ensures.found in
     let is_pattern = found_pattern a.ignore_case a.classes.table (patterns_in a) sound.tells haystack
     (λ k. omega (arith, c.type_inv.haystack k)) c.args.span c.requires sound.kept.some a.kind e first in
@@ -158,10 +158,10 @@ returns-clause-scanned c =
     (λ k. omega (arith, c.type_inv.haystack k)) c.args.span c.requires sound.kept.some a.kind e first in
     let begin_is = ap (λ (m : MatchValue). m.start) c.must.ensures in
     record {
-      others = c.in-Some.ensures.counted;
-      once = c.in-Some.ensures.scanned;
+      others = c.in-Some.ensures.others;
+      once = c.in-Some.ensures.once;
       near = λ longest each.
-          let near = near_of a sound haystack c.args.span c.deref.result.now c.deref.ensures.value e
+          let near = near_of a sound haystack c.args.span c.as_slice.result.now c.as_slice.ensures e
           (c.args.span.start + (c.last_ended.new.tally.scanned - c.args.tally.now.scanned) - 1) c.in-Some.ensures.near
           longest (subst (λ (v : DfaValue). All (λ (bytes : List ℕ). length bytes ≤ longest) v.query.patterns)
           (sym c.self.view_is) each) in

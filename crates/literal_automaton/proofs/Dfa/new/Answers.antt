@@ -1,13 +1,22 @@
-use Rattle.std.proofs.Common.{ℕ, List, map, subst}
+use Rattle.std.proofs.Common.{◌∙◌, ℕ, List, ap, arith, length, map, subst, sym}
+use Rattle.std.proofs.lemmas.List.{length-map}
 use Rattle.std.specs.Global.{Global}
 use Rattle.std.specs.declared.vec.Vec.{Vec}
 use Rattle.literal_base.specs.Kinds.{root_kind_of}
-use Rattle.literal_automaton.specs.DfaValue.{NeedTooManyStates}
+use Rattle.literal_automaton.specs.DfaValue.{NeedTooManyStates, width_for}
 use Rattle.literal_automaton.specs.Inside.Classes.{Tells}
-use Rattle.literal_automaton.specs.States.{HasTooManyStates}
+use Rattle.literal_automaton.specs.States.{HasTooManyStates, IsRowsLength}
 use Rattle.literal_automaton.specs.Table.{Recognises}
 use Rattle.literal_automaton.proofs.lemmas.Built.{holds_in, holds_of, refused_rows}
+use Rattle.literal_automaton.proofs.lemmas.Rows.{one_class}
 use Rattle.literal_automaton.proofs.Dfa.new.Goals as goal
+
+pub rows_for-requires-clause-one : goal.rows_for-requires-clause-one
+rows_for-requires-clause-one g c none =
+    c.classes_for-classes.ensures.width
+    ∙ (ap (λ (patterns : List (Vec ℕ Global)). width_for c.args.ignore_case
+    (map (λ (pattern : Vec ℕ Global). pattern.items) patterns))
+    (c.deref.ensures.value ∙ (sym c.deref-2.ensures.value ∙ none)) ∙ one_class c.args.ignore_case)
 
 pub invariant_of-result : goal.invariant_of-result
 invariant_of-result g c =
@@ -17,19 +26,32 @@ invariant_of-result g c =
       tells = subst (λ (patterns : List (Vec ℕ Global)). Tells c.args.ignore_case classes.table
           (map (λ (pattern : Vec ℕ Global). pattern.items) patterns)) c.deref.ensures.value
           c.classes_for-classes.ensures.tells;
-      recognises = holds_of (λ kind texts. Recognises kind texts classes.width c.in_ok-rows.rows.items) c.args.kind
+      recognises = holds_of (λ kind texts. Recognises kind texts classes.width c.in_ok-rows.rows) c.args.kind
           c.root_kind.result classes.table c.deref-2.result.now c.in_ok-patterns.patterns.items c.root_kind.ensures
           c.deref-2.ensures.value c.in_ok-rows.ensures.recognises;
+      width = c.classes_for-classes.ensures.width
+          ∙ ap (λ (patterns : List (Vec ℕ Global)). width_for c.args.ignore_case
+          (map (λ (pattern : Vec ℕ Global). pattern.items) patterns)) c.deref.ensures.value;
+      rows = holds_of (λ kind texts. IsRowsLength kind texts classes.width (length c.in_ok-rows.rows))
+          c.args.kind c.root_kind.result classes.table c.deref-2.result.now c.in_ok-patterns.patterns.items
+          c.root_kind.ensures c.deref-2.ensures.value c.in_ok-rows.ensures.states;
       kept = c.in_ok-patterns.ensures.ok.5;
     }
 
 pub returns-in_err-rows-clause-error : goal.returns-in_err-rows-clause-error
+unfolding NeedTooManyStates
 returns-in_err-rows-clause-error g c =
     let classes = c.classes_for-classes.result in
     let patterns = c.in_ok-patterns.patterns.items in
     refused_rows g.I.IntoIterator.into_iter_gives g.I.IntoIter.Iterator.next_gives c.args.patterns
     (NeedTooManyStates (root_kind_of c.args.kind) c.args.ignore_case)
-    (map (λ (pattern : Vec ℕ Global). pattern.items) patterns) c.in_ok-patterns.ensures.ok c.in_err-rows.field-0.0
+    (map (λ (pattern : Vec ℕ Global). pattern.items) patterns) c.in_ok-patterns.ensures.ok
+    (omega (
+      arith,
+      c.in_err-rows.ensures.not_empty,
+      ap (λ (p : List (Vec ℕ Global)). length p) c.deref-2.ensures.value,
+      length-map patterns (λ (pattern : Vec ℕ Global). pattern.items),
+    )) c.in_err-rows.field-0.0
     (λ is. holds_in (HasTooManyStates (root_kind_of c.args.kind)) c.args.ignore_case classes.table classes.width
     c.deref.result.now patterns c.deref.ensures.value c.classes_for-classes.ensures.classes
     c.classes_for-classes.ensures.tells c.classes_for-classes.ensures.width

@@ -2,6 +2,7 @@ use Rattle.std.proofs.Common.{◌≡◌, ◌+◌, ◌∙◌, ◌⊎◌, ℕ, Lis
 use Rattle.std.proofs.lemmas.Bool.{false≢true}
 use Rattle.std.proofs.lemmas.List.{length-map}
 use Rattle.std.specs.Global.{Vec}
+use Rattle.literal_automaton.specs.DfaValue.{width_for}
 use Rattle.literal_automaton.specs.Inside.Classes.{IsFoldOfOne, Marks}
 use Rattle.literal_automaton.proofs.lemmas.Classes.{marked_are, marks_all, marks_more, none_marked, only_more, tells_by}
 use Rattle.literal_automaton.proofs.classes.classes_for.Goals as goal
@@ -38,6 +39,7 @@ returns-clause-tells c =
     (λ i d below. c.loop-pattern.invariant.marks i d (omega (arith, c.loop-pattern-test.false)))
 
 pub returns-clause-width : goal.returns-clause-width
+unfolding width_for
 returns-clause-width c =
     let patterns = c.args.patterns.now in
     let lists = map (λ (p : Vec ℕ). p.items) patterns in

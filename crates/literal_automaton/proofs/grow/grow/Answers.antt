@@ -1,11 +1,11 @@
-use Rattle.std.proofs.Common.{◌≡◌, ◌*◌, ◌∙◌, ap, arith, length, map, ℕ, subst}
-use Rattle.std.specs.Global.{Vec}
-use Rattle.literal_automaton.specs.Inside.Classes.{symbols_in}
-use Rattle.literal_automaton.specs.Inside.Growing.{texts_of}
+use Rattle.std.proofs.Common.{◌≡◌, ◌*◌, ◌∙◌, ap, arith, length, refl, subst}
+use Rattle.std.proofs.Math.Nat.{mul-le-mul_right}
+use Rattle.literal_automaton.specs.Inside.Growing.{texts_of, words_of}
+use Rattle.literal_automaton.specs.States.{IsRowsLength}
 use Rattle.literal_automaton.specs.Table.{Recognises, stride_of}
 use Rattle.literal_automaton.specs.declared.grow.Texts.{Texts}
 use Rattle.literal_automaton.proofs.lemmas.Growing.{recognises, some_texts}
-use Rattle.literal_automaton.proofs.lemmas.States.{few_states, symbols_below}
+use Rattle.literal_automaton.proofs.lemmas.States.{few_states, states_made, symbols_below}
 use Rattle.literal_automaton.proofs.grow.grow.Goals as goal
 
 pub start-requires : goal.start-requires
@@ -27,10 +27,34 @@ returns-clause-recognises c =
     (recognises g.texts g.states.items g.lists.items g.rows.items said.grows
     (said.filled ∙ ap (λ n. n * stride_of g.texts.width) all))
 
+pub returns-clause-states : goal.returns-clause-states
+unfolding recognises IsRowsLength
+returns-clause-states c =
+    let g = c.loop-state.growing in
+    let t = g.texts in
+    let said = c.loop-state.invariant in
+    let known = c.len.ensures ∙ g.states.ok.0 in
+    let late = c.loop-state-test.false in
+    let all : c.loop-state.state ≡ length g.states.items = omega (arith, known, late, said.states) in
+    let are = recognises t g.states.items g.lists.items g.rows.items said.grows
+    (said.filled ∙ ap (λ n. n * stride_of t.width) all) in
+    subst (λ (t : Texts). IsRowsLength t.kind (texts_of t) t.width (length g.rows.items))
+    (said.texts ∙ c.in_ok-growing.ensures.texts) (
+      length (words_of g),
+      record {
+        texts = words_of g;
+        are_states = states_made t.kind (texts_of t) (words_of g) t.width (length g.rows.items) said.words;
+        count_is = refl;
+        most = few_states t.kind (texts_of t) t.width
+            (symbols_below t.classes.now t.width said.grows.texts.classes t.patterns.now) g.rows.items are;
+      },
+      are.full,
+    )
+
 pub returns-clause-few : goal.returns-clause-few
+unfolding IsRowsLength
 returns-clause-few c many =
-    let texts = map (λ (pattern : Vec ℕ). symbols_in c.args.classes.now pattern.items) c.args.patterns.now in
-    let fits = few_states c.args.kind texts c.args.width
-    (symbols_below c.args.classes.now c.args.width c.requires.classes c.args.patterns.now)
-    c.loop-state.growing.rows.items (returns-clause-recognises c) many.0 many.1 in
-    omega (arith, fits, many.2)
+    let rows = returns-clause-states c in
+    let fits = mul-le-mul_right (stride_of c.args.width) (rows.1.most many.0 many.1) in
+    let few = (returns-clause-recognises c).few in
+    omega (arith, fits, few, rows.2, many.2)

@@ -9,10 +9,13 @@ use Rattle.literal_automaton.proofs.prepared.write.Goals as goal
 
 pub returns-clause-ok : goal.returns-clause-ok
 returns-clause-ok c =
+    let version = c.args.version in
     let classes = c.args.classes.now.table in
     let width = c.args.classes.now.width in
     let patterns = c.args.patterns.now in
     let rows = c.args.rows.now in
+    let starts = c.args.starts.now in
+    let ends = c.args.ends.now in
     let old = c.args.array.now in
     let all = map (λ (p : Vec ℕ). p.items) patterns in
     let lengths = map (λ (bytes : List ℕ). length bytes) all in
@@ -20,13 +23,19 @@ returns-clause-ok c =
     let each : length lengths ≡ length patterns = length-map all (λ (bytes : List ℕ). length bytes) ∙ many in
     let put = subst (λ (numbers : List ℕ). Puts 261 numbers c.put_classes.new.array c.put_lengths.new.array)
     (sym (map-map (λ (bytes : List ℕ). length bytes) (λ (p : Vec ℕ). p.items) patterns)) c.put_lengths.ensures in
-    let written = puts_all width (length patterns) (length rows) classes lengths rows old c.requires.classes each refl
+    let written = puts_all version width (length patterns) (length rows) classes lengths rows starts ends old
+    c.requires.classes each refl
     c.put_numbers.new.array c.put_classes.new.array c.put_lengths.new.array c.put_numbers-2.new.array
-    c.check_over.result c.put_numbers.ensures c.put_classes.ensures put c.put_numbers-2.ensures c.check_over.ensures in
-    let size = size_of_all width (length patterns) (length rows) classes lengths rows old c.requires.classes each refl
+    c.put_starts.new.array c.put_numbers-3.new.array c.check_over.result
+    c.put_numbers.ensures c.put_classes.ensures put c.put_numbers-2.ensures c.put_starts.ensures
+    c.put_numbers-3.ensures c.check_over.ensures in
+    let size = size_of_all version width (length patterns) (length rows) classes lengths rows starts ends old
+    c.requires.classes each refl
     in (
       omega arith,
-      subst (λ (n : ℕ). Puts 0 (checked (width ∷ n ∷ length rows ∷ classes ++ lengths ++ rows)) old
-          (set c.put_numbers-2.new.array 1 c.check_over.result)) (sym many) written,
+      omega arith,
+      subst (λ (n : ℕ). Puts 0
+          (checked version (width ∷ n ∷ length rows ∷ classes ++ lengths ++ rows ++ starts ++ ends)) old
+          (set c.put_numbers-3.new.array 1 c.check_over.result)) (sym many) written,
       sym size,
     )

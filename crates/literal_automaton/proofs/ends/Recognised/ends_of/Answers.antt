@@ -12,8 +12,8 @@ use Rattle.literal_automaton.specs.Words.{ending}
 use Rattle.literal_automaton.proofs.lemmas.Chains.{first_equal_of, left_falls, up_to_all, up_to_first, up_to_more}
 use Rattle.literal_automaton.proofs.ends.Recognised.ends_of.Goals as goal
 
-pub returns-then-longest_end-pattern : goal.returns-then-longest_end-pattern
-returns-then-longest_end-pattern c = λ first.
+pub returns-then-longest_end-pattern-clause-ends : goal.returns-then-longest_end-pattern-clause-ends
+returns-then-longest_end-pattern-clause-ends c = λ first.
     absurd (c.if-longest_end-pattern.true (c.longest_end.ensures ∙ ap (λ o. unwrap_or o nothing) first))
 
 pub loop-next-init : goal.loop-next-init
@@ -58,11 +58,24 @@ loop-next-smaller c =
     left_falls texts c.requires.recognise.some few c.loop-next.next _ below
     (c.requires.links.each c.loop-next.next (omega arith) below)
 
-pub returns : goal.returns
-returns c = λ first.
+pub returns-clause-ends : goal.returns-clause-ends
+returns-clause-ends c = λ first.
     let texts = symbols_of c.args.self.now in
     let known : length texts ≡ length c.args.self.now.patterns.now =
     length-map c.args.self.now.patterns.now (λ (p : Vec ℕ). symbols_in c.args.self.now.classes.now p.items) in
     let few : length texts ≤ 2 ^ 31 - 1 = omega (arith, known, c.requires.recognise.few) in
     up_to_all texts c.requires.recognise.some few (pattern_at texts c.args.pattern) c.loop-next.list.items
     c.loop-next.next c.loop-next.invariant c.loop-next-test.false
+
+pub returns-clause-none : goal.returns-clause-none
+returns-clause-none c = λ other.
+    let r = c.args.self.now in
+    let texts = symbols_of r in
+    let known : length texts ≡ length r.patterns.now =
+    length-map r.patterns.now (λ (p : Vec ℕ). symbols_in r.classes.now p.items) in
+    let few : length texts ≤ 2 ^ 31 - 1 = omega (arith, known, c.requires.recognise.few) in
+    let below : c.args.pattern < length texts = omega (arith, known, c.requires.is_pattern) in
+    let is = first_equal_of texts c.requires.recognise.some few c.args.pattern c.longest_end.result below
+    c.longest_end.ensures in
+    absurd (other (subst (λ (f : ℕ). ending Standard texts (pattern_at texts f) ≡ Some f) c.if-longest_end-pattern.false
+    is.first_is))

@@ -16,4 +16,5 @@ loop-pattern-preserved c =
     c.in_ok-push.ensures.starts ∙ ap (λ (l : List ℕ). starts ++ length l ∷ []) ends_are in
     subst (λ (l : List ℕ). AreLists texts l c.push.new.self.starts.items (count + 1)) (sym ends_are)
     (subst (λ (l : List ℕ). AreLists texts (ends ++ list) l (count + 1)) (sym starts_are)
-    (lists_more texts ends starts list count c.loop-pattern.invariant c.in_ok-list.ensures))
+    (lists_more texts ends starts list count c.loop-pattern.invariant c.in_ok-list.ensures.ends
+    c.in_ok-list.ensures.none))

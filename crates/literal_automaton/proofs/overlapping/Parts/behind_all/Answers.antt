@@ -1,12 +1,14 @@
 use Rattle.std.proofs.Common.{ℕ, arith}
 use Rattle.std.proofs.lemmas.List.{length-map}
 use Rattle.std.specs.Global.{Vec}
+use Rattle.literal_automaton.specs.Inside.Standing.{tables_of}
 use Rattle.literal_automaton.proofs.lemmas.Standing.{stands_behind}
 use Rattle.literal_automaton.proofs.overlapping.Parts.behind_all.Goals as goal
 
 pub returns-clause-stands : goal.returns-clause-stands
 returns-clause-stands c =
-    stands_behind c.args.self.now c.requires.parts c.args.haystack.now (λ k. omega (arith, c.type_inv.haystack k))
+    stands_behind (tables_of c.args.self.now) c.requires.parts c.args.haystack.now
+    (λ k. omega (arith, c.type_inv.haystack k))
     c.args.span c.requires.valid c.len.result
     (omega (
       arith,

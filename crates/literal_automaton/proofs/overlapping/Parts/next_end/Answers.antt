@@ -3,10 +3,11 @@ use Rattle.std.proofs.Common.{MatchOption}
 use Rattle.literal_base.specs.MatchValue.{MatchValue}
 use Rattle.literal_base.specs.Occurs.{between}
 use Rattle.literal_base.specs.declared.search.MatchKind.TheVariants.{Standard}
-use Rattle.literal_automaton.specs.Inside.Standing.{HaveSameToCome, IsStanding, standing_value, texts_in}
+use Rattle.literal_automaton.specs.Inside.Standing.{HaveSameToCome, IsStanding, standing_value, tables_of}
+use Rattle.literal_automaton.specs.PreparedOverlapping.{texts_in}
 use Rattle.literal_automaton.specs.Inside.Walk.{FindsEnd, IsRow, IsTable}
 use Rattle.literal_automaton.specs.OverlappingMatchesValue.{IsToCome}
-use Rattle.literal_automaton.specs.declared.overlapping.Standing.{Standing}
+use Rattle.literal_automaton.specs.declared.standing.Standing.{Standing}
 use Rattle.literal_automaton.proofs.lemmas.Standing.{longest_below, none_to_come, nothing_to_come, row_inside}
 use Rattle.literal_automaton.proofs.lemmas.Standing.{same_to_come, some_left, stands_there}
 use Rattle.literal_automaton.proofs.lemmas.Walk.{row_at, table_of}
@@ -14,27 +15,28 @@ use Rattle.literal_automaton.proofs.overlapping.Parts.next_end.Goals as goal
 
 pub returns-then-standing-span-clause-to_come : goal.returns-then-standing-span-clause-to_come
 returns-then-standing-span-clause-to_come c =
-    nothing_to_come c.args.self.now c.requires.parts c.args.haystack.now (λ k. omega (arith, c.type_inv.haystack k))
+    nothing_to_come (tables_of c.args.self.now) c.requires.parts c.args.haystack.now
+    (λ k. omega (arith, c.type_inv.haystack k))
     c.args.span c.requires.valid c.args.standing c.requires.standing c.if-standing.false c.if-standing-span.true
 
 pub first_ended-requires-clause-table : goal.first_ended-requires-clause-table
 first_ended-requires-clause-table c =
-    let p = c.args.self.now in
-    subst (IsTable p.classes.width) (sym c.deref.ensures.value)
-    (table_of Standard (texts_in p) p.classes.width p.rows.items c.requires.parts.recognises)
+    let p = tables_of c.args.self.now in
+    subst (IsTable p.width) (sym c.as_slice.ensures)
+    (table_of Standard (texts_in p) p.width p.rows c.requires.parts.recognises)
 
 pub first_ended-requires-clause-row : goal.first_ended-requires-clause-row
 first_ended-requires-clause-row c =
-    let p = c.args.self.now in
+    let p = tables_of c.args.self.now in
     let inside = c.requires.standing.inside in
     let more : c.args.standing.at < c.args.span.end = omega arith in
-    subst (λ (rows : List ℕ). IsRow p.classes.width rows c.args.standing.place) (sym c.deref.ensures.value)
-    (row_at Standard (texts_in p) p.classes.width p.rows.items c.requires.parts.recognises _ c.args.standing.place
+    subst (λ (rows : List ℕ). IsRow p.width rows c.args.standing.place) (sym c.as_slice.ensures)
+    (row_at Standard (texts_in p) p.width p.rows c.requires.parts.recognises _ c.args.standing.place
     (c.requires.standing.stands more c.requires.parts.recognises))
 
 pub returns-in_err-stop-clause-to_come : goal.returns-in_err-stop-clause-to_come
 returns-in_err-stop-clause-to_come c =
-    let p = c.args.self.now in
+    let p = tables_of c.args.self.now in
     let s = c.args.standing in
     let inside = c.requires.standing.inside in
     let more : s.at < c.args.span.end = omega arith in
@@ -44,39 +46,39 @@ returns-in_err-stop-clause-to_come c =
     (standing_value p c.args.haystack.now c.args.span here))) (sym c.from_residual.ensures)
     (none_to_come p c.requires.parts c.args.haystack.now (λ k. omega (arith, c.type_inv.haystack k)) c.args.span
     c.requires.valid s c.requires.standing more
-    (subst (λ (rows : List ℕ). FindsEnd p.classes.width rows s.place p.classes.table c.args.haystack.now
-    (between s.at c.args.span.end) None) c.deref.ensures.value c.in_err-stop.ensures.first) c.if-standing.false)
+    (subst (λ (rows : List ℕ). FindsEnd p.width rows s.place p.classes c.args.haystack.now
+    (between s.at c.args.span.end) None) c.as_slice.ensures c.in_err-stop.ensures.first) c.if-standing.false)
 
 pub standing_at-requires-clause-row : goal.standing_at-requires-clause-row
 standing_at-requires-clause-row c =
-    let p = c.args.self.now in
+    let p = tables_of c.args.self.now in
     let s = c.args.standing in
     let inside = c.requires.standing.inside in
     let more : s.at < c.args.span.end = omega arith in
     let ends = c.in_ok-stop.ensures.inside in
     row_inside p c.requires.parts c.args.haystack.now (λ k. omega (arith, c.type_inv.haystack k)) c.args.span
     c.requires.valid s c.requires.standing more c.in_ok-stop.stop
-    (subst (λ (rows : List ℕ). FindsEnd p.classes.width rows s.place p.classes.table c.args.haystack.now
-    (between s.at c.args.span.end) (Some c.in_ok-stop.stop)) c.deref.ensures.value c.in_ok-stop.ensures.first)
+    (subst (λ (rows : List ℕ). FindsEnd p.width rows s.place p.classes c.args.haystack.now
+    (between s.at c.args.span.end) (Some c.in_ok-stop.stop)) c.as_slice.ensures c.in_ok-stop.ensures.first)
     ends.0 ends.1
 
 pub standing_at-requires-clause-listed : goal.standing_at-requires-clause-listed
 standing_at-requires-clause-listed c =
-    let p = c.args.self.now in
+    let p = tables_of c.args.self.now in
     let s = c.args.standing in
     let inside = c.requires.standing.inside in
     let more : s.at < c.args.span.end = omega arith in
     let ends = c.in_ok-stop.ensures.inside in
     let below = longest_below p c.requires.parts c.args.haystack.now (λ k. omega (arith, c.type_inv.haystack k))
     c.args.span c.requires.valid s c.requires.standing more c.in_ok-stop.stop
-    (subst (λ (rows : List ℕ). FindsEnd p.classes.width rows s.place p.classes.table c.args.haystack.now
-    (between s.at c.args.span.end) (Some c.in_ok-stop.stop)) c.deref.ensures.value c.in_ok-stop.ensures.first)
+    (subst (λ (rows : List ℕ). FindsEnd p.width rows s.place p.classes c.args.haystack.now
+    (between s.at c.args.span.end) (Some c.in_ok-stop.stop)) c.as_slice.ensures c.in_ok-stop.ensures.first)
     ends.0 ends.1 in
     omega (arith, below, c.requires.parts.lists.long)
 
 pub returns-clause-stands : goal.returns-clause-stands
 returns-clause-stands c =
-    let p = c.args.self.now in
+    let p = tables_of c.args.self.now in
     let s = c.args.standing in
     let inside = c.requires.standing.inside in
     let more : s.at < c.args.span.end = omega arith in
@@ -84,13 +86,13 @@ returns-clause-stands c =
     subst (IsStanding p c.args.haystack.now c.args.span) (sym c.standing_at.ensures)
     (stands_there p c.requires.parts c.args.haystack.now (λ k. omega (arith, c.type_inv.haystack k)) c.args.span
     c.requires.valid s c.requires.standing more c.in_ok-stop.stop
-    (subst (λ (rows : List ℕ). FindsEnd p.classes.width rows s.place p.classes.table c.args.haystack.now
-    (between s.at c.args.span.end) (Some c.in_ok-stop.stop)) c.deref.ensures.value c.in_ok-stop.ensures.first)
+    (subst (λ (rows : List ℕ). FindsEnd p.width rows s.place p.classes c.args.haystack.now
+    (between s.at c.args.span.end) (Some c.in_ok-stop.stop)) c.as_slice.ensures c.in_ok-stop.ensures.first)
     ends.0 ends.1)
 
 pub returns-clause-more : goal.returns-clause-more
 returns-clause-more c =
-    let p = c.args.self.now in
+    let p = tables_of c.args.self.now in
     let s = c.args.standing in
     let inside = c.requires.standing.inside in
     let more : s.at < c.args.span.end = omega arith in
@@ -98,13 +100,13 @@ returns-clause-more c =
     subst (λ (here : Standing). here.next < here.end) (sym c.standing_at.ensures)
     (some_left p c.requires.parts c.args.haystack.now (λ k. omega (arith, c.type_inv.haystack k)) c.args.span
     c.requires.valid s c.requires.standing more c.in_ok-stop.stop
-    (subst (λ (rows : List ℕ). FindsEnd p.classes.width rows s.place p.classes.table c.args.haystack.now
-    (between s.at c.args.span.end) (Some c.in_ok-stop.stop)) c.deref.ensures.value c.in_ok-stop.ensures.first)
+    (subst (λ (rows : List ℕ). FindsEnd p.width rows s.place p.classes c.args.haystack.now
+    (between s.at c.args.span.end) (Some c.in_ok-stop.stop)) c.as_slice.ensures c.in_ok-stop.ensures.first)
     ends.0 ends.1)
 
 pub returns-clause-to_come : goal.returns-clause-to_come
 returns-clause-to_come c =
-    let p = c.args.self.now in
+    let p = tables_of c.args.self.now in
     let s = c.args.standing in
     let inside = c.requires.standing.inside in
     let more : s.at < c.args.span.end = omega arith in
@@ -113,6 +115,6 @@ returns-clause-to_come c =
     (standing_value p c.args.haystack.now c.args.span here)) (sym c.standing_at.ensures)
     (same_to_come p c.requires.parts c.args.haystack.now (λ k. omega (arith, c.type_inv.haystack k)) c.args.span
     c.requires.valid s c.requires.standing more c.in_ok-stop.stop
-    (subst (λ (rows : List ℕ). FindsEnd p.classes.width rows s.place p.classes.table c.args.haystack.now
-    (between s.at c.args.span.end) (Some c.in_ok-stop.stop)) c.deref.ensures.value c.in_ok-stop.ensures.first)
+    (subst (λ (rows : List ℕ). FindsEnd p.width rows s.place p.classes c.args.haystack.now
+    (between s.at c.args.span.end) (Some c.in_ok-stop.stop)) c.as_slice.ensures c.in_ok-stop.ensures.first)
     ends.0 ends.1 c.if-standing.false)

@@ -20,12 +20,12 @@ returns-in_default-clause-prepared c = λ query ignore_case is.
     nothing_by c.self.invariant prepared c.args.haystack.now (λ k. omega (arith, c.type_inv.haystack k)) c.args.span
     c.requires c.in_ok-ended.ensures.found c.in_default.is
 
-pub returns-then-pattern-self-clause-prepared : goal.returns-then-pattern-self-clause-prepared
-returns-then-pattern-self-clause-prepared c = λ query ignore_case is.
+pub returns-then-pattern-front-clause-prepared : goal.returns-then-pattern-front-clause-prepared
+returns-then-pattern-front-clause-prepared c = λ query ignore_case is.
     let prepared = subst (IsPrepared query ignore_case) (sym c.self.view_is) is in
     let below = pattern_by c.self.invariant prepared c.args.haystack.now (λ k. omega (arith, c.type_inv.haystack k))
     c.args.span c.requires c.in_ok-ended.ensures.found c.in-Some.ended c.in-Some.is in
-    omega (arith, below, c.if-pattern-self.true)
+    omega (arith, below, c.if-pattern-front.true)
 
 pub returns-then-len-eq0-clause-prepared : goal.returns-then-len-eq0-clause-prepared
 returns-then-len-eq0-clause-prepared c = λ query ignore_case is.
