@@ -1,10 +1,12 @@
 -- What C asks for, and what a status says of it.
-use Rattle.std.specs.Prelude.{◌≡◌, ◌⊎◌, ◌↔◌, ◌==◌, ℕ, ℤ, ◌≤◌, List, length, if◌then◌else◌}
+use Rattle.std.specs.Prelude.{◌≡◌, ◌⊎◌, ◌↔◌, ◌==◌, ℕ, ℤ, ◌<◌, ◌≤◌, Bool, List, length, if◌then◌else◌}
 use Rattle.literal_base.specs.declared.packed.MatchKind.{MatchKind}
 use Rattle.literal_base.specs.declared.packed.MatchKind.TheVariants.{LeftmostFirst, LeftmostLongest}
 use Rattle.literal_base.specs.Query.{Query}
-use Rattle.literal_automaton.specs.DfaValue.{CanBeKept}
+use Rattle.literal_base.specs.Kinds.{root_kind_of}
+use Rattle.literal_automaton.specs.DfaValue.{CanBeKept, NeedTooManyStates}
 use Rattle.literal_automaton.specs.Prepared.{ForPrepared}
+use Rattle.literal_automaton.specs.PreparedOverlapping.{ForOverlapping}
 use Rattle.literal_c.specs.declared.TheConstants.{LITERAL_BAD_ARGUMENTS, LITERAL_LEFTMOST_FIRST}
 use Rattle.literal_c.specs.declared.TheConstants.{LITERAL_LEFTMOST_LONGEST}
 use Rattle.literal_c.specs.declared.TheConstants.{LITERAL_NONE, LITERAL_NO_SEARCHER, LITERAL_OK}
@@ -28,19 +30,35 @@ pub record Agree (kind : ℕ) (patterns ends : List ℕ) : Type 0 where
   pub is_kind : IsKind kind
   pub are_ends : AreEnds (length patterns) 0 ends
 
+-- a search for the pieces of a buffer needs too many states
+abbrev pub NeedTooMany : ℕ → Bool → List ℕ → List ℕ → Type 0
+NeedTooMany kind ignore_case patterns ends =
+    NeedTooManyStates (root_kind_of (kind_of kind)) ignore_case (pieces patterns 0 ends)
+
 -- what the status says of a call that has to search for the patterns: it is `LITERAL_BAD_ARGUMENTS` exactly if the
 -- arguments do not agree, `LITERAL_NO_SEARCHER` exactly if they agree and the patterns can't be searched for, and one
--- of the other four exactly if they agree and the patterns can be searched for
-pub record IsStatus (agree : Type 0) (patterns : List (List ℕ)) (status : ℤ) : Type 0 where
+-- of the other four exactly if they agree and the patterns can be searched for; `LITERAL_OUT_OF_MEMORY` only if there
+-- is a pattern, and `LITERAL_TOO_LARGE` only if they are too large
+pub record IsStatus (agree : Type 0) (patterns : List (List ℕ)) (are_too_large : Type 0) (status : ℤ) : Type 0 where
   pub bad_arguments : (status ≡ LITERAL_BAD_ARGUMENTS) ↔ ¬ agree
   pub no_searcher : (status ≡ LITERAL_NO_SEARCHER) ↔ (agree × ¬ CanBeKept patterns)
   pub searched : ((status ≡ LITERAL_OK) ⊎ ((status ≡ LITERAL_NONE) ⊎ ((status ≡ LITERAL_OUT_OF_MEMORY)
       ⊎ (status ≡ LITERAL_TOO_LARGE)))) ↔ (agree × CanBeKept patterns)
+  pub out_of_memory : status ≡ LITERAL_OUT_OF_MEMORY → 0 < length patterns
+  pub too_large : status ≡ LITERAL_TOO_LARGE → are_too_large
 
 -- what the status says of a call that searches by an array: it is `LITERAL_BAD_ARGUMENTS` exactly if the other
--- arguments do not agree; else the search is done, or it is `LITERAL_DAMAGED`, but not where the array is prepared for
--- any patterns
-pub record IsStatusBy (array : List ℕ) (agree : Type 0) (IsDone : ℤ → Type 0) (status : ℤ) : Type 0 where
+-- arguments do not agree; else the search is done, or it is `LITERAL_DAMAGED`, but not if the array is prepared
+pub record IsStatusOf (IfPrepared : Type 0 → Type 0) (agree : Type 0) (IsDone : ℤ → Type 0) (status : ℤ)
+    : Type 0 where
   pub bad_arguments : (status ≡ LITERAL_BAD_ARGUMENTS) ↔ ¬ agree
   pub searched : agree → IsDone status ⊎ (status ≡ LITERAL_DAMAGED)
-  pub prepared : ForPrepared array (λ _ _. ¬ (status ≡ LITERAL_DAMAGED))
+  pub prepared : IfPrepared (¬ (status ≡ LITERAL_DAMAGED))
+
+-- the same of an array that is prepared if it is for any leftmost matches
+abbrev pub IsStatusBy : List ℕ → Type 0 → (ℤ → Type 0) → ℤ → Type 0
+IsStatusBy array = IsStatusOf (λ P. ForPrepared array (λ _ _. P))
+
+-- and of one that is prepared if it is for everything that occurs of any patterns
+abbrev pub IsOverlappingStatusBy : List ℕ → Type 0 → (ℤ → Type 0) → ℤ → Type 0
+IsOverlappingStatusBy array = IsStatusOf (λ P. ForOverlapping array (λ _. P))

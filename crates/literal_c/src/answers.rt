@@ -7,12 +7,14 @@ ghost use Rattle.literal_base.specs.Query.{Query};
 ghost use Rattle.literal_automaton.specs.Prepared.{ForPrepared};
 ghost use Rattle.literal_c.specs.Answers.{IsAnswer, IsCount, IsPage, LieIn, LiesInside};
 ghost use Rattle.literal_c.specs.Answers.{answer_for_c as answer_value, match_for_c as match_value};
-ghost use Rattle.literal_c.specs.Overlapping.{IsOverlappingPage, all_that_occurs};
+ghost use Rattle.literal_automaton.specs.OverlappingMatchesValue.{OverlappingMatchesValue};
+ghost use Rattle.literal_c.specs.Inside.Given.{AreGiven};
+ghost use Rattle.literal_c.specs.Overlapping.{IsOverlappingPage};
 
-use crate::finder::Finder;
+use crate::finder::{Finder, Occurrences};
 use crate::pieces::Pieces;
 use crate::{LITERAL_NONE, LITERAL_OK, LiteralAnswer, LiteralMatch, LiteralPage};
-use literal_search::{Damaged, Match, Overlapping, Prepared, Span};
+use literal_search::{Damaged, Match, Prepared, Span};
 
 /// A match as C has it.
 pub fn match_for_c(found: &Match) -> LiteralMatch
@@ -83,41 +85,40 @@ pub fn write_page<F: Finder>(
     })
 }
 
-/// Writes everything that occurs in a span of the haystack, as much as there is room for, and says how much and what is
+/// Writes what an iteration gives that begins at an offset, as much as there is room for, and says how much and what is
 /// left.
-pub fn write_overlapping(
-    search: &Overlapping,
-    haystack: &[u8],
-    span: Span,
+pub fn write_overlapping<M: Occurrences + Drop>(
+    mut matches: M,
+    start: usize,
     found: &mut [LiteralMatch],
-) -> LiteralPage
-    requires { IsValidSpan haystack.now span }
-    ensures { IsOverlappingPage (all_that_occurs search.now haystack.now span) found.old found.new result }
+) -> Result<LiteralPage, Damaged>
+    ensures page { (m : OverlappingMatchesValue) → M.stands_at matches m → m.end ≡ start
+        → IsOkAnd result (IsOverlappingPage m found.old found.new) }
+    ensures inside { IfOk result (λ page. AreGiven (M.may_give matches) start found.new page) }
 {
-    let mut matches = search.find_overlapping_in(haystack, span);
-    let mut next = span.start;
+    let mut next = start;
     let mut written: usize = 0;
     for place in found.iter_mut() {
-        let Some(it) = matches.next() else {
-            return LiteralPage {
+        let Some(it) = matches.next_match()? else {
+            return Ok(LiteralPage {
                 written,
                 next,
                 is_last: 1,
-            };
+            });
         };
         *place = match_for_c(&it);
         written += 1;
         next = it.end();
     }
-    let is_last = match matches.next() {
+    let is_last = match matches.next_match()? {
         None => 1,
         Some(_) => 0,
     };
-    LiteralPage {
+    Ok(LiteralPage {
         written,
         next,
         is_last,
-    }
+    })
 }
 
 /// Answers for each haystack, of which there are as many as answers.

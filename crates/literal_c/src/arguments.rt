@@ -1,7 +1,8 @@
 //! What C asks for: a kind of match by its number, and patterns.
 ghost use Rattle.std.specs.Prelude.{◌≡◌, ◌↔◌, IsTrue, MatchOption, MatchResult, length};
-ghost use Rattle.literal_automaton.specs.DfaValue.{CanBeKept, dfa_for};
-ghost use Rattle.literal_c.specs.Arguments.{Agree, IsKind, kind_of};
+ghost use Rattle.literal_base.specs.declared.search.MatchKind.TheVariants.{Standard};
+ghost use Rattle.literal_automaton.specs.DfaValue.{CanBeKept, NeedTooManyStates, dfa_for};
+ghost use Rattle.literal_c.specs.Arguments.{Agree, IsKind, NeedTooMany, kind_of};
 ghost use Rattle.literal_c.specs.Inside.Refusal.{IsRefused, status_of};
 ghost use Rattle.literal_c.specs.Overlapping.{overlapping_for};
 ghost use Rattle.literal_c.specs.Pieces.{AreEnds, pieces};
@@ -63,7 +64,8 @@ pub fn search_for(
     ensures { MatchResult result
         (λ search. Agree kind patterns.now ends.now × CanBeKept (pieces patterns.now 0 ends.now)
         × (search ≡ dfa_for (kind_of kind) ignore_case (pieces patterns.now 0 ends.now)))
-        (IsRefused (Agree kind patterns.now ends.now) (pieces patterns.now 0 ends.now)) }
+        (IsRefused (Agree kind patterns.now ends.now) (pieces patterns.now 0 ends.now)
+        (NeedTooMany kind ignore_case patterns.now ends.now)) }
 {
     let Some(kind) = match_kind(kind) else {
         return Err(Refusal::BadArguments);
@@ -76,8 +78,8 @@ pub fn search_for(
     }
     match Search::new(alloc, kind, ignore_case, Pieces::new(patterns, ends)) {
         Ok(search) => Ok(search),
-        Err(BuildError::OutOfMemory) => Err(Refusal::OutOfMemory),
-        Err(_) => Err(Refusal::TooLarge),
+        Err(BuildError::TooManyStates) => Err(Refusal::TooLarge),
+        Err(_) => Err(Refusal::OutOfMemory),
     }
 }
 
@@ -91,7 +93,8 @@ pub fn search_for_all(
     ensures { MatchResult result
         (λ search. AreEnds (length patterns.now) 0 ends.now × CanBeKept (pieces patterns.now 0 ends.now)
         × (search ≡ overlapping_for (pieces patterns.now 0 ends.now) ignore_case))
-        (IsRefused (AreEnds (length patterns.now) 0 ends.now) (pieces patterns.now 0 ends.now)) }
+        (IsRefused (AreEnds (length patterns.now) 0 ends.now) (pieces patterns.now 0 ends.now)
+        (NeedTooManyStates Standard ignore_case (pieces patterns.now 0 ends.now))) }
 {
     if !are_ends(patterns.len(), ends) {
         return Err(Refusal::BadArguments);
@@ -101,8 +104,8 @@ pub fn search_for_all(
     }
     match Overlapping::new(alloc, ignore_case, Pieces::new(patterns, ends)) {
         Ok(search) => Ok(search),
-        Err(BuildError::OutOfMemory) => Err(Refusal::OutOfMemory),
-        Err(_) => Err(Refusal::TooLarge),
+        Err(BuildError::TooManyStates) => Err(Refusal::TooLarge),
+        Err(_) => Err(Refusal::OutOfMemory),
     }
 }
 

@@ -1,7 +1,7 @@
 //! What the calls for C search by: a search of their own, or numbers that C lends.
 ghost use Rattle.std.specs.Prelude.{◌≡◌};
 
-use literal_search::{Damaged, Match, Prepared, Search, Span};
+use literal_search::{Damaged, Match, OverlappingMatches, Prepared, PreparedMatches, Search, Span};
 
 /// A search, which may be by damaged numbers.
 pub trait Finder {
@@ -38,5 +38,53 @@ impl Finder for Prepared<'_> {
 
     fn find_in(&self, haystack: &[u8], span: Span) -> Result<Option<Match>, Damaged> {
         Prepared::find_in(self, haystack, span)
+    }
+}
+
+/// An iteration over everything that occurs, which may be by damaged numbers.
+pub trait Occurrences {
+    ghost use Rattle.std.specs.Prelude.{IfOk, IfSome};
+    ghost use Rattle.std.specs.Result.{IsOkAnd};
+    ghost use Rattle.literal_base.specs.MatchValue.{MatchValue};
+    ghost use Rattle.literal_automaton.specs.OverlappingMatchesValue.{GivesOverlapping, OverlappingMatchesValue};
+    ghost use Rattle.literal_automaton.specs.OverlappingMatchesValue.{gone_on};
+
+    /// Where it stands, if it is whole.
+    ghost stands_at: { Self → OverlappingMatchesValue → Type 0 };
+
+    /// What it may give, whatever the numbers are.
+    ghost may_give: { Self → MatchValue → Type 0 };
+
+    /// The next occurrence.
+    fn next_match(&mut self) -> Result<Option<Match>, Damaged>
+        ensures found { (m : OverlappingMatchesValue) → stands_at self.old m → IsOkAnd result
+            (λ answer. GivesOverlapping m answer (gone_on m answer) × stands_at self.new (gone_on m answer)) }
+        ensures inside { IfOk result (λ answer. IfSome answer (may_give self.old)) }
+        ensures same { (found : MatchValue) → may_give self.new found → may_give self.old found };
+}
+
+impl Occurrences for OverlappingMatches<'_, '_> {
+    ghost use Rattle.std.specs.Prelude.{⊤};
+
+    ghost stands_at = { λ matches m. m ≡ matches };
+
+    ghost may_give = { λ _ _. ⊤ };
+
+    fn next_match(&mut self) -> Result<Option<Match>, Damaged> {
+        Ok(self.next())
+    }
+}
+
+impl Occurrences for PreparedMatches<'_, '_, '_> {
+    ghost use Rattle.literal_automaton.specs.Prepared.{LiesIn};
+    ghost use Rattle.literal_automaton.specs.PreparedOverlapping.{IsPreparedOverlapping, matches_for};
+
+    ghost stands_at = { λ matches m. IsPreparedOverlapping m.search matches.numbers
+        × (m ≡ matches_for m.search matches) };
+
+    ghost may_give = { λ matches found. LiesIn matches.span found };
+
+    fn next_match(&mut self) -> Result<Option<Match>, Damaged> {
+        PreparedMatches::next_match(self)
     }
 }

@@ -3,17 +3,23 @@
 //! Bytes cross as a pointer and a length. A list of byte strings crosses as one buffer and where each of its pieces
 //! ends: piece i is the bytes from `ends[i - 1]`, for the first from 0, up to and not including `ends[i]`. Each call
 //! answers a status, and keeps nothing when it returns. It builds its search anew, except for those whose names end in
-//! `_in`, which search by an array that [`literal_prepare`] filled.
+//! `_in`, which search by an array that [`literal_prepare`] filled, or [`literal_prepare_overlapping`].
 #![tactic(auto)]
 
-ghost use Rattle.std.specs.Prelude.{◌≡◌, ◌⊎◌, ◌↔◌, ◌-◌, ◌<◌, ◌≤◌, List, ℕ, length};
+ghost use Rattle.std.specs.Prelude.{◌≡◌, ◌⊎◌, ◌↔◌, ◌-◌, ◌≤◌, length};
 ghost use Rattle.std.specs.List.{AllZip};
 ghost use Rattle.literal_base.specs.Leftmost.{IsLeftmostMatch};
 ghost use Rattle.literal_base.specs.Occurs.{IsValidSpan, NothingOccurs, between, rest_from};
-ghost use Rattle.literal_automaton.specs.DfaValue.{CanBeKept};
-ghost use Rattle.literal_automaton.specs.Prepared.{ForPrepared, IsPrepared, IsWhole, LiesIn, WritesPrepared};
+ghost use Rattle.literal_base.specs.declared.search.MatchKind.TheVariants.{Standard};
+ghost use Rattle.literal_automaton.specs.DfaValue.{CanBeKept, NeedTooManyStates};
+ghost use Rattle.literal_automaton.specs.Prepared.{AreShort, ForPrepared, IsWhole, LiesIn, RefusesToPrepare};
+ghost use Rattle.literal_automaton.specs.Prepared.{WritesPrepared};
+ghost use Rattle.literal_automaton.specs.PreparedOverlapping.{ForOverlapping, HasLongLists, RefusesOverlapping};
+ghost use Rattle.literal_automaton.specs.PreparedOverlapping.{WritesOverlapping};
+ghost use Rattle.literal_automaton.specs.declared.prepared.PrepareError.TheVariants.{ArrayTooShort};
 ghost use Rattle.literal_c.specs.Answers.{IsAnswer, IsCount, IsPage, LieIn, LiesInside, match_of};
-ghost use Rattle.literal_c.specs.Arguments.{Agree, IsStatus, IsStatusBy, argument_query};
+ghost use Rattle.literal_c.specs.Arguments.{Agree, IsOverlappingStatusBy, IsStatus, IsStatusBy, NeedTooMany};
+ghost use Rattle.literal_c.specs.Arguments.{argument_query};
 ghost use Rattle.literal_c.specs.Overlapping.{IsOverlappingPage, all_that_occurs, overlapping_for};
 ghost use Rattle.literal_c.specs.Pieces.{AreEnds, pieces};
 
@@ -29,7 +35,7 @@ mod tests;
 
 use answers::{answer_each, count_matches, match_for_c, write_overlapping, write_page};
 use arguments::{can_be_searched, search_for, search_for_all};
-use literal_search::{Damaged, PrepareError, Prepared, Span};
+use literal_search::{Damaged, PrepareError, Prepared, PreparedOverlapping, Span};
 use pieces::{Pieces, are_ends};
 use std::alloc::Global;
 
@@ -125,7 +131,7 @@ pub extern "C" fn literal_find(
     found: &mut LiteralMatch,
 ) -> i32
     ensures status { IsStatus (Agree kind patterns.now ends.now × IsValidSpan haystack.now (between start end))
-        (pieces patterns.now 0 ends.now) result }
+        (pieces patterns.now 0 ends.now) (NeedTooMany kind ignore_case patterns.now ends.now) result }
     ensures found { result ≡ LITERAL_OK → IsLeftmostMatch (argument_query kind patterns.now ends.now) ignore_case
         haystack.now (between start end) (match_of found.new) }
     ensures none { result ≡ LITERAL_NONE
@@ -166,7 +172,7 @@ pub extern "C" fn literal_find_all(
     page: &mut LiteralPage,
 ) -> i32
     ensures status { IsStatus (Agree kind patterns.now ends.now × (from ≤ length haystack.now))
-        (pieces patterns.now 0 ends.now) result }
+        (pieces patterns.now 0 ends.now) (NeedTooMany kind ignore_case patterns.now ends.now) result }
     ensures page { result ≡ LITERAL_OK → IsPage (argument_query kind patterns.now ends.now) ignore_case haystack.now
         (rest_from haystack.now from) found.old found.new page.new }
     ensures as_before { (result ≡ LITERAL_OK) ⊎ ((found.new ≡ found.old) × (page.new ≡ page.old)) }
@@ -206,7 +212,8 @@ pub extern "C" fn literal_find_overlapping(
     page: &mut LiteralPage,
 ) -> i32
     ensures status { IsStatus (AreEnds (length patterns.now) 0 ends.now × IsValidSpan haystack.now (between start end))
-        (pieces patterns.now 0 ends.now) result }
+        (pieces patterns.now 0 ends.now)
+        (NeedTooManyStates Standard ignore_case (pieces patterns.now 0 ends.now)) result }
     ensures page { result ≡ LITERAL_OK → IsOverlappingPage
         (all_that_occurs (overlapping_for (pieces patterns.now 0 ends.now) ignore_case) haystack.now
         (between start end)) found.old found.new page.new }
@@ -219,8 +226,14 @@ pub extern "C" fn literal_find_overlapping(
     match search_for_all(alloc, ignore_case, patterns, ends) {
         Err(refusal) => refusal.status(),
         Ok(search) => {
-            *page = write_overlapping(&search, haystack, Span { start, end }, found);
-            LITERAL_OK
+            let matches = search.find_overlapping_in(haystack, Span { start, end });
+            match write_overlapping(matches, start, found) {
+                Err(Damaged) => LITERAL_DAMAGED,
+                Ok(written) => {
+                    *page = written;
+                    LITERAL_OK
+                }
+            }
         }
     }
 }
@@ -241,7 +254,8 @@ pub extern "C" fn literal_find_each(
     answers: &mut [LiteralAnswer],
 ) -> i32
     ensures status { IsStatus (Agree kind patterns.now ends.now × AreEnds (length haystacks.now) 0 haystack_ends.now
-        × (length answers.old ≡ length haystack_ends.now)) (pieces patterns.now 0 ends.now) result }
+        × (length answers.old ≡ length haystack_ends.now)) (pieces patterns.now 0 ends.now)
+        (NeedTooMany kind ignore_case patterns.now ends.now) result }
     ensures answers { result ≡ LITERAL_OK → AllZip (IsAnswer (argument_query kind patterns.now ends.now) ignore_case)
         (pieces haystacks.now 0 haystack_ends.now) answers.new }
     ensures as_before { (result ≡ LITERAL_OK) ⊎ (answers.new ≡ answers.old) }
@@ -275,13 +289,14 @@ pub extern "C" fn literal_prepare(
     prepared: &mut [u32],
     needed: &mut usize,
 ) -> i32
-    ensures status { IsStatus (Agree kind patterns.now ends.now) (pieces patterns.now 0 ends.now) result
+    ensures status { IsStatus (Agree kind patterns.now ends.now) (pieces patterns.now 0 ends.now)
+        (NeedTooMany kind ignore_case patterns.now ends.now ⊎ ¬ AreShort (pieces patterns.now 0 ends.now)) result
         ⊎ ((result ≡ LITERAL_TOO_SHORT) × Agree kind patterns.now ends.now
         × CanBeKept (pieces patterns.now 0 ends.now)) }
     ensures ok { result ≡ LITERAL_OK → WritesPrepared (argument_query kind patterns.now ends.now) ignore_case
         prepared.old prepared.new needed.new }
-    ensures too_short { result ≡ LITERAL_TOO_SHORT → (length prepared.old < needed.new) × ((numbers : List ℕ)
-        × IsPrepared (argument_query kind patterns.now ends.now) ignore_case numbers × (length numbers ≡ needed.new)) }
+    ensures too_short { result ≡ LITERAL_TOO_SHORT → RefusesToPrepare (argument_query kind patterns.now ends.now)
+        ignore_case prepared.old (ArrayTooShort needed.new) }
     ensures as_before { (result ≡ LITERAL_OK) ⊎ (prepared.new ≡ prepared.old) }
     ensures needed { ((result ≡ LITERAL_OK) ⊎ (result ≡ LITERAL_TOO_SHORT)) ⊎ (needed.new ≡ needed.old) }
     ensures not_none { ¬ (result ≡ LITERAL_NONE) }
@@ -297,13 +312,58 @@ pub extern "C" fn literal_prepare(
                 *needed = places;
                 LITERAL_TOO_SHORT
             }
-            Err(PrepareError::PatternTooLong) => LITERAL_TOO_LARGE,
+            Err(PrepareError::PatternTooLong | PrepareError::ListsTooLong) => LITERAL_TOO_LARGE,
+        },
+    }
+}
+
+/// The same for everything that occurs: a search by which [`literal_find_overlapping_in`] searches. The statuses come
+/// as from [`literal_prepare`], and [`LITERAL_TOO_LARGE`] also where the lists of the patterns that are an end of
+/// another have 2^32 numbers or more. The array takes one place more for each pattern, and in lists one for each that
+/// is an end of it.
+#[unsafe(no_mangle)]
+pub extern "C" fn literal_prepare_overlapping(
+    alloc: Global,
+    ignore_case: bool,
+    patterns: &[u8],
+    ends: &[usize],
+    prepared: &mut [u32],
+    needed: &mut usize,
+) -> i32
+    ensures status { IsStatus (AreEnds (length patterns.now) 0 ends.now) (pieces patterns.now 0 ends.now)
+        (NeedTooManyStates Standard ignore_case (pieces patterns.now 0 ends.now)
+        ⊎ (¬ AreShort (pieces patterns.now 0 ends.now)
+        ⊎ HasLongLists (overlapping_for (pieces patterns.now 0 ends.now) ignore_case))) result
+        ⊎ ((result ≡ LITERAL_TOO_SHORT) × AreEnds (length patterns.now) 0 ends.now
+        × CanBeKept (pieces patterns.now 0 ends.now)) }
+    ensures ok { result ≡ LITERAL_OK → WritesOverlapping (overlapping_for (pieces patterns.now 0 ends.now) ignore_case)
+        prepared.old prepared.new needed.new }
+    ensures too_short { result ≡ LITERAL_TOO_SHORT
+        → RefusesOverlapping (overlapping_for (pieces patterns.now 0 ends.now) ignore_case) prepared.old
+        (ArrayTooShort needed.new) }
+    ensures as_before { (result ≡ LITERAL_OK) ⊎ (prepared.new ≡ prepared.old) }
+    ensures needed { ((result ≡ LITERAL_OK) ⊎ (result ≡ LITERAL_TOO_SHORT)) ⊎ (needed.new ≡ needed.old) }
+    ensures not_none { ¬ (result ≡ LITERAL_NONE) }
+{
+    match search_for_all(alloc, ignore_case, patterns, ends) {
+        Err(refusal) => refusal.status(),
+        Ok(search) => match search.prepare(prepared) {
+            Ok(places) => {
+                *needed = places;
+                LITERAL_OK
+            }
+            Err(PrepareError::ArrayTooShort(places)) => {
+                *needed = places;
+                LITERAL_TOO_SHORT
+            }
+            Err(PrepareError::PatternTooLong | PrepareError::ListsTooLong) => LITERAL_TOO_LARGE,
         },
     }
 }
 
 /// Whether an array begins with a whole search: [`LITERAL_OK`], as for each that [`literal_prepare`] wrote, or
-/// [`LITERAL_DAMAGED`]. It goes over all numbers of the search, and finds each change of one of them.
+/// [`LITERAL_DAMAGED`]. It goes over all numbers of the search, and finds each change of one of them that does not say
+/// how many there are, and most others.
 #[unsafe(no_mangle)]
 pub extern "C" fn literal_check_prepared(prepared: &[u32]) -> i32
     ensures ok { (result ≡ LITERAL_OK) ↔ IsWhole prepared.now }
@@ -445,6 +505,42 @@ pub extern "C" fn literal_count_in(
         Err(Damaged) => LITERAL_DAMAGED,
         Ok(matches) => {
             *count = matches;
+            LITERAL_OK
+        }
+    }
+}
+
+/// Answers as [`literal_find_overlapping`], by a search that [`literal_prepare_overlapping`] wrote.
+/// [`LITERAL_BAD_ARGUMENTS`] and [`LITERAL_DAMAGED`] come as from [`literal_find_in`], and after any status but
+/// [`LITERAL_OK`] the page and the array of matches are as after [`literal_find_all_in`].
+#[unsafe(no_mangle)]
+pub extern "C" fn literal_find_overlapping_in(
+    prepared: &[u32],
+    haystack: &[u8],
+    start: usize,
+    end: usize,
+    found: &mut [LiteralMatch],
+    page: &mut LiteralPage,
+) -> i32
+    ensures status { IsOverlappingStatusBy prepared.now (IsValidSpan haystack.now (between start end))
+        (λ status. status ≡ LITERAL_OK) result }
+    ensures page { ForOverlapping prepared.now (λ search. result ≡ LITERAL_OK → IsOverlappingPage
+        (all_that_occurs search haystack.now (between start end)) found.old found.new page.new) }
+    ensures inside { result ≡ LITERAL_OK → LieIn (between start end) found.new page.new }
+    ensures as_before { (result ≡ LITERAL_OK) ⊎ (page.new ≡ page.old) }
+    ensures refused { result ≡ LITERAL_BAD_ARGUMENTS → found.new ≡ found.old }
+{
+    if start > end || end > haystack.len() {
+        return LITERAL_BAD_ARGUMENTS;
+    }
+    let Ok(search) = PreparedOverlapping::new(prepared) else {
+        return LITERAL_DAMAGED;
+    };
+    let matches = search.find_overlapping_in(haystack, Span { start, end });
+    match write_overlapping(matches, start, found) {
+        Err(Damaged) => LITERAL_DAMAGED,
+        Ok(written) => {
+            *page = written;
             LITERAL_OK
         }
     }

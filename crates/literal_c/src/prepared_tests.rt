@@ -3,7 +3,8 @@ use crate::{
     LITERAL_BAD_ARGUMENTS, LITERAL_DAMAGED, LITERAL_LEFTMOST_FIRST, LITERAL_LEFTMOST_LONGEST,
     LITERAL_NO_SEARCHER, LITERAL_NONE, LITERAL_OK, LITERAL_TOO_SHORT, LiteralAnswer, LiteralMatch,
     LiteralPage, literal_check_prepared, literal_count_in, literal_find_all_in,
-    literal_find_each_in, literal_find_in, literal_prepare,
+    literal_find_each_in, literal_find_in, literal_find_overlapping_in, literal_prepare,
+    literal_prepare_overlapping,
 };
 use std::alloc::Global;
 use std::process::Abort;
@@ -202,5 +203,80 @@ fn searches_by_any_numbers(rt: HostRuntime) -> Result<(), Fail> {
         }
         assert!(rt; damaged_answers(&prepared) > 0);
     }
+    Ok(())
+}
+
+/// A search for all that occurs of three words, with case ignored, and three places more.
+fn search_for_all_of(alloc: Global) -> Result<Vec<u32>, Fail> {
+    let (words, ends) = (b"abab", [2, 3, 4]);
+    let mut needed = 0;
+    let status = literal_prepare_overlapping(alloc, true, words, &ends, &mut [], &mut needed);
+    if status != LITERAL_TOO_SHORT || needed > 10_000 {
+        return Err(Fail::from("no room is asked for"));
+    }
+    let mut prepared = vec![in alloc; 7; needed + 3]?;
+    let full = needed;
+    let status = literal_prepare_overlapping(alloc, true, words, &ends, &mut prepared, &mut needed);
+    if status != LITERAL_OK || needed != full || !prepared.ends_with(&[7, 7, 7]) {
+        return Err(Fail::from("nothing is written"));
+    }
+    Ok(prepared)
+}
+
+#[test]
+fn prepares_for_all_that_occurs(rt: HostRuntime) -> Result<(), Fail> {
+    let alloc = rt.alloc();
+    let mut prepared = search_for_all_of(alloc)?;
+    assert!(rt; literal_check_prepared(&prepared) == LITERAL_DAMAGED);
+    let mut needed = 5;
+    let status = literal_prepare_overlapping(
+        alloc,
+        true,
+        b"a",
+        &[0, 1],
+        &mut prepared,
+        &mut needed,
+    );
+    assert!(rt; status == LITERAL_NO_SEARCHER && needed == 5);
+    let status = literal_prepare_overlapping(alloc, true, b"a", &[2], &mut prepared, &mut needed);
+    assert!(rt; status == LITERAL_BAD_ARGUMENTS && needed == 5);
+    let mut found = BEFORE;
+    assert!(rt; literal_find_in(&prepared, TEXT, 0, 51, &mut found) == LITERAL_DAMAGED);
+    Ok(())
+}
+
+#[test]
+fn finds_all_that_occurs_by_an_array(rt: HostRuntime) -> Result<(), Fail> {
+    let mut prepared = search_for_all_of(rt.alloc())?;
+    let mut found = [BEFORE, BEFORE];
+    let mut page = LiteralPage {
+        written: 0,
+        next: 0,
+        is_last: 7,
+    };
+    let status = literal_find_overlapping_in(&prepared, b"xAB", 0, 3, &mut found, &mut page);
+    assert!(rt; status == LITERAL_OK && page.written == 2 && page.next == 3 && page.is_last == 0);
+    assert_match(&rt, &found[0], (1, 1, 2));
+    assert_match(&rt, &found[1], (0, 1, 3));
+    let status = literal_find_overlapping_in(&prepared, b"xAB", 2, 3, &mut found, &mut page);
+    assert!(rt; status == LITERAL_OK && page.written == 1 && page.next == 3 && page.is_last == 1);
+    assert_match(&rt, &found[0], (2, 2, 3));
+    let status = literal_find_overlapping_in(&prepared, b"xAB", 2, 4, &mut found, &mut page);
+    assert!(rt; status == LITERAL_BAD_ARGUMENTS && page.written == 1);
+    let status = literal_find_overlapping_in(&[], b"xAB", 2, 3, &mut found, &mut page);
+    assert!(rt; status == LITERAL_DAMAGED && page.written == 1);
+    let mut is_noticed = false;
+    for place in 0..prepared.len() {
+        let before = prepared[place];
+        for number in [before ^ (1 << (place % 32)), !before] {
+            prepared[place] = number;
+            let status = literal_find_overlapping_in(
+                &prepared, b"xABab", 0, 5, &mut found, &mut page,
+            );
+            is_noticed |= status == LITERAL_DAMAGED;
+        }
+        prepared[place] = before;
+    }
+    assert!(rt; is_noticed);
     Ok(())
 }

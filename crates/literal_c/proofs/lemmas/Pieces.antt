@@ -2,18 +2,21 @@
 -- For `Pieces`, `are_ends`, `can_be_searched`, `search_for` and `answer_each`.
 use Rattle.std.proofs.Common.{◌≡◌, ◌↔◌, ℕ, ◌+◌, ◌<◌, ◌≤◌, List, [], ◌∷◌, ◌++◌, length, get_or, drop, map, Bor, suc}
 use Rattle.std.proofs.Common.{refl, sym, ap, ◌∙◌, subst, arith, add-one}
-use Rattle.std.proofs.Common.{Bool, take, append_assoc}
+use Rattle.std.proofs.Common.{Bool, Some, inl, inr, take, append_assoc}
 use Rattle.std.proofs.Math.ListN.{set}
 use Rattle.std.proofs.Math.Seq.{drop-cons, take-suc-set}
 use Rattle.std.proofs.lemmas.List.{length-append, length-map, map-append}
 use Rattle.std.proofs.lemmas.List.Elements.{All-cons}
-use Rattle.std.specs.Iterator.{Drains, YieldsFirstRef}
+use Rattle.std.specs.Iterator.{Drains, Yields, YieldsFirstRef}
 use Rattle.std.specs.List.{AllZip}
 use Rattle.literal_base.specs.declared.packed.MatchKind.{MatchKind}
 use Rattle.literal_base.specs.Occurs.{NoneIsEmpty}
 use Rattle.literal_automaton.specs.Overlapping.{BuildsOverlapping, OverlappingValue}
 use Rattle.literal_c.specs.Overlapping.{overlapping_for}
-use Rattle.literal_automaton.specs.DfaValue.{BuildsDfa, DfaValue, dfa_for}
+use Rattle.literal_automaton.specs.DfaValue.{BuildsDfa, DfaValue, GivesNext, RefusesDfa, dfa_for}
+use Rattle.literal_automaton.specs.declared.BuildError.{BuildError}
+use Rattle.literal_automaton.specs.declared.BuildError.TheVariants.{EmptyPattern, OutOfMemory, TooManyPatterns}
+use Rattle.literal_automaton.specs.declared.BuildError.TheVariants.{TooManyStates}
 use Rattle.literal_c.specs.declared.LiteralAnswer.{LiteralAnswer}
 use Rattle.literal_c.specs.Pieces.{AreEnds, pieces}
 
@@ -66,6 +69,47 @@ pub all_built_for : (ignore_case : Bool) (left : List (List ℕ)) (built : Overl
     left ignore_case built → built ≡ overlapping_for left ignore_case
 all_built_for ignore_case left built (patterns, (it, items, is_iterator, drains, are, can), is) =
     is ∙ ap (λ (list : List (List ℕ)). overlapping_for list ignore_case) (are ∙ (drained it items drains ∙ is_iterator))
+
+-- where there is no search for pieces that are handed over, since they need too many states, they do need them
+pub too_many_for : (P : List (List ℕ) → Type 0) (left : List (List ℕ)) (error : BuildError)
+    → RefusesDfa (λ (patterns it : List (List ℕ)). it ≡ patterns) (YieldsFirstRef (λ (s : List (List ℕ)). s)) left P
+    error → error ≡ TooManyStates → P left
+too_many_for P left TooManyStates (patterns, (it, items, is_iterator, drains, are, can), too_many) is =
+    subst P (are ∙ (drained it items drains ∙ is_iterator)) too_many
+too_many_for P left (EmptyPattern number) refused is = absurd (cc)
+too_many_for P left TooManyPatterns refused is = absurd (cc)
+too_many_for P left OutOfMemory refused is = absurd (cc)
+
+-- an iteration over pieces that gives one more begins with one
+more_given : (it : List (List ℕ)) (items : List (Bor (List ℕ))) (before : List (List ℕ)) (item : Bor (List ℕ))
+    (after : List (List ℕ)) → Yields (YieldsFirstRef (λ (s : List (List ℕ)). s)) it items before
+    → YieldsFirstRef (λ (s : List (List ℕ)). s) before (Some item) after → 0 < length it
+more_given it [] before item after stays gives =
+    omega (arith, ap (λ (l : List (List ℕ)). length l) stays, ap (λ (l : List (List ℕ)). length l) gives)
+more_given it (first ∷ more) before item after run gives =
+    omega (arith, ap (λ (l : List (List ℕ)). length l) run.1)
+
+given_next : (left patterns : List (List ℕ)) (next : List ℕ)
+    → GivesNext (λ (patterns it : List (List ℕ)). it ≡ patterns) (YieldsFirstRef (λ (s : List (List ℕ)). s)) left
+    patterns next → 0 < length left
+given_next left patterns next one =
+    let some = more_given one.iterator one.items one.before one.item one.after one.gave one.gives in
+    omega (arith, some, ap (λ (l : List (List ℕ)). length l) one.is_iterator)
+
+-- where there is no search for pieces, there is one of them, if none do not need too many states
+pub some_for : (P : List (List ℕ) → Type 0) (left : List (List ℕ)) (error : BuildError)
+    → RefusesDfa (λ (patterns it : List (List ℕ)). it ≡ patterns) (YieldsFirstRef (λ (s : List (List ℕ)). s)) left P
+    error → ¬ P [] → 0 < length left
+some_for P left TooManyStates refused few = by left (too_many_for P left TooManyStates refused refl)
+  where
+    by : (list : List (List ℕ)) → P list → 0 < length list
+    by [] too_many = absurd (few too_many)
+    by (piece ∷ more) too_many = omega arith
+some_for P left (EmptyPattern number) refused few = given_next left refused.0 refused.1 refused.2
+some_for P left TooManyPatterns refused few = given_next left refused.0 refused.1 refused.2
+some_for P left OutOfMemory (inl one) few = given_next left one.0 one.1 one.2
+some_for P left OutOfMemory (inr (patterns, (it, items, is_iterator, drains, are, can), some)) few =
+    omega (arith, some, ap (λ (l : List (List ℕ)). length l) (are ∙ (drained it items drains ∙ is_iterator)))
 
 -- whether a pattern is empty, among those that are left and those behind the first of these
 pub tail_not_empty : (first : List ℕ) (more : List (List ℕ)) → NoneIsEmpty (first ∷ more) → NoneIsEmpty more

@@ -1,10 +1,11 @@
 use Rattle.std.proofs.Common.{subst, sym}
-use Rattle.literal_automaton.specs.Prepared.{IsPrepared}
+use Rattle.literal_automaton.specs.Prepared.{ForPrepared, IsPrepared}
 use Rattle.literal_c.proofs.lemmas.Statuses.{damaged}
 use Rattle.literal_c.proofs.literal_count_in.Goals as goal
 
 pub returns-in-Err-clause-status : goal.returns-in-Err-clause-status
 returns-in-Err-clause-status c =
-    damaged c.args.prepared.now _ _ (record { ordered = c.if-start-end.false; in_haystack = c.if-end-haystack.false })
-    (λ query ignore_case is. c.in-Err.ensures.count query ignore_case
+    damaged (λ P. ForPrepared c.args.prepared.now (λ _ _. P)) _ _
+    (record { ordered = c.if-start-end.false; in_haystack = c.if-end-haystack.false })
+    (λ query ignore_case is _. c.in-Err.ensures.count query ignore_case
     (subst (IsPrepared query ignore_case) (sym c.in-Ok.ensures.0) is))

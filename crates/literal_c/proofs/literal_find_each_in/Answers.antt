@@ -1,5 +1,5 @@
 use Rattle.std.proofs.Common.{length, ap, arith, subst, sym}
-use Rattle.literal_automaton.specs.Prepared.{IsPrepared}
+use Rattle.literal_automaton.specs.Prepared.{ForPrepared, IsPrepared}
 use Rattle.literal_c.proofs.lemmas.Pieces.{pieces_are_as_many}
 use Rattle.literal_c.proofs.lemmas.Statuses.{damaged}
 use Rattle.literal_c.proofs.literal_find_each_in.Goals as goal
@@ -14,6 +14,7 @@ answer_each-requires c = omega (
 
 pub returns-in-Err-clause-status : goal.returns-in-Err-clause-status
 returns-in-Err-clause-status c =
-    damaged c.args.prepared.now _ _ (c.are_ends.ensures.0 c.if-not-are_ends.false, c.if-answers-haystack_ends.false)
-    (λ query ignore_case is. c.in-Err.ensures.answers query ignore_case
+    damaged (λ P. ForPrepared c.args.prepared.now (λ _ _. P)) _ _
+    (c.are_ends.ensures.0 c.if-not-are_ends.false, c.if-answers-haystack_ends.false)
+    (λ query ignore_case is _. c.in-Err.ensures.answers query ignore_case
     (subst (IsPrepared query ignore_case) (sym c.in-Ok.ensures.0) is))

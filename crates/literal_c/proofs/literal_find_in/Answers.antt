@@ -2,15 +2,16 @@ use Rattle.std.proofs.Common.{Option, subst, sym}
 use Rattle.literal_base.specs.Leftmost.{IsLeftmost, IsLeftmostMatch}
 use Rattle.literal_base.specs.MatchValue.{MatchValue}
 use Rattle.literal_base.specs.Occurs.{between}
-use Rattle.literal_automaton.specs.Prepared.{IsPrepared}
+use Rattle.literal_automaton.specs.Prepared.{ForPrepared, IsPrepared}
 use Rattle.literal_c.specs.Answers.{match_of}
 use Rattle.literal_c.proofs.lemmas.Statuses.{damaged}
 use Rattle.literal_c.proofs.literal_find_in.Goals as goal
 
 pub returns-in-Err-clause-status : goal.returns-in-Err-clause-status
 returns-in-Err-clause-status c =
-    damaged c.args.prepared.now _ _ (record { ordered = c.if-start-end.false; in_haystack = c.if-end-haystack.false })
-    (λ query ignore_case is. c.in-Err.ensures.prepared query ignore_case
+    damaged (λ P. ForPrepared c.args.prepared.now (λ _ _. P)) _ _
+    (record { ordered = c.if-start-end.false; in_haystack = c.if-end-haystack.false })
+    (λ query ignore_case is _. c.in-Err.ensures.prepared query ignore_case
     (subst (IsPrepared query ignore_case) (sym c.in-Ok.ensures.0) is))
 
 pub returns-in-Ok-None-clause-none : goal.returns-in-Ok-None-clause-none

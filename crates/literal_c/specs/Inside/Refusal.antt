@@ -1,5 +1,5 @@
 -- Why there is no search.
-use Rattle.std.specs.Prelude.{ℕ, ℤ, List}
+use Rattle.std.specs.Prelude.{ℕ, ℤ, ◌<◌, List, length}
 use Rattle.literal_automaton.specs.DfaValue.{CanBeKept}
 use Rattle.literal_c.specs.declared.TheConstants.{LITERAL_BAD_ARGUMENTS, LITERAL_NO_SEARCHER, LITERAL_OUT_OF_MEMORY}
 use Rattle.literal_c.specs.declared.TheConstants.{LITERAL_TOO_LARGE}
@@ -7,12 +7,12 @@ use Rattle.literal_c.specs.declared.arguments.Refusal.{Refusal}
 use Rattle.literal_c.specs.declared.arguments.Refusal.TheVariants.{BadArguments, NoSearcher, OutOfMemory, TooLarge}
 
 -- a refusal says what holds: the arguments do not agree; or they do, and the patterns can't be searched for; or they
--- can
-abbrev pub IsRefused : Type 0 → List (List ℕ) → Refusal → Type 0
-IsRefused agree patterns BadArguments = ¬ agree
-IsRefused agree patterns NoSearcher = agree × ¬ CanBeKept patterns
-IsRefused agree patterns OutOfMemory = agree × CanBeKept patterns
-IsRefused agree patterns TooLarge = agree × CanBeKept patterns
+-- can, and there is one or more and no memory, or they need too many states
+abbrev pub IsRefused : Type 0 → List (List ℕ) → Type 0 → Refusal → Type 0
+IsRefused agree patterns need_too_many BadArguments = ¬ agree
+IsRefused agree patterns need_too_many NoSearcher = agree × ¬ CanBeKept patterns
+IsRefused agree patterns need_too_many OutOfMemory = agree × CanBeKept patterns × (0 < length patterns)
+IsRefused agree patterns need_too_many TooLarge = agree × CanBeKept patterns × need_too_many
 
 -- the status of a refusal
 abbrev pub status_of : Refusal → ℤ

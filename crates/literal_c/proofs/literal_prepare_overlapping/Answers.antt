@@ -1,0 +1,24 @@
+use Rattle.std.proofs.Common.{inl, refl, subst}
+use Rattle.literal_automaton.specs.Overlapping.{OverlappingValue}
+use Rattle.literal_automaton.specs.PreparedOverlapping.{RefusesOverlapping}
+use Rattle.literal_automaton.specs.declared.prepared.PrepareError.{PrepareError}
+use Rattle.literal_c.specs.Overlapping.{overlapping_for}
+use Rattle.literal_c.specs.Pieces.{pieces}
+use Rattle.literal_c.proofs.literal_prepare_overlapping.Goals as goal
+
+pub returns-in-Ok-prepare-clause-status : goal.returns-in-Ok-prepare-clause-status
+returns-in-Ok-prepare-clause-status c = inl (record {
+  bad_arguments = (λ is. absurd (cc), λ refused. absurd (refused c.in-Ok.ensures.0));
+  no_searcher = (λ is. absurd (cc), λ both. absurd (both.1 c.in-Ok.ensures.1));
+  searched = (λ _. (c.in-Ok.ensures.0, c.in-Ok.ensures.1), λ _. inl refl);
+  too_large = λ is. absurd (cc);
+  out_of_memory = λ is. absurd (cc);
+})
+
+pub returns-in-Err-ArrayTooShort-clause-too_short : goal.returns-in-Err-ArrayTooShort-clause-too_short
+returns-in-Err-ArrayTooShort-clause-too_short c = λ _.
+    subst (λ (e : PrepareError). RefusesOverlapping
+    (overlapping_for (pieces c.args.patterns.now 0 c.args.ends.now) c.args.ignore_case) c.args.prepared.now e)
+    c.in-Err-ArrayTooShort.field-0-is
+    (subst (λ (s : OverlappingValue). RefusesOverlapping s c.args.prepared.now c.in-Err-ArrayTooShort.field-0)
+    c.in-Ok.ensures.2 c.in-Err-ArrayTooShort.ensures.error)

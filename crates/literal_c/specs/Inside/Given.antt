@@ -1,0 +1,18 @@
+-- What an iteration gave of which little is known.
+use Rattle.std.specs.Prelude.{◌≡◌, ◌⊎◌, ℕ, ◌≤◌, List, length, take}
+use Rattle.std.specs.List.{All}
+use Rattle.literal_base.specs.MatchValue.{MatchValue}
+use Rattle.literal_c.specs.Answers.{match_of}
+use Rattle.literal_c.specs.declared.LiteralMatch.{LiteralMatch}
+use Rattle.literal_c.specs.declared.LiteralPage.{LiteralPage}
+
+-- an offset is where an iteration began, or the end of something that it may give
+abbrev pub IsReached : (MatchValue → Type 0) → ℕ → ℕ → Type 0
+IsReached MayGive start next = (next ≡ start) ⊎ ((found : MatchValue) × MayGive found × (next ≡ found.end))
+
+-- the matches of a page may be given, and the page ends where they do
+pub record AreGiven (MayGive : MatchValue → Type 0) (start : ℕ) (new : List LiteralMatch) (page : LiteralPage)
+    : Type 0 where
+  pub fits : page.written ≤ length new
+  pub matches : All (λ found. MayGive (match_of found)) (take page.written new)
+  pub reached : IsReached MayGive start page.next
