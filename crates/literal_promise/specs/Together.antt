@@ -11,18 +11,18 @@ use Rattle.literal_packed.specs.PatternsValue.{PatternsValue, IsInOrder, query_o
 use Rattle.literal_packed.specs.State.{state_of}
 use Rattle.literal_prefilters.specs.PrefilterBuilderValue.{PrefilterBuilderValue, prefilter_limit}
 use Rattle.literal_prefilters.specs.PrefilterValue.{PrefilterValue, CoveredBy}
-use Rattle.literal_promise.specs.declared.Asked.{Asked}
+use Rattle.literal_promise.specs.declared.SearchRequest.{SearchRequest}
 
 -- the patterns and the kind of match that are asked for
-abbrev pub asked_query : Asked → Query
+abbrev pub asked_query : SearchRequest → Query
 asked_query asked = record { kind = asked.kind; patterns = map (λ (p : Bor (List ℕ)). p.now) asked.patterns.now }
 
 -- the configuration that is asked for
-abbrev pub asked_config : Asked → ConfigValue
+abbrev pub asked_config : SearchRequest → ConfigValue
 asked_config asked = record { kind = asked.kind; pattern_limit = asked.pattern_limit }
 
 -- the prefilter's builder that is asked for, to which the patterns were added
-abbrev pub asked_builder : Asked → PrefilterBuilderValue
+abbrev pub asked_builder : SearchRequest → PrefilterBuilderValue
 asked_builder asked = record {
   kind = asked.built_for;
   ignore_case = asked.ignore_case;

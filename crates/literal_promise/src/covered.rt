@@ -1,12 +1,12 @@
 //! Patterns with a prefilter that covers them, and confirming by it.
-ghost use Rattle.std.specs.Prelude.{◌≡◌, ◌≤◌, ◌+◌, ◌-◌, ◌*◌, IfOk, IfSome, is_some, length, map};
+ghost use Rattle.std.specs.Prelude.{◌≡◌, ◌<◌, ◌≤◌, ◌+◌, ◌-◌, ◌*◌, IfOk, IfSome, OnErr, length, map, option_map};
 ghost use Rattle.literal_base.specs.Leftmost.{IsLeftmost};
-ghost use Rattle.literal_base.specs.Occurs.{IsValidSpan, NoneIsEmpty};
+ghost use Rattle.literal_base.specs.Occurs.{IsValidSpan, NoneIsEmpty, pattern_at};
 ghost use Rattle.literal_packed.specs.PatternsValue.{query_of};
 ghost use Rattle.literal_prefilters.specs.Choice.{IsBuiltFor, Serves, pick};
 ghost use Rattle.literal_promise.specs.Together.{IsCovered, asked_builder, asked_query};
 
-use crate::Asked;
+use crate::SearchRequest;
 use literal_prefilters::count::Tally;
 use literal_prefilters::laws::prefilters_reach_254_bytes;
 use literal_prefilters::packed::laws::lists_up_to_the_limit_build;
@@ -23,13 +23,19 @@ pub struct Covered {
 }
 
 /// Patterns in the order of their match kind, and a prefilter that covers them for it. `None` exactly where
-/// no prefilter suits them.
-pub fn covered_patterns(alloc: Global, asked: &Asked<'_>) -> Result<Option<Covered>, AllocError>
+/// no prefilter suits them. Memory is asked for only where the first pattern is not empty: otherwise none is
+/// kept.
+pub fn covered_patterns(
+    alloc: Global,
+    asked: &SearchRequest<'_>,
+) -> Result<Option<Covered>, AllocError>
     requires { Serves asked.now.built_for asked.now.kind }
     ensures covered { IfOk result (λ made. IfSome made (λ covered.
         (query_of covered.patterns ≡ asked_query asked.now)
         × IsCovered asked.now.ignore_case covered.patterns covered.prefilter)) }
-    ensures picked { IfOk result (λ made. is_some made ≡ is_some (pick (asked_builder asked.now))) }
+    ensures picked { IfOk result (λ made.
+        option_map (λ covered. covered.prefilter) made ≡ pick (asked_builder asked.now)) }
+    ensures no_memory { OnErr result (0 < length (pattern_at (asked_query asked.now).patterns 0)) }
 {
     lists_up_to_the_limit_build();
     let Some(prefilter) = prefilter_for(alloc, asked)? else {
@@ -43,9 +49,10 @@ pub fn covered_patterns(alloc: Global, asked: &Asked<'_>) -> Result<Option<Cover
     }))
 }
 
-fn prefilter_for(alloc: Global, asked: &Asked<'_>) -> Result<Option<Prefilter>, AllocError>
+fn prefilter_for(alloc: Global, asked: &SearchRequest<'_>) -> Result<Option<Prefilter>, AllocError>
     ensures picked { IfOk result (λ built. built ≡ pick (asked_builder asked.now)) }
     ensures covers { IfOk result (λ built. IfSome built (IsBuiltFor (asked_builder asked.now))) }
+    ensures no_memory { OnErr result (0 < length (pattern_at (asked_query asked.now).patterns 0)) }
 {
     let mut builder = Builder::new(alloc, asked.built_for).ascii_case_insensitive(
         asked.ignore_case,

@@ -10,13 +10,15 @@
 //! runs it stands in `literal_callers::together`, since tests here would double the time of the proof.
 #![tactic(auto)]
 
-ghost use Rattle.std.specs.Prelude.{◌≡◌, ◌≤◌, ◌+◌, ◌-◌, ◌*◌, ◌↔◌, IfOk, IfSome, IsSome, false, is_some, length};
+ghost use Rattle.std.specs.Prelude.{◌≡◌, ◌<◌, ◌≤◌, ◌+◌, ◌-◌, ◌*◌, ◌↔◌, IfOk, IfSome, IsSome, IsSomeAnd, OnErr, false};
+ghost use Rattle.std.specs.Prelude.{is_some, length};
 ghost use Rattle.literal_base.specs.Greedy.{IsGreedy};
 ghost use Rattle.literal_base.specs.Leftmost.{IsLeftmost};
-ghost use Rattle.literal_base.specs.Occurs.{IsValidSpan};
-ghost use Rattle.literal_packed.specs.BuilderValue.{HaveSearcher};
+ghost use Rattle.literal_base.specs.Occurs.{IsValidSpan, pattern_at};
+ghost use Rattle.literal_packed.specs.BuilderValue.{AreBuildable};
 ghost use Rattle.literal_packed.specs.ConfigValue.{IsPatternLimit};
 ghost use Rattle.literal_prefilters.specs.Choice.{Serves, pick};
+ghost use Rattle.literal_prefilters.specs.PrefilterValue.{IsAnswer};
 ghost use Rattle.literal_prefilters.specs.Sound.{Sound};
 ghost use Rattle.literal_promise.specs.Together.{IsIteration, asked_builder, asked_query};
 
@@ -32,7 +34,7 @@ use std::alloc::{AllocError, Global};
 
 /// Patterns, and how they are searched for.
 #[derive(Drop)]
-pub struct Asked<'p> {
+pub struct SearchRequest<'p> {
     /// Which occurrence is the match.
     pub kind: packed::MatchKind,
     /// How many patterns a searcher is built for at most.
@@ -47,7 +49,7 @@ pub struct Asked<'p> {
 
 /// What a searcher finds.
 #[derive(Drop)]
-pub struct Searched {
+pub struct SearchOutcome {
     /// By [`Searcher::find_in`], in the span.
     pub found: Option<Match>,
     /// By [`Searcher::find_iter`], up to its first `None`.
@@ -66,19 +68,20 @@ pub struct Confirmed {
 }
 
 /// Searches by a searcher, if one is built, and proposes and confirms by a prefilter, if one is built:
-/// exactly where one suits the patterns.
+/// exactly where one suits the patterns. Memory is asked for only where the first pattern is not empty:
+/// otherwise none is kept.
 pub fn together(
     alloc: Global,
-    asked: &Asked<'_>,
+    asked: &SearchRequest<'_>,
     haystack: &[u8],
     span: Span,
     tally: &mut Tally,
-) -> Result<(Option<Searched>, Option<Confirmed>), AllocError>
+) -> Result<(Option<SearchOutcome>, Option<Confirmed>), AllocError>
     requires limit { IsPatternLimit asked.now.pattern_limit }
     requires serves { Serves asked.now.built_for asked.now.kind }
     requires valid { IsValidSpan haystack.now span }
     ensures built { IfOk result (λ both. IsSome both.0
-        ↔ HaveSearcher asked.now.pattern_limit (asked_query asked.now).patterns) }
+        ↔ AreBuildable asked.now.pattern_limit (asked_query asked.now).patterns) }
     ensures leftmost { IfOk result (λ both. IfSome both.0 (λ searched.
         IsLeftmost (asked_query asked.now) false haystack.now span searched.found)) }
     ensures greedy { IfOk result (λ both. IfSome both.0 (λ searched.
@@ -89,9 +92,12 @@ pub fn together(
     ensures picked { IfOk result (λ both. is_some both.1 ≡ is_some (pick (asked_builder asked.now))) }
     ensures sound { IfOk result (λ both. IfSome both.1 (λ confirmed.
         Sound (asked_query asked.now) asked.now.ignore_case haystack.now span confirmed.candidate)) }
+    ensures answered { IfOk result (λ both. IfSome both.1 (λ confirmed.
+        IsSomeAnd (pick (asked_builder asked.now)) (λ built. IsAnswer built haystack.now span confirmed.candidate))) }
     ensures confirmed { IfOk result (λ both. IfSome both.1 (λ confirmed.
         IsLeftmost (asked_query asked.now) asked.now.ignore_case haystack.now span confirmed.found)) }
     ensures scanned { tally.new.scanned ≤ tally.old.scanned + 255 * (span.end - span.start) }
+    ensures no_memory { OnErr result (0 < length (pattern_at (asked_query asked.now).patterns 0)) }
 {
     let searched = search(alloc, asked, haystack, span)?;
     let confirmed = propose_and_confirm(alloc, asked, haystack, span, tally)?;
@@ -100,14 +106,14 @@ pub fn together(
 
 fn search(
     alloc: Global,
-    asked: &Asked<'_>,
+    asked: &SearchRequest<'_>,
     haystack: &[u8],
     span: Span,
-) -> Result<Option<Searched>, AllocError>
+) -> Result<Option<SearchOutcome>, AllocError>
     requires limit { IsPatternLimit asked.now.pattern_limit }
     requires valid { IsValidSpan haystack.now span }
     ensures built { IfOk result (λ searched. IsSome searched
-        ↔ HaveSearcher asked.now.pattern_limit (asked_query asked.now).patterns) }
+        ↔ AreBuildable asked.now.pattern_limit (asked_query asked.now).patterns) }
     ensures leftmost { IfOk result (λ searched. IfSome searched (λ s.
         IsLeftmost (asked_query asked.now) false haystack.now span s.found)) }
     ensures greedy { IfOk result (λ searched. IfSome searched (λ s.
@@ -115,24 +121,26 @@ fn search(
     ensures iteration { IfOk result (λ searched. IfSome searched (λ s.
         IsIteration (asked_query asked.now) haystack.now s.all.items s.counted)) }
     ensures hashed { IfOk result (λ searched. IfSome searched (λ s. s.counted.hashed ≤ length haystack.now)) }
+    ensures no_memory { OnErr result (0 < length (pattern_at (asked_query asked.now).patterns 0)) }
 {
     let Some(searcher) = build(alloc, asked)? else {
         return Ok(None);
     };
     let found = searcher.find_in(haystack, span);
     let (all, counted) = taken_in_turn(alloc, &searcher, haystack)?;
-    Ok(Some(Searched {
+    Ok(Some(SearchOutcome {
         found,
         all,
         counted,
     }))
 }
 
-fn build(alloc: Global, asked: &Asked<'_>) -> Result<Option<Searcher>, AllocError>
+fn build(alloc: Global, asked: &SearchRequest<'_>) -> Result<Option<Searcher>, AllocError>
     requires { IsPatternLimit asked.now.pattern_limit }
     ensures built { IfOk result (λ built. IsSome built
-        ↔ HaveSearcher asked.now.pattern_limit (asked_query asked.now).patterns) }
+        ↔ AreBuildable asked.now.pattern_limit (asked_query asked.now).patterns) }
     ensures same { IfOk result (λ built. IfSome built (λ searcher. searcher ≡ asked_query asked.now)) }
+    ensures no_memory { OnErr result (0 < length (pattern_at (asked_query asked.now).patterns 0)) }
 {
     lists_up_to_the_limit_build();
     let mut builder = Config::new()
@@ -166,7 +174,7 @@ fn taken_in_turn(
 
 fn propose_and_confirm(
     alloc: Global,
-    asked: &Asked<'_>,
+    asked: &SearchRequest<'_>,
     haystack: &[u8],
     span: Span,
     tally: &mut Tally,
@@ -176,9 +184,12 @@ fn propose_and_confirm(
     ensures picked { IfOk result (λ confirmed. is_some confirmed ≡ is_some (pick (asked_builder asked.now))) }
     ensures sound { IfOk result (λ confirmed. IfSome confirmed (λ c.
         Sound (asked_query asked.now) asked.now.ignore_case haystack.now span c.candidate)) }
+    ensures answered { IfOk result (λ confirmed. IfSome confirmed (λ c.
+        IsSomeAnd (pick (asked_builder asked.now)) (λ built. IsAnswer built haystack.now span c.candidate))) }
     ensures confirmed { IfOk result (λ confirmed. IfSome confirmed (λ c.
         IsLeftmost (asked_query asked.now) asked.now.ignore_case haystack.now span c.found)) }
     ensures scanned { tally.new.scanned ≤ tally.old.scanned + 255 * (span.end - span.start) }
+    ensures no_memory { OnErr result (0 < length (pattern_at (asked_query asked.now).patterns 0)) }
 {
     let Some(covered) = covered_patterns(alloc, asked)? else {
         return Ok(None);

@@ -7,5 +7,5 @@
 
 pub use literal_automaton::{
     BuildError, Damaged, Dfa as Search, Match, MatchKind, Matches, Overlapping, OverlappingMatches,
-    PatternID, PrepareError, Prepared, Span, laws,
+    PatternID, PrepareError, Prepared, PreparedMatches, PreparedOverlapping, Span, laws,
 };
