@@ -1,2 +1,4 @@
 -- Lemmas that several proofs share, by topic.
 pub mod Lines
+pub mod Reading
+pub mod Printing

@@ -1,1 +1,4 @@
+pub mod Fault
 pub mod Lines
+pub mod Printed
+pub mod Request

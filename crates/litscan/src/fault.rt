@@ -1,7 +1,12 @@
-//! Why nothing was counted.
-use std::fmt;
+//! Why not all was read and printed.
+ghost use Rattle.std.specs.Prelude.{◌≡◌};
+ghost use Rattle.std.specs.IoError.{error_kind};
+ghost use Rattle.litscan.specs.Fault.{args_fault, read_fault, write_fault};
 
-/// Why nothing was counted.
+use std::fmt;
+use std::io::{self, ErrorKind};
+
+/// Why not all was read and printed.
 #[derive(Clone, Copy, Debug, PartialEq, Eq)]
 pub enum Fault {
     /// There is no word, or an option is none, or help was asked for.
@@ -12,24 +17,67 @@ pub enum Fault {
     NoText,
     /// The words need a table that is too large.
     TooManyWords,
+    /// The file of words could not be opened.
+    NoFile,
     /// A request for memory was refused.
     OutOfMemory,
-    /// Standard input could not be read.
+    /// Standard input, or the file of words, could not be read.
     ReadFailed,
-    /// The count could not be written.
+    /// Nobody reads standard output any more.
+    Unread,
+    /// Standard output could not be written.
     WriteFailed,
 }
 
-/// What is printed of it.
+impl Fault {
+    /// What failed where the words of the command line were asked for.
+    pub fn of_args(error: io::Error) -> Fault
+        ensures { result ≡ args_fault (error_kind error) }
+    {
+        match error.kind() {
+            ErrorKind::OutOfMemory => Fault::OutOfMemory,
+            _ => Fault::NoText,
+        }
+    }
+
+    /// What failed in a read.
+    pub fn of_read(error: io::Error) -> Fault
+        ensures { result ≡ read_fault (error_kind error) }
+    {
+        match error.kind() {
+            ErrorKind::OutOfMemory => Fault::OutOfMemory,
+            _ => Fault::ReadFailed,
+        }
+    }
+
+    /// What failed in a write.
+    pub fn of_write(error: io::Error) -> Fault
+        ensures { result ≡ write_fault (error_kind error) }
+    {
+        match error.kind() {
+            ErrorKind::BrokenPipe => Fault::Unread,
+            _ => Fault::WriteFailed,
+        }
+    }
+}
+
+/// What is printed of it, but for `Unread`, of which nothing is.
 impl fmt::Display for Fault {
+    ghost use Rattle.std.specs.Prelude.{Some};
+    ghost use Rattle.litscan.specs.Fault.{fault_text};
+
+    ghost output = { λ fault. Some (fault_text fault) };
+
     fn fmt<W: fmt::Write>(&self, f: &mut fmt::Formatter<W>) -> fmt::Result {
         match self {
-            Fault::Usage => write!(f, "usage: litscan [-i] [-v] WORD... < TEXT"),
+            Fault::Usage => write!(f, "usage: litscan [-cinv] [-f FILE] [WORD...] < TEXT"),
             Fault::EmptyWord(number) => write!(f, "litscan: word {number} is empty"),
             Fault::NoText => write!(f, "litscan: a word is not UTF-8"),
             Fault::TooManyWords => write!(f, "litscan: too many words"),
+            Fault::NoFile => write!(f, "litscan: no file of words"),
             Fault::OutOfMemory => write!(f, "litscan: out of memory"),
             Fault::ReadFailed => write!(f, "litscan: read failed"),
+            Fault::Unread => write!(f, "litscan: nobody reads"),
             Fault::WriteFailed => write!(f, "litscan: write failed"),
         }
     }

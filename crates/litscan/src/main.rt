@@ -1,26 +1,29 @@
-//! Counts the lines of standard input in which a word stands: `litscan [-i] [-v] WORD...`.
+//! Prints the lines of standard input in which a word stands: `litscan [-cinv] [-f FILE] [WORD...]`.
 #![tactic(auto)]
 
-ghost use Rattle.std.specs.Prelude.{◌≡◌, IfOk, count_by, if◌then◌else◌, map, string_bytes};
-ghost use Rattle.literal_base.specs.declared.packed.MatchKind.TheVariants.{LeftmostFirst};
-ghost use Rattle.literal_automaton.specs.DfaValue.{dfa_for};
-ghost use Rattle.litscan.specs.Lines.{counts, lines_of};
-
 mod fault;
+mod laws;
+mod lines;
 mod request;
+mod scan;
+mod words;
 
 use fault::Fault;
-use literal_search::{BuildError, MatchKind, Search};
-use request::Request;
-use std::alloc::Global;
-use std::env;
-use std::io::Read;
+use literal_search::Search;
+use request::{Options, Request};
+use scan::scan;
+use std::io::{BufReader, BufWriter, IsTerminal};
 use std::process::ExitCode;
+use std::{env, fs};
+use words::{bytes_of, search_for, search_with_lines};
+
+/// How many bytes are read, and written, at once.
+const BLOCK: usize = 65536;
 
 fn main(rt: HostRuntime) -> ExitCode {
     match run(&rt) {
         Ok(0) => ExitCode::from(1),
-        Ok(_) => ExitCode::from(0),
+        Ok(_) | Err(Fault::Unread) => ExitCode::from(0),
         Err(fault) => {
             let _ = eprintln!(rt; "{fault}");
             ExitCode::from(2)
@@ -28,64 +31,38 @@ fn main(rt: HostRuntime) -> ExitCode {
     }
 }
 
-/// Prints how many lines count, and says it.
-fn run(rt: &HostRuntime) -> Result<usize, Fault> {
-    let args = env::args(rt).or(Err(Fault::NoText))?;
-    let words = args
+/// Does what the words of the command line ask for, and says how many lines count.
+fn run(rt: &HostRuntime) -> Result<u64, Fault> {
+    let args = env::args(rt).map_err(|error| Fault::of_args(error))?;
+    let args = args
         .skip(1)
         .collect::<Vec<String>>(rt.alloc())
         .or(Err(Fault::OutOfMemory))?;
-    let request = Request::of(words.as_slice())?;
-    let search = search_for(rt.alloc(), &request)?;
-    let mut text = Vec::new(rt.alloc());
-    rt.stdin()
-        .read_to_end(&mut text)
-        .or(Err(Fault::ReadFailed))?;
-    let count = lines_that_count(&search, request.others, text.as_slice());
-    println!(rt; "{count}").or(Err(Fault::WriteFailed))?;
-    Ok(count)
+    let request = Request::of(args.as_slice())?;
+    let search = search_of(rt, &request)?;
+    scan_input(rt, &search, request.options)
 }
 
-/// The search for the words of a request.
-fn search_for(alloc: Global, request: &Request<'_>) -> Result<Search, Fault>
-    ensures { IfOk result (λ search. search
-        ≡ dfa_for LeftmostFirst request.now.ignore_case (map string_bytes request.now.words.now)) }
-{
-    let words = request.words.iter().map(|word| word.as_bytes());
-    match Search::new(alloc, MatchKind::LeftmostFirst, request.ignore_case, words) {
-        Ok(search) => Ok(search),
-        Err(BuildError::EmptyPattern(number)) => Err(Fault::EmptyWord(number)),
-        Err(BuildError::OutOfMemory) => Err(Fault::OutOfMemory),
-        Err(_) => Err(Fault::TooManyWords),
-    }
+/// The search for the words of the command line, and for each line of the file.
+fn search_of(rt: &HostRuntime, request: &Request<'_>) -> Result<Search, Fault> {
+    let ignore_case = request.options.ignore_case;
+    let Some(name) = request.file else {
+        let words = bytes_of(rt.alloc(), request.words).or(Err(Fault::OutOfMemory))?;
+        return search_for(rt.alloc(), ignore_case, words.as_slice());
+    };
+    let file = fs::open(rt, name).or(Err(Fault::NoFile))?;
+    let mut reader = BufReader::with_capacity(rt.alloc(), BLOCK, file).or(Err(Fault::OutOfMemory))?;
+    search_with_lines(rt.alloc(), ignore_case, request.words, &mut reader)
 }
 
-/// How many lines have a word, or how many have none where the others are asked for. What stands behind the last line
-/// feed is a line if it is not empty.
-fn lines_that_count(search: &Search, others: bool, text: &[u8]) -> usize
-    ensures { result ≡ count_by (counts search.now others) (lines_of text.now) }
-{
-    let mut count: usize = 0;
-    let mut start = 0;
-    for (at, byte) in text.iter().enumerate() {
-        if *byte == b'\n' {
-            count += count_of(search, others, &text[start..at]);
-            start = at + 1;
-        }
-    }
-    if start == text.len() {
-        return count;
-    }
-    count + count_of(search, others, &text[start..])
-}
-
-/// 1 for a line that counts, and 0 for another.
-fn count_of(search: &Search, others: bool, line: &[u8]) -> usize
-    ensures { result ≡ (if counts search.now others line.now then 1 else 0) }
-{
-    if search.is_match(line) != others {
-        1
-    } else {
-        0
-    }
+/// Scans standard input. What is printed is kept until a block is full, but on a terminal.
+fn scan_input(rt: &HostRuntime, search: &Search, options: Options) -> Result<u64, Fault> {
+    let room = if rt.stdout().is_terminal() { 0 } else { BLOCK };
+    let mut reader = BufReader::with_capacity(rt.alloc(), BLOCK, rt.stdin()).or(Err(
+        Fault::OutOfMemory,
+    ))?;
+    let mut writer = BufWriter::with_capacity(rt.alloc(), room, rt.stdout()).or(Err(
+        Fault::OutOfMemory,
+    ))?;
+    scan(rt.alloc(), search, options, &mut reader, &mut writer)
 }

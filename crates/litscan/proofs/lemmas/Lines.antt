@@ -1,57 +1,102 @@
--- How the lines of a text come byte by byte, and how many of them count.
--- For `lines_that_count`.
-use Rattle.std.proofs.Common.{◌≡◌, ◌==◌, ℕ, ◌+◌, ◌-◌, ◌<◌, ◌≤◌, Bool, true, false, cond, List, [], ◌∷◌, ◌++◌, length}
-use Rattle.std.proofs.Common.{drop, take, get_or, slice_range, refl, sym, ap, ◌∙◌, arith}
-use Rattle.std.proofs.lemmas.Bool.{cond-false, cond-true}
-use Rattle.std.proofs.lemmas.List.{at_drop_all, at_drop_more, get_or-drop, length-drop, length-take, take_more}
-use Rattle.litscan.specs.Lines.{last_line, lines_from}
+-- The lines of a text, from its front, and that no others are.
+use Rattle.std.proofs.Common.{◌≡◌, ◌≢◌, ◌==◌, ℕ, List, [], ◌∷◌, ◌++◌, refl, sym, ap, ◌∙◌, append_assoc, inl, inr}
+use Rattle.std.proofs.lemmas.Bool.{cases_eq, cond-false, cond-true, eq-eqb, ne_eqb}
+use Rattle.std.proofs.lemmas.List.Elements.{All-cons, All-head, All-nil, All-tail}
+use Rattle.std.specs.List.{All, flat_map, onto_first}
+use Rattle.litscan.specs.Lines.{AreLinesOf, HasNoFeed, last_line, lines_of, with_byte, with_feed}
 
-module _ (text : List ℕ) (start at : ℕ) (after : start ≤ at) where
-  slice_push : at < length text → slice_range text start (at + 1) ≡ slice_range text start at ++ get_or text at 0 ∷ []
-  slice_push inside =
-      let long : (at + 1) - start ≡ (at - start) + 1 = omega arith in
-      let place : start + (at - start) ≡ at = omega arith in
-      ap (λ n. take n (drop start text)) long
-      ∙ (take_more (drop start text) (at - start) 0 (omega (arith, length-drop start text))
-      ∙ ap (λ s. slice_range text start at ++ s ∷ [])
-      (get_or-drop start text (at - start) 0 ∙ ap (λ k. get_or text k 0) place))
+-- a byte is no line feed
+abbrev pub Other : ℕ → Type 0
+Other byte = byte ≢ 10
 
-  -- one byte more of a line
-  pub in_line : at < length text → (get_or text at 0 == 10) ≡ false
-      → lines_from (slice_range text start at) (drop at text)
-      ≡ lines_from (slice_range text start (at + 1)) (drop (at + 1) text)
-  in_line inside other =
-      at_drop_more (lines_from (slice_range text start at)) text at 0 inside
-      ∙ (cond-false (get_or text at 0 == 10) _ _ other
-      ∙ ap (λ line. lines_from line (drop (at + 1) text)) (sym (slice_push inside)))
+-- a byte that is no line feed goes to the first line
+other_byte : (byte : ℕ) (lines : List (List ℕ)) → byte ≢ 10 → with_byte byte lines ≡ onto_first byte lines
+other_byte byte lines other = cond-false (byte == 10) _ _ (ne_eqb byte 10 other)
 
-  -- a line feed
-  pub at_line : at < length text → (get_or text at 0 == 10) ≡ true
-      → lines_from (slice_range text start at) (drop at text)
-      ≡ slice_range text start at ∷ lines_from (slice_range text (at + 1) (at + 1)) (drop (at + 1) text)
-  at_line inside feed =
-      let none : 0 ≡ (at + 1) - (at + 1) = omega arith in
-      at_drop_more (lines_from (slice_range text start at)) text at 0 inside
-      ∙ (cond-true (get_or text at 0 == 10) _ _ feed
-      ∙ ap (λ n. slice_range text start at ∷ lines_from (take n (drop (at + 1) text)) (drop (at + 1) text)) none)
+-- the first line of a text
+lines_of-line : (line rest : List ℕ) → HasNoFeed line → lines_of (with_feed line ++ rest) ≡ line ∷ lines_of rest
+lines_of-line [] rest whole = refl
+lines_of-line (byte ∷ more) rest whole =
+    ap (with_byte byte) (lines_of-line more rest (All-tail Other byte more whole))
+    ∙ other_byte byte _ (All-head Other byte more whole)
 
-  -- the end of the text
-  pub at_end : length text ≤ at
-      → lines_from (slice_range text start at) (drop at text) ≡ last_line (slice_range text start at)
-  at_end past = at_drop_all (lines_from (slice_range text start at)) text at past
+-- a text without line feed
+lines_of-last : (last : List ℕ) → HasNoFeed last → lines_of last ≡ last_line last
+lines_of-last [] whole = refl
+lines_of-last (byte ∷ []) whole = other_byte byte _ (All-head Other byte [] whole)
+lines_of-last (byte ∷ next ∷ more) whole =
+    ap (with_byte byte) (lines_of-last (next ∷ more) (All-tail Other byte (next ∷ more) whole))
+    ∙ other_byte byte _ (All-head Other byte (next ∷ more) whole)
 
-pub last_none : (line : List ℕ) → length line ≡ 0 → last_line line ≡ []
-last_none [] none = refl
-last_none (byte ∷ more) none = absurd (omega arith)
+-- the lines of a text that is split at its last line feed
+pub lines_of-split : (before : List (List ℕ)) (last : List ℕ) → All HasNoFeed before → HasNoFeed last
+    → lines_of (flat_map with_feed before ++ last) ≡ before ++ last_line last
+lines_of-split [] last whole last_whole = lines_of-last last last_whole
+lines_of-split (line ∷ more) last whole last_whole =
+    ap lines_of (append_assoc (with_feed line) (flat_map with_feed more) last)
+    ∙ (lines_of-line line (flat_map with_feed more ++ last) (All-head HasNoFeed line more whole)
+    ∙ ap (λ lines. line ∷ lines) (lines_of-split more last (All-tail HasNoFeed line more whole) last_whole))
 
-pub last_some : (line : List ℕ) → 0 < length line → last_line line ≡ line ∷ []
-last_some [] some = absurd (omega arith)
-last_some (byte ∷ more) some = refl
+pub only_lines : (text : List ℕ) (lines : List (List ℕ)) → AreLinesOf text lines → lines ≡ lines_of text
+only_lines text lines are =
+    are.lines_are ∙ sym (ap lines_of are.text_is ∙ lines_of-split are.before are.last are.before_whole are.last_whole)
 
-pub part_len : (text : List ℕ) (start at : ℕ) → start ≤ at → at ≤ length text
-    → length (slice_range text start at) ≡ at - start
-part_len text start at after inside = simp (length-take, length-drop) (omega arith)
+-- one more byte, which is no line feed, in front of a text whose lines are known
+with_other : (byte : ℕ) (text : List ℕ) (before : List (List ℕ)) (last : List ℕ) → byte ≢ 10
+    → text ≡ flat_map with_feed before ++ last → All HasNoFeed before → HasNoFeed last
+    → AreLinesOf (byte ∷ text) (onto_first byte (before ++ last_line last))
+with_other byte text [] [] other is whole last_whole = record {
+  before = [];
+  last = byte ∷ [];
+  text_is = ap (λ bytes. byte ∷ bytes) is;
+  lines_are = refl;
+  before_whole = All-nil HasNoFeed;
+  last_whole = All-cons Other byte [] other last_whole;
+}
+with_other byte text [] (next ∷ more) other is whole last_whole = record {
+  before = [];
+  last = byte ∷ next ∷ more;
+  text_is = ap (λ bytes. byte ∷ bytes) is;
+  lines_are = refl;
+  before_whole = All-nil HasNoFeed;
+  last_whole = All-cons Other byte (next ∷ more) other last_whole;
+}
+with_other byte text (line ∷ more) last other is whole last_whole = record {
+  before = (byte ∷ line) ∷ more;
+  last = last;
+  text_is = ap (λ bytes. byte ∷ bytes) is;
+  lines_are = refl;
+  before_whole =
+      All-cons HasNoFeed (byte ∷ line) more (All-cons Other byte line other (All-head HasNoFeed line more whole))
+      (All-tail HasNoFeed line more whole);
+  last_whole = last_whole;
+}
 
-pub one_at_most : (b : Bool) → cond b 1 0 ≤ 1
-one_at_most true = omega arith
-one_at_most false = omega arith
+with_byte_more : (byte : ℕ) (text : List ℕ) (lines : List (List ℕ)) → AreLinesOf text lines
+    → AreLinesOf (byte ∷ text) (with_byte byte lines)
+with_byte_more byte text lines are =
+    elim (cases_eq byte 10) [
+      | inl feed ↦
+          record {
+            before = [] ∷ are.before;
+            last = are.last;
+            text_is = ap (λ b. b ∷ text) feed ∙ ap (λ bytes. 10 ∷ bytes) are.text_is;
+            lines_are = cond-true (byte == 10) _ _ (eq-eqb byte 10 feed) ∙ ap (λ ls. [] ∷ ls) are.lines_are;
+            before_whole = All-cons HasNoFeed [] are.before (All-nil Other) are.before_whole;
+            last_whole = are.last_whole;
+          }
+      | inr other ↦
+          rw (other_byte byte lines other, are.lines_are)
+          (with_other byte text are.before are.last other are.text_is are.before_whole are.last_whole)
+    ]
+
+pub lines_are : (text : List ℕ) → AreLinesOf text (lines_of text)
+lines_are [] = record {
+  before = [];
+  last = [];
+  text_is = refl;
+  lines_are = refl;
+  before_whole = All-nil HasNoFeed;
+  last_whole = All-nil Other;
+}
+lines_are (byte ∷ more) = with_byte_more byte more (lines_of more) (lines_are more)

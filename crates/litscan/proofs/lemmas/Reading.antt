@@ -1,0 +1,63 @@
+-- What is read line by line is the text, and its lines are those that were read. For `lines` and `scan`.
+use Rattle.std.proofs.Common.{◌≡◌, ◌==◌, ℕ, Bool, true, false, List, [], ◌∷◌, ◌++◌, cond}
+use Rattle.std.proofs.Common.{Option, None, Some}
+use Rattle.std.proofs.Common.{refl, sym, ap, ◌∙◌, inl, inr, subst}
+use Rattle.std.specs.Io.BufRead.{DropsThrough, drop_through, take_through}
+use Rattle.std.specs.Io.KnownBytes.{Consumes, IsAtEnd}
+use Rattle.std.specs.List.{flat_map}
+use Rattle.std.specs.Option.{IfSome, OnSome}
+use Rattle.std.proofs.KnownBytes.{Consumes-trans}
+use Rattle.std.proofs.lemmas.Bool.{cases_eq, cond-false, cond-true, eq-eqb, ne_eqb}
+use Rattle.std.proofs.lemmas.List.{append-nil, flat_map_more}
+use Rattle.std.proofs.lemmas.List.Elements.{All-head, All-tail}
+use Rattle.litscan.specs.Lines.{HasNoFeed, with_feed}
+use Rattle.litscan.specs.Printed.{ReadsAll}
+use Rattle.litscan.proofs.lemmas.Lines.{Other}
+
+-- what is read up to a line feed, and has none, is all
+through_all : (bytes : List ℕ) → HasNoFeed (take_through 10 bytes) → drop_through 10 bytes ≡ []
+through_all [] whole = refl
+through_all (byte ∷ more) whole =
+    elim (cases_eq byte 10) [
+      | inl feed ↦
+          let taken = cond-true (byte == 10) (byte ∷ []) (byte ∷ take_through 10 more) (eq-eqb byte 10 feed) in
+          absurd (All-head Other byte [] (subst HasNoFeed taken whole) feed)
+      | inr other ↦
+          let test = ne_eqb byte 10 other in
+          let taken = cond-false (byte == 10) (byte ∷ []) (byte ∷ take_through 10 more) test in
+          cond-false (byte == 10) more (drop_through 10 more) test
+          ∙ through_all more (All-tail Other byte (take_through 10 more) (subst HasNoFeed taken whole))
+    ]
+
+-- what was read into an empty buffer, and has no line feed at its end to be taken off, is all
+pub at_end : (old new : Option (List ℕ)) (had has line : List ℕ) (fed : Bool) → had ≡ []
+    → IfSome old (λ bytes. has ≡ had ++ take_through 10 bytes) → DropsThrough old new 10
+    → has ≡ cond fed (with_feed line) line → fed ≡ false → HasNoFeed line → OnSome old (IsAtEnd new)
+at_end None new had has line fed empty is drops split unfed whole = tt
+at_end (Some bytes) new had has line fed empty is drops split unfed whole =
+    let same : line ≡ take_through 10 bytes =
+    sym (cond-false fed (with_feed line) line unfed) ∙ sym split ∙ is
+    ∙ ap (λ front. front ++ take_through 10 bytes) empty in
+    let none : new ≡ Some [] = drops ∙ ap Some (through_all bytes (subst HasNoFeed same whole)) in
+    subst IsAtEnd (sym none) refl
+
+-- one line more
+pub read_more : (a b c : Option (List ℕ)) (seen : List (List ℕ)) (line : List ℕ) (fed : Bool) → fed ≡ true
+    → Consumes a b (flat_map with_feed seen) → Consumes b c (cond fed (with_feed line) line)
+    → Consumes a c (flat_map with_feed (seen ++ line ∷ []))
+read_more a b c seen line fed is before more =
+    let next = subst (Consumes b c) (cond-true fed (with_feed line) line is) more in
+    subst (Consumes a c) (flat_map_more with_feed [] seen line) (Consumes-trans a b c _ _ before next)
+
+-- what stands behind the last line feed ends the text
+pub read_all : (a b c : Option (List ℕ)) (front last : List ℕ) (fed : Bool) → fed ≡ false → Consumes a b front
+    → Consumes b c (cond fed (with_feed last) last) → (fed ≡ false → OnSome b (IsAtEnd c))
+    → ReadsAll a c (front ++ last)
+read_all None b c front last fed is before more end = tt
+read_all (Some xs) None c front last fed is before more end = absurd before
+read_all (Some xs) (Some ys) None front last fed is before more end = absurd more
+read_all (Some xs) (Some ys) (Some zs) front last fed is before more end =
+    let rest : ys ≡ last =
+    more ∙ ap (λ bytes. bytes ++ zs) (cond-false fed (with_feed last) last is)
+    ∙ ap (λ bytes. last ++ bytes) (end is) ∙ append-nil last in
+    (before ∙ ap (λ bytes. front ++ bytes) rest, ap Some (end is))

@@ -1,0 +1,39 @@
+use Rattle.std.proofs.Common.{◌≡◌, ◌++◌, ◌∷◌, [], map, sym, ap, ◌∙◌, append_assoc, rules}
+use Rattle.std.proofs.lemmas.List.{map-append}
+use Rattle.std.proofs.lemmas.List.Elements.{All-push}
+use Rattle.std.proofs.lemmas.Result.{on_ok_weaker}
+use Rattle.std.specs.List.{flat_map}
+use Rattle.litscan.specs.Lines.{HasNoFeed, last_line, with_feed}
+use Rattle.litscan.proofs.lemmas.Lines.{lines_of-split}
+use Rattle.litscan.proofs.lemmas.Reading.{read_all, read_more}
+use Rattle.litscan.proofs.lines.add_lines.Goals as goal
+
+pub loop-preserved : goal.loop-preserved
+loop-preserved g c =
+    let so_far = c.loop.invariant in
+    let line = c.read_line.new.line in
+    let pushed : c.push.new.self.items ≡ c.loop.words.items ++ line ∷ [] = search rules in
+    record {
+      seen = so_far.seen ++ line.items ∷ [];
+      whole = All-push HasNoFeed so_far.seen line.items so_far.whole c.in_ok-read_line.ensures.whole;
+      read = read_more _ _ _ so_far.seen line.items _ c.if-not-branch.false so_far.read c.in_ok-read_line.ensures.bytes;
+      added =
+          ap (map (λ word. word.items)) pushed ∙ map-append (λ word. word.items) c.loop.words.items (line ∷ [])
+          ∙ ap (λ words. words ++ line.items ∷ []) so_far.added ∙ append_assoc _ so_far.seen (line.items ∷ []);
+    }
+
+pub returns-then-not-branch : goal.returns-then-not-branch
+returns-then-not-branch g c =
+    let so_far = c.loop.invariant in
+    let last = c.read_line.new.line.items in
+    let had = map (λ word. word.items) c.args.words.now.items in
+    let whole = c.in_ok-read_line.ensures.whole in
+    on_ok_weaker c.add_last.result
+    (λ added. (
+      flat_map with_feed so_far.seen ++ last,
+      read_all _ _ _ (flat_map with_feed so_far.seen) last _ c.if-not-branch.true so_far.read
+          c.in_ok-read_line.ensures.bytes c.in_ok-read_line.ensures.ended,
+      added ∙ ap (λ words. words ++ last_line last) so_far.added ∙ append_assoc had so_far.seen (last_line last)
+          ∙ ap (λ lines. had ++ lines) (sym (lines_of-split so_far.seen last so_far.whole whole)),
+    ))
+    c.add_last.ensures

@@ -1,0 +1,14 @@
+use Rattle.std.proofs.Common.{◌≡◌, ◌++◌, ℕ, List, map}
+use Rattle.std.specs.Io.KnownBytes.{Consumes}
+use Rattle.std.specs.List.{All, flat_map}
+use Rattle.litscan.specs.Lines.{HasNoFeed, with_feed}
+use Rattle.litscan.proofs.lines.add_lines.Given as goal
+
+-- the lines that were read so far are the words behind those that were there
+abbrev pub invariant-loop : goal.invariant-loop
+invariant-loop g l = record {
+  seen : List (List ℕ);
+  whole : All HasNoFeed seen;
+  read : Consumes (g.R.Read.remaining l.fn.reader) (g.R.Read.remaining l.reader) (flat_map with_feed seen);
+  added : map (λ word. word.items) l.words.items ≡ map (λ word. word.items) l.fn.words.items ++ seen;
+}
