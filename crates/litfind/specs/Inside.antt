@@ -1,6 +1,8 @@
 -- What private functions of the engine stand for.
-use Rattle.std.specs.Prelude.{ℕ, List}
+use Rattle.std.specs.Prelude.{ℕ, List, Option}
+use Rattle.litfind.specs.Lines.{AreLines}
 use Rattle.litfind.specs.Query.{Task, all_matches, leftmost_match}
+use Rattle.litfind.specs.Run.{IsWhole}
 use Rattle.litfind.specs.declared.engine.Mode.{Mode}
 use Rattle.litfind.specs.declared.engine.Mode.TheVariants as mode
 use Rattle.litfind.specs.declared.engine.ModeSearcher.{ModeSearcher}
@@ -16,3 +18,9 @@ asked_of patterns (mode.Leftmost kind ignore_case) =
 abbrev pub searches_for : ModeSearcher → Task
 searches_for (searcher.All packed) = all_matches packed
 searches_for (searcher.Leftmost search) = leftmost_match search.query search.ignore_case
+
+-- the input was read to its end, and the text is its lines
+pub record ReadsLines (words : List (List ℕ)) (had has : Option (List ℕ)) (text : List ℕ) : Type 0 where
+  pub input : List ℕ
+  pub read : IsWhole had has input
+  pub lines : AreLines words input text

@@ -36,13 +36,13 @@ abbrev pub builder_for : Query → BuilderValue
 builder_for query = builder_of (record default_config { kind = query.kind }) query.patterns
 
 -- there is no searcher for what is asked: a packed search or a confirming one cannot be built
-abbrev pub IsWithoutSearcher : Task → Type 0
-IsWithoutSearcher (all_matches query) = searcher_of (builder_for query) ≡ None
-IsWithoutSearcher (leftmost_match query ignore_case) =
+abbrev pub IsUnbuildable : Task → Type 0
+IsUnbuildable (all_matches query) = searcher_of (builder_for query) ≡ None
+IsUnbuildable (leftmost_match query ignore_case) =
     confirming_of query.kind (prefilter_builder query.kind ignore_case query.patterns) ≡ None
 
 -- the words ask for something, and there is no searcher for it
-pub record HasNoSearcher (words : List (List ℕ)) : Type 0 where
+pub record AreUnbuildable (words : List (List ℕ)) : Type 0 where
   pub asked : Task
   pub ask : words_ask words ≡ Some asked
-  pub none : IsWithoutSearcher asked
+  pub none : IsUnbuildable asked

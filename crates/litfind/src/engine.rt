@@ -1,11 +1,12 @@
 //! The engine: the words and the whole input in, the whole text out.
 ghost use Rattle.std.specs.Prelude.{◌≡◌, ◌≢◌, ◌⊎◌, ◌↔◌, true, false, map, Some, None, IfOk, IfErr, OnOk, OnErr};
-ghost use Rattle.std.specs.Prelude.{MatchOption, IfSome, IsErrOf, List, [], ℕ, option_map, string_bytes};
+ghost use Rattle.std.specs.Prelude.{MatchOption, IfSome, IsErrOf, List, [], ℕ, ◌<◌, length, option_map, string_bytes};
 ghost use Rattle.std.specs.Io.KnownBytes.{Appends};
+ghost use Rattle.literal_base.specs.Occurs.{pattern_at};
 ghost use Rattle.literal_packed.specs.BuilderValue.{searcher_of};
 ghost use Rattle.litfind.specs.Lines.{AreLinesOf};
-ghost use Rattle.litfind.specs.Inside.{asked_of, searches_for};
-ghost use Rattle.litfind.specs.Query.{HasNoSearcher, IsWithoutSearcher, all_matches, builder_for, leftmost_match};
+ghost use Rattle.litfind.specs.Inside.{ReadsLines, asked_of, searches_for};
+ghost use Rattle.litfind.specs.Query.{AreUnbuildable, IsUnbuildable, all_matches, builder_for, leftmost_match};
 ghost use Rattle.litfind.specs.Query.{mode_asks, words_ask};
 ghost use Rattle.literal_prefilters.specs.ConfirmingValue.{confirming_of, prefilter_builder};
 ghost use Rattle.litfind.specs.Run.{HasLine, IsFront, IsWhole, ReadBytes, ReadSome, WroteFront, WroteLines};
@@ -81,8 +82,9 @@ fn build(
     kind: MatchKind,
     patterns: &[String],
 ) -> Result<Option<Searcher>, AllocError>
-    ensures { IfOk result (λ built. built ≡ searcher_of
+    ensures built { IfOk result (λ built. built ≡ searcher_of
         (builder_for (record { kind = kind; patterns = map string_bytes patterns.now }))) }
+    ensures no_memory { OnErr result (0 < length (pattern_at (map string_bytes patterns.now) 0)) }
 {
     let mut builder = Config::new().match_kind(kind).builder(alloc);
     for pattern in patterns {
@@ -103,6 +105,7 @@ fn build_confirming(
     ensures for_these { IfOk result (λ built. IfSome built (λ search.
         (search.query ≡ record { kind = kind; patterns = map string_bytes patterns.now })
         × (search.ignore_case ≡ ignore_case))) }
+    ensures no_memory { OnErr result (0 < length (pattern_at (map string_bytes patterns.now) 0)) }
 {
     let bytes = patterns.iter().map(|pattern| pattern.as_bytes());
     ConfirmingSearch::build(alloc, kind, ignore_case, bytes)
@@ -113,7 +116,8 @@ fn built(alloc: Global, request: &Request<'_>) -> Result<Option<ModeSearcher>, A
     ensures asked { IfOk result (λ built. IfSome built (λ searcher.
         searches_for searcher ≡ asked_of (map string_bytes request.now.patterns.now) request.now.mode)) }
     ensures none { IfOk result (λ built. built ≡ None
-        ↔ IsWithoutSearcher (asked_of (map string_bytes request.now.patterns.now) request.now.mode)) }
+        ↔ IsUnbuildable (asked_of (map string_bytes request.now.patterns.now) request.now.mode)) }
+    ensures no_memory { OnErr result (0 < length (pattern_at (map string_bytes request.now.patterns.now) 0)) }
 {
     match request.mode {
         Mode::All(kind) => Ok(build(alloc, kind, request.patterns)?.map(ModeSearcher::All)),
@@ -128,11 +132,12 @@ fn built(alloc: Global, request: &Request<'_>) -> Result<Option<ModeSearcher>, A
 fn searcher(alloc: Global, words: &[String]) -> Result<ModeSearcher, Fault>
     ensures asked { IfOk result (λ searcher. words_ask (map string_bytes words.now) ≡ Some (searches_for searcher)) }
     ensures usage { IsErrOf result Fault.Usage ↔ (words_ask (map string_bytes words.now) ≡ None) }
-    ensures no_searcher { IsErrOf result Fault.NoSearcher → HasNoSearcher (map string_bytes words.now) }
-    ensures not_buildable { HasNoSearcher (map string_bytes words.now)
+    ensures no_searcher { IsErrOf result Fault.NoSearcher → AreUnbuildable (map string_bytes words.now) }
+    ensures not_buildable { AreUnbuildable (map string_bytes words.now)
         → IsErrOf result Fault.NoSearcher ⊎ IsErrOf result Fault.OutOfMemory }
     ensures read { IfErr result (λ fault. fault ≢ Fault.ReadFailed) }
     ensures write { IfErr result (λ fault. fault ≢ Fault.WriteFailed) }
+    ensures no_memory { IsErrOf result Fault.OutOfMemory → 0 < length (pattern_at (map string_bytes words.now) 1) }
 {
     let Some(request) = parse(words) else {
         return Err(Fault::Usage);
@@ -238,6 +243,32 @@ pub fn write_whole<W: Sink>(writer: &mut W, text: &[u8]) -> Result<(), Failed>
     writer.flush()
 }
 
+/// Reads the whole input, and forms a line for each match in it that the words ask for. They are looked at first.
+fn read_lines<R: Source>(alloc: Global, words: &[String], reader: &mut R) -> Result<String, Fault>
+    requires readable { R.failed reader.old ≡ false }
+    requires more { R.ended reader.old ≡ false }
+    ensures lines { IfOk result (λ text. ReadsLines (map string_bytes words.now)
+        (R.remaining reader.old) (R.remaining reader.new) (string_bytes text)) }
+    ensures usage { IsErrOf result Fault.Usage ↔ (words_ask (map string_bytes words.now) ≡ None) }
+    ensures no_searcher { IsErrOf result Fault.NoSearcher → AreUnbuildable (map string_bytes words.now) }
+    ensures not_buildable { AreUnbuildable (map string_bytes words.now)
+        → IsErrOf result Fault.NoSearcher ⊎ IsErrOf result Fault.OutOfMemory }
+    ensures unread { IsErrOf result Fault.Usage ⊎ IsErrOf result Fault.NoSearcher → reader.new ≡ reader.old }
+    ensures read { ReadSome (R.remaining reader.old) (R.remaining reader.new) }
+    ensures failed { IsErrOf result Fault.ReadFailed ↔ (R.failed reader.new ≡ true) }
+    ensures ended { OnOk result (R.ended reader.new ≡ true) }
+    ensures write { IfErr result (λ fault. fault ≢ Fault.WriteFailed) }
+    ensures no_memory { IsErrOf result Fault.OutOfMemory
+        → ((reader.new ≡ reader.old) × (0 < length (pattern_at (map string_bytes words.now) 1)))
+        ⊎ ((R.ended reader.new ≡ false) × ReadBytes (R.remaining reader.old) (R.remaining reader.new))
+        ⊎ HasLine (map string_bytes words.now) (R.remaining reader.old) (R.remaining reader.new) }
+{
+    let searcher = searcher(alloc, words)?;
+    let input = read_to_end(alloc, reader)?;
+    let text = searcher.lines(alloc, input.as_slice())?;
+    Ok(text)
+}
+
 /// Reads the whole input, and writes a line for each match of the patterns that the words ask for.
 /// The words are a mode and the patterns, whose bytes are searched for: all matches in the modes
 /// `first` and `longest`, and the leftmost one in `confirm-first` and `confirm-longest`, and with ASCII
@@ -262,8 +293,8 @@ pub fn run<R: Source, W: Sink>(
 
     // The words are looked at first, before any read.
     ensures usage { IsErrOf result Fault.Usage ↔ (words_ask (map string_bytes words.now) ≡ None) }
-    ensures no_searcher { IsErrOf result Fault.NoSearcher → HasNoSearcher (map string_bytes words.now) }
-    ensures not_buildable { HasNoSearcher (map string_bytes words.now)
+    ensures no_searcher { IsErrOf result Fault.NoSearcher → AreUnbuildable (map string_bytes words.now) }
+    ensures not_buildable { AreUnbuildable (map string_bytes words.now)
         → IsErrOf result Fault.NoSearcher ⊎ IsErrOf result Fault.OutOfMemory }
     ensures unread { IsErrOf result Fault.Usage ⊎ IsErrOf result Fault.NoSearcher → reader.new ≡ reader.old }
 
@@ -273,8 +304,10 @@ pub fn run<R: Source, W: Sink>(
     ensures ended { OnOk result (R.ended reader.new ≡ true) }
     ensures ended_at_write { IsErrOf result Fault.WriteFailed → R.ended reader.new ≡ true }
 
-    // Memory is refused before the first read, for bytes that were read, or for a line.
-    ensures no_memory { IsErrOf result Fault.OutOfMemory → (reader.new ≡ reader.old)
+    // Memory is refused before the first read, where the first pattern is not empty, for otherwise none is kept; for
+    // bytes that were read; or for a line.
+    ensures no_memory { IsErrOf result Fault.OutOfMemory
+        → ((reader.new ≡ reader.old) × (0 < length (pattern_at (map string_bytes words.now) 1)))
         ⊎ ((R.ended reader.new ≡ false) × ReadBytes (R.remaining reader.old) (R.remaining reader.new))
         ⊎ HasLine (map string_bytes words.now) (R.remaining reader.old) (R.remaining reader.new) }
 
@@ -285,9 +318,7 @@ pub fn run<R: Source, W: Sink>(
         (R.remaining reader.old) (R.remaining reader.new)
         (W.contents writer.old) (W.contents writer.new) }
 {
-    let searcher = searcher(alloc, words)?;
-    let input = read_to_end(alloc, reader)?;
-    let text = searcher.lines(alloc, input.as_slice())?;
+    let text = read_lines(alloc, words, reader)?;
     let bytes = text.as_bytes();
     match write_whole(writer, bytes) {
         Ok(()) => Ok(!bytes.is_empty()),

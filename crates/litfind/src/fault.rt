@@ -53,13 +53,8 @@ impl fmt::Display for Fault {
     ghost output = { λ fault. Some (fault_text fault) };
 
     fn fmt<W: fmt::Write>(&self, f: &mut fmt::Formatter<W>) -> fmt::Result {
-        match self {
-            Fault::Usage => write!(f, "litfind: usage: litfind MODE PATTERN..."),
-            Fault::NoSearcher => write!(f, "litfind: no searcher for these patterns"),
-            Fault::OutOfMemory => write!(f, "litfind: out of memory"),
-            Fault::ReadFailed => write!(f, "litfind: read failed"),
-            Fault::WriteFailed => write!(f, "litfind: write failed"),
-        }
+        let line = self.line();
+        f.write_str(line.strip_suffix('\n').unwrap_or(line))
     }
 }
 

@@ -376,10 +376,10 @@ fn writers_remember_a_failure(rt: HostRuntime) {
     assert!(rt; !writer.has_failed());
     assert!(rt; writer.write(b"") == Ok(0));
     assert!(rt; !writer.has_failed());
-    assert!(rt; writer.flush() == Ok(()));
+    assert!(rt; writer.flush() == Ok(()) && writer.flush() == Ok(()));
     assert!(rt; !writer.has_failed());
     let mut writer = writer.into_inner();
-    assert!(rt; writer.flushes == 1);
+    assert!(rt; writer.flushes == 2);
     writer.refusing = 3;
     let mut writer = Checked::new(writer);
     assert!(rt; writer.write(b"abcdefg") == Err(Failed));
