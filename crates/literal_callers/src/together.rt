@@ -5,7 +5,7 @@ ghost use Rattle.literal_prefilters.specs.Choice.{Serves};
 use literal_prefilters::count::Tally;
 use literal_prefilters::packed::MatchKind::{LeftmostFirst, LeftmostLongest};
 use literal_prefilters::{Match, MatchKind, Span};
-use literal_promise::{Asked, together};
+use literal_promise::{SearchRequest, together};
 use std::test::Fail;
 
 const WORDS: [&[u8]; 3] = [b"apple", b"maple", b"Snapple"];
@@ -14,12 +14,12 @@ const HAYSTACK: &[u8] = b"Nobody likes maple in their apple flavored Snapple.";
 
 const SPAN: Span = Span { start: 14, end: 51 };
 
-fn words(pattern_limit: usize) -> Asked<'static>
+fn words(pattern_limit: usize) -> SearchRequest<'static>
     requires { IsPatternLimit pattern_limit }
     ensures limit { IsPatternLimit result.pattern_limit }
     ensures serves { Serves result.built_for result.kind }
 {
-    Asked {
+    SearchRequest {
         kind: LeftmostFirst,
         pattern_limit,
         built_for: MatchKind::Standard,
@@ -43,7 +43,7 @@ fn searches_and_confirms(rt: HostRuntime) -> Result<(), Fail> {
 /// A searcher knows no other case, and a prefilter has no limit of its own.
 #[test]
 fn confirms_in_either_case_past_the_limit(rt: HostRuntime) -> Result<(), Fail> {
-    let asked = Asked {
+    let asked = SearchRequest {
         kind: LeftmostLongest,
         pattern_limit: 2,
         built_for: MatchKind::LeftmostLongest,

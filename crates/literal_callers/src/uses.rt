@@ -2,7 +2,7 @@
 ghost use Rattle.std.specs.Prelude.{◌≡◌, ◌∷◌, [], List, false, length, IfOk, OnOk, IsNone, map, string_bytes};
 ghost use Rattle.literal_base.specs.MatchValue.{MatchValue};
 ghost use Rattle.literal_base.specs.Greedy.{IsGreedy};
-ghost use Rattle.literal_packed.specs.BuilderValue.{BuilderValue, builder_of, searcher_of, with_added, BuildsItems};
+ghost use Rattle.literal_packed.specs.BuilderValue.{BuilderValue, builder_of, searcher_of, with_added, BuildsSearcher};
 ghost use Rattle.literal_packed.specs.ConfigValue.{default_config};
 ghost use Rattle.literal_packed.specs.Lending.{CanBeTaken, HoldsAll};
 
@@ -56,7 +56,7 @@ pub fn built_of_items<'a, I: IntoIterator<Item = &'a [u8]>>(
     patterns: I,
 ) -> Result<Option<Searcher>, AllocError>
     requires { CanBeTaken I.into_iter_gives I.IntoIter.can_next I.IntoIter.remaining patterns }
-    ensures { IfOk result (BuildsItems I.into_iter_gives I.IntoIter.next_gives patterns) }
+    ensures { IfOk result (BuildsSearcher I.into_iter_gives I.IntoIter.next_gives patterns) }
 {
     let mut builder = Builder::new(alloc);
     builder.extend(patterns)?;

@@ -1,9 +1,12 @@
-//! Whether a word stands in a text, by a `Search` for the words of an array, a slice, a vector, or a list of texts.
-ghost use Rattle.std.specs.Prelude.{◌≡◌, IfOk, map, string_bytes, true};
-ghost use Rattle.literal_base.specs.Occurs.{one_occurs};
+//! Whether a word stands in a text, by a `Search` for the words of an array, a slice, a vector, or a list of texts, and
+//! all that occur there.
+ghost use Rattle.std.specs.Prelude.{◌≡◌, IfOk, false, map, string_bytes, true};
+ghost use Rattle.literal_base.specs.Occurs.{one_occurs, whole_of};
+ghost use Rattle.literal_automaton.specs.Overlapping.{IsOverlapping};
 
-use literal_search::{BuildError, MatchKind, Search};
-use std::alloc::Global;
+use literal_search::laws::iterations_give_each_occurrence_once;
+use literal_search::{BuildError, Match, MatchKind, Overlapping, Search};
+use std::alloc::{AllocError, Global};
 
 /// Whether one of the words of an array stands in a text, with ASCII case ignored.
 pub fn has_one_of_array(alloc: Global, words: [&[u8]; 3], text: &[u8]) -> Result<bool, BuildError>
@@ -39,6 +42,36 @@ pub fn has_one_of_texts(alloc: Global, words: &[String], text: &[u8]) -> Result<
     Ok(search.is_match(text))
 }
 
+/// Every occurrence of the words of a slice in a text, those that overlap others too, in the order of ends.
+pub fn all_that_occurs(
+    alloc: Global,
+    words: &[&[u8]],
+    text: &[u8],
+) -> Result<Vec<Match>, BuildError>
+    ensures { IfOk result (λ all. IsOverlapping (map (λ word. word.now) words.now) false text.now (whole_of text.now)
+        all.items) }
+{
+    let search = Overlapping::new(alloc, false, words.iter().copied())?;
+    Ok(collect_all(alloc, &search, text)?)
+}
+
+/// The list of what a search for all that occurs gives.
+pub fn collect_all(
+    alloc: Global,
+    search: &Overlapping,
+    text: &[u8],
+) -> Result<Vec<Match>, AllocError>
+    ensures { IfOk result (λ all. IsOverlapping search.now.patterns search.now.ignore_case text.now
+        (whole_of text.now) all.items) }
+{
+    iterations_give_each_occurrence_once();
+    let mut all = Vec::new(alloc);
+    for found in search.find_overlapping_iter(text) {
+        all.push(found)?;
+    }
+    Ok(all)
+}
+
 #[cfg(test)]
 mod tests {
     use super::*;
@@ -55,6 +88,15 @@ mod tests {
         assert!(rt; has_one_of_vec(alloc, words, b"EF")?);
         let texts = Vec::from_array(alloc, [String::from_str(alloc, "gh")?])?;
         assert!(rt; has_one_of_texts(alloc, texts.as_slice(), b"fgh")?);
+        Ok(())
+    }
+
+    #[test]
+    fn finds_what_overlaps(rt: HostRuntime) -> Result<(), Fail> {
+        let words = [b"append".as_slice(), b"app", b"end"];
+        let all = all_that_occurs(rt.alloc(), words.as_slice(), b"append")?;
+        assert!(rt; all.len() == 3 && all[0].range() == (0..3) && all[1].range() == (0..6));
+        assert!(rt; all[2].range() == (3..6));
         Ok(())
     }
 }

@@ -1,6 +1,9 @@
-//! `Prepared`, a search by an array that is lent.
+//! `Prepared` and `PreparedOverlapping`, searches by an array that is lent.
 use literal_base::count::Tally;
-use literal_search::{Match, MatchKind, PrepareError, Prepared, Search, Span};
+use literal_search::{
+    Match, MatchKind, Overlapping, PrepareError, Prepared, PreparedMatches, PreparedOverlapping,
+    Search, Span,
+};
 use std::alloc::Global;
 use std::process::Abort;
 use std::test::Fail;
@@ -43,5 +46,52 @@ fn finds_by_an_array(rt: HostRuntime) -> Result<(), Fail> {
     assert_searches(&rt, &Prepared::new(&array)?)?;
     assert!(rt; array.pop().is_some());
     assert!(rt; Prepared::new(&array).is_err());
+    Ok(())
+}
+
+/// The search for all that occurs of three words with case ignored, in an array that it fills.
+fn filled_for_all(alloc: Global) -> Result<Vec<u32>, Fail> {
+    let words = [b"append".as_slice(), b"app", b"end"];
+    let search = Overlapping::new(alloc, true, words)?;
+    let Err(PrepareError::ArrayTooShort(needed)) = search.prepare(&mut []) else {
+        return Err(Fail::from("an empty array is filled"));
+    };
+    let mut array = vec![in alloc; 0; needed]?;
+    if search.prepare(&mut array)? != needed {
+        return Err(Fail::from("another number of places is filled"));
+    }
+    Ok(array)
+}
+
+/// What an iteration gives next, by each of its calls.
+fn assert_gives(
+    rt: &impl Abort,
+    matches: &mut PreparedMatches<'_, '_, '_>,
+    counted: bool,
+    wanted: Option<(usize, usize, usize)>,
+) -> Result<(), Fail> {
+    let found = if counted {
+        matches.next_counted(&mut Tally::new())?
+    } else {
+        matches.next_match()?
+    };
+    let wanted = wanted.map(|(pattern, start, end)| Match::must(pattern, Span { start, end }));
+    assert!(rt; found == wanted);
+    Ok(())
+}
+
+#[test]
+fn finds_what_overlaps_by_an_array(rt: HostRuntime) -> Result<(), Fail> {
+    let mut array = filled_for_all(rt.alloc())?;
+    let prepared = PreparedOverlapping::new(&array)?;
+    assert!(rt; prepared.is_whole() && Prepared::new(&array).is_err());
+    let mut matches = prepared.find_overlapping_in(b"an APPEND, app", Span { start: 3, end: 13 });
+    assert_gives(&rt, &mut matches, false, Some((1, 3, 6)))?;
+    assert_gives(&rt, &mut matches, true, Some((0, 3, 9)))?;
+    assert_gives(&rt, &mut matches, false, Some((2, 6, 9)))?;
+    assert_gives(&rt, &mut matches, true, None)?;
+    assert_gives(&rt, &mut matches, false, None)?;
+    assert!(rt; array.pop().is_some());
+    assert!(rt; PreparedOverlapping::new(&array).is_err());
     Ok(())
 }

@@ -55,7 +55,7 @@ fn assert_finds_a_long_pattern(rt: &impl Abort, alloc: Global) -> Result<(), Fai
     assert_finds_long(rt, alloc, &pattern, front, None)
 }
 
-/// How many bytes a haystack of one byte has. `checks/program` has longer ones.
+/// How many bytes a haystack of one byte has.
 const LEN: usize = 1 << 16;
 
 /// What a case shows, its patterns, and the byte of its haystack, which is in their table.

@@ -5,7 +5,7 @@ ghost use Rattle.literal_promise.specs.Together.{IsCovered};
 use literal_prefilters::Match;
 use literal_prefilters::packed::{Builder, Config, MatchKind, Searcher};
 use literal_prefilters::prefilter::{self, Candidate, ConfirmingSearch, Prefilter};
-use literal_promise::Asked;
+use literal_promise::SearchRequest;
 use literal_promise::covered::{Covered, covered_patterns};
 use std::alloc::{AllocError, Global};
 use std::test::Fail;
@@ -96,7 +96,7 @@ pub fn covered(
         MatchKind::LeftmostFirst => literal_prefilters::MatchKind::LeftmostFirst,
         MatchKind::LeftmostLongest => literal_prefilters::MatchKind::LeftmostLongest,
     };
-    let asked = Asked {
+    let asked = SearchRequest {
         kind,
         pattern_limit: patterns.len(),
         built_for,

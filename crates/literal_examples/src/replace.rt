@@ -1,5 +1,5 @@
 //! Every match replaced by a text of its pattern.
-ghost use Rattle.std.specs.Prelude.{◌≡◌, ◌≤◌, List, IfOk, false, length, map};
+ghost use Rattle.std.specs.Prelude.{◌≡◌, ◌<◌, ◌≤◌, List, IfOk, OnErr, false, length, map};
 ghost use Rattle.literal_base.specs.Greedy.{IsGreedy};
 ghost use Rattle.literal_base.specs.MatchValue.{MatchValue};
 ghost use Rattle.literal_examples.specs.Replaced.{replaced};
@@ -8,7 +8,8 @@ use literal_prefilters::packed::Searcher;
 use std::alloc::{AllocError, Global};
 
 /// The haystack with the replacement of its pattern in place of each match, where matches are taken
-/// from the left and do not overlap. There is a replacement for each pattern, by its identifier.
+/// from the left and do not overlap. There is a replacement for each pattern, by its identifier. Memory is asked
+/// for only where the haystack is not empty.
 pub fn replace_all(
     alloc: Global,
     searcher: &Searcher,
@@ -16,8 +17,9 @@ pub fn replace_all(
     replacements: &[&[u8]],
 ) -> Result<Vec<u8>, AllocError>
     requires { length searcher.now.patterns ≤ length replacements.now }
-    ensures { IfOk result (λ text. (all : List MatchValue) × IsGreedy searcher.now false haystack.now 0 all
+    ensures replaced { IfOk result (λ text. (all : List MatchValue) × IsGreedy searcher.now false haystack.now 0 all
         × (text.items ≡ replaced haystack.now (map (λ r. r.now) replacements.now) 0 all)) }
+    ensures no_memory { OnErr result (0 < length haystack.now) }
 {
     let mut text = Vec::new(alloc);
     let mut at = 0;

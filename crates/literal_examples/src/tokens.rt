@@ -1,5 +1,5 @@
 //! A text cut into matches and what lies between them.
-ghost use Rattle.std.specs.Prelude.{◌≡◌, ◌≤◌, ◌++◌, IfOk, OnOk, false, length};
+ghost use Rattle.std.specs.Prelude.{◌≡◌, ◌<◌, ◌≤◌, ◌++◌, IfOk, OnErr, OnOk, false, length};
 ghost use Rattle.literal_base.specs.Greedy.{IsGreedy};
 ghost use Rattle.literal_examples.specs.Tokens.{GapsAreWhole, Tiles, gap, matched};
 
@@ -18,11 +18,12 @@ pub struct Token {
 
 /// The tokens of a text: the matches from the left that do not overlap, and what lies between them,
 /// before them and behind them, each gap as one token. No token is empty, and one after another they
-/// are the whole text.
+/// are the whole text. Memory is asked for only where the text is not empty.
 pub fn tokens(alloc: Global, searcher: &Searcher, haystack: &[u8]) -> Result<Vec<Token>, AllocError>
     ensures tiles { IfOk result (λ all. Tiles 0 (length haystack.now) all.items) }
     ensures matched { IfOk result (λ all. IsGreedy searcher.now false haystack.now 0 (matched all.items)) }
     ensures whole { IfOk result (λ all. GapsAreWhole all.items) }
+    ensures no_memory { OnErr result (0 < length haystack.now) }
 {
     let mut all = Vec::new(alloc);
     let mut at = 0;
@@ -41,7 +42,8 @@ pub fn tokens(alloc: Global, searcher: &Searcher, haystack: &[u8]) -> Result<Vec
 /// Adds what lies between two offsets, unless that is nothing.
 fn push_gap(all: &mut Vec<Token>, start: usize, end: usize) -> Result<(), AllocError>
     requires { start ≤ end }
-    ensures { OnOk result (all.new.items ≡ all.old.items ++ gap start end) }
+    ensures ok { OnOk result (all.new.items ≡ all.old.items ++ gap start end) }
+    ensures no_memory { OnErr result (start < end) }
 {
     if start < end {
         all.push(Token {

@@ -14,28 +14,28 @@ use std::process::Abort;
 
 /// What a collection of the first words tells: its kind, the order in which they are tried, the length of the
 /// shortest one, and that of all together.
-struct Told {
+struct Expected {
     kind: MatchKind,
     order: &'static [usize],
     minimum_len: usize,
     total: u128,
 }
 
-const OF_NONE: Told = Told {
+const OF_NONE: Expected = Expected {
     kind: MatchKind::LeftmostFirst,
     order: &[],
     minimum_len: usize::MAX,
     total: 0,
 };
 
-const OF_ONE: Told = Told {
+const OF_ONE: Expected = Expected {
     kind: MatchKind::LeftmostFirst,
     order: &[0],
     minimum_len: 1,
     total: 1,
 };
 
-const OF_TWO: Told = Told {
+const OF_TWO: Expected = Expected {
     kind: MatchKind::LeftmostFirst,
     order: &[0, 1],
     minimum_len: 1,
@@ -43,7 +43,7 @@ const OF_TWO: Told = Told {
 };
 
 /// 21 words, in the order in which they were added.
-const AS_ADDED: Told = Told {
+const AS_ADDED: Expected = Expected {
     kind: MatchKind::LeftmostFirst,
     order: &[
         0, 1, 2, 3, 4, 5, 6, 7, 8, 9, 10, 11, 12, 13, 14, 15, 16, 17, 18, 19, 20,
@@ -53,7 +53,7 @@ const AS_ADDED: Told = Told {
 };
 
 /// The same words, longer ones first.
-const LONGEST_FIRST: Told = Told {
+const LONGEST_FIRST: Expected = Expected {
     kind: MatchKind::LeftmostLongest,
     order: &[
         2, 5, 8, 11, 14, 17, 20, 1, 4, 7, 10, 13, 16, 19, 0, 3, 6, 9, 12, 15, 18,
@@ -74,7 +74,7 @@ fn is_word(patterns: &Patterns, number: usize) -> bool {
 }
 
 /// All calls of a collection answer so, and none of them asks for memory.
-fn assert_tells(rt: &impl Abort, patterns: &Patterns, wanted: &Told) {
+fn assert_tells(rt: &impl Abort, patterns: &Patterns, wanted: &Expected) {
     assert!(rt; *patterns.match_kind() == wanted.kind);
     assert!(rt; patterns.len() == wanted.order.len());
     assert!(rt; patterns.is_empty() == wanted.order.is_empty());
@@ -90,7 +90,7 @@ fn assert_tells(rt: &impl Abort, patterns: &Patterns, wanted: &Told) {
 
 /// All calls of a collection answer so to which a request was refused before, and so do those of a copy. No other
 /// request is refused.
-fn assert_tells_still(rt: &impl Abort, patterns: &Patterns, wanted: &Told) {
+fn assert_tells_still(rt: &impl Abort, patterns: &Patterns, wanted: &Expected) {
     assert_tells(rt, patterns, wanted);
     let copy = patterns
         .try_clone()
@@ -99,7 +99,7 @@ fn assert_tells_still(rt: &impl Abort, patterns: &Patterns, wanted: &Told) {
 }
 
 /// Adds the next word.
-fn adds(rt: &impl Abort, patterns: &mut Patterns, before: &Told, after: &Told) {
+fn adds(rt: &impl Abort, patterns: &mut Patterns, before: &Expected, after: &Expected) {
     let word = word(before.order.len());
     assert!(rt; patterns.len() < PatternID::LIMIT);
     if patterns.add(word).is_err() {

@@ -67,6 +67,15 @@ fn new_of_overlapping(rt: HostRuntime) {
     assert_overlaps(&rt, &search);
 }
 
+#[test]
+fn new_of_no_pattern_takes_no_memory(rt: HostRuntime) {
+    let (none, said): ([&[u8]; 0], &str) = ([], "it takes no memory");
+    let search = Search::new(rt.alloc(), MatchKind::LeftmostFirst, true, none).expect(&rt, said);
+    assert!(rt; search.find(b"qq").is_none());
+    let all = Overlapping::new(rt.alloc(), true, none).expect(&rt, said);
+    assert!(rt; all.find_overlapping_iter(b"qq").next().is_none());
+}
+
 /// Two matches, by the call that counts, which can be refused too.
 fn find_all_counted(rt: &impl Abort, search: &Search, haystack: &[u8]) {
     let all = match search.find_all_counted(haystack, &mut Tally::new()) {

@@ -5,8 +5,8 @@ use Rattle.literal_packed.proofs.lemmas.Callers.{greedy_from_run}
 use Rattle.literal_examples.specs.Replaced.{replaced}
 use Rattle.literal_examples.proofs.replace.replace_all.Goals as goal
 
-pub returns : goal.returns
-returns c =
+pub returns-clause-replaced : goal.returns-clause-replaced
+returns-clause-replaced c =
     let with_ = map (λ (r : Bor (List ℕ)). r.now) c.args.replacements.now in (
       c.loop-found.yielded,
       greedy_from_run c.args.searcher.now c.args.haystack.now _ _ _ _ (cc) c.loop-found.yielded_by

@@ -21,7 +21,7 @@ loop-found-preserved c =
     let span_is = c.span.ensures.span in
     let token : Token = record { span = c.span.result; pattern = Some c.pattern.result } in
     let ordered : at ≤ c.start.result = omega (arith, finds.leftmost.occurs.after_start) in
-    let pushed = c.in_ok-push.ensures.items ∙ ap (λ ts. ts ++ token ∷ []) c.in_ok-push_gap.ensures in
+    let pushed = c.in_ok-push.ensures.items ∙ ap (λ ts. ts ++ token ∷ []) c.in_ok-push_gap.ensures.ok in
     let starts = ap (λ (s : Span). s.start) span_is in
     let ends = ap (λ (s : Span). s.end) span_is in
     let end_is : c.span.result.end ≡ c.end-at.result = omega (arith, c.end-at.ensures.end) in
@@ -52,12 +52,12 @@ loop-found-preserved c =
 
 pub returns-clause-tiles : goal.returns-clause-tiles
 returns-clause-tiles c =
-    subst (λ (ts : List Token). Tiles 0 (length c.args.haystack.now) ts) (sym c.in_ok-push_gap-2.ensures)
+    subst (λ (ts : List Token). Tiles 0 (length c.args.haystack.now) ts) (sym c.in_ok-push_gap-2.ensures.ok)
     (tiles_gap 0 c.loop-found.at _ c.loop-found.all.items c.loop-found.invariant.tiles c.loop-found.invariant.within)
 
 pub returns-clause-matched : goal.returns-clause-matched
 returns-clause-matched c =
-    let matched_are = ap matched c.in_ok-push_gap-2.ensures
+    let matched_are = ap matched c.in_ok-push_gap-2.ensures.ok
     ∙ (matched-gap c.loop-found.at _ c.loop-found.all.items ∙ c.loop-found.invariant.matched_are) in
     subst (λ (ms : List MatchValue). IsGreedy c.args.searcher.now false c.args.haystack.now 0 ms) (sym matched_are)
     (greedy_from_run c.args.searcher.now c.args.haystack.now _ _ _ _ (cc) c.loop-found.yielded_by
@@ -65,5 +65,5 @@ returns-clause-matched c =
 
 pub returns-clause-whole : goal.returns-clause-whole
 returns-clause-whole c =
-    subst GapsAreWhole (sym c.in_ok-push_gap-2.ensures)
+    subst GapsAreWhole (sym c.in_ok-push_gap-2.ensures.ok)
     (whole_gap c.loop-found.at _ c.loop-found.all.items c.loop-found.invariant.whole)
