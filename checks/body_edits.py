@@ -13,11 +13,8 @@ class BadEdit(Exception):
 
 
 class Crate:
-    """A crate as it stands: by path, the text and the functions of each source file.
-
-    `reported` gives the name that a check has for a function; take_names fills it. `only` names the functions that its
-    checks prove, with what these call, where that is not all.
-    """
+    """A crate as it stands: by path, the text and the functions of each source file; the name that a check has for
+    each function; and the functions that its checks prove, with what these call, where these are not all."""
 
     def __init__(self, root, name):
         self.name, self.folder, self.reported, self.only = name, root / "crates" / name, {}, []
@@ -50,50 +47,37 @@ def edits_in(path, crate):
 
 
 class Edit:
-    """An edit of a crate.
-
-    name        the file that it stands in, and its own name
-    texts       each file that it changes, by path, as it makes it
-    bodies      each body that it changes, by path and number in that file
-    is_loose    whether it changes more than bodies, as a constant or a contract
-    functions   the names of the functions whose bodies it changes, or of the one that has to refuse it if it is loose
-    clause      the clause that has to refuse it
-    shape       its line `shape:`
-    fault       why it cannot be applied, or an empty text
-    """
+    """An edit of a crate: the file that it stands in, and its own name; each file that it changes, by path, as it makes
+    it, and each body, by path and number in that file; whether it is loose, and changes more than bodies, as a constant
+    or a contract; the names of the functions whose bodies it changes, or of the one that has to refuse it if it is
+    loose; the clause that has to refuse it; its line `shape:`; and why it cannot be applied, or an empty text."""
 
     def __init__(self, module, lines, crate):
-        self.name = module
-        self.texts, self.bodies, self.functions = {}, {}, []
-        self.is_loose, self.clause, self.shape, self.fault = False, "", "", ""
+        self.name, self.texts, self.bodies, self.functions = module, {}, {}, []
+        self.is_loose, self.clause, self.breaker, self.shape, self.fault = False, "", "", "", ""
         try:
-            breaker = self.read(lines, crate)
+            self.read(lines, crate)
             for path, text in self.texts.items():
                 self.compare(path, text, crate)
-            if not self.is_loose and not self.functions:
-                raise BadEdit("it changes no function")
+            if self.is_loose:
+                self.functions = [self.breaker] if self.breaker else []
+            if not self.functions:
+                raise BadEdit("it changes no function, nor does 'breaks: CLAUSE of FUNCTION' say where it shows")
             if not self.clause and not self.shape:
                 raise BadEdit("no line 'breaks: CLAUSE' says what has to refuse it")
-            if self.is_loose and not breaker:
-                raise BadEdit("it changes more than bodies: 'breaks: CLAUSE of FUNCTION' says where that shows")
-            self.functions = [breaker] if self.is_loose else self.functions
         except BadEdit as why:
             self.fault = str(why)
 
     def read(self, lines, crate):
-        """Applies the pairs of the edit one after the other, and returns the function that its line `breaks:` names."""
-        path = function = old = breaker = ""
+        """Applies the pairs of the edit one after the other."""
+        path = function = old = ""
         for line in filter(str.strip, lines.split("\n")):
             found = LINE.fullmatch(line)
-            if not found:
-                raise BadEdit(f"a line is none of an edit: {line}")
-            head, text = found.groups("")
+            head, text = found.groups("") if found else ("", "")
             if head == "edit":
                 self.name = f"{self.name}/{text.strip()}"
-            elif head == "file":
+            elif head == "file" and text.strip() in crate.texts:
                 path, function = text.strip(), ""
-                if path not in crate.texts:
-                    raise BadEdit(f"there is no file {path}")
             elif head == "in":
                 function = text.strip()
             elif head == "old":
@@ -102,14 +86,12 @@ class Edit:
                 before = self.texts.get(path, crate.texts.get(path, ""))
                 self.texts[path] = replaced(before, path, function, old, text, crate)
                 old = ""
-            elif head == "breaks":
-                found = BREAKS.fullmatch(text.strip())
-                if not found:
-                    raise BadEdit(f"a line is none of an edit: {line}")
-                self.clause, breaker = found.groups("")
-            else:
+            elif head == "breaks" and BREAKS.fullmatch(text.strip()):
+                self.clause, self.breaker = BREAKS.fullmatch(text.strip()).groups("")
+            elif head == "shape":
                 self.shape = text.strip()
-        return breaker
+            else:
+                raise BadEdit(f"a line is none of an edit: {line}")
 
     def compare(self, path, text, crate):
         """Finds what the edit changes in a file."""
@@ -122,24 +104,20 @@ class Edit:
 
 
 def replaced(text, path, name, old, new, crate):
-    """Returns a text with the one place of an old text replaced, in the body of a function where one is named."""
+    """Returns a text with the one place of an old text replaced, in the body of a function where one is named, by its
+    name or the last segments of that."""
     start, end, where = 0, len(text), path
     if name:
-        function = function_named(name, functions_in(text, path), path, crate)
-        start, end, where = function.start, function.end, f"the body of {name}"
+        functions = functions_in(text, path)
+        found = [it for it in functions if f"::{crate.reported.get(it.name, it.name)}".endswith(f"::{name}")]
+        if len(found) != 1:
+            raise BadEdit(f"'in: {name}' names {len(found)} functions of {path}, and not one")
+        start, end, where = found[0].start, found[0].end, f"the body of {name}"
     count = text.count(old, start, end) if old else 0
     if count != 1:
         raise BadEdit(f"an 'old:' text is in {where} {count} times, and not once")
     at = text.index(old, start, end)
     return text[:at] + new + text[at + len(old) :]
-
-
-def function_named(name, functions, path, crate):
-    """Returns the one function with this name, or with these last segments of one."""
-    found = [it for it in functions if f"::{crate.reported.get(it.name, it.name)}".endswith(f"::{name}")]
-    if len(found) != 1:
-        raise BadEdit(f"'in: {name}' names {len(found)} functions of {path}, and not one")
-    return found[0]
 
 
 def beside(text, functions):

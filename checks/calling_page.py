@@ -8,6 +8,8 @@ import functools
 import re
 from collections import namedtuple
 
+from rattle_source import words_of
+
 PATH = "docs/CALLING.md"
 PROGRAM = "## A program in a repository of its own"
 
@@ -23,35 +25,20 @@ def blocks_of(text):
     return [(found["kind"], found["text"], found["path"]) for found in BLOCK.finditer(text)]
 
 
-def section(text, heading):
-    """The part of a text below a heading, up to the next of its rank."""
-    return text.partition(f"\n{heading}\n")[2].partition("\n## ")[0]
-
-
-def runs_of(text):
-    """The commands of a block, each with what it prints."""
-    runs = re.split(r"^\$ ", text, flags=re.M)[1:]
-    return [(command, printed) for command, _, printed in (run.partition("\n") for run in runs)]
-
-
 def page_of(text):
     """The program of a page."""
-    blocks = blocks_of(section(text, PROGRAM))
+    blocks = blocks_of(text.partition(f"\n{PROGRAM}\n")[2].partition("\n## ")[0])
     commands = "".join(block for kind, block, path in blocks if kind == "sh" and not path)
     files = {path: block for _, block, path in blocks if path}
-    runs = [run for kind, block, _ in blocks if kind == "console" for run in runs_of(block)]
+    consoles = "".join(block for kind, block, _ in blocks if kind == "console")
+    runs = [run.partition("\n")[::2] for run in re.split(r"^\$ ", consoles, flags=re.M)[1:]]
     return Page(commands, files, runs)
-
-
-def words_of(code):
-    """Code with single spaces, and no comma before what closes a list."""
-    return re.sub(r",? ?([)\]>])", r"\1", re.sub(r"([(\[<]) ", r"\1", re.sub(r"\s+", " ", code))).strip()
 
 
 def contract_of(code):
     """The signature of a function, and its clauses, of the text that stands before its body."""
     signature, *clauses = re.split(r"^(?= *(?:requires|ensures)\b)", code, flags=re.M)
-    return words_of(signature), [words_of(clause) for clause in clauses]
+    return " ".join(words_of(signature)), [" ".join(words_of(clause)) for clause in clauses]
 
 
 def quotes_of(text):

@@ -19,13 +19,8 @@ WAITS = re.compile(r"which (is|are) not proved|waits for the proof")
 
 
 class Report:
-    """What a check said of a crate.
-
-    is_judged   whether it came as far as the prover
-    fault       its first error
-    lines       what it says of each function and impl, by name
-    refusals    by the name of a function, what refused its own proof
-    """
+    """What a check said of a crate: whether it came as far as the prover, its first error, what it says of each
+    function and impl, and what refused the own proof of each function that is not proved."""
 
     def __init__(self, said, crate):
         # (`only=0` is what a first look says, which proves nothing)
@@ -50,10 +45,8 @@ def functions_with_a_false_goal(said, crate):
     """Returns the functions of which a note says that a goal is false at some values."""
     found = set()
     for path, line in FALSE.findall(said):
-        for function in crate.functions[path]:
-            if crate.texts[path].count("\n", 0, function.end) + 1 >= int(line):
-                found.add(crate.reported.get(function.name))
-                break
+        ends = ((it, crate.texts[path].count("\n", 0, it.end) + 1) for it in crate.functions[path])
+        found.add(next((crate.reported.get(it.name) for it, end in ends if end >= int(line)), None))
     return found
 
 

@@ -1,5 +1,5 @@
-"""Reads Rattle sources: which of a text is code, and its functions: their names, as a check reports them, what they
-take, and where their bodies stand."""
+"""Reads Rattle sources: which of a text is code, and its functions: their names, as a check reports them, and where
+their bodies stand."""
 import functools
 import re
 from collections import namedtuple
@@ -109,46 +109,6 @@ def closing(code, at):
         if not depth:
             return bracket.end()
     return len(code)
-
-
-def enclosing(code, at):
-    """Returns where the innermost bracket opens that a place lies in, or -1."""
-    depth = 0
-    for back in range(at - 1, -1, -1):
-        if code[back] in BRACKETS:
-            depth -= 1
-        elif code[back] in BRACKETS.values():
-            depth += 1
-        if depth < 0:
-            return back
-    return -1
-
-
-def parts_of(code):
-    """Returns what commas part in a list, outside of all brackets, those of types too."""
-    parts, depth = [""], 0
-    for sign in re.findall(r"->|=>|.", code, re.S):
-        depth += (sign in "([{<") - (sign in ")]}>")
-        if sign == "," and depth == 0:
-            parts.append("")
-        else:
-            parts[-1] += sign
-    return [part.strip() for part in parts if part.strip()]
-
-
-def parameters(code, function):
-    """Returns what a function takes: the name and the type of each of its parameters, both empty for `self`."""
-    at = re.compile(r"fn\s+\w+\s*").match(code, function.head).end()
-    if code[at] == "<":
-        depth = 0
-        for sign in re.compile(r"->|[<>]").finditer(code, at):
-            depth += {"<": 1, ">": -1}.get(sign[0], 0)
-            if not depth:
-                at = sign.end()
-                break
-    at = code.index("(", at)
-    parts = [part.partition(":") for part in parts_of(code[at + 1 : closing(code, at) - 1])]
-    return [(name.strip().removeprefix("mut "), kind.strip()) if kind else ("", "") for name, _, kind in parts]
 
 
 def name_of_impl(head):

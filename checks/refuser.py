@@ -2,10 +2,10 @@
 import os
 import subprocess
 
-from kept import TOP
+from judged import Failed
+from workspace import TOP
 
-# The number of the request that is refused: each of them.
-ALL = 0
+MOST, SECONDS = 200, 60
 
 
 def kit_tool(name):
@@ -19,18 +19,32 @@ class Refuser:
     """The library, compiled by the kit into a folder, where a mark shows that a request was refused."""
 
     def __init__(self, folder):
+        self.folder = folder
         self.library, self.mark = os.path.join(folder, "refuse.so"), os.path.join(folder, "refused")
         source, made = os.path.join(TOP, "checks", "refuse.c"), f"{self.library}.o"
         compiled = [*kit_tool("clang"), "-O1", "-fPIC", "-fno-builtin", "-c", source, "-o", made]
         for words in (compiled, [*kit_tool("ld.lld"), "-shared", "-o", self.library, made]):
             subprocess.run(words, stdin=subprocess.DEVNULL, check=True)
 
-    def given(self, request):
-        """The environment in which a program's request of this number is refused, or each of them."""
+    def run(self, words, request, **how):
+        """The status of a program of which this request is refused, what it said, and whether one was."""
         if os.path.exists(self.mark):
             os.remove(self.mark)
-        return {"LD_PRELOAD": self.library, "REFUSED_REQUEST": str(request), "REFUSED_MARK": self.mark}
+        given = {"LD_PRELOAD": self.library, "REFUSED_REQUEST": str(request), "REFUSED_MARK": self.mark}
+        how = {"stdout": subprocess.PIPE, "stderr": subprocess.STDOUT, "text": True, "errors": "replace", **how}
+        try:
+            ran = subprocess.run(words, cwd=self.folder, env=given, timeout=SECONDS, **how)
+        except subprocess.TimeoutExpired:
+            return None, f"it had not ended after {SECONDS} seconds\n", False
+        return ran.returncode, ran.stdout, os.path.exists(self.mark)
 
-    def has_refused(self):
-        """Whether a request of the last program was refused."""
-        return os.path.exists(self.mark)
+    def refuse_in_turn(self, words, judge, **how):
+        """Runs a program with its first request for memory refused, then with its second, and so on until none is.
+        Returns what `judge` says of each run, by its status, what it said, and whether a request was refused."""
+        found = []
+        for request in range(1, MOST + 1):
+            status, said, refused = self.run(words, request, **how)
+            found.append(judge(status, said, refused))
+            if not refused:
+                return found[:-1]
+        raise Failed(f"{words[-1]} makes more than {MOST} requests")

@@ -30,16 +30,10 @@ CITATIONS = re.compile(
 # Elsewhere a folder of such a name is one of proofs, of a function that is called so.
 NOT_READ = re.compile(r"\.git|(?:crates/\w+/|bindings/)?out|(?:checks|bindings/(?:c|python/\w+))/__pycache__|.*\.so")
 
-# What the word `unsafe` may stand in, at each export of the crate for C.
-EXPORT = "#[unsafe(no_mangle)]"
-
-LONGEST_FILE = 800
-LONGEST_README = 130
-WIDEST_LINE = 120
-WIDE = re.compile(rf"^.{{{WIDEST_LINE + 1},}}")
+LONGEST_FILE, LONGEST_README = 800, 130
+WIDE = re.compile(r"^.{121,}")
 
 # Where an example on the page for callers, of code or of a proof, may stand.
-TABLES_OF_MODULES = [f"crates/literal_{name}/src/lib.rt" for name in ("callers", "calls", "compared")]
 EXAMPLES = {
     "rust": re.compile(r"crates/\w+/src/(?:\w+/)*tests\.rt|crates/literal_(?:callers|examples)/src/\w+\.rt"),
     "antt": re.compile(r"crates/\w+/proofs/.*\.antt"),
@@ -50,24 +44,22 @@ class Repository:
     """The texts of a repository by their paths from its top, and its sources."""
 
     def __init__(self, texts):
-        self.texts = texts
-        self.sources = search_rules.sources_of(texts)
+        self.texts, self.sources = texts, search_rules.sources_of(texts)
 
 
-def texts_of(root):
-    """The texts of the files in a folder, by their paths from it."""
+def texts_of(root, below=""):
+    """The texts of the files in a folder, by their paths from the top."""
     texts = {}
-    for folder, folders, names in os.walk(root):
-        folders[:] = read_of(root, folder, folders)
-        for full in (os.path.join(folder, name) for name in sorted(read_of(root, folder, names))):
-            with open(full, encoding="utf-8", newline="") as file:
-                texts[os.path.relpath(full, root)] = file.read()
+    for entry in sorted(os.scandir(os.path.join(root, below)), key=lambda it: it.name):
+        path = os.path.join(below, entry.name)
+        if NOT_READ.fullmatch(path):
+            continue
+        if entry.is_dir():
+            texts.update(texts_of(root, path))
+        else:
+            with open(entry.path, encoding="utf-8", newline="") as file:
+                texts[path] = file.read()
     return texts
-
-
-def read_of(root, folder, names):
-    """The names in a folder of what is read."""
-    return [name for name in names if not NOT_READ.fullmatch(os.path.relpath(os.path.join(folder, name), root))]
 
 
 def handles(repository):
@@ -97,43 +89,24 @@ def lines_with(pattern, text):
     return [(number, there.group(0)) for number, there in found if there]
 
 
-def lengths(repository):
-    """No file is long, and README.md is short."""
+def sizes(repository):
+    """No file is long, README.md is short, and no line is wide but headings and rows of tables in documents."""
     for path, text in repository.texts.items():
         most = LONGEST_README if path == "README.md" else LONGEST_FILE
         if path.endswith((".rt", ".antt", "README.md")) and len(text.splitlines()) > most:
             yield f"{path} has {len(text.splitlines())} lines"
-
-
-def widths(repository):
-    """No line is wide but headings and rows of tables in documents."""
-    for path, text in repository.texts.items():
         if path.endswith((".rt", ".antt", ".md")) or path.startswith("checks/") or path == "test":
             for number, line in lines_with(WIDE, text):
                 if not (path.endswith(".md") and line.startswith(("|", "#"))):
-                    yield f"{path}:{number}: more than {WIDEST_LINE} columns"
+                    yield f"{path}:{number}: more than 120 columns"
 
 
 def unsafe(repository):
     """No code is unsafe. The word stands at the exports of the crate for C alone."""
     for path, text in repository.texts.items():
-        exports = EXPORT if path == "crates/literal_c/src/lib.rt" else ""
+        exports = "#[unsafe(no_mangle)]" if path == "crates/literal_c/src/lib.rt" else ""
         if path.endswith(".rt") and "unsafe" in text and re.search(r"\bunsafe\b", code_of(text).replace(exports, "")):
             yield f"{path}: unsafe code"
-
-
-@functools.lru_cache(maxsize=None)
-def modules_in(text):
-    """The modules of their own files that a source names."""
-    return re.findall(r"\bmod\s+(\w+)\s*;", code_of(text))
-
-
-def tables(repository):
-    """The comment of each crate of tests that has a table of its modules has a row for each."""
-    for path in TABLES_OF_MODULES:
-        tests = repository.texts[path]
-        for name in set(modules_in(tests)) ^ set(re.findall(r"^//! \| `(\w+)` \|", tests, re.M)):
-            yield f"{path}: `{name}` is a module or has a row above, and not both"
 
 
 def definitions(repository):
@@ -157,15 +130,6 @@ def plain_lines(text):
     return "\n".join(line.strip() for line in text.splitlines())
 
 
-def documents(repository):
-    """The documents, and the comments of documentation of each source, by their paths."""
-    for path, text in repository.texts.items():
-        if path.endswith(".md"):
-            yield path, text
-        elif path.endswith(".rt"):
-            yield path, comments_of(text)
-
-
 @functools.lru_cache(maxsize=None)
 def comments_of(text):
     """The comments of documentation of a source."""
@@ -181,7 +145,9 @@ def examples(repository):
     sources = [text for path, text in repository.texts.items() if path.endswith(".rt")]
     programs = [text for path, text in repository.texts.items() if path.endswith("/src/main.rt")]
     tests = [plain_lines(test) for text in sources for test in tests_of(text)]
-    for path, text in documents(repository):
+    documents = {path: comments_of(text) if path.endswith(".rt") else text
+                 for path, text in repository.texts.items() if path.endswith((".rt", ".md"))}
+    for path, text in documents.items():
         is_page = path == calling_page.PATH
         proved = page_of(text).files.values() if is_page else ()
         for kind, block, _ in blocks_of(text):
@@ -219,7 +185,7 @@ def contracts_in(text, path):
     return [contract_of(re.sub(r"^ *//.*\n", "", head, flags=re.M)) for head in heads]
 
 
-RULES = [handles, walks, citations, lengths, widths, unsafe, tables, definitions, examples, quotes]
+RULES = [handles, walks, citations, sizes, unsafe, definitions, examples, quotes]
 
 
 def broken_rules(repository):

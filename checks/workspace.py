@@ -1,27 +1,22 @@
-"""The crates of the workspace, what was done with them as they stand, and how many can be proved side by side."""
-import functools
-import hashlib
+"""The crates of the workspace, how many can be proved side by side, and what stands in a crate's folder out/: what `rt
+check` keeps of its work, over which later checks prove only what has changed, and what `rt ci`, `rt run` and `rt test`
+built."""
 import os
 import re
 import shutil
 from pathlib import Path
 
-from kept import TOP
-
+TOP = os.path.dirname(os.path.dirname(os.path.abspath(__file__)))
 MEMORY_OF_A_PROOF = 2e9
 
 
 def crates_below(top=TOP):
-    """For each crate that crates.txt lists, the crates that it stands on, near and far. Each comes after those."""
-    with open(os.path.join(top, "crates.txt"), encoding="utf-8") as file:
-        lines = [line.split("#")[0].partition(":") for line in file]
-    named = {head.split()[0]: set(rest.split()) for head, _, rest in lines if head.strip()}
+    """For each crate that crates.txt lists, behind those that it stands on, all of these, near and far."""
     below = {}
-    while len(below) < len(named):
-        for name, others in named.items():
-            mine = others & named.keys()
-            if name not in below and mine <= below.keys():
-                below[name] = mine.union(*(below[other] for other in mine))
+    for line in Path(top, "crates.txt").read_text("utf-8").splitlines():
+        head, _, rest = line.partition("#")[0].partition(":")
+        if head.strip():
+            below[head.split()[0]] = set(rest.split()).union(*(below[other] for other in rest.split()))
     return below
 
 
@@ -32,30 +27,38 @@ def room_for_proofs():
     return max(1, min(len(os.sched_getaffinity(0)), int(free // MEMORY_OF_A_PROOF)))
 
 
-@functools.cache
-def digest_of(crate):
-    """A number of a crate's files, by their paths and what they hold."""
-    top, summed = Path(TOP, "crates", crate), hashlib.sha256()
-    for folder in sorted(it for it in top.iterdir() if it.name not in ("out", "wrong-bodies")):
-        for path in sorted(it for it in (folder, *folder.rglob("*")) if it.is_file()):
-            summed.update(f"{path.relative_to(top)}\n".encode() + hashlib.sha256(path.read_bytes()).digest())
-    return summed.hexdigest()
+def built_in(crates):
+    """What `shutil.copytree` is to leave out of a folder of crates: the folder out/ of each, and none of this name
+    below, which is one of sources or proofs."""
+    return lambda folder, _: ["out"] if Path(folder).parent == Path(crates) else []
 
 
-class Stamp:
-    """What was done with a crate, for as long as its files, those of the crates that it stands on, and the toolchain
-    stay as they are. It stands in the crate's folder out/, and goes with it."""
+def link_or_copy(source, target):
+    """Links a file of kept work, since no check writes into one (it puts another in its place)."""
+    try:
+        os.link(source, target)
+    except OSError:
+        shutil.copy(source, target)
 
-    def __init__(self, name, done):
-        self.path = Path(TOP, "crates", name, "out", done)
-        tool = os.path.getmtime(os.path.realpath(shutil.which("rt")))
-        self.digest = f"{tool} " + " ".join(digest_of(crate) for crate in sorted({name} | crates_below()[name]))
 
-    def stands(self):
-        """Whether that was done with the crate as it is."""
-        return self.path.is_file() and self.path.read_text("ascii") == self.digest
+def take_kept(source, target):
+    """Takes what a crate's checks have kept, or nothing of it where another process is at work on it."""
+    try:
+        shutil.copytree(source, target, copy_function=link_or_copy)
+    except (OSError, shutil.Error):
+        shutil.rmtree(target, ignore_errors=True)
 
-    def put(self):
-        """Notes that it was done."""
-        if self.path.parent.is_dir():
-            self.path.write_text(self.digest, "ascii")
+
+def copy_with_kept(source, target, leave_out=None):
+    """Copies a folder with crates and what their checks kept, which alone is linked, into one that may be there."""
+    def link_or_copy_of(file, to):
+        parts = Path(file).relative_to(source).parts
+        (link_or_copy if parts[:1] + parts[2:3] == ("crates", "out") else shutil.copy)(file, to)
+
+    shutil.copytree(source, target, ignore=leave_out, copy_function=link_or_copy_of, dirs_exist_ok=True)
+
+
+def is_built(program):
+    """Whether a program is there, and was built after the last change of a source."""
+    sources = Path(TOP).glob("crates/*/src/**/*.rt")
+    return os.path.isfile(program) and os.path.getmtime(program) > max(os.path.getmtime(it) for it in sources)
