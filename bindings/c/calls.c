@@ -11,7 +11,7 @@ static const char *const WORDS[] = {"apple", "maple", "Snapple"};
 static const char TEXT[] = "Nobody likes maple in their apple flavored Snapple.";
 static uint8_t patterns[32];
 static size_t ends[3];
-static uint32_t prepared[PLACES];
+static uint32_t prepared[PLACES], for_all[PLACES];
 static int wrong;
 
 #define CHECK(CLAIM) \
@@ -66,6 +66,10 @@ static void prepare(void) {
     CHECK(literal_prepare(0, false, patterns, 17, ends, 3, prepared, PLACES, &again) == LITERAL_OK && again == needed);
     CHECK(literal_check_prepared(prepared, needed) == LITERAL_OK);
     CHECK(literal_check_prepared(prepared, needed - 1) == LITERAL_DAMAGED);
+    CHECK(literal_prepare_overlapping(false, patterns, 17, ends, 3, NULL, 0, &needed) == LITERAL_TOO_SHORT);
+    CHECK(needed < PLACES && for_all[0] == 0);
+    CHECK(literal_prepare_overlapping(false, patterns, 17, ends, 3, for_all, PLACES, &again) == LITERAL_OK);
+    CHECK(again == needed && literal_check_prepared(for_all, needed) == LITERAL_DAMAGED);
 }
 
 static void by_prepared(const uint8_t *text, size_t len) {
@@ -77,6 +81,10 @@ static void by_prepared(const uint8_t *text, size_t len) {
     CHECK(literal_find_in(prepared, PLACES, text, len, 14, len + 1, found) == LITERAL_BAD_ARGUMENTS);
     CHECK(literal_find_all_in(prepared, PLACES, text, len, 14, 50, found, 3, &page) == LITERAL_OK);
     CHECK(page.written == 2 && page.is_last == 1 && is(&found[0], 0, 28, 33) && is(&found[1], 2, 43, 50));
+    CHECK(literal_find_overlapping_in(for_all, PLACES, text, len, 14, len, found, 3, &page) == LITERAL_OK);
+    CHECK(page.written == 3 && page.is_last == 1 && page.next == 50 && is(&found[0], 0, 28, 33));
+    CHECK(is(&found[1], 0, 45, 50) && is(&found[2], 2, 43, 50));
+    CHECK(literal_find_overlapping_in(prepared, PLACES, text, len, 14, len, found, 3, &page) == LITERAL_DAMAGED);
     CHECK(literal_find_each_in(prepared, PLACES, text, len, lines, 2, answers, 2) == LITERAL_OK);
     CHECK(is(&answers[0].found, 1, 13, 18) && answers[1].status == LITERAL_NONE);
     CHECK(literal_count_in(prepared, PLACES, text, len, 0, len, &count) == LITERAL_OK && count == 3);
@@ -101,8 +109,13 @@ static void by_null(const uint8_t *text, size_t len) {
     CHECK(literal_find_in(NULL, 0, text, len, 0, len, &found) == LITERAL_DAMAGED);
     CHECK(literal_find_in(prepared, PLACES, NULL, 0, 0, 0, &found) == LITERAL_NONE && is(&found, 7, 8, 9));
     CHECK(literal_find_all_in(prepared, PLACES, NULL, 0, 0, 0, NULL, 0, &page) == LITERAL_OK && page.is_last == 1);
+    CHECK(literal_find_overlapping_in(for_all, PLACES, NULL, 0, 0, 0, NULL, 0, &page) == LITERAL_OK);
+    CHECK(page.written == 0 && page.next == 0 && page.is_last == 1);
+    CHECK(literal_find_overlapping_in(NULL, 0, text, len, 0, len, NULL, 0, &page) == LITERAL_DAMAGED);
     CHECK(literal_find_each_in(prepared, PLACES, NULL, 0, NULL, 0, NULL, 0) == LITERAL_OK);
     CHECK(literal_count_in(prepared, PLACES, NULL, 0, 0, 0, &count) == LITERAL_OK && count == 0);
+    CHECK(literal_prepare_overlapping(true, NULL, 0, NULL, 0, empty, PLACES, &needed) == LITERAL_OK);
+    CHECK(literal_find_overlapping_in(empty, needed, text, len, 0, len, NULL, 0, &page) == LITERAL_OK);
     CHECK(literal_prepare(1, true, NULL, 0, NULL, 0, empty, PLACES, &needed) == LITERAL_OK);
     CHECK(literal_find_in(empty, needed, text, len, 0, len, &found) == LITERAL_NONE && is(&found, 7, 8, 9));
 }

@@ -16,15 +16,16 @@
  *
  * There are two ways to search. literal_find, literal_find_all, literal_find_overlapping and literal_find_each take the
  * patterns, and build their search anew. Whoever searches more than once lets literal_prepare write the search into an
- * array, and gives this array to the functions whose names end in _in. They build nothing, and take no memory. The
- * array may be copied, or kept in a file for machines of the same byte order.
+ * array, and gives this array to the functions whose names end in _in; literal_find_overlapping_in alone takes one that
+ * literal_prepare_overlapping wrote. They build nothing, and take no memory. The arrays may be copied, or kept in a
+ * file for machines of the same byte order.
  *
  * Each call checks its arguments and answers one of the statuses below. The checks come in their order: first
  * LITERAL_BAD_ARGUMENTS, then LITERAL_NO_SEARCHER, then the two that come while the search is built,
  * LITERAL_OUT_OF_MEMORY and LITERAL_TOO_LARGE, then LITERAL_TOO_SHORT. What a call writes, it writes only where it
  * answers LITERAL_OK: after any other status the memory that it was lent is as it was. There are two exceptions:
- * literal_prepare tells by LITERAL_TOO_SHORT how long the array has to be, and with LITERAL_DAMAGED some of the places
- * for matches or answers may be written.
+ * literal_prepare and literal_prepare_overlapping tell by LITERAL_TOO_SHORT how long the array has to be, and with
+ * LITERAL_DAMAGED some of the places for matches or answers may be written.
  *
  * No call keeps anything after it returns. There is nothing to free, and any thread may call at any time. A call needs
  * less than 16 KiB of stack.
@@ -56,11 +57,11 @@ extern "C" {
 #define LITERAL_OK 0             /* done: found, or what was asked for is written, or the list can be searched for */
 #define LITERAL_NONE 1           /* no pattern occurs */
 #define LITERAL_NO_SEARCHER 2    /* the patterns can't be searched for: one is empty, or there are 2^31 or more */
-#define LITERAL_OUT_OF_MEMORY 3  /* malloc or realloc refused a request; the patterns can be searched for */
+#define LITERAL_OUT_OF_MEMORY 3  /* malloc or realloc refused a request; there are patterns that can be searched for */
 #define LITERAL_BAD_ARGUMENTS 4  /* the arguments contradict each other, as each function says */
 #define LITERAL_TOO_LARGE 5      /* the table of the search would have 2^31 places or more; so may a call that finds */
 #define LITERAL_TOO_SHORT 6      /* the lent array is shorter than it has to be */
-#define LITERAL_DAMAGED 7        /* the array is not as literal_prepare wrote it */
+#define LITERAL_DAMAGED 7        /* the array is not as it was written for such a call */
 
 /* Kinds of match. */
 #define LITERAL_LEFTMOST_FIRST 0
@@ -186,17 +187,30 @@ int32_t literal_find_each(uint32_t kind, bool ignore_case, const uint8_t *patter
 int32_t literal_prepare(uint32_t kind, bool ignore_case, const uint8_t *patterns, size_t patterns_len,
                         const size_t *ends, size_t ends_len, uint32_t *prepared, size_t prepared_len, size_t *needed);
 
-/* Whether an array is whole, as one that was kept in a file: by its version, its lengths, and a sum over all of it. It
- * finds what happens by accident, and is no defence against a forger.
+/* The same for literal_find_overlapping_in. The array has one number more for each pattern, and one for each pattern
+ * that is an end of it, or equals it.
+ *
+ * LITERAL_OK             prepared and needed are written
+ * LITERAL_TOO_SHORT      the array has fewer than *needed places, and stays as it was
+ * LITERAL_NO_SEARCHER    the patterns can't be searched for
+ * LITERAL_OUT_OF_MEMORY  there is not enough memory for building the search
+ * LITERAL_TOO_LARGE      as from literal_prepare; or 2^32 times or more a pattern is an end of another
+ * LITERAL_BAD_ARGUMENTS  the ends fall or pass the buffer */
+int32_t literal_prepare_overlapping(bool ignore_case, const uint8_t *patterns, size_t patterns_len, const size_t *ends,
+                                    size_t ends_len, uint32_t *prepared, size_t prepared_len, size_t *needed);
+
+/* Whether an array of literal_prepare is whole, as one that was kept in a file: by its version, its lengths, and a sum
+ * over all of it. It finds what happens by accident, and is no defence against a forger.
  *
  * LITERAL_OK       the array is whole
  * LITERAL_DAMAGED  it is not */
 int32_t literal_check_prepared(const uint32_t *prepared, size_t prepared_len);
 
-/* The functions that follow search by an array that literal_prepare wrote. They look at its version and its lengths,
- * and not at all of it. Of an array with other words each of them still returns, and writes to the lent places alone;
- * what it finds lies in the bytes that were searched. But the answer need not be right, whether that is LITERAL_DAMAGED
- * or not, and with LITERAL_DAMAGED some places for matches or answers may be written. */
+/* The functions that follow search by an array that literal_prepare wrote, and literal_find_overlapping_in by one of
+ * literal_prepare_overlapping. They look at its version and its lengths, and not at all of it. Of an array with other
+ * words each of them still returns, and writes to the lent places alone; what it finds lies in the bytes that were
+ * searched. But the answer need not be right, whether that is LITERAL_DAMAGED or not, and with LITERAL_DAMAGED some
+ * places for matches or answers may be written. */
 
 /* As literal_find.
  *
@@ -215,6 +229,15 @@ int32_t literal_find_in(const uint32_t *prepared, size_t prepared_len, const uin
  * LITERAL_DAMAGED        the array is not as it was written */
 int32_t literal_find_all_in(const uint32_t *prepared, size_t prepared_len, const uint8_t *haystack, size_t haystack_len,
                             size_t start, size_t end, literal_match *found, size_t found_len, literal_page *page);
+
+/* As literal_find_overlapping, by an array that literal_prepare_overlapping wrote.
+ *
+ * LITERAL_OK             found and page are written, also where no pattern occurs (then page->written is 0)
+ * LITERAL_BAD_ARGUMENTS  start is above end, or end above haystack_len
+ * LITERAL_DAMAGED        the array is not as it was written */
+int32_t literal_find_overlapping_in(const uint32_t *prepared, size_t prepared_len, const uint8_t *haystack,
+                                    size_t haystack_len, size_t start, size_t end, literal_match *found,
+                                    size_t found_len, literal_page *page);
 
 /* As literal_find_each.
  *

@@ -1,5 +1,6 @@
 """The functions of the header themselves, by arguments of all kinds: which status they answer, and what they write."""
 import ctypes
+import itertools
 import os
 import random
 import unittest
@@ -30,6 +31,15 @@ def prepared(words, kind=0, ignore_case=False):
     return array, needed.value
 
 
+def prepared_for_all(words, ignore_case=False):
+    """The array of a search for all that occurs, and its length."""
+    needed = ctypes.c_size_t()
+    assert CALLS.literal_prepare_overlapping(ignore_case, *joined(words), None, 0, needed) == TOO_SHORT
+    array = (ctypes.c_uint32 * needed.value)()
+    assert CALLS.literal_prepare_overlapping(ignore_case, *joined(words), array, needed.value, needed) == OK
+    return array, needed.value
+
+
 def fields(struct):
     """The values of a struct's fields."""
     return tuple(getattr(struct, name) for name, _ in struct._fields_)
@@ -45,7 +55,7 @@ class Statuses(unittest.TestCase):
 
     def test_arguments(self):
         chance, text = random.Random(2), b"abcabc"
-        array = prepared([b"abc"])
+        array, for_all = prepared([b"abc"]), prepared_for_all([b"abc"])
         for _ in range(5000):
             patterns = b"abcabc"[: chance.randint(0, 6)]
             ends = [chance.choice((0, 1, 2, 3, 4, 5, 6, 7, 2**64 - 1)) for _ in range(chance.randint(0, 3))]
@@ -83,7 +93,18 @@ class Statuses(unittest.TestCase):
             self.assertEqual(status, TOO_SHORT if wanted == OK else wanted, case)
             self.assertEqual(needed.value != 1, status == TOO_SHORT, case)
 
+            needed = ctypes.c_size_t(1)
+            status = CALLS.literal_prepare_overlapping(True, *asked, None, 0, needed)
+            wanted = self.wanted(patterns, ends, True)
+            self.assertEqual(status, TOO_SHORT if wanted == OK else wanted, case)
+            self.assertEqual(needed.value != 1, status == TOO_SHORT, case)
+
             self.by_array(array, text, start, end, valid, count)
+            page, room = Page(*BEFORE), (Match * 2)(*[Match(*BEFORE)] * 2)
+            status = CALLS.literal_find_overlapping_in(*for_all, text, 6, start, end, room, 2, page)
+            self.assertEqual(status, OK if valid else BAD_ARGUMENTS)
+            self.assertEqual(page.written, b"abcabc"[start:end].count(b"abc") if valid else BEFORE[0])
+            self.assertTrue(valid or (*fields(page), *fields(room[0])) == (*BEFORE, *BEFORE), case)
 
     def by_array(self, array, text, start, end, valid, count):
         """The same for the functions that take an array."""
@@ -130,9 +151,12 @@ class Pages(unittest.TestCase):
         words, text = [b"a", b"aa", b"baa"], b"baabaaa"
         wanted = [(0, 1, 2), (0, 2, 3), (1, 1, 3), (2, 0, 3)]
         wanted += [(0, 4, 5), (0, 5, 6), (1, 4, 6), (2, 3, 6), (0, 6, 7), (1, 5, 7)]
-        for room in range(len(wanted) + 2):
+        for_all = prepared_for_all(words)
+        by_patterns = lambda *lent: CALLS.literal_find_overlapping(False, *joined(words), text, 7, 0, 7, *lent)
+        by_array = lambda *lent: CALLS.literal_find_overlapping_in(*for_all, text, 7, 0, 7, *lent)
+        for room, call in itertools.product(range(len(wanted) + 2), (by_patterns, by_array)):
             found, page = (Match * 12)(*[Match(*BEFORE)] * 12), Page()
-            self.assertEqual(CALLS.literal_find_overlapping(False, *joined(words), text, 7, 0, 7, found, room, page), OK)
+            self.assertEqual(call(found, room, page), OK)
             self.assertEqual([fields(it) for it in found], [*wanted[:room], *[BEFORE] * 12][:12])
             self.assertEqual((page.written, page.is_last), (min(room, 10), room >= 10))
             self.assertEqual(page.next, wanted[min(room, 10) - 1][2] if room else 0)
@@ -182,6 +206,23 @@ class Arrays(unittest.TestCase):
             self.assertLessEqual(set(statuses), {OK, NONE, DAMAGED})
             self.assertEqual((fields(room[4]), bytes(answers[1])), (BEFORE, bytes(ctypes.sizeof(Answer))))
 
+    def test_what_a_damaged_array_for_all_finds_lies_inside(self):
+        chance, (array, length) = random.Random(4), prepared_for_all([*WORDS, b"e", b"le", b"e"], True)
+        seen = set()
+        for _ in range(5000):
+            copy = (ctypes.c_uint32 * length)(*array)
+            for _ in range(chance.randint(1, 3)):
+                word = chance.choice((0, 1, 2, 255, 2**31, 2**32 - 1, chance.randrange(2**32)))
+                copy[chance.randrange(length)] = word
+            room, page = (Match * 5)(*[Match(*BEFORE)] * 5), Page()
+            status = CALLS.literal_find_overlapping_in(copy, length, TEXT, len(TEXT), 9, 50, room, 4, page)
+            seen.add(status)
+            self.assertEqual(fields(room[4]), BEFORE)
+            if status == OK:
+                found = [fields(it) for it in room[: page.written]]
+                self.assertTrue(all(9 <= start < end <= 50 for _, start, end in found), found)
+        self.assertEqual(seen, {OK, DAMAGED})
+
 
 @unittest.skipUnless("refuse.so" in os.environ.get("LD_PRELOAD", ""), "run by bindings/test")
 class RefusedMemory(unittest.TestCase):
@@ -199,12 +240,13 @@ class RefusedMemory(unittest.TestCase):
             CALLS.literal_find_overlapping(*asked[1:], *text, 0, 5, room, 1, page),
             CALLS.literal_find_each(*asked, *text, ends, 1, answers, 1),
             CALLS.literal_prepare(*asked, lent, 4, needed),
+            CALLS.literal_prepare_overlapping(*asked[1:], lent, 4, needed),
             CALLS.literal_can_search(*asked[2:]),
             CALLS.literal_check_prepared(*array),
             CALLS.literal_count_in(*array, *text, 0, len(TEXT), number),
         )
         process.unsetenv(b"REFUSED_REQUEST")
-        self.assertEqual(statuses, (*5 * [OUT_OF_MEMORY], *3 * [OK]))
+        self.assertEqual(statuses, (*6 * [OUT_OF_MEMORY], *3 * [OK]))
         self.assertEqual([fields(it) for it in (found, room[0], answers[0].found, page)], 4 * [BEFORE])
         self.assertEqual((answers[0].status, needed.value, tuple(lent[:3]), number.value), (7, 7, BEFORE, 3))
 

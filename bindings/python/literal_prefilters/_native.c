@@ -19,7 +19,6 @@ enum {
     LARGEST_PAGE = 4096,  /* and for so many later */
     READ_AHEAD = 1 << 22, /* bytes that the matches of a page may be looked at beyond their ends, all together */
     MOST_ROOM = 1 << 16,  /* room for so many occurrences, unless more end at one place */
-    WORTH = 256,          /* bytes of text for each byte of patterns are worth to build a search anew */
     SCRATCH = 1 << 24     /* numbers, at most, in which a search is written whose length is not known yet */
 };
 
@@ -35,6 +34,7 @@ typedef struct {
     PyObject *patterns; /* a tuple */
     Pieces pieces;      /* the same */
     PyObject *prepared; /* the array of the library, as bytes */
+    PyObject *for_all;  /* the one for all that occurs, once it was asked for */
     int kind;
     char ignore_case;
     Takes takes;
@@ -80,6 +80,94 @@ static int refuse(int32_t status) {
     return -1;
 }
 
+/* ---- How a search is prepared ---- */
+
+static void free_pieces(Pieces *pieces) {
+    PyMem_Free(pieces->bytes);
+    PyMem_Free(pieces->ends);
+}
+
+static int join_pieces(Pieces *pieces, PyObject *of) {
+    size_t count = (size_t)PyTuple_GET_SIZE(of), len = 0, at = 0;
+    for (size_t i = 0; i < count; i++)
+        len += (size_t)PyBytes_GET_SIZE(PyTuple_GET_ITEM(of, i));
+    *pieces = (Pieces){PyMem_Malloc(len), PyMem_New(size_t, count), len, count, 0};
+    if (!pieces->bytes || !pieces->ends) {
+        free_pieces(pieces);
+        PyErr_NoMemory();
+        return -1;
+    }
+    for (size_t i = 0; i < count; i++) {
+        PyObject *piece = PyTuple_GET_ITEM(of, i);
+        size_t piece_len = (size_t)PyBytes_GET_SIZE(piece);
+        memcpy(pieces->bytes + at, PyBytes_AS_STRING(piece), piece_len);
+        pieces->ends[i] = at += piece_len;
+        if (piece_len > pieces->longest)
+            pieces->longest = piece_len;
+    }
+    return 0;
+}
+
+static int32_t prepare(const Search *self, const Pieces *pieces, bool for_all, void *words, size_t len,
+                       size_t *needed) {
+    int32_t status;
+    Py_BEGIN_ALLOW_THREADS
+    if (for_all)
+        status = literal_prepare_overlapping(self->ignore_case, pieces->bytes, pieces->len, pieces->ends, pieces->count,
+                                             words, len, needed);
+    else
+        status = literal_prepare((uint32_t)self->kind, self->ignore_case, pieces->bytes, pieces->len, pieces->ends,
+                                 pieces->count, words, len, needed);
+    Py_END_ALLOW_THREADS
+    return status;
+}
+
+/* How many numbers the array of a search for some pieces will have, more or less: one row for each of their bytes, with
+ * a number for each different one; and for each piece its length, and in a search for all that occurs two more. */
+static size_t likely_len(const Pieces *pieces) {
+    bool seen[256] = {false};
+    size_t different = 0;
+    for (size_t i = 0; i < pieces->len; i++) {
+        different += !seen[pieces->bytes[i]];
+        seen[pieces->bytes[i]] = true;
+    }
+    size_t len = (pieces->len + 1) * (different + 2) + 3 * pieces->count + 512;
+    return len < SCRATCH ? len : SCRATCH;
+}
+
+/* The array of a search for some pieces. How long it is turns out when it is written, so it is written where there is
+ * likely room, and once more where that was too little. */
+static PyObject *prepared_for(const Search *self, const Pieces *pieces, bool for_all) {
+    size_t needed = 0, likely = likely_len(pieces);
+    PyObject *prepared = NULL;
+    void *scratch = PyMem_RawMalloc(likely * sizeof(uint32_t));
+    if (!scratch)
+        return PyErr_NoMemory();
+    int32_t status = prepare(self, pieces, for_all, scratch, likely, &needed);
+    if (status == LITERAL_OK || status == LITERAL_TOO_SHORT) {
+        const char *written = status == LITERAL_OK ? scratch : NULL;
+        prepared = PyBytes_FromStringAndSize(written, (Py_ssize_t)(needed * sizeof(uint32_t)));
+        if (prepared && !written)
+            status = prepare(self, pieces, for_all, PyBytes_AS_STRING(prepared), needed, &needed);
+    }
+    PyMem_RawFree(scratch);
+    if (status != LITERAL_OK && !PyErr_Occurred()) {
+        Py_CLEAR(prepared);
+        refuse(status);
+    }
+    return prepared;
+}
+
+/* Makes the array for all that occurs, unless there is one: another thread may have made it in the meantime. */
+static int prepare_for_all(Search *self) {
+    PyObject *made = self->for_all ? NULL : prepared_for(self, &self->pieces, true);
+    if (made && self->for_all)
+        Py_DECREF(made);
+    else if (made)
+        self->for_all = made;
+    return self->for_all ? 0 : -1;
+}
+
 /* ---- Searches ---- */
 
 /* Lets other threads run during a search of so many bytes, if it is long. */
@@ -92,9 +180,9 @@ static void come_back(PyThreadState *state) {
         PyEval_RestoreThread(state);
 }
 
-static const uint32_t *prepared_words(const Search *search, size_t *len) {
-    *len = (size_t)PyBytes_GET_SIZE(search->prepared) / sizeof(uint32_t);
-    return (const uint32_t *)(const void *)PyBytes_AS_STRING(search->prepared);
+static const uint32_t *words_of(PyObject *prepared, size_t *len) {
+    *len = (size_t)PyBytes_GET_SIZE(prepared) / sizeof(uint32_t);
+    return (const uint32_t *)(const void *)PyBytes_AS_STRING(prepared);
 }
 
 /* Cuts the next piece from the bytes between `at` and `end`. Every occurrence that begins before the cut ends within
@@ -119,7 +207,7 @@ static bool are_in_order(const literal_match *matches, size_t count, size_t at, 
 /* Finds the first match between two places: 1, or 0 if there is none, or -1 with an error. */
 static int find_first(const Search *search, const Text *text, size_t at, size_t end, literal_match *found) {
     size_t words_len, piece_end, cut;
-    const uint32_t *words = prepared_words(search, &words_len);
+    const uint32_t *words = words_of(search->prepared, &words_len);
     for (;; at = cut) {
         cut = cut_piece(search, at, end, &piece_end);
         PyThreadState *state = let_others_run(piece_end - at);
@@ -210,7 +298,7 @@ static int take_page(Walk *walk, const literal_page *page, size_t cut, size_t pi
 /* Searches on, until there are matches or the walk is done. */
 static int walk_on(Walk *walk) {
     size_t words_len, piece_end;
-    const uint32_t *words = prepared_words(walk->search, &words_len);
+    const uint32_t *words = words_of(walk->search->prepared, &words_len);
     while (walk->given == walk->written && !walk->is_done) {
         literal_page page;
         size_t cut = cut_piece(walk->search, walk->at, walk->end, &piece_end);
@@ -271,7 +359,7 @@ typedef struct {
     size_t room, written;
 } Sweep;
 
-static int sweep_begin(Sweep *sweep, const Search *search, PyObject *const asked[3]) {
+static int sweep_begin(Sweep *sweep, Search *search, PyObject *const asked[3]) {
     if (hold(&sweep->text, search->takes, asked[0]))
         return -1;
     sweep->search = search;
@@ -279,7 +367,8 @@ static int sweep_begin(Sweep *sweep, const Search *search, PyObject *const asked
     sweep->found = PyMem_New(literal_match, sweep->room);
     if (!sweep->found)
         PyErr_NoMemory();
-    if (!sweep->found || bounds(&sweep->text, asked[1], asked[2], &sweep->place, &sweep->end)) {
+    if (!sweep->found || prepare_for_all(search) ||
+        bounds(&sweep->text, asked[1], asked[2], &sweep->place, &sweep->end)) {
         PyMem_Free(sweep->found);
         give_back(&sweep->text);
         return -1;
@@ -324,16 +413,15 @@ static int add_found(Sweep *sweep, size_t next, PyObject *all) {
 /* Searches a piece further: from where something may begin that ends behind `done`. Where there was not room for all of
  * the piece, what ends with the last that was written may not be whole, and is searched for again. */
 static int sweep_on(Sweep *sweep, PyObject *all) {
-    const Pieces *pieces = &sweep->search->pieces;
-    size_t again = pieces->longest > 0 ? pieces->longest - 1 : 0, len = pieces->len * WORTH;
+    size_t longest = sweep->search->pieces.longest, again = longest > 0 ? longest - 1 : 0, words_len;
+    const uint32_t *words = words_of(sweep->search->for_all, &words_len);
     size_t from = sweep->done - sweep->start > again ? sweep->done - again : sweep->start;
-    len = len > PIECE ? len : PIECE;
+    size_t len = longest > PIECE ? longest : PIECE;
     size_t to = sweep->end - sweep->done > len ? sweep->done + len : sweep->end;
     literal_page page;
-    PyThreadState *state = let_others_run(to - from + pieces->len);
-    int32_t status = literal_find_overlapping(sweep->search->ignore_case, pieces->bytes, pieces->len, pieces->ends,
-                                              pieces->count, sweep->text.bytes, sweep->text.len, from, to, sweep->found,
-                                              sweep->room, &page);
+    PyThreadState *state = let_others_run(to - from);
+    int32_t status = literal_find_overlapping_in(words, words_len, sweep->text.bytes, sweep->text.len, from, to,
+                                                 sweep->found, sweep->room, &page);
     come_back(state);
     if (status != LITERAL_OK)
         return refuse(status);
@@ -451,7 +539,8 @@ static PyObject *search_count(PyObject *self, PyObject *const *given, Py_ssize_t
 
 PyDoc_STRVAR(find_overlapping_doc, "find_overlapping($self, /, text, start=0, end=None)\n--\n\n"
 "The list of every occurrence of every pattern in text[start:end], those that overlap others too, in the order of\n"
-"their ends and, at one end, of their patterns. The kind plays no part. The search is built anew for each call.");
+"their ends and, at one end, of their patterns. The kind plays no part. The first call prepares a search for it, which\n"
+"the searcher keeps.");
 
 static PyObject *search_find_overlapping(PyObject *self, PyObject *const *given, Py_ssize_t count, PyObject *names) {
     PyObject *asked[3], *all;
@@ -555,78 +644,7 @@ static PyTypeObject matches_type = {
     .tp_iternext = matches_next,
 };
 
-/* ---- How a search is prepared ---- */
-
-static void free_pieces(Pieces *pieces) {
-    PyMem_Free(pieces->bytes);
-    PyMem_Free(pieces->ends);
-}
-
-static int join_pieces(Pieces *pieces, PyObject *of) {
-    size_t count = (size_t)PyTuple_GET_SIZE(of), len = 0, at = 0;
-    for (size_t i = 0; i < count; i++)
-        len += (size_t)PyBytes_GET_SIZE(PyTuple_GET_ITEM(of, i));
-    *pieces = (Pieces){PyMem_Malloc(len), PyMem_New(size_t, count), len, count, 0};
-    if (!pieces->bytes || !pieces->ends) {
-        free_pieces(pieces);
-        PyErr_NoMemory();
-        return -1;
-    }
-    for (size_t i = 0; i < count; i++) {
-        PyObject *piece = PyTuple_GET_ITEM(of, i);
-        size_t piece_len = (size_t)PyBytes_GET_SIZE(piece);
-        memcpy(pieces->bytes + at, PyBytes_AS_STRING(piece), piece_len);
-        pieces->ends[i] = at += piece_len;
-        if (piece_len > pieces->longest)
-            pieces->longest = piece_len;
-    }
-    return 0;
-}
-
-static int32_t prepare(const Search *self, const Pieces *pieces, void *words, size_t len, size_t *needed) {
-    int32_t status;
-    Py_BEGIN_ALLOW_THREADS
-    status = literal_prepare((uint32_t)self->kind, self->ignore_case, pieces->bytes, pieces->len, pieces->ends,
-                             pieces->count, words, len, needed);
-    Py_END_ALLOW_THREADS
-    return status;
-}
-
-/* How many numbers the array of a search for some pieces will have, more or less: one row for each of their bytes, with
- * a number for each different one. */
-static size_t likely_len(const Pieces *pieces) {
-    bool seen[256] = {false};
-    size_t different = 0;
-    for (size_t i = 0; i < pieces->len; i++) {
-        different += !seen[pieces->bytes[i]];
-        seen[pieces->bytes[i]] = true;
-    }
-    size_t len = (pieces->len + 1) * (different + 2) + pieces->count + 512;
-    return len < SCRATCH ? len : SCRATCH;
-}
-
-/* The array of a search for some pieces. How long it is turns out when it is written, so it is written where there is
- * likely room, and once more where that was too little. */
-static PyObject *prepared_for(const Search *self, const Pieces *pieces) {
-    size_t needed = 0, likely = likely_len(pieces);
-    PyObject *prepared = NULL;
-    void *scratch = PyMem_RawMalloc(likely * sizeof(uint32_t));
-    if (!scratch)
-        return PyErr_NoMemory();
-    int32_t status = prepare(self, pieces, scratch, likely, &needed);
-    if (status == LITERAL_OK || status == LITERAL_TOO_SHORT) {
-        const char *written = status == LITERAL_OK ? scratch : NULL;
-        prepared = PyBytes_FromStringAndSize(written, (Py_ssize_t)(needed * sizeof(uint32_t)));
-        if (prepared && !written)
-            status = prepare(self, pieces, PyBytes_AS_STRING(prepared), needed, &needed);
-    }
-    PyMem_RawFree(scratch);
-    if (status != LITERAL_OK && !PyErr_Occurred()) {
-        Py_CLEAR(prepared);
-        refuse(status);
-    }
-    return prepared;
-}
+/* ---- How a searcher begins ---- */
 
 /* An array that was kept, if it is whole. */
 static PyObject *checked(PyObject *kept) {
@@ -653,7 +671,7 @@ static PyObject *search_prepare(PyObject *of, PyObject *given) {
     new.ignore_case = (char)ignore_case;
     if (PyTuple_GET_SIZE(new.patterns) > 0)
         new.takes = PyUnicode_Check(PyTuple_GET_ITEM(new.patterns, 0)) ? TAKES_STR : TAKES_BYTES;
-    new.prepared = kept == Py_None ? prepared_for(&new, &new.pieces) : checked(kept);
+    new.prepared = kept == Py_None ? prepared_for(&new, &new.pieces, false) : checked(kept);
     if (new.prepared && self->takes != NOT_PREPARED) {
         Py_CLEAR(new.prepared);
         PyErr_SetString(PyExc_RuntimeError, "a searcher never changes: make another one");
@@ -675,6 +693,7 @@ static void search_dealloc(PyObject *of) {
     Search *self = (Search *)of;
     Py_XDECREF(self->patterns);
     Py_XDECREF(self->prepared);
+    Py_XDECREF(self->for_all);
     free_pieces(&self->pieces);
     Py_TYPE(of)->tp_free(of);
 }
@@ -699,6 +718,7 @@ static PyMemberDef search_members[] = {
     {"ignore_case", T_BOOL, offsetof(Search, ignore_case), READONLY, "Whether A to Z are the same as a to z."},
     {"_kind", T_INT, offsetof(Search, kind), READONLY, NULL},
     {"_prepared", T_OBJECT_EX, offsetof(Search, prepared), READONLY, NULL},
+    {"_for_all", T_OBJECT, offsetof(Search, for_all), READONLY, NULL},
     {0},
 };
 

@@ -87,7 +87,8 @@ class Buffers(unittest.TestCase):
 class Leaks(unittest.TestCase):
     def test_no_call_keeps_memory(self):
         """Neither one that answers, nor one that refuses what it is given."""
-        calls = [*calls_of(Searcher(WORDS)), *calls_of(Searcher(["apple", "ä"])), lambda it: Searcher([it, b"b"])]
+        calls = [*calls_of(Searcher(WORDS)), *calls_of(Searcher(["apple", "ä"]))]
+        calls.append(lambda it: Searcher([it, b"b"]).find_overlapping(b"ab"))
         texts = [TEXT, bytearray(TEXT * 3), TEXT.decode(), "ä" + TEXT.decode() + "äppleä"]
         texts += [memoryview(TEXT)[::2], "\ud800", 5]
 

@@ -154,6 +154,15 @@ class Overlapping(unittest.TestCase):
             self.assertEqual(found, [it for it in fitting if it[1] >= 0])
         self.assertEqual(len(Searcher([b"a", b"a" * 5000]).find_overlapping(b"a" * 300000)), 300000 + 295001)
 
+    def test_is_prepared_once(self):
+        searcher = Searcher([b"ab", b"b", b"b"], ignore_case=True)
+        self.assertIsNone(searcher._for_all)
+        self.assertEqual(searcher.find_overlapping(b"AB"), [(0, 0, 2), (1, 1, 2), (2, 1, 2)])
+        kept = searcher._for_all
+        self.assertEqual(searcher.find_overlapping(b"xb"), [(1, 1, 2), (2, 1, 2)])
+        self.assertIs(searcher._for_all, kept)
+        self.assertIsNone(pickle.loads(pickle.dumps(searcher))._for_all)
+
 
 class Replacing(unittest.TestCase):
     def test_one(self):
