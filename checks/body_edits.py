@@ -13,11 +13,11 @@ class BadEdit(Exception):
 
 
 class Crate:
-    """A crate as it stands: by path, the text and the functions of each source file; the name that a check has for
-    each function; and the functions that its checks prove, with what these call, where these are not all."""
+    """A crate as it stands: by path, the text and the functions of each source file; and the name that a check has for
+    each function."""
 
     def __init__(self, root, name):
-        self.name, self.folder, self.reported, self.only = name, root / "crates" / name, {}, []
+        self.name, self.folder, self.reported = name, root / "crates" / name, {}
         files = sorted(self.folder.glob("src/**/*.rt"))
         self.texts = {str(file.relative_to(self.folder)): file.read_text("utf-8") for file in files}
         self.functions = {path: functions_in(text, path) for path, text in self.texts.items()}
