@@ -70,6 +70,8 @@ static void prepare(void) {
     CHECK(needed < PLACES && for_all[0] == 0);
     CHECK(literal_prepare_overlapping(false, patterns, 17, ends, 3, for_all, PLACES, &again) == LITERAL_OK);
     CHECK(again == needed && literal_check_prepared(for_all, needed) == LITERAL_DAMAGED);
+    CHECK(literal_check_overlapping(for_all, needed) == LITERAL_OK);
+    CHECK(literal_check_overlapping(for_all, needed - 1) == LITERAL_DAMAGED);
 }
 
 static void by_prepared(const uint8_t *text, size_t len) {
@@ -106,6 +108,7 @@ static void by_null(const uint8_t *text, size_t len) {
     CHECK(page.written == 0 && page.next == 0 && page.is_last == 1);
     CHECK(literal_find_each(0, false, patterns, 17, ends, 3, NULL, 0, NULL, 0, NULL, 0) == LITERAL_OK);
     CHECK(literal_check_prepared(NULL, 0) == LITERAL_DAMAGED);
+    CHECK(literal_check_overlapping(NULL, 0) == LITERAL_DAMAGED);
     CHECK(literal_find_in(NULL, 0, text, len, 0, len, &found) == LITERAL_DAMAGED);
     CHECK(literal_find_in(prepared, PLACES, NULL, 0, 0, 0, &found) == LITERAL_NONE && is(&found, 7, 8, 9));
     CHECK(literal_find_all_in(prepared, PLACES, NULL, 0, 0, 0, NULL, 0, &page) == LITERAL_OK && page.is_last == 1);

@@ -206,6 +206,9 @@ int32_t literal_prepare_overlapping(bool ignore_case, const uint8_t *patterns, s
  * LITERAL_DAMAGED  it is not */
 int32_t literal_check_prepared(const uint32_t *prepared, size_t prepared_len);
 
+/* The same for an array of literal_prepare_overlapping. */
+int32_t literal_check_overlapping(const uint32_t *prepared, size_t prepared_len);
+
 /* The functions that follow search by an array that literal_prepare wrote, and literal_find_overlapping_in by one of
  * literal_prepare_overlapping. They look at its version and its lengths, and not at all of it. Of an array with other
  * words each of them still returns, and writes to the lent places alone; what it finds lies in the bytes that were

@@ -180,12 +180,14 @@ class Arrays(unittest.TestCase):
             self.assertEqual(CALLS.literal_check_prepared(array, given), DAMAGED)
 
     def test_each_damaged_word_is_noticed(self):
-        array, length = prepared(WORDS)
-        for at in range(length):
-            array[at] ^= 1
-            self.assertEqual(CALLS.literal_check_prepared(array, length), DAMAGED, at)
-            array[at] ^= 1
-        self.assertEqual(CALLS.literal_check_prepared(array, length), OK)
+        checks = (prepared, CALLS.literal_check_prepared), (prepared_for_all, CALLS.literal_check_overlapping)
+        for prepare, check in checks:
+            array, length = prepare(WORDS)
+            for at in range(length):
+                array[at] ^= 1
+                self.assertEqual(check(array, length), DAMAGED, at)
+                array[at] ^= 1
+            self.assertEqual(check(array, length), OK)
 
     def test_a_damaged_array_writes_to_lent_places_alone(self):
         chance, (array, length) = random.Random(3), prepared(WORDS)

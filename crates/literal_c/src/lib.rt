@@ -15,7 +15,7 @@ ghost use Rattle.literal_automaton.specs.DfaValue.{CanBeKept, NeedTooManyStates}
 ghost use Rattle.literal_automaton.specs.Prepared.{AreShort, ForPrepared, IsWhole, LiesIn, RefusesToPrepare};
 ghost use Rattle.literal_automaton.specs.Prepared.{WritesPrepared};
 ghost use Rattle.literal_automaton.specs.PreparedOverlapping.{ForOverlapping, HasLongLists, RefusesOverlapping};
-ghost use Rattle.literal_automaton.specs.PreparedOverlapping.{WritesOverlapping};
+ghost use Rattle.literal_automaton.specs.PreparedOverlapping.{IsWholeOverlapping, WritesOverlapping};
 ghost use Rattle.literal_automaton.specs.declared.prepared.PrepareError.TheVariants.{ArrayTooShort};
 ghost use Rattle.literal_c.specs.Answers.{IsAnswer, IsCount, IsPage, LieIn, LiesInside, match_of};
 ghost use Rattle.literal_c.specs.Arguments.{Agree, IsOverlappingStatusBy, IsStatus, IsStatusBy, NeedTooMany};
@@ -371,6 +371,19 @@ pub extern "C" fn literal_check_prepared(prepared: &[u32]) -> i32
     ensures prepared { ForPrepared prepared.now (λ _ _. result ≡ LITERAL_OK) }
 {
     match Prepared::new(prepared) {
+        Ok(search) if search.is_whole() => LITERAL_OK,
+        _ => LITERAL_DAMAGED,
+    }
+}
+
+/// The same for an array that [`literal_prepare_overlapping`] wrote.
+#[unsafe(no_mangle)]
+pub extern "C" fn literal_check_overlapping(prepared: &[u32]) -> i32
+    ensures ok { (result ≡ LITERAL_OK) ↔ IsWholeOverlapping prepared.now }
+    ensures damaged { (result ≡ LITERAL_DAMAGED) ↔ ¬ IsWholeOverlapping prepared.now }
+    ensures prepared { ForOverlapping prepared.now (λ _. result ≡ LITERAL_OK) }
+{
+    match PreparedOverlapping::new(prepared) {
         Ok(search) if search.is_whole() => LITERAL_OK,
         _ => LITERAL_DAMAGED,
     }

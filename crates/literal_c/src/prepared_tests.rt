@@ -2,9 +2,9 @@
 use crate::{
     LITERAL_BAD_ARGUMENTS, LITERAL_DAMAGED, LITERAL_LEFTMOST_FIRST, LITERAL_LEFTMOST_LONGEST,
     LITERAL_NO_SEARCHER, LITERAL_NONE, LITERAL_OK, LITERAL_TOO_SHORT, LiteralAnswer, LiteralMatch,
-    LiteralPage, literal_check_prepared, literal_count_in, literal_find_all_in,
-    literal_find_each_in, literal_find_in, literal_find_overlapping_in, literal_prepare,
-    literal_prepare_overlapping,
+    LiteralPage, literal_check_overlapping, literal_check_prepared, literal_count_in,
+    literal_find_all_in, literal_find_each_in, literal_find_in, literal_find_overlapping_in,
+    literal_prepare, literal_prepare_overlapping,
 };
 use std::alloc::Global;
 use std::process::Abort;
@@ -227,6 +227,7 @@ fn search_for_all_of(alloc: Global) -> Result<Vec<u32>, Fail> {
 fn prepares_for_all_that_occurs(rt: HostRuntime) -> Result<(), Fail> {
     let alloc = rt.alloc();
     let mut prepared = search_for_all_of(alloc)?;
+    assert!(rt; literal_check_overlapping(&prepared) == LITERAL_OK);
     assert!(rt; literal_check_prepared(&prepared) == LITERAL_DAMAGED);
     let mut needed = 5;
     let status = literal_prepare_overlapping(

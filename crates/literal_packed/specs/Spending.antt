@@ -1,6 +1,7 @@
 -- What several searches count together.
-use Rattle.std.specs.Prelude.{◌≡◌, ℕ, ◌+◌, ◌-◌, ◌≤◌, List, [], ◌∷◌, length, Some, None}
+use Rattle.std.specs.Prelude.{◌≡◌, ℕ, ◌+◌, ◌-◌, ◌<◌, ◌≤◌, List, [], ◌∷◌, ◌++◌, length, Some, None, false}
 use Rattle.literal_base.specs.Counts.{Counts}
+use Rattle.literal_base.specs.Greedy.{IsGreedy}
 use Rattle.literal_base.specs.MatchValue.{MatchValue}
 use Rattle.literal_base.specs.Occurs.{rest_from, whole_of}
 use Rattle.literal_base.specs.Query.{Query}
@@ -15,6 +16,23 @@ counts_after_all old query haystack at [] =
 counts_after_all old query haystack at (found ∷ more) =
     counts_after_all (counts_after old query haystack (rest_from haystack at) (Some found)) query haystack found.end
     more
+
+-- the counts of searches one after another that find these matches: the first in the rest of a haystack from a place
+-- on, and each of the others in the rest from the end of the match before
+abbrev pub counts_after_matches : Counts → Query → List ℕ → ℕ → List MatchValue → Counts
+counts_after_matches old query haystack at [] = old
+counts_after_matches old query haystack at (found ∷ more) =
+    counts_after_matches (counts_after old query haystack (rest_from haystack at) (Some found)) query haystack found.end
+    more
+
+-- memory was refused for the list of all matches: the last match that was found had no room. The searches that found
+-- the matches so far are counted, and no other
+pub record RefusesList (query : Query) (haystack : List ℕ) (old new : Counts) : Type 0 where
+  pub found : List MatchValue
+  pub more : List MatchValue
+  pub some : 0 < length found
+  pub are_first : IsGreedy query false haystack 0 (found ++ more)
+  pub counted : new ≡ counts_after_matches old query haystack 0 found
 
 -- the three counts of a search don't fall, and the others stay
 pub record CountsOn (old new : Counts) : Type 0 where

@@ -2,7 +2,7 @@
 ghost use Rattle.std.specs.Prelude.{◌≡◌, ◌<◌, ◌≤◌, ◌⊎◌, ◌∷◌, [], length, Ok, Err, false, IsOk, IfOk, OnOk, OnErr};
 ghost use Rattle.std.specs.Prelude.{IfSome, MatchResult};
 ghost use Rattle.std.specs.Borrow.{sem};
-ghost use Rattle.literal_base.specs.Occurs.{IsValidSpan, NothingOccurs, whole_of};
+ghost use Rattle.literal_base.specs.Occurs.{IsValidSpan, whole_of};
 ghost use Rattle.literal_base.specs.Leftmost.{IsLeftmost};
 ghost use Rattle.literal_base.specs.Greedy.{IsGreedy};
 ghost use Rattle.literal_base.specs.Counts.{none_yet};
@@ -13,7 +13,7 @@ ghost use Rattle.literal_packed.specs.ConfigValue.{IsPatternLimit, default_confi
 ghost use Rattle.literal_packed.specs.State.{IsState, WouldKeep, kept_of};
 ghost use Rattle.literal_packed.specs.Pairs.{counts_after};
 ghost use Rattle.literal_packed.specs.FindIterValue.{FindsNext, bytes_left};
-ghost use Rattle.literal_packed.specs.Spending.{SpendsWithin, counts_after_all};
+ghost use Rattle.literal_packed.specs.Spending.{RefusesList, SpendsWithin, counts_after_all};
 ghost use Rattle.literal_packed.specs.Lending.{CanBeTaken, HoldsAfterErr, LentHoldsAfterErr, HoldsTaken, HoldsAll};
 ghost use Rattle.literal_packed.specs.Lending.{RefusesSearcher};
 
@@ -477,10 +477,10 @@ impl Searcher {
         ensures greedy { IfOk result (λ all. IsGreedy self.now false haystack.now 0 all.items) }
         ensures exact { IfOk result (λ all. tally.new ≡ counts_after_all tally.old self.now haystack.now 0 all.items) }
         ensures bounded { SpendsWithin self.now haystack.now tally.old tally.new }
-        ensures no_memory { OnErr result
-            (¬ NothingOccurs self.now.patterns false haystack.now (whole_of haystack.now)) }
+        ensures no_memory { OnErr result (RefusesList self.now haystack.now tally.old tally.new) }
     {
         // A confirming search has the same loop over its own search, whose contract counts other steps.
+        let _ = self.match_kind(); // (its contract says that no pattern is empty)
         let mut all = Vec::new(self.patterns.allocator());
         let mut rest = Span {
             start: 0,

@@ -1,10 +1,16 @@
 -- Searches for all matches, one after another.
 use Rattle.std.proofs.Common.{◌≡◌, ℕ, ◌+◌, ◌*◌, ◌<◌, ◌≤◌, List, [], ◌∷◌, ◌++◌, length, Some, None, ap, ◌∙◌, arith}
-use Rattle.std.proofs.Common.{length-append}
+use Rattle.std.proofs.Common.{Bool, refl, length-append}
+use Rattle.std.proofs.lemmas.List.{length_push}
 use Rattle.literal_base.specs.declared.search.Span.{Span}
 use Rattle.literal_base.specs.Counts.{Counts}
 use Rattle.literal_base.specs.MatchValue.{MatchValue}
-use Rattle.literal_automaton.specs.DfaValue.{ScansAtMost, ScansListAtMost}
+use Rattle.literal_base.specs.Greedy.{IsGreedy}
+use Rattle.literal_base.specs.Occurs.{NoneIsEmpty, NothingOccurs, rest_from, whole_of}
+use Rattle.literal_base.specs.Query.{Query}
+use Rattle.literal_base.proofs.lemmas.Exists.{greedy_exists_lem}
+use Rattle.literal_packed.proofs.lemmas.GreedyLists.{IsGreedyBefore, found_occurs}
+use Rattle.literal_automaton.specs.DfaValue.{DfaValue, RefusesList, ScansAtMost, ScansListAtMost}
 use Rattle.literal_automaton.specs.Inside.Dfa.{ScansTo}
 
 -- only one count changes
@@ -31,6 +37,38 @@ scans_more patterns done old now new rest found before more some = record {
       ap (λ n. n * longest) count ∙ one_more (length done) longest in
       omega (arith, last, next, product);
 }
+
+-- there is no room for the last match so far
+pub refuses_last : (search : DfaValue) (haystack : List ℕ) (old new : Counts) (done : List MatchValue)
+    (last : MatchValue) → NoneIsEmpty search.query.patterns → last.end ≤ length haystack
+    → IsGreedyBefore search.query search.ignore_case haystack (done ++ last ∷ []) last.end
+    → ScansTo search.query.patterns last.end (length (done ++ last ∷ [])) old new → RefusesList search haystack old new
+refuses_last search haystack old new done last not_empty within greedy before =
+    let rest = greedy_exists_lem search.query search.ignore_case haystack last.end not_empty in
+    record {
+      found = done ++ last ∷ [];
+      more = rest.0;
+      some = omega (arith, length_push done last);
+      are_first = greedy.goes_on rest.0 rest.1;
+      scans = record {
+        others = before.others;
+        near = λ longest each. omega (arith, before.near longest each);
+      };
+    }
+
+-- then a pattern occurs
+first_occurs : (query : Query) (ignore_case : Bool) (haystack : List ℕ) (all : List MatchValue) → 0 < length all
+    → IsGreedy query ignore_case haystack 0 all
+    → ¬ NothingOccurs query.patterns ignore_case haystack (whole_of haystack)
+first_occurs query ignore_case haystack [] some greedy = λ nothing. omega (arith, some)
+first_occurs query ignore_case haystack (found ∷ more) some greedy =
+    found_occurs query ignore_case haystack (rest_from haystack 0) found refl greedy.0
+
+pub refused_occurs : (search : DfaValue) (haystack : List ℕ) (old new : Counts) → RefusesList search haystack old new
+    → ¬ NothingOccurs search.query.patterns search.ignore_case haystack (whole_of haystack)
+refused_occurs search haystack old new refused =
+    first_occurs search.query search.ignore_case haystack (refused.found ++ refused.more)
+    (omega (arith, length-append refused.found refused.more, refused.some)) refused.are_first
 
 -- and behind the last one
 pub scans_all : (patterns : List (List ℕ)) (haystack : List ℕ) (matches : ℕ) (old now new : Counts) (rest : Span)

@@ -1,7 +1,8 @@
 -- A greedy list and its counts, match by match, and how its matches lie.
 -- For `Searcher::find_all`, lists of confirming searches, and the laws on iterations.
 use Rattle.std.proofs.Common.{◌≡◌, ℕ, ◌-◌, ◌<◌, ◌≤◌, Bool, List, [], ◌∷◌, ◌++◌, length, Some, None}
-use Rattle.std.proofs.Common.{append_assoc, append-nil, sym, ap, ◌∙◌, subst, arith}
+use Rattle.std.proofs.Common.{append_assoc, append-nil, false, sym, ap, ◌∙◌, subst, arith}
+use Rattle.std.proofs.lemmas.List.{length_push}
 use Rattle.literal_base.specs.declared.search.Span.{Span}
 use Rattle.literal_base.specs.Counts.{Counts}
 use Rattle.literal_base.specs.MatchValue.{MatchValue}
@@ -11,7 +12,9 @@ use Rattle.literal_base.specs.Greedy.{IsGreedy}
 use Rattle.literal_base.specs.Query.{Query}
 use Rattle.literal_packed.specs.Pairs.{counts_after}
 use Rattle.literal_base.specs.Apart.{LieApart}
-use Rattle.literal_packed.specs.Spending.{counts_after_all}
+use Rattle.literal_base.proofs.lemmas.Exists.{greedy_exists_lem}
+use Rattle.literal_packed.specs.Spending.{RefusesList, counts_after_all, counts_after_matches}
+use Rattle.literal_packed.proofs.lemmas.Spending.{rest_is}
 use Rattle.literal_packed.proofs.lemmas.Windows.{none_empty}
 
 -- the matches so far, before a place: whatever is greedy from there on goes on from them
@@ -36,29 +39,55 @@ pub greedy_all : (query : Query) (ignore_case : Bool) (haystack : List ℕ) (don
 greedy_all query ignore_case haystack done at before nothing =
     subst (IsGreedy query ignore_case haystack 0) (append-nil done) (before.goes_on [] nothing)
 
--- the counts so far: whatever follows, they go on from them
-pub record CountsBefore (query : Query) (haystack : List ℕ) (old now : Counts) (done : List MatchValue)
+-- the matches so far, and the counts of their searches: whatever follows, it goes on from them
+pub record FoundBefore (query : Query) (haystack : List ℕ) (old now : Counts) (done : List MatchValue)
     (at : ℕ) : Type 0 where
-  pub goes_on : (more : List MatchValue) → counts_after_all now query haystack at more
+  pub greedy : IsGreedyBefore query false haystack done at
+  pub all : (more : List MatchValue) → counts_after_all now query haystack at more
       ≡ counts_after_all old query haystack 0 (done ++ more)
+  pub matches : (more : List MatchValue) → counts_after_matches now query haystack at more
+      ≡ counts_after_matches old query haystack 0 (done ++ more)
 
-pub counts_more : (query : Query) (haystack : List ℕ) (old now new : Counts) (done : List MatchValue) (at : ℕ)
-    (found : MatchValue) → CountsBefore query haystack old now done at
-    → new ≡ counts_after now query haystack (rest_from haystack at) (Some found)
-    → CountsBefore query haystack old new (done ++ found ∷ []) found.end
-counts_more query haystack old now new done at found before is = record {
-  goes_on = λ more.
-      ap (λ (t : Counts). counts_after_all t query haystack found.end more) is
-      ∙ (before.goes_on (found ∷ more) ∙ ap (counts_after_all old query haystack 0)
-      (sym (append_assoc done (found ∷ []) more)));
-}
+-- one match more, of a search in the rest
+pub found_more : (query : Query) (haystack : List ℕ) (old now new : Counts) (done : List MatchValue) (rest : Span)
+    (found : MatchValue) → rest.end ≡ length haystack → FoundBefore query haystack old now done rest.start
+    → IsLeftmostMatch query false haystack rest found → new ≡ counts_after now query haystack rest (Some found)
+    → FoundBefore query haystack old new (done ++ found ∷ []) found.end
+found_more query haystack old now new done rest found to_end before leftmost counted =
+    let span_is = rest_is haystack rest to_end in
+    let is = subst (λ (s : Span). new ≡ counts_after now query haystack s (Some found)) span_is counted in
+    let in_turn = λ (more : List MatchValue). append_assoc done (found ∷ []) more in
+    record {
+      greedy = greedy_more query false haystack done rest.start found before.greedy
+          (subst (λ (s : Span). IsLeftmostMatch query false haystack s found) span_is leftmost);
+      all = λ more. ap (λ (t : Counts). counts_after_all t query haystack found.end more) is
+          ∙ (before.all (found ∷ more) ∙ ap (counts_after_all old query haystack 0) (sym (in_turn more)));
+      matches = λ more. ap (λ (t : Counts). counts_after_matches t query haystack found.end more) is
+          ∙ (before.matches (found ∷ more) ∙ ap (counts_after_matches old query haystack 0) (sym (in_turn more)));
+    }
 
-pub counts_all : (query : Query) (haystack : List ℕ) (old now new : Counts) (done : List MatchValue) (at : ℕ)
-    → CountsBefore query haystack old now done at
-    → new ≡ counts_after now query haystack (rest_from haystack at) None
-    → new ≡ counts_after_all old query haystack 0 done
-counts_all query haystack old now new done at before is =
-    is ∙ (before.goes_on [] ∙ ap (counts_after_all old query haystack 0) (append-nil done))
+-- the last search, which finds nothing
+pub counts_all : (query : Query) (haystack : List ℕ) (old now new : Counts) (done : List MatchValue) (rest : Span)
+    → rest.end ≡ length haystack → FoundBefore query haystack old now done rest.start
+    → new ≡ counts_after now query haystack rest None → new ≡ counts_after_all old query haystack 0 done
+counts_all query haystack old now new done rest to_end before counted =
+    subst (λ (s : Span). new ≡ counts_after now query haystack s None) (rest_is haystack rest to_end) counted
+    ∙ (before.all [] ∙ ap (counts_after_all old query haystack 0) (append-nil done))
+
+-- there is no room for the last match so far
+pub refuses_last : (query : Query) (haystack : List ℕ) (old new : Counts) (done : List MatchValue) (last : MatchValue)
+    (at : ℕ) → NoneIsEmpty query.patterns → FoundBefore query haystack old new (done ++ last ∷ []) at
+    → RefusesList query haystack old new
+refuses_last query haystack old new done last at not_empty before =
+    let rest = greedy_exists_lem query false haystack at not_empty in
+    record {
+      found = done ++ last ∷ [];
+      more = rest.0;
+      some = omega (arith, length_push done last);
+      are_first = before.greedy.goes_on rest.0 rest.1;
+      counted = before.matches []
+          ∙ ap (counts_after_matches old query haystack 0) (append-nil (done ++ last ∷ []));
+    }
 
 -- where a greedy list is followed by nothing, no pattern is empty
 greedy_not_empty : (query : Query) (ignore_case : Bool) (haystack : List ℕ) (at : ℕ) (all : List MatchValue)

@@ -1,13 +1,10 @@
-use Rattle.std.proofs.Common.{◌≡◌, Some, None, ◌++◌, ◌∷◌, [], sym, subst, false, List, length, arith, rules}
+use Rattle.std.proofs.Common.{◌++◌, ◌∷◌, [], sym, subst, false, List, length, arith, rules}
 use Rattle.literal_base.specs.declared.search.Span.{Span}
 use Rattle.literal_base.specs.MatchValue.{MatchValue}
 use Rattle.literal_base.specs.Occurs.{NothingOccurs}
-use Rattle.literal_base.specs.Leftmost.{IsLeftmostMatch}
-use Rattle.literal_packed.specs.Pairs.{counts_after}
 use Rattle.literal_packed.specs.Spending.{SpendsAtMost}
 use Rattle.literal_packed.proofs.lemmas.Spending.{spends_found, spends_last, spends_within, ends_within, rest_is}
-use Rattle.literal_packed.proofs.lemmas.GreedyLists.{CountsBefore, IsGreedyBefore, greedy_more, greedy_all, counts_more}
-use Rattle.literal_packed.proofs.lemmas.GreedyLists.{counts_all, found_occurs}
+use Rattle.literal_packed.proofs.lemmas.GreedyLists.{FoundBefore, found_more, greedy_all, counts_all, refuses_last}
 use Rattle.literal_packed.proofs.api.Searcher.find_all.Goals as goal
 
 pub returns-in_err-push-clause-bounded : goal.returns-in_err-push-clause-bounded
@@ -20,37 +17,31 @@ returns-in_err-push-clause-bounded c =
 
 pub returns-in_err-push-clause-no_memory : goal.returns-in_err-push-clause-no_memory
 returns-in_err-push-clause-no_memory c =
-    let occurs = found_occurs c.args.self.now false c.args.haystack.now c.loop-found.rest c.in-Some.found
-    c.loop-found.invariant.to_end c.in-Some.ensures.leftmost in
-    search (rules, occurs)
+    let refused = refuses_last c.args.self.now c.args.haystack.now c.args.tally.now c.find_in_counted.new.tally
+    c.loop-found.all.items c.in-Some.found c.in-Some.found.end c.match_kind.ensures.patterns.not_empty
+    (found_more c.args.self.now c.args.haystack.now c.args.tally.now c.loop-found.tally c.find_in_counted.new.tally
+    c.loop-found.all.items c.loop-found.rest c.in-Some.found c.loop-found.invariant.to_end
+    c.loop-found.invariant.so_far c.in-Some.ensures.leftmost c.in-Some.ensures.exact) in
+    search (rules, refused)
 
 pub loop-found-preserved : goal.loop-found-preserved
 loop-found-preserved c =
     let query = c.args.self.now in
     let haystack = c.args.haystack.now in
     let found = c.in-Some.found in
-    let start = c.loop-found.rest.start in
-    let span_is = rest_is haystack c.loop-found.rest c.loop-found.invariant.to_end in
-    let leftmost = subst (λ (s : Span). IsLeftmostMatch query false haystack s found) span_is c.in-Some.ensures.leftmost
-    in
-    let counted = subst (λ (s : Span). c.find_in_counted.new.tally ≡ counts_after c.loop-found.tally query haystack s
-    (Some found)) span_is c.in-Some.ensures.exact in
     let end_is = c.end.ensures.end in
     let ends = ends_within query haystack c.loop-found.rest found c.loop-found.invariant.to_end
     c.in-Some.ensures.leftmost in
     record {
       within = omega arith;
       to_end = c.loop-found.invariant.to_end;
-      greedy = subst (λ (xs : List MatchValue). IsGreedyBefore query false haystack xs c.end.result)
-          (sym c.in_ok-push.ensures.items)
-          (subst (λ e. IsGreedyBefore query false haystack (c.loop-found.all.items ++ found ∷ []) e) (sym end_is)
-          (greedy_more query false haystack c.loop-found.all.items start found c.loop-found.invariant.greedy leftmost));
-      exact = subst (λ (xs : List MatchValue). CountsBefore query haystack c.args.tally.now c.find_in_counted.new.tally
-          xs c.end.result) (sym c.in_ok-push.ensures.items)
-          (subst (λ e. CountsBefore query haystack c.args.tally.now c.find_in_counted.new.tally
+      so_far = subst (λ (xs : List MatchValue). FoundBefore query haystack c.args.tally.now
+          c.find_in_counted.new.tally xs c.end.result) (sym c.in_ok-push.ensures.items)
+          (subst (λ e. FoundBefore query haystack c.args.tally.now c.find_in_counted.new.tally
           (c.loop-found.all.items ++ found ∷ []) e) (sym end_is)
-          (counts_more query haystack c.args.tally.now c.loop-found.tally c.find_in_counted.new.tally
-          c.loop-found.all.items start found c.loop-found.invariant.exact counted));
+          (found_more query haystack c.args.tally.now c.loop-found.tally c.find_in_counted.new.tally
+          c.loop-found.all.items c.loop-found.rest found c.loop-found.invariant.to_end
+          c.loop-found.invariant.so_far c.in-Some.ensures.leftmost c.in-Some.ensures.exact));
       spends = subst (λ e. SpendsAtMost query haystack 0 e c.args.tally.now c.find_in_counted.new.tally) (sym end_is)
           (spends_found query haystack c.loop-found.rest c.args.tally.now c.loop-found.tally c.find_in_counted.new.tally
           found
@@ -62,18 +53,15 @@ pub returns-clause-greedy : goal.returns-clause-greedy
 returns-clause-greedy c =
     let query = c.args.self.now in
     let haystack = c.args.haystack.now in
-    greedy_all query false haystack c.loop-found.all.items c.loop-found.rest.start c.loop-found.invariant.greedy
+    greedy_all query false haystack c.loop-found.all.items c.loop-found.rest.start c.loop-found.invariant.so_far.greedy
     (subst (λ (s : Span). NothingOccurs query.patterns false haystack s)
     (rest_is haystack c.loop-found.rest c.loop-found.invariant.to_end) c.in_default.ensures.leftmost)
 
 pub returns-clause-exact : goal.returns-clause-exact
 returns-clause-exact c =
-    let query = c.args.self.now in
-    let haystack = c.args.haystack.now in
-    counts_all query haystack c.args.tally.now c.loop-found.tally c.find_in_counted.new.tally c.loop-found.all.items
-    c.loop-found.rest.start c.loop-found.invariant.exact
-    (subst (λ (s : Span). c.find_in_counted.new.tally ≡ counts_after c.loop-found.tally query haystack s None)
-    (rest_is haystack c.loop-found.rest c.loop-found.invariant.to_end) c.in_default.ensures.exact)
+    counts_all c.args.self.now c.args.haystack.now c.args.tally.now c.loop-found.tally c.find_in_counted.new.tally
+    c.loop-found.all.items c.loop-found.rest c.loop-found.invariant.to_end c.loop-found.invariant.so_far
+    c.in_default.ensures.exact
 
 pub returns-clause-bounded : goal.returns-clause-bounded
 returns-clause-bounded c =

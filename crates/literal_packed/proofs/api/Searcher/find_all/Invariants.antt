@@ -1,14 +1,13 @@
-use Rattle.std.proofs.Common.{◌≡◌, ◌≤◌, ◌-◌, false, length}
+use Rattle.std.proofs.Common.{◌≡◌, ◌≤◌, ◌-◌, length}
 use Rattle.literal_packed.specs.Spending.{SpendsAtMost}
-use Rattle.literal_packed.proofs.lemmas.GreedyLists.{CountsBefore, IsGreedyBefore}
+use Rattle.literal_packed.proofs.lemmas.GreedyLists.{FoundBefore}
 use Rattle.literal_packed.proofs.api.Searcher.find_all.Given as goal
 
 abbrev pub invariant-loop-found : goal.invariant-loop-found
 invariant-loop-found l = record {
   within : l.rest.start ≤ length l.haystack;
   to_end : l.rest.end ≡ length l.haystack;
-  greedy : IsGreedyBefore l.self false l.haystack l.all.items l.rest.start;
-  exact : CountsBefore l.self l.haystack l.fn.tally l.tally l.all.items l.rest.start;
+  so_far : FoundBefore l.self l.haystack l.fn.tally l.tally l.all.items l.rest.start;
   spends : SpendsAtMost l.self l.haystack 0 l.rest.start l.fn.tally l.tally;
 }
 
