@@ -68,14 +68,13 @@ fn assert_gives(
     rt: &impl Abort,
     matches: &mut PreparedMatches<'_, '_, '_>,
     counted: bool,
-    wanted: Option<(usize, usize, usize)>,
+    wanted: Option<Match>,
 ) -> Result<(), Fail> {
     let found = if counted {
         matches.next_counted(&mut Tally::new())?
     } else {
         matches.next_match()?
     };
-    let wanted = wanted.map(|(pattern, start, end)| Match::must(pattern, Span { start, end }));
     assert!(rt; found == wanted);
     Ok(())
 }
@@ -86,9 +85,14 @@ fn finds_what_overlaps_by_an_array(rt: HostRuntime) -> Result<(), Fail> {
     let prepared = PreparedOverlapping::new(&array)?;
     assert!(rt; prepared.is_whole() && Prepared::new(&array).is_err());
     let mut matches = prepared.find_overlapping_in(b"an APPEND, app", Span { start: 3, end: 13 });
-    assert_gives(&rt, &mut matches, false, Some((1, 3, 6)))?;
-    assert_gives(&rt, &mut matches, true, Some((0, 3, 9)))?;
-    assert_gives(&rt, &mut matches, false, Some((2, 6, 9)))?;
+    let [app, append, end] = [
+        Match::must(1, Span { start: 3, end: 6 }),
+        Match::must(0, Span { start: 3, end: 9 }),
+        Match::must(2, Span { start: 6, end: 9 }),
+    ];
+    assert_gives(&rt, &mut matches, false, Some(app))?;
+    assert_gives(&rt, &mut matches, true, Some(append))?;
+    assert_gives(&rt, &mut matches, false, Some(end))?;
     assert_gives(&rt, &mut matches, true, None)?;
     assert_gives(&rt, &mut matches, false, None)?;
     assert!(rt; array.pop().is_some());
