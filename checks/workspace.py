@@ -11,10 +11,10 @@ TOP = os.path.dirname(os.path.dirname(os.path.abspath(__file__)))
 MEMORY_OF_A_PROOF = 2e9
 
 
-def run(words, folder=None, **how):
+def run(words, cwd=None, **how):
     """A command that has ended, with nothing on its input, and what it said on both outputs."""
     how = {"stdin": subprocess.DEVNULL, "stdout": subprocess.PIPE, "stderr": subprocess.STDOUT, **how}
-    return subprocess.run(words, cwd=folder, text=True, errors="replace", **how)
+    return subprocess.run(words, cwd=cwd, text=True, errors="replace", **how)
 
 
 def crates_below(top=TOP):
