@@ -107,10 +107,6 @@ module _ {search : OverlappingValue} {p : LentTables} (are : AreFor search p) (h
     abbrev t : Tables
     t = tables_by search p
 
-    -- here, as long as the list has more
-    pub next_here : s.next < s.end → IsNextEnd t haystack span s (Some s)
-    next_here left = record { stands = standing; more = left; to_come = λ found. (λ is. is, λ is. is) }
-
     -- at the end of the span there is none
     pub next_none : s.end ≤ s.next → s.at ≡ span.end → IsNextEnd t haystack span s None
     next_none empty last = record {
@@ -177,13 +173,6 @@ module _ {search : OverlappingValue} {p : LentTables} (are : AreFor search p) (h
 
       below : pattern < length search.patterns
       below = is_pattern t are.tables haystack bytes span valid s standing left
-
-      -- there is its next pattern, and the length of that
-      pub end_inside : s.next < length p.ends.now
-      end_inside = let within = standing.within in omega arith
-
-      pub pattern_inside : pattern < length p.front.lengths.now
-      pattern_inside = omega (arith, below, lengths_for are)
 
       length_is : get_or p.front.lengths.now pattern 0 ≡ length (pattern_at search.patterns pattern)
       length_is =

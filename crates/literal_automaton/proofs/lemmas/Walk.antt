@@ -400,16 +400,6 @@ row_at kind patterns width rows recognises text place at = record {
 }
 
 module _ (width : ℕ) (rows : List ℕ) (table : IsTable width rows) (start : ℕ) where
-  -- before the first byte
-  pub reads_start : Reads width rows start [] 0 None
-  reads_start = record {
-    row = table.some;
-    behind = λ kind patterns recognises some. record {
-      at = at_start (root_kind_of kind) patterns width rows recognises;
-      found = refl;
-    };
-  }
-
   module _ (text : List ℕ) (place : ℕ) (last : Option Ended) (reads : Reads width rows start text place last)
       (symbol : ℕ) (below : symbol < width) (code : ℕ) (code_is : code ≡ get_or rows (place + symbol) 0)
     where
@@ -483,13 +473,6 @@ module _ (classes rows haystack : List ℕ) (width : ℕ) (are : AreClasses clas
     (place : ℕ) (last : Option Ended)
     (reads : Reads width rows start (text_of classes haystack (between start at)) place last)
   where
-    -- its number lies in the rows
-    pub step_inside : place + get_or classes (get_or haystack at 0) 0 < length rows
-    step_inside =
-        let below = are.below (get_or haystack at 0) is_byte in
-        let fits = reads.row.fits in
-        omega arith
-
     module _ (code : ℕ) (code_is : code ≡ get_or rows (place + get_or classes (get_or haystack at 0) 0) 0) where
       -- no match ends there, one does, or no more bytes matter
       pub step_on : code < 2 ^ 31 → Reads width rows start (text_of classes haystack (between start (at + 1))) code last
@@ -508,10 +491,6 @@ module _ (classes rows haystack : List ℕ) (width : ℕ) (are : AreClasses clas
           (get_or classes (get_or haystack at 0) 0) (are.below (get_or haystack at 0) is_byte) code code_is large alive
           (at + 1)
           (let size = text_length classes haystack start at after (omega arith) in omega arith))
-
-      -- and there stands the pattern that ends
-      pub step_ended : 2 ^ 31 ≤ code → ¬ (code ≡ nothing) → code - 2 ^ 31 + width < length rows
-      step_ended large alive = let fits = (step_end large alive).row.fits in omega arith
 
       pub step_dead : code ≡ nothing → (end : ℕ) → at < end
           → FindsIn width rows start (text_of classes haystack (between start end)) last

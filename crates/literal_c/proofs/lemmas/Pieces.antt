@@ -35,15 +35,6 @@ next_end len from ends end others split cut =
     let both : (from ≤ end) × AreEnds len end others = subst (λ es. AreEnds len from es) split cut in
     (both.0, end_within len end others both.1, both.1)
 
--- the same by index, in a loop over the ends
-pub more_ends : (len from i : ℕ) (ends : List ℕ) → i < length ends
-    → AreEnds len from (drop i ends) ↔ ((from ≤ get_or ends i 0) × AreEnds len (get_or ends i 0) (drop (i + 1) ends))
-more_ends len from i ends lt =
-    let split : drop i ends ≡ get_or ends i 0 ∷ drop (i + 1) ends = rw (add-one, drop-cons ends i 0) refl in (
-      λ cut. subst (λ es. AreEnds len from es) split cut,
-      λ cut. subst (λ es. AreEnds len from es) (sym split) cut,
-    )
-
 -- there are as many pieces as ends
 pub pieces_are_as_many : (buffer : List ℕ) (from : ℕ) (ends : List ℕ) → length (pieces buffer from ends) ≡ length ends
 pieces_are_as_many buffer from [] = refl
