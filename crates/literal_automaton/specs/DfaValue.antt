@@ -115,12 +115,3 @@ pub record ScansListAtMost (patterns : List (List ℕ)) (haystack : List ℕ) (m
   pub others : new ≡ record old { scanned = new.scanned }
   pub near : (longest : ℕ) → All (λ (bytes : List ℕ). length bytes ≤ longest) patterns
       → new.scanned ≤ old.scanned + length haystack + matches * longest
-
--- memory was refused for the list of all matches: the last match that was found had no room. At most as much was
--- scanned as the searches for the matches so far may scan
-pub record RefusesList (search : DfaValue) (haystack : List ℕ) (old new : Counts) : Type 0 where
-  pub found : List MatchValue
-  pub more : List MatchValue
-  pub some : 0 < length found
-  pub are_first : IsGreedy search.query search.ignore_case haystack 0 (found ++ more)
-  pub scans : ScansListAtMost search.query.patterns haystack (length found) old new

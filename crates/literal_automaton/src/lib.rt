@@ -3,13 +3,13 @@
 #![tactic(auto)]
 
 ghost use Rattle.std.specs.Prelude.{◌≡◌, ◌<◌, ◌↔◌, ◌++◌, ◌∷◌, [], ℕ, length, map, IfErr, IfOk, IfSome, IsTrue, OnErr};
-ghost use Rattle.literal_base.specs.Greedy.{IsGreedy};
+ghost use Rattle.literal_base.specs.Greedy.{IsGreedy, RefusesList};
 ghost use Rattle.literal_base.specs.Kinds.{root_kind_of};
 ghost use Rattle.literal_base.specs.Leftmost.{IsLeftmost};
 ghost use Rattle.literal_base.specs.Occurs.{IsValidSpan, NothingOccurs, Occurs, one_occurs, whole_of};
 ghost use Rattle.literal_packed.specs.Lending.{CanBeTaken};
 ghost use Rattle.literal_automaton.specs.DfaValue.{BuildsDfa, CanBeKept, GivesAll, NeedFewStates};
-ghost use Rattle.literal_automaton.specs.DfaValue.{NeedTooManyStates, RefusesDfa, RefusesList};
+ghost use Rattle.literal_automaton.specs.DfaValue.{NeedTooManyStates, RefusesDfa};
 ghost use Rattle.literal_automaton.specs.DfaValue.{ScansAtMost, ScansListAtMost};
 ghost use Rattle.literal_automaton.specs.Earliest.{IsEarliestEnd, ScansToEnd};
 ghost use Rattle.literal_automaton.specs.MatchesValue.{GivesMatch, most_to_come};
@@ -234,7 +234,8 @@ impl Dfa {
             (λ all. IsGreedy self.now.query self.now.ignore_case haystack.now 0 all.items) }
         ensures bounded { IfOk result (λ all. ScansListAtMost self.now.query.patterns haystack.now (length all.items)
             tally.old tally.new) }
-        ensures no_memory { OnErr result (RefusesList self.now haystack.now tally.old tally.new) }
+        ensures no_memory { OnErr result (RefusesList self.now.query self.now.ignore_case haystack.now (λ found.
+            ScansListAtMost self.now.query.patterns haystack.now (length found) tally.old tally.new)) }
     {
         let _ = self.patterns_len(); // (its contract says that no pattern is empty)
         let mut all = Vec::new(*self.patterns.allocator());

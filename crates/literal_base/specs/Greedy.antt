@@ -1,5 +1,5 @@
 -- All matches of a haystack that do not overlap, taken from the left.
-use Rattle.std.specs.Prelude.{ℕ, ◌&&◌, Bool, List, [], ◌∷◌, nat_le, nat_lt}
+use Rattle.std.specs.Prelude.{ℕ, ◌<◌, ◌&&◌, Bool, List, [], ◌∷◌, ◌++◌, length, nat_le, nat_lt}
 use Rattle.std.specs.List.{list_any}
 use Rattle.literal_base.specs.MatchValue.{MatchValue}
 use Rattle.literal_base.specs.Query.{Query}
@@ -14,6 +14,16 @@ IsGreedy query ignore_case haystack at [] =
 IsGreedy query ignore_case haystack at (found ∷ more) =
     IsLeftmostMatch query ignore_case haystack (rest_from haystack at) found
     × IsGreedy query ignore_case haystack found.end more
+
+-- memory was refused for the list of all matches: the last match that was found had no room. This is what was counted
+-- for the matches so far
+pub record RefusesList (query : Query) (ignore_case : Bool) (haystack : List ℕ) (Counted : List MatchValue → Type 0)
+    : Type 0 where
+  pub found : List MatchValue
+  pub more : List MatchValue
+  pub some : 0 < length found
+  pub are_first : IsGreedy query ignore_case haystack 0 (found ++ more)
+  pub counted : Counted found
 
 -- whether a place lies in one of the matches
 abbrev pub lies_in_one : List MatchValue → ℕ → Bool

@@ -25,15 +25,6 @@ counts_after_matches old query haystack at (found ∷ more) =
     counts_after_matches (counts_after old query haystack (rest_from haystack at) (Some found)) query haystack found.end
     more
 
--- memory was refused for the list of all matches: the last match that was found had no room. The searches that found
--- the matches so far are counted, and no other
-pub record RefusesList (query : Query) (haystack : List ℕ) (old new : Counts) : Type 0 where
-  pub found : List MatchValue
-  pub more : List MatchValue
-  pub some : 0 < length found
-  pub are_first : IsGreedy query false haystack 0 (found ++ more)
-  pub counted : new ≡ counts_after_matches old query haystack 0 found
-
 -- the three counts of a search don't fall, and the others stay
 pub record CountsOn (old new : Counts) : Type 0 where
   pub hashed : old.hashed ≤ new.hashed

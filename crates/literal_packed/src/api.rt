@@ -4,7 +4,7 @@ ghost use Rattle.std.specs.Prelude.{IfSome, MatchResult};
 ghost use Rattle.std.specs.Borrow.{sem};
 ghost use Rattle.literal_base.specs.Occurs.{IsValidSpan, whole_of};
 ghost use Rattle.literal_base.specs.Leftmost.{IsLeftmost};
-ghost use Rattle.literal_base.specs.Greedy.{IsGreedy};
+ghost use Rattle.literal_base.specs.Greedy.{IsGreedy, RefusesList};
 ghost use Rattle.literal_base.specs.Counts.{none_yet};
 ghost use Rattle.literal_packed.specs.PatternsValue.{minimum_len_of};
 ghost use Rattle.literal_packed.specs.BuilderValue.{IsBuildableQuery, BuildsSearcher, IsBuildable, builder_of};
@@ -13,7 +13,7 @@ ghost use Rattle.literal_packed.specs.ConfigValue.{IsPatternLimit, default_confi
 ghost use Rattle.literal_packed.specs.State.{IsState, WouldKeep, kept_of};
 ghost use Rattle.literal_packed.specs.Pairs.{counts_after};
 ghost use Rattle.literal_packed.specs.FindIterValue.{FindsNext, bytes_left};
-ghost use Rattle.literal_packed.specs.Spending.{RefusesList, SpendsWithin, counts_after_all};
+ghost use Rattle.literal_packed.specs.Spending.{SpendsWithin, counts_after_all, counts_after_matches};
 ghost use Rattle.literal_packed.specs.Lending.{CanBeTaken, HoldsAfterErr, LentHoldsAfterErr, HoldsTaken, HoldsAll};
 ghost use Rattle.literal_packed.specs.Lending.{RefusesSearcher};
 
@@ -477,7 +477,8 @@ impl Searcher {
         ensures greedy { IfOk result (λ all. IsGreedy self.now false haystack.now 0 all.items) }
         ensures exact { IfOk result (λ all. tally.new ≡ counts_after_all tally.old self.now haystack.now 0 all.items) }
         ensures bounded { SpendsWithin self.now haystack.now tally.old tally.new }
-        ensures no_memory { OnErr result (RefusesList self.now haystack.now tally.old tally.new) }
+        ensures no_memory { OnErr result (RefusesList self.now false haystack.now (λ found.
+            tally.new ≡ counts_after_matches tally.old self.now haystack.now 0 found)) }
     {
         // A confirming search has the same loop over its own search, whose contract counts other steps.
         let _ = self.match_kind(); // (its contract says that no pattern is empty)

@@ -11,7 +11,7 @@ use Rattle.literal_base.specs.Occurs.{pattern_at}
 use Rattle.literal_packed.specs.PatternsValue.{minimum_len_of}
 use Rattle.literal_packed.specs.State.{kept_of}
 use Rattle.literal_prefilters.specs.PrefilterBuilderValue.{PrefilterBuilderValue}
-use Rattle.literal_prefilters.specs.PrefilterValue.{PrefilterValue, by_table, by_pattern, by_search, CoveredBy}
+use Rattle.literal_prefilters.specs.PrefilterValue.{PrefilterValue, by_table, by_memmem, by_packed, CoveredBy}
 use Rattle.literal_prefilters.specs.Table.{size, rank_sum_of}
 use Rattle.literal_prefilters.specs.Tables.{start_table, rare_table}
 
@@ -26,7 +26,7 @@ suits_packed b = not b.ignore_case && is_some (packed_kind_of b.kind)
 -- the packed search for the builder's kind and patterns
 abbrev pub packed_search : PrefilterBuilderValue → Option PrefilterValue
 packed_search b =
-    option_map (λ kind. by_search (record { kind = kind; patterns = kept_of b.state })) (packed_kind_of b.kind)
+    option_map (λ kind. by_packed (record { kind = kind; patterns = kept_of b.state })) (packed_kind_of b.kind)
 
 -- there is a table, and each that there is has three bytes
 abbrev pub are_full : Option (List (Option ℕ)) → Option (List (Option ℕ)) → Bool
@@ -66,7 +66,7 @@ pick b =
     let start = start_table b.ignore_case patterns in
     let rare = rare_table b.ignore_case patterns in
     if length patterns == 0 then None
-    else if is_one_pattern b then Some (by_pattern (pattern_at patterns 0))
+    else if is_one_pattern b then Some (by_memmem (pattern_at patterns 0))
     else if is_short_list b start rare then packed_search b
     else if has_fewer_start_bytes start rare then option_map by_table start
     else if is_start_nearly_as_rare start rare then option_map by_table start

@@ -14,7 +14,7 @@ use Rattle.literal_packed.specs.Spending.{SpendsWithin}
 use Rattle.literal_prefilters.specs.ConfirmingValue.{ConfirmingValue}
 use Rattle.literal_prefilters.specs.Exact.{query_of_one}
 use Rattle.literal_prefilters.specs.Reached.{reached_count}
-use Rattle.literal_prefilters.specs.PrefilterValue.{PrefilterValue, by_table, by_pattern, by_search}
+use Rattle.literal_prefilters.specs.PrefilterValue.{PrefilterValue, by_table, by_memmem, by_packed}
 use Rattle.literal_prefilters.specs.Table.{first_place}
 
 -- how many bytes are scanned: with a match, those from the span's start up to and including the first of the table at
@@ -62,9 +62,9 @@ counts_after_tries old table query haystack span answer = record old {
 abbrev pub counts_after_confirming : Counts → PrefilterValue → Query → List ℕ → Span → Option MatchValue → Counts
 counts_after_confirming old (by_table table) query haystack span answer =
     counts_after_tries old table query haystack span answer
-counts_after_confirming old (by_pattern pattern) query haystack span answer =
+counts_after_confirming old (by_memmem pattern) query haystack span answer =
     counts_after old (query_of_one pattern) haystack span answer
-counts_after_confirming old (by_search searched) query haystack span answer =
+counts_after_confirming old (by_packed searched) query haystack span answer =
     counts_after old searched haystack span answer
 
 -- the counts after searches one after another with these answers: the first in the rest of the haystack from a place
@@ -78,15 +78,6 @@ counts_after_answers old pre query haystack at (answer ∷ more) =
 -- the answers of searches that find these matches
 abbrev pub answers_of : List MatchValue → List (Option MatchValue)
 answers_of = map Some
-
--- memory was refused for the list of all matches: the last match that was found had no room. The searches that found
--- the matches so far are counted, and no other
-pub record RefusesList (search : ConfirmingValue) (haystack : List ℕ) (old new : Counts) : Type 0 where
-  pub found : List MatchValue
-  pub more : List MatchValue
-  pub some : 0 < length found
-  pub are_first : IsGreedy search.query search.ignore_case haystack 0 (found ++ more)
-  pub counted : new ≡ counts_after_answers old search.prefilter search.query haystack 0 (answers_of found)
 
 -- what the searches by a table up to a place of a haystack count together, one match after another: scanned at most the
 -- bytes before the place, tried at most the places before it that a byte of the table reaches, compared at most (places
@@ -106,5 +97,5 @@ pub record SpendsTries (table : List (Option ℕ)) (patterns : List (List ℕ)) 
 abbrev pub SpendsConfirming : PrefilterValue → List (List ℕ) → List ℕ → Counts → Counts → Type 0
 SpendsConfirming (by_table table) patterns haystack old new =
     SpendsTries table patterns haystack (length haystack) old new
-SpendsConfirming (by_pattern pattern) patterns haystack old new = SpendsWithin (query_of_one pattern) haystack old new
-SpendsConfirming (by_search query) patterns haystack old new = SpendsWithin query haystack old new
+SpendsConfirming (by_memmem pattern) patterns haystack old new = SpendsWithin (query_of_one pattern) haystack old new
+SpendsConfirming (by_packed query) patterns haystack old new = SpendsWithin query haystack old new

@@ -14,48 +14,48 @@ use Rattle.literal_prefilters.specs.Table.{reach_of, proposed_place}
 -- patterns
 pub data PrefilterValue : Type 0 where
   by_table : List (Option ℕ) → PrefilterValue
-  by_pattern : List ℕ → PrefilterValue
-  by_search : Query → PrefilterValue
+  by_memmem : List ℕ → PrefilterValue
+  by_packed : Query → PrefilterValue
 
 -- what a prefilter covers
 abbrev pub CoveredBy : PrefilterValue → Coverage
 CoveredBy (by_table table) = CoversAll table
-CoveredBy (by_pattern pattern) = CoversPattern pattern
-CoveredBy (by_search query) = CoversQuery query
+CoveredBy (by_memmem pattern) = CoversPattern pattern
+CoveredBy (by_packed query) = CoversQuery query
 
 -- how many bytes it may read past a place that it proposes; 0 if it is exact
 abbrev pub prefilter_reach : PrefilterValue → ℕ
 prefilter_reach (by_table table) = reach_of table
-prefilter_reach (by_pattern pattern) = 0
-prefilter_reach (by_search query) = 0
+prefilter_reach (by_memmem pattern) = 0
+prefilter_reach (by_packed query) = 0
 
 -- what it answers: the step of its table as a possible start, or the leftmost match as such
 abbrev pub IsAnswer : PrefilterValue → List ℕ → Span → Candidate → Type 0
 IsAnswer (by_table table) haystack span answer = answer ≡ candidate_of (proposed_place table haystack span)
-IsAnswer (by_pattern pattern) haystack span answer = IsExact (query_of_one pattern) haystack span answer
-IsAnswer (by_search query) haystack span answer = IsExact query haystack span answer
+IsAnswer (by_memmem pattern) haystack span answer = IsExact (query_of_one pattern) haystack span answer
+IsAnswer (by_packed query) haystack span answer = IsExact query haystack span answer
 
 -- what it answers, and what that counts: as a scan by its table, or as one search in the span
 abbrev pub IsCountedAnswer : PrefilterValue → List ℕ → Span → Candidate → Counts → Counts → Type 0
 IsCountedAnswer (by_table table) haystack span answer old new = IsStep table haystack span answer old new
-IsCountedAnswer (by_pattern pattern) haystack span answer old new =
+IsCountedAnswer (by_memmem pattern) haystack span answer old new =
     IsExactStep (query_of_one pattern) haystack span answer old new
-IsCountedAnswer (by_search query) haystack span answer old new = IsExactStep query haystack span answer old new
+IsCountedAnswer (by_packed query) haystack span answer old new = IsExactStep query haystack span answer old new
 
 -- its table, if it goes by one
 abbrev pub prefilter_table : PrefilterValue → Option (List (Option ℕ))
 prefilter_table (by_table table) = Some table
-prefilter_table (by_pattern pattern) = None
-prefilter_table (by_search query) = None
+prefilter_table (by_memmem pattern) = None
+prefilter_table (by_packed query) = None
 
 -- it holds patterns, so making it takes memory
 abbrev pub TakesMemory : PrefilterValue → Type 0
 TakesMemory (by_table table) = ⊥
-TakesMemory (by_pattern pattern) = ⊤
-TakesMemory (by_search query) = ⊤
+TakesMemory (by_memmem pattern) = ⊤
+TakesMemory (by_packed query) = ⊤
 
 -- what is searched for, if it searches exactly
 abbrev pub exact_query : PrefilterValue → Option Query
 exact_query (by_table table) = None
-exact_query (by_pattern pattern) = Some (query_of_one pattern)
-exact_query (by_search query) = Some query
+exact_query (by_memmem pattern) = Some (query_of_one pattern)
+exact_query (by_packed query) = Some query

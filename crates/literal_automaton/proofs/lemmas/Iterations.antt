@@ -1,16 +1,14 @@
 -- Searches for all matches, one after another.
 use Rattle.std.proofs.Common.{◌≡◌, ℕ, ◌+◌, ◌*◌, ◌<◌, ◌≤◌, List, [], ◌∷◌, ◌++◌, length, Some, None, ap, ◌∙◌, arith}
 use Rattle.std.proofs.Common.{Bool, refl, length-append}
-use Rattle.std.proofs.lemmas.List.{length_push}
 use Rattle.literal_base.specs.declared.search.Span.{Span}
 use Rattle.literal_base.specs.Counts.{Counts}
 use Rattle.literal_base.specs.MatchValue.{MatchValue}
-use Rattle.literal_base.specs.Greedy.{IsGreedy}
+use Rattle.literal_base.specs.Greedy.{IsGreedy, RefusesList}
 use Rattle.literal_base.specs.Occurs.{NoneIsEmpty, NothingOccurs, rest_from, whole_of}
 use Rattle.literal_base.specs.Query.{Query}
-use Rattle.literal_base.proofs.lemmas.Exists.{greedy_exists_lem}
 use Rattle.literal_packed.proofs.lemmas.GreedyLists.{IsGreedyBefore, found_occurs}
-use Rattle.literal_automaton.specs.DfaValue.{DfaValue, RefusesList, ScansAtMost, ScansListAtMost}
+use Rattle.literal_automaton.specs.DfaValue.{ScansAtMost, ScansListAtMost}
 use Rattle.literal_automaton.specs.Inside.Dfa.{ScansTo}
 
 -- only one count changes
@@ -38,25 +36,15 @@ scans_more patterns done old now new rest found before more some = record {
       omega (arith, last, next, product);
 }
 
--- there is no room for the last match so far
-pub refuses_last : (search : DfaValue) (haystack : List ℕ) (old new : Counts) (done : List MatchValue)
-    (last : MatchValue) → NoneIsEmpty search.query.patterns → last.end ≤ length haystack
-    → IsGreedyBefore search.query search.ignore_case haystack (done ++ last ∷ []) last.end
-    → ScansTo search.query.patterns last.end (length (done ++ last ∷ [])) old new → RefusesList search haystack old new
-refuses_last search haystack old new done last not_empty within greedy before =
-    let rest = greedy_exists_lem search.query search.ignore_case haystack last.end not_empty in
-    record {
-      found = done ++ last ∷ [];
-      more = rest.0;
-      some = omega (arith, length_push done last);
-      are_first = greedy.goes_on rest.0 rest.1;
-      scans = record {
-        others = before.others;
-        near = λ longest each. omega (arith, before.near longest each);
-      };
-    }
+-- the searches for the matches so far scan as those of a list
+pub scans_found : (patterns : List (List ℕ)) (haystack : List ℕ) (matches at : ℕ) (old new : Counts)
+    → at ≤ length haystack → ScansTo patterns at matches old new → ScansListAtMost patterns haystack matches old new
+scans_found patterns haystack matches at old new within before = record {
+  others = before.others;
+  near = λ longest each. omega (arith, before.near longest each);
+}
 
--- then a pattern occurs
+-- where memory is refused for the list a pattern occurs
 first_occurs : (query : Query) (ignore_case : Bool) (haystack : List ℕ) (all : List MatchValue) → 0 < length all
     → IsGreedy query ignore_case haystack 0 all
     → ¬ NothingOccurs query.patterns ignore_case haystack (whole_of haystack)
@@ -64,10 +52,11 @@ first_occurs query ignore_case haystack [] some greedy = λ nothing. omega (arit
 first_occurs query ignore_case haystack (found ∷ more) some greedy =
     found_occurs query ignore_case haystack (rest_from haystack 0) found refl greedy.0
 
-pub refused_occurs : (search : DfaValue) (haystack : List ℕ) (old new : Counts) → RefusesList search haystack old new
-    → ¬ NothingOccurs search.query.patterns search.ignore_case haystack (whole_of haystack)
-refused_occurs search haystack old new refused =
-    first_occurs search.query search.ignore_case haystack (refused.found ++ refused.more)
+pub refused_occurs : (query : Query) (ignore_case : Bool) (haystack : List ℕ) (Counted : List MatchValue → Type 0)
+    → RefusesList query ignore_case haystack Counted
+    → ¬ NothingOccurs query.patterns ignore_case haystack (whole_of haystack)
+refused_occurs query ignore_case haystack Counted refused =
+    first_occurs query ignore_case haystack (refused.found ++ refused.more)
     (omega (arith, length-append refused.found refused.more, refused.some)) refused.are_first
 
 -- and behind the last one

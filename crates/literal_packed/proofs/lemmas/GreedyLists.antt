@@ -8,12 +8,12 @@ use Rattle.literal_base.specs.Counts.{Counts}
 use Rattle.literal_base.specs.MatchValue.{MatchValue}
 use Rattle.literal_base.specs.Occurs.{NoneIsEmpty, NothingOccurs, pattern_at, rest_from, between, whole_of}
 use Rattle.literal_base.specs.Leftmost.{IsLeftmostMatch}
-use Rattle.literal_base.specs.Greedy.{IsGreedy}
+use Rattle.literal_base.specs.Greedy.{IsGreedy, RefusesList}
 use Rattle.literal_base.specs.Query.{Query}
 use Rattle.literal_packed.specs.Pairs.{counts_after}
 use Rattle.literal_base.specs.Apart.{LieApart}
 use Rattle.literal_base.proofs.lemmas.Exists.{greedy_exists_lem}
-use Rattle.literal_packed.specs.Spending.{RefusesList, counts_after_all, counts_after_matches}
+use Rattle.literal_packed.specs.Spending.{counts_after_all, counts_after_matches}
 use Rattle.literal_packed.proofs.lemmas.Spending.{rest_is}
 use Rattle.literal_packed.proofs.lemmas.Windows.{none_empty}
 
@@ -75,19 +75,25 @@ counts_all query haystack old now new done rest to_end before counted =
     ∙ (before.all [] ∙ ap (counts_after_all old query haystack 0) (append-nil done))
 
 -- there is no room for the last match so far
-pub refuses_last : (query : Query) (haystack : List ℕ) (old new : Counts) (done : List MatchValue) (last : MatchValue)
-    (at : ℕ) → NoneIsEmpty query.patterns → FoundBefore query haystack old new (done ++ last ∷ []) at
-    → RefusesList query haystack old new
-refuses_last query haystack old new done last at not_empty before =
-    let rest = greedy_exists_lem query false haystack at not_empty in
+pub refuses_last : (query : Query) (ignore_case : Bool) (haystack : List ℕ) (Counted : List MatchValue → Type 0)
+    (done : List MatchValue) (last : MatchValue) (at : ℕ) → NoneIsEmpty query.patterns
+    → IsGreedyBefore query ignore_case haystack (done ++ last ∷ []) at → Counted (done ++ last ∷ [])
+    → RefusesList query ignore_case haystack Counted
+refuses_last query ignore_case haystack Counted done last at not_empty before counted =
+    let rest = greedy_exists_lem query ignore_case haystack at not_empty in
     record {
       found = done ++ last ∷ [];
       more = rest.0;
       some = omega (arith, length_push done last);
-      are_first = before.greedy.goes_on rest.0 rest.1;
-      counted = before.matches []
-          ∙ ap (counts_after_matches old query haystack 0) (append-nil (done ++ last ∷ []));
+      are_first = before.goes_on rest.0 rest.1;
+      counted = counted;
     }
+
+-- the searches for the matches so far are counted
+pub counts_found : (query : Query) (haystack : List ℕ) (old new : Counts) (done : List MatchValue) (at : ℕ)
+    → FoundBefore query haystack old new done at → new ≡ counts_after_matches old query haystack 0 done
+counts_found query haystack old new done at before =
+    before.matches [] ∙ ap (counts_after_matches old query haystack 0) (append-nil done)
 
 -- where a greedy list is followed by nothing, no pattern is empty
 greedy_not_empty : (query : Query) (ignore_case : Bool) (haystack : List ℕ) (at : ℕ) (all : List MatchValue)

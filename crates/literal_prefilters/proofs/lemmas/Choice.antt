@@ -17,7 +17,7 @@ use Rattle.literal_prefilters.specs.Exact.{CoversPattern}
 use Rattle.literal_prefilters.specs.PrefilterBuilderValue.{PrefilterBuilderValue, prefilter_limit}
 use Rattle.literal_prefilters.specs.Inside.Prefilter.{builder_value, IsSound}
 use Rattle.literal_prefilters.specs.declared.prefilter.Builder.TheInside.{Inside}
-use Rattle.literal_prefilters.specs.PrefilterValue.{PrefilterValue, TakesMemory, by_table, by_pattern, by_search}
+use Rattle.literal_prefilters.specs.PrefilterValue.{PrefilterValue, TakesMemory, by_table, by_memmem, by_packed}
 use Rattle.literal_prefilters.specs.Tables.{start_table, rare_table}
 
 -- there are several patterns or case is ignored, these are the tables, and the list is a short one or not
@@ -120,7 +120,7 @@ some_packed : (b : PrefilterBuilderValue) → suits_packed b ≡ true → is_som
 some_packed b suits = from (not b.ignore_case) (packed_kind_of b.kind) suits
   where
     from : (kept : Bool) (o : Option MatchKind) → (kept && is_some o) ≡ true
-        → is_some (option_map (λ kind. by_search (record { kind = kind; patterns = kept_of b.state })) o) ≡ true
+        → is_some (option_map (λ kind. by_packed (record { kind = kind; patterns = kept_of b.state })) o) ≡ true
     from kept (Some kind) both = refl
     from true None both = absurd cc
     from false None both = absurd cc
@@ -137,7 +137,7 @@ pick_some b suits some few =
     let not_empty : (length ps == 0) ≡ false = grind (arith, some) in
     let last : is_last_resort b ≡ true = grind (arith, suits, few) in
     let packed = some_is (packed_search b) (some_packed b suits) in
-    rw (not_empty, packed.1) (either_some (is_one_pattern b) (by_pattern (pattern_at ps 0)) _
+    rw (not_empty, packed.1) (either_some (is_one_pattern b) (by_memmem (pattern_at ps 0)) _
     (some_of_tables b packed.0 (start_table b.ignore_case ps) (rare_table b.ignore_case ps) last))
 
 -- memory is refused where a prefilter takes it, so where one is picked

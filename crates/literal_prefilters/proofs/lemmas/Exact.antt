@@ -10,7 +10,7 @@ use Rattle.literal_packed.specs.Pairs.{counts_after}
 use Rattle.literal_prefilters.specs.declared.prefilter.Candidate.{Candidate}
 use Rattle.literal_prefilters.specs.declared.prefilter.Candidate.TheVariants as candidate
 use Rattle.literal_prefilters.specs.Exact.{IsExactStep}
-use Rattle.literal_prefilters.specs.PrefilterValue.{PrefilterValue, by_table, by_pattern, by_search}
+use Rattle.literal_prefilters.specs.PrefilterValue.{PrefilterValue, by_table, by_memmem, by_packed}
 use Rattle.literal_prefilters.specs.PrefilterValue.{IsAnswer, IsCountedAnswer}
 
 -- a match that a search found is answered exactly
@@ -37,5 +37,5 @@ none_step query haystack span answer old new is leftmost counted = record {
 pub answered : (pre : PrefilterValue) (haystack : List ℕ) (span : Span) (answer : Candidate) (old new : Counts)
     → IsCountedAnswer pre haystack span answer old new → IsAnswer pre haystack span answer
 answered (by_table table) haystack span answer old new step = step.step
-answered (by_pattern pattern) haystack span answer old new step = step.exact
-answered (by_search query) haystack span answer old new step = step.exact
+answered (by_memmem pattern) haystack span answer old new step = step.exact
+answered (by_packed query) haystack span answer old new step = step.exact

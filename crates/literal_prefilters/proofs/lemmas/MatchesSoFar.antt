@@ -2,17 +2,17 @@
 -- For `ConfirmingSearch::find_all`.
 use Rattle.std.proofs.Common.{◌≡◌, ℕ, ◌+◌, ◌-◌, ◌*◌, ◌<◌, ◌≤◌, List, [], ◌∷◌, ◌++◌, length, Option, Some, None}
 use Rattle.std.proofs.Common.{Result, Ok, Err, IfSome, OnErr, append_assoc, append-nil, sym, ap, ◌∙◌, subst, arith}
-use Rattle.std.proofs.lemmas.List.{length_push, map_push}
-use Rattle.literal_base.proofs.lemmas.Exists.{greedy_exists_lem}
+use Rattle.std.proofs.lemmas.List.{map_push}
 use Rattle.literal_base.specs.Bytes.{AreBytes}
 use Rattle.literal_base.specs.Counts.{Counts}
 use Rattle.literal_base.specs.declared.search.Span.{Span}
+use Rattle.literal_base.specs.Greedy.{RefusesList}
 use Rattle.literal_base.specs.Leftmost.{IsLeftmostMatch}
 use Rattle.literal_base.specs.MatchValue.{MatchValue}
 use Rattle.literal_base.specs.Occurs.{NoneIsEmpty, NothingOccurs, pattern_at}
-use Rattle.literal_packed.proofs.lemmas.GreedyLists.{IsGreedyBefore, greedy_more}
+use Rattle.literal_packed.proofs.lemmas.GreedyLists.{IsGreedyBefore, greedy_more, refuses_last}
 use Rattle.literal_packed.proofs.lemmas.Spending.{rest_is}
-use Rattle.literal_prefilters.specs.Confirming.{RefusesList, SpendsConfirming, answers_of, counts_after_answers}
+use Rattle.literal_prefilters.specs.Confirming.{SpendsConfirming, answers_of, counts_after_answers}
 use Rattle.literal_prefilters.specs.Confirming.{counts_after_confirming}
 use Rattle.literal_prefilters.specs.ConfirmingValue.{ConfirmingValue}
 use Rattle.literal_prefilters.specs.PrefilterValue.{CoveredBy, prefilter_table}
@@ -82,17 +82,13 @@ module _ (search : ConfirmingValue) (haystack : List ℕ) (old : Counts) where
   -- where there is no room for the last match so far
   pub refused : {A E : Type 0} (answer : Result A E) (new : Counts) (done : List MatchValue) (last : MatchValue)
       (at : ℕ) → NoneIsEmpty search.query.patterns → SoFar new (done ++ last ∷ []) at
-      → OnErr answer (RefusesList search haystack old new)
+      → OnErr answer (RefusesList search.query search.ignore_case haystack
+      (λ found. new ≡ counts_after old 0 (answers_of found)))
   refused (Ok all) new done last at not_empty so_far = tt
   refused (Err error) new done last at not_empty so_far =
-      let rest = greedy_exists_lem search.query search.ignore_case haystack at not_empty in
-      record {
-        found = done ++ last ∷ [];
-        more = rest.0;
-        some = omega (arith, length_push done last);
-        are_first = so_far.greedy.goes_on rest.0 rest.1;
-        counted = so_far.counted [] ∙ ap (counts_after old 0) (append-nil (answers_of (done ++ last ∷ [])));
-      }
+      refuses_last search.query search.ignore_case haystack (λ found. new ≡ counts_after old 0 (answers_of found)) done
+      last at not_empty so_far.greedy
+      (so_far.counted [] ∙ ap (counts_after old 0) (append-nil (answers_of (done ++ last ∷ []))))
 
   pub spent_before : (new : Counts) (done : List MatchValue) (at : ℕ) → SoFar new done at
       → SpendsConfirming search.prefilter search.query.patterns haystack old new

@@ -16,7 +16,7 @@ use Rattle.literal_prefilters.specs.Confirming.{SpendsConfirming, SpendsTries, c
 use Rattle.literal_prefilters.specs.Confirming.{counts_after_confirming, counts_after_tries, tried_count}
 use Rattle.literal_prefilters.specs.Exact.{CoversPattern, query_of_one}
 use Rattle.literal_prefilters.specs.Reached.{reached_count}
-use Rattle.literal_prefilters.specs.PrefilterValue.{PrefilterValue, CoveredBy, by_table, by_pattern, by_search}
+use Rattle.literal_prefilters.specs.PrefilterValue.{PrefilterValue, CoveredBy, by_table, by_memmem, by_packed}
 use Rattle.literal_prefilters.specs.PrefilterValue.{prefilter_table}
 use Rattle.literal_prefilters.specs.Table.{Covers, first_place}
 use Rattle.literal_prefilters.proofs.lemmas.Callers.{free_from_first, is_first_from}
@@ -113,8 +113,8 @@ tries_more table query haystack span to answer old mid new so_far is most once a
 -- what the searches up to a place count together, whatever the prefilter goes by
 abbrev pub SpendsTo : PrefilterValue → List (List ℕ) → List ℕ → ℕ → Counts → Counts → Type 0
 SpendsTo (by_table table) patterns haystack to old new = SpendsTries table patterns haystack to old new
-SpendsTo (by_pattern pattern) patterns haystack to old new = SpendsAtMost (query_of_one pattern) haystack 0 to old new
-SpendsTo (by_search query) patterns haystack to old new = SpendsAtMost query haystack 0 to old new
+SpendsTo (by_memmem pattern) patterns haystack to old new = SpendsAtMost (query_of_one pattern) haystack 0 to old new
+SpendsTo (by_packed query) patterns haystack to old new = SpendsAtMost query haystack 0 to old new
 
 -- at the end, or wherever the searches were given up
 pub spends_whole : (pre : PrefilterValue) (patterns : List (List ℕ)) (haystack : List ℕ) (to : ℕ) (old new : Counts)
@@ -131,9 +131,9 @@ spends_whole (by_table table) patterns haystack to old new within s =
       compared_grows = s.compared_grows;
       others = s.others;
     }
-spends_whole (by_pattern pattern) patterns haystack to old new within s =
+spends_whole (by_memmem pattern) patterns haystack to old new within s =
     spends_within (query_of_one pattern) haystack to old new s
-spends_whole (by_search query) patterns haystack to old new within s = spends_within query haystack to old new s
+spends_whole (by_packed query) patterns haystack to old new within s = spends_within query haystack to old new s
 
 -- the leftmost match of one pattern, for which the kind makes no difference
 one_found : (pattern : List ℕ) (query : Query) (ignore_case : Bool) (haystack : List ℕ) (span : Span)
@@ -185,10 +185,10 @@ module _ (query : Query) (ignore_case : Bool) (haystack : List ℕ) (bytes : Are
       tries_more table query haystack span found.end (Some found) old mid new so_far once most
       (scan_ends_in_match table query ignore_case covers haystack bytes span valid found leftmost) (omega arith)
       (omega (arith, tried, reached_rest table (found.start + 1)))
-  spends_match (by_pattern pattern) covers found some so_far leftmost once most =
+  spends_match (by_memmem pattern) covers found some so_far leftmost once most =
       spends_found (query_of_one pattern) haystack span old mid new found to_end within some so_far
       (one_found pattern query ignore_case haystack span found covers leftmost) once
-  spends_match (by_search searched) covers found some so_far leftmost once most =
+  spends_match (by_packed searched) covers found some so_far leftmost once most =
       let kept = subst (λ c. IsLeftmostMatch query c haystack span found) covers.case_kept leftmost in
       spends_found searched haystack span old mid new found to_end within some so_far
       (subst (λ q. IsLeftmostMatch q false haystack span found) covers.same kept) once
@@ -208,10 +208,10 @@ module _ (query : Query) (ignore_case : Bool) (haystack : List ℕ) (bytes : Are
       let ends = ap (reached_count table haystack span) to_end in
       tries_more table query haystack span (length haystack) None old mid new so_far once most
       (omega (arith, to_end)) within (omega (arith, tried, reached_rest table (length haystack)))
-  spends_end (by_pattern pattern) covers so_far nothing once most =
+  spends_end (by_memmem pattern) covers so_far nothing once most =
       spends_last (query_of_one pattern) haystack span old mid new to_end within so_far
       (one_nothing pattern query ignore_case haystack span covers nothing) once
-  spends_end (by_search searched) covers so_far nothing once most =
+  spends_end (by_packed searched) covers so_far nothing once most =
       let kept = subst (λ c. NothingOccurs query.patterns c haystack span) covers.case_kept nothing in
       spends_last searched haystack span old mid new to_end within so_far
       (subst (λ (q : Query). NothingOccurs q.patterns false haystack span) covers.same kept) once

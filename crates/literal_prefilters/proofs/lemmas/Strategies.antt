@@ -9,7 +9,7 @@ use Rattle.literal_packed.specs.State.{kept_of}
 use Rattle.literal_prefilters.specs.Choice.{IsBuiltFor, Serves}
 use Rattle.literal_prefilters.specs.ConfirmingValue.{confirming_by}
 use Rattle.literal_prefilters.specs.PrefilterBuilderValue.{PrefilterBuilderValue}
-use Rattle.literal_prefilters.specs.PrefilterValue.{PrefilterValue, CoveredBy, by_pattern, by_search}
+use Rattle.literal_prefilters.specs.PrefilterValue.{PrefilterValue, CoveredBy, by_memmem, by_packed}
 
 serves_itself : (kind : MatchKind) → Serves (root_kind_of kind) kind
 serves_itself LeftmostFirst = refl
@@ -22,19 +22,19 @@ module _ (kind : MatchKind) (b : PrefilterBuilderValue) (is_kind : b.kind ≡ ro
   covers_search built serves = serves kind (rw is_kind (serves_itself kind))
 
   -- a search for one pattern, as the prefilter knows it
-  pub by_one_pattern : (pattern : List ℕ) → IsBuiltFor b (by_pattern pattern) → record {
+  pub searches_by_memmem : (pattern : List ℕ) → IsBuiltFor b (by_memmem pattern) → record {
     query = record { kind = kind; patterns = pattern ∷ [] };
     ignore_case = false;
-    prefilter = by_pattern pattern;
-  } ≡ confirming_by kind b (by_pattern pattern)
-  by_one_pattern pattern serves =
-      let covered = covers_search (by_pattern pattern) serves in
+    prefilter = by_memmem pattern;
+  } ≡ confirming_by kind b (by_memmem pattern)
+  searches_by_memmem pattern serves =
+      let covered = covers_search (by_memmem pattern) serves in
       rw (covered.patterns, covered.case_kept) refl
 
   -- a packed search, as the prefilter knows it
-  pub by_packed : (query : Query) → IsBuiltFor b (by_search query)
-      → record { query = query; ignore_case = false; prefilter = by_search query }
-      ≡ confirming_by kind b (by_search query)
-  by_packed query serves =
-      let covered = covers_search (by_search query) serves in
+  pub searches_by_packed : (query : Query) → IsBuiltFor b (by_packed query)
+      → record { query = query; ignore_case = false; prefilter = by_packed query }
+      ≡ confirming_by kind b (by_packed query)
+  searches_by_packed query serves =
+      let covered = covers_search (by_packed query) serves in
       rw (sym covered.same, covered.case_kept) refl

@@ -3,26 +3,26 @@ use Rattle.std.specs.Prelude.{◌≡◌, ⊤, ℕ, ◌+◌, ◌<◌, ◌≤◌, 
 use Rattle.literal_base.specs.Occurs.{NoneIsEmpty}
 use Rattle.literal_packed.specs.PatternsValue.{IsInOrder, query_of}
 use Rattle.literal_prefilters.specs.ConfirmingValue.{ConfirmingValue}
-use Rattle.literal_prefilters.specs.PrefilterValue.{CoveredBy, by_table, by_pattern, by_search}
+use Rattle.literal_prefilters.specs.PrefilterValue.{CoveredBy, by_table, by_memmem, by_packed}
 use Rattle.literal_prefilters.specs.declared.prefilter.confirming.Strategy.{Strategy}
-use Rattle.literal_prefilters.specs.declared.prefilter.confirming.Strategy.TheVariants.{Pattern, Packed, Table}
+use Rattle.literal_prefilters.specs.declared.prefilter.confirming.Strategy.TheVariants.{Memmem, Packed, Table}
 use Rattle.literal_prefilters.specs.declared.prefilter.byte_table.TableByte.{TableByte}
 use Rattle.literal_prefilters.specs.Table.{distance_of, is_in}
 
 -- what a caller sees of a `ConfirmingSearch`, by how it goes
 abbrev pub value_of_strategy : Strategy → ConfirmingValue
-value_of_strategy (Pattern pattern kind) = record {
+value_of_strategy (Memmem pattern kind) = record {
   query = record { kind = kind; patterns = pattern ∷ [] };
   ignore_case = false;
-  prefilter = by_pattern pattern;
+  prefilter = by_memmem pattern;
 }
-value_of_strategy (Packed query) = record { query = query; ignore_case = false; prefilter = by_search query }
+value_of_strategy (Packed query) = record { query = query; ignore_case = false; prefilter = by_packed query }
 value_of_strategy (Table search) =
     record { query = query_of search.patterns; ignore_case = search.ignore_case; prefilter = by_table search.table }
 
 -- the patterns that are tried are in match order
 abbrev pub AreTriedInOrder : Strategy → Type 0
-AreTriedInOrder (Pattern pattern kind) = ⊤
+AreTriedInOrder (Memmem pattern kind) = ⊤
 AreTriedInOrder (Packed query) = ⊤
 AreTriedInOrder (Table search) = IsInOrder search.patterns
 

@@ -11,12 +11,12 @@ use Rattle.literal_prefilters.specs.declared.prefilter.Builder.TheInside.{Inside
 use Rattle.literal_packed.specs.State.{state_of}
 use Rattle.literal_prefilters.specs.Inside.Running.{IsRunning}
 use Rattle.literal_prefilters.specs.PrefilterBuilderValue.{PrefilterBuilderValue, prefilter_limit}
-use Rattle.literal_prefilters.specs.PrefilterValue.{PrefilterValue, by_table, by_pattern, by_search}
+use Rattle.literal_prefilters.specs.PrefilterValue.{PrefilterValue, by_table, by_memmem, by_packed}
 
 -- what a caller sees of a `Prefilter`, whichever of the eight kinds it is
 abbrev pub value_of_finder : Finder → PrefilterValue
-value_of_finder (Memmem pre) = by_pattern pre
-value_of_finder (Packed pre) = by_search pre
+value_of_finder (Memmem pre) = by_memmem pre
+value_of_finder (Packed pre) = by_packed pre
 value_of_finder (StartBytesOne pre) = by_table pre
 value_of_finder (StartBytesTwo pre) = by_table pre
 value_of_finder (StartBytesThree pre) = by_table pre

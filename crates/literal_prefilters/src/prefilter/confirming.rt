@@ -2,13 +2,13 @@
 ghost use Rattle.std.specs.Prelude.{◌≡◌, ◌+◌, ◌-◌, ◌*◌, ◌≤◌, length, take, is_some, slice_index, Some};
 ghost use Rattle.std.specs.Prelude.{IfOk, OnErr, IfSome, IsTrue, MatchOption, option_map, None, ◌++◌, ◌∷◌, []};
 ghost use Rattle.std.specs.List.{All};
-ghost use Rattle.literal_base.specs.Greedy.{IsGreedy};
+ghost use Rattle.literal_base.specs.Greedy.{IsGreedy, RefusesList};
 ghost use Rattle.literal_base.specs.Leftmost.{IsLeftmost};
 ghost use Rattle.literal_base.specs.Occurs.{IsValidSpan, NoneIsEmpty};
 ghost use Rattle.literal_packed.specs.Inside.Place.{IsBestAt, NoneStandsAt};
 ghost use Rattle.literal_packed.specs.PatternsValue.{IsInOrder, query_of};
 ghost use Rattle.literal_prefilters.specs.Confirming.{SpendsConfirming, answer_end, compared_at};
-ghost use Rattle.literal_prefilters.specs.Confirming.{RefusesList, answers_of, counts_after_answers};
+ghost use Rattle.literal_prefilters.specs.Confirming.{answers_of, counts_after_answers};
 ghost use Rattle.literal_prefilters.specs.Confirming.{counts_after_confirming, counts_after_tries};
 ghost use Rattle.literal_prefilters.specs.PrefilterValue.{CoveredBy, by_table, prefilter_table};
 ghost use Rattle.literal_packed.specs.Lending.{CanBeTaken};
@@ -206,7 +206,7 @@ pub struct ConfirmingSearch {
 #[derive(Drop)]
 enum Strategy {
     /// By one pattern. The kind of match makes no difference to it, and contracts alone see the kind.
-    Pattern(Memmem, packed::MatchKind),
+    Memmem(Memmem, packed::MatchKind),
     Packed(Searcher),
     Table(TableSearch),
 }
@@ -244,7 +244,7 @@ impl Strategy {
         ensures keeps { IfOk result IsReady }
     {
         match prefilter.finder {
-            Finder::Memmem(memmem) => Ok(Strategy::Pattern(memmem, kind)),
+            Finder::Memmem(memmem) => Ok(Strategy::Memmem(memmem, kind)),
             Finder::Packed(packed) => Ok(Strategy::Packed(packed.searcher)),
             Finder::StartBytesOne(pre) => Strategy::by_table(pre.0, builder, kind),
             Finder::StartBytesTwo(pre) => Strategy::by_table(pre.0, builder, kind),
@@ -345,7 +345,7 @@ impl ConfirmingSearch {
         ensures within { tally.new.scanned ≤ tally.old.scanned + (answer_end span result - span.start) }
     {
         match &self.strategy {
-            Strategy::Pattern(memmem, _) => memmem.find(haystack, span, tally),
+            Strategy::Memmem(memmem, _) => memmem.find(haystack, span, tally),
             Strategy::Packed(searcher) => searcher.find_in_counted(haystack, span, tally),
             Strategy::Table(search) => {
                 let (patterns, ignore_case) = (&search.patterns, search.ignore_case);
@@ -366,7 +366,9 @@ impl ConfirmingSearch {
             (λ all. IsGreedy self.now.query self.now.ignore_case haystack.now 0 all.items) }
         ensures exact { IfOk result (λ all. tally.new ≡ counts_after_answers tally.old self.now.prefilter self.now.query
             haystack.now 0 (answers_of all.items ++ None ∷ [])) }
-        ensures no_memory { OnErr result (RefusesList self.now haystack.now tally.old tally.new) }
+        ensures no_memory { OnErr result (RefusesList self.now.query self.now.ignore_case haystack.now (λ found.
+            tally.new ≡ counts_after_answers tally.old self.now.prefilter self.now.query haystack.now 0
+            (answers_of found))) }
         ensures bounded { SpendsConfirming self.now.prefilter self.now.query.patterns haystack.now
             tally.old tally.new }
     {

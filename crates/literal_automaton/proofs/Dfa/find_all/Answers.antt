@@ -4,4 +4,4 @@ use Rattle.literal_automaton.proofs.Dfa.find_all.Goals as goal
 
 pub returns-clause-no_memory : goal.returns-clause-no_memory
 returns-clause-no_memory c =
-    search (rules, refused_occurs c.args.self.now c.args.haystack.now)
+    search (rules, refused_occurs c.args.self.now.query c.args.self.now.ignore_case c.args.haystack.now)

@@ -3,10 +3,11 @@ use Rattle.literal_base.specs.declared.search.Span.{Span}
 use Rattle.literal_base.specs.MatchValue.{MatchValue}
 use Rattle.literal_base.specs.Occurs.{NothingOccurs}
 use Rattle.literal_base.specs.Leftmost.{IsLeftmostMatch}
-use Rattle.literal_packed.proofs.lemmas.GreedyLists.{IsGreedyBefore, greedy_all, greedy_more}
+use Rattle.literal_packed.proofs.lemmas.GreedyLists.{IsGreedyBefore, greedy_all, greedy_more, refuses_last}
 use Rattle.literal_packed.proofs.lemmas.Spending.{rest_is}
 use Rattle.literal_automaton.specs.Inside.Dfa.{ScansTo}
-use Rattle.literal_automaton.proofs.lemmas.Iterations.{refuses_last, scans_all, scans_more}
+use Rattle.literal_automaton.specs.DfaValue.{ScansListAtMost}
+use Rattle.literal_automaton.proofs.lemmas.Iterations.{scans_all, scans_found, scans_more}
 use Rattle.literal_automaton.proofs.Dfa.find_all_counted.Goals as goal
 
 pub returns-in_err-push-clause-no_memory : goal.returns-in_err-push-clause-no_memory
@@ -19,13 +20,17 @@ returns-in_err-push-clause-no_memory c =
     let whole = c.in-Some.ensures.leftmost.whole in
     let leftmost = subst (λ (s : Span). IsLeftmostMatch search_for.query search_for.ignore_case haystack s found)
     (rest_is haystack c.loop-found.rest so_far.to_end) c.in-Some.ensures.leftmost in
-    let refused = refuses_last search_for haystack c.args.tally.now c.find_in_counted.new.tally c.loop-found.all.items
-    found c.patterns_len.ensures.patterns.some (omega (arith, inside, whole, so_far.to_end))
+    let all = c.loop-found.all.items ++ found ∷ [] in
+    let refused = refuses_last search_for.query search_for.ignore_case haystack
+    (λ all. ScansListAtMost search_for.query.patterns haystack (length all) c.args.tally.now
+    c.find_in_counted.new.tally) c.loop-found.all.items found found.end c.patterns_len.ensures.patterns.some
     (greedy_more search_for.query search_for.ignore_case haystack c.loop-found.all.items c.loop-found.rest.start found
     so_far.greedy leftmost)
+    (scans_found search_for.query.patterns haystack (length all) found.end c.args.tally.now
+    c.find_in_counted.new.tally (omega (arith, inside, whole, so_far.to_end))
     (scans_more search_for.query.patterns c.loop-found.all.items c.args.tally.now c.loop-found.tally
     c.find_in_counted.new.tally c.loop-found.rest found so_far.scanned c.in-Some.ensures.bounded
-    c.in-Some.ensures.not_empty) in
+    c.in-Some.ensures.not_empty)) in
     search (rules, refused)
 
 pub loop-found-preserved : goal.loop-found-preserved

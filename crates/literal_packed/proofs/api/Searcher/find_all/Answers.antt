@@ -1,10 +1,12 @@
-use Rattle.std.proofs.Common.{◌++◌, ◌∷◌, [], sym, subst, false, List, length, arith, rules}
+use Rattle.std.proofs.Common.{◌≡◌, ◌++◌, ◌∷◌, [], sym, subst, false, List, length, arith, rules}
 use Rattle.literal_base.specs.declared.search.Span.{Span}
 use Rattle.literal_base.specs.MatchValue.{MatchValue}
 use Rattle.literal_base.specs.Occurs.{NothingOccurs}
 use Rattle.literal_packed.specs.Spending.{SpendsAtMost}
 use Rattle.literal_packed.proofs.lemmas.Spending.{spends_found, spends_last, spends_within, ends_within, rest_is}
-use Rattle.literal_packed.proofs.lemmas.GreedyLists.{FoundBefore, found_more, greedy_all, counts_all, refuses_last}
+use Rattle.literal_packed.specs.Spending.{counts_after_matches}
+use Rattle.literal_packed.proofs.lemmas.GreedyLists.{FoundBefore, found_more, greedy_all, counts_all, counts_found}
+use Rattle.literal_packed.proofs.lemmas.GreedyLists.{refuses_last}
 use Rattle.literal_packed.proofs.api.Searcher.find_all.Goals as goal
 
 pub returns-in_err-push-clause-bounded : goal.returns-in_err-push-clause-bounded
@@ -17,11 +19,17 @@ returns-in_err-push-clause-bounded c =
 
 pub returns-in_err-push-clause-no_memory : goal.returns-in_err-push-clause-no_memory
 returns-in_err-push-clause-no_memory c =
-    let refused = refuses_last c.args.self.now c.args.haystack.now c.args.tally.now c.find_in_counted.new.tally
-    c.loop-found.all.items c.in-Some.found c.in-Some.found.end c.match_kind.ensures.patterns.not_empty
-    (found_more c.args.self.now c.args.haystack.now c.args.tally.now c.loop-found.tally c.find_in_counted.new.tally
-    c.loop-found.all.items c.loop-found.rest c.in-Some.found c.loop-found.invariant.to_end
-    c.loop-found.invariant.so_far c.in-Some.ensures.leftmost c.in-Some.ensures.exact) in
+    let query = c.args.self.now in
+    let haystack = c.args.haystack.now in
+    let found = c.in-Some.found in
+    let so_far = found_more query haystack c.args.tally.now c.loop-found.tally c.find_in_counted.new.tally
+    c.loop-found.all.items c.loop-found.rest found c.loop-found.invariant.to_end c.loop-found.invariant.so_far
+    c.in-Some.ensures.leftmost c.in-Some.ensures.exact in
+    let refused = refuses_last query false haystack
+    (λ all. c.find_in_counted.new.tally ≡ counts_after_matches c.args.tally.now query haystack 0 all)
+    c.loop-found.all.items found found.end c.match_kind.ensures.patterns.not_empty so_far.greedy
+    (counts_found query haystack c.args.tally.now c.find_in_counted.new.tally (c.loop-found.all.items ++ found ∷ [])
+    found.end so_far) in
     search (rules, refused)
 
 pub loop-found-preserved : goal.loop-found-preserved
