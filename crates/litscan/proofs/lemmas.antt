@@ -1,4 +1,5 @@
 -- Lemmas that several proofs share, by topic.
 pub mod Lines
-pub mod Reading
+pub mod Options
 pub mod Printing
+pub mod Reading

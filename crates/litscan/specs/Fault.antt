@@ -24,7 +24,7 @@ write_fault _ = WriteFailed
 
 -- the line, without the line feed
 abbrev pub fault_text : Fault → List ℕ
-fault_text Usage = codes "usage: litscan [-cinv] [-f FILE] [WORD...] < TEXT"
+fault_text Usage = codes "usage: litscan [-bcinov] [-f FILE] [WORD...] < TEXT"
 fault_text (EmptyWord number) = codes "litscan: word " ++ decimal number ++ codes " is empty"
 fault_text NoText = codes "litscan: a word is not UTF-8"
 fault_text TooManyWords = codes "litscan: too many words"

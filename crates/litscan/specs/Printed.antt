@@ -1,7 +1,10 @@
 -- What is read, and what is printed of it.
-use Rattle.std.specs.Prelude.{◌≡◌, ℕ, ◌++◌, Bool, List, [], Option, Some, None, ⊤, codes, if◌then◌else◌, not}
+use Rattle.std.specs.Prelude.{◌≡◌, ℕ, ◌+◌, ◌++◌, Bool, true, false, List, [], ◌∷◌, length, Option, Some, None, ⊤, codes}
+use Rattle.std.specs.Prelude.{if◌then◌else◌, not}
 use Rattle.std.specs.Fmt.{decimal}
-use Rattle.std.specs.List.{count_by, enumerate_from, filter, flat_map}
+use Rattle.std.specs.List.{count_by, flat_map, slice_range}
+use Rattle.literal_base.specs.Greedy.{IsGreedy}
+use Rattle.literal_base.specs.MatchValue.{MatchValue}
 use Rattle.literal_base.specs.Occurs.{one_occurs}
 use Rattle.literal_automaton.specs.DfaValue.{DfaValue}
 use Rattle.litscan.specs.Lines.{lines_of, with_feed}
@@ -18,18 +21,44 @@ counts search others line =
     if others then not (one_occurs search.query.patterns search.ignore_case line)
     else one_occurs search.query.patterns search.ignore_case line
 
--- what is printed of a line that counts: its number and a colon where numbers are asked for, the line, and a line feed
-abbrev pub printed_line : Options → ℕ → List ℕ → List ℕ
-printed_line options number line = (if options.numbers then decimal number ++ codes ":" else []) ++ with_feed line
+-- bytes as they are printed: in front the number of their line, and their offset in the text, where these are asked
+-- for, each with a colon, and a line feed behind
+abbrev pub printed_part : Options → ℕ → ℕ → List ℕ → List ℕ
+printed_part options number offset bytes =
+    (if options.numbers then decimal number ++ codes ":" else [])
+    ++ (if options.offsets then decimal offset ++ codes ":" else []) ++ with_feed bytes
 
--- those of the lines that count, each printed with its number, where the first has this one
-abbrev pub printed_lines : DfaValue → Options → ℕ → List (List ℕ) → List ℕ
-printed_lines search options first lines =
-    flat_map (λ numbered. printed_line options numbered.0 numbered.1)
-    (filter (λ numbered. counts search options.others numbered.1) (enumerate_from first lines))
+-- matches in a line of this number, which begins at this offset of the text, as they are printed
+abbrev pub printed_matches : Options → ℕ → ℕ → List ℕ → List MatchValue → List ℕ
+printed_matches options number offset line all =
+    flat_map (λ found. printed_part options number (offset + found.start) (slice_range line found.start found.end)) all
 
--- what is printed of a text: how many of its lines count, or else these lines
-abbrev pub printed : DfaValue → Options → List ℕ → List ℕ
-printed search options text =
-    if options.count then with_feed (decimal (count_by (counts search options.others) (lines_of text)))
-    else printed_lines search options 1 (lines_of text)
+-- what is printed of a line that counts: all of it, or its matches from the left that do not overlap
+abbrev pub PrintsFound : Bool → DfaValue → Options → ℕ → ℕ → List ℕ → List ℕ → Type 0
+PrintsFound false search options number offset line out = out ≡ printed_part options number offset line
+PrintsFound true search options number offset line out = (all : List MatchValue)
+    × IsGreedy search.query search.ignore_case line 0 all × (out ≡ printed_matches options number offset line all)
+
+-- what is printed of a line, by whether it counts
+abbrev pub PrintsLine : Bool → DfaValue → Options → ℕ → ℕ → List ℕ → List ℕ → Type 0
+PrintsLine false search options number offset line out = out ≡ []
+PrintsLine true search options number offset line out =
+    PrintsFound options.only search options number offset line out
+
+-- what is printed of lines one after another, of which the first has this number and begins at this offset
+abbrev pub PrintsLines : DfaValue → Options → ℕ → ℕ → List (List ℕ) → List ℕ → Type 0
+PrintsLines search options number offset [] out = out ≡ []
+PrintsLines search options number offset (line ∷ more) out = (first rest : List ℕ)
+    × PrintsLine (counts search options.others line) search options number offset line first
+    × PrintsLines search options (number + 1) (offset + length line + 1) more rest × (out ≡ first ++ rest)
+
+-- nothing is printed of lines where only their number is asked for
+abbrev pub PrintsUnlessCounted : Bool → DfaValue → Options → ℕ → ℕ → List (List ℕ) → List ℕ → Type 0
+PrintsUnlessCounted true search options number offset lines out = out ≡ []
+PrintsUnlessCounted false search options number offset lines out = PrintsLines search options number offset lines out
+
+-- what is printed of a text: how many of its lines count, or else these lines or their matches
+abbrev pub Prints : Bool → DfaValue → Options → List ℕ → List ℕ → Type 0
+Prints true search options text out =
+    out ≡ with_feed (decimal (count_by (counts search options.others) (lines_of text)))
+Prints false search options text out = PrintsLines search options 1 0 (lines_of text) out

@@ -70,7 +70,7 @@ impl fmt::Display for Fault {
 
     fn fmt<W: fmt::Write>(&self, f: &mut fmt::Formatter<W>) -> fmt::Result {
         match self {
-            Fault::Usage => write!(f, "usage: litscan [-cinv] [-f FILE] [WORD...] < TEXT"),
+            Fault::Usage => write!(f, "usage: litscan [-bcinov] [-f FILE] [WORD...] < TEXT"),
             Fault::EmptyWord(number) => write!(f, "litscan: word {number} is empty"),
             Fault::NoText => write!(f, "litscan: a word is not UTF-8"),
             Fault::TooManyWords => write!(f, "litscan: too many words"),

@@ -1,4 +1,4 @@
-//! Prints the lines of standard input in which a word stands: `litscan [-cinv] [-f FILE] [WORD...]`.
+//! Prints the lines of standard input in which a word stands, or its matches: `litscan [-bcinov] [-f FILE] [WORD...]`.
 #![tactic(auto)]
 
 mod fault;

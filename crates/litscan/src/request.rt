@@ -1,6 +1,9 @@
 //! What the words of the command line ask for.
-ghost use Rattle.std.specs.Prelude.{◌≡◌, ◌≤◌, length};
-ghost use Rattle.litscan.specs.Request.{with_letter, with_letters};
+ghost use Rattle.std.specs.Prelude.{◌≡◌, ◌≤◌, None, Some, MatchResult, length, map, string_bytes};
+ghost use Rattle.std.specs.Io.BufRead.{ends_with_byte, strip_last};
+ghost use Rattle.litscan.specs.Request.{asked_behind, asked_by, if_searched, is_option, no_options, request_of};
+ghost use Rattle.litscan.specs.Request.{value_of_request, with_letter, with_letters};
+ghost use Rattle.litscan.specs.declared.fault.Fault.TheVariants.{Usage};
 
 use crate::fault::Fault;
 
@@ -13,20 +16,40 @@ pub struct Options {
     pub others: bool,
     /// `-c`: whether the number of the lines that count is printed in place of these.
     pub count: bool,
-    /// `-n`: whether the number of each line is printed in front of it.
+    /// `-n`: whether the number of its line is printed in front of what is printed.
     pub numbers: bool,
+    /// `-b`: whether the offset in the text is printed in front of what is printed.
+    pub offsets: bool,
+    /// `-o`: whether the matches in a line are printed in place of it.
+    pub only: bool,
 }
 
 impl Options {
+    /// With no option given.
+    fn none() -> Options
+        ensures { result ≡ no_options }
+    {
+        Options {
+            ignore_case: false,
+            others: false,
+            count: false,
+            numbers: false,
+            offsets: false,
+            only: false,
+        }
+    }
+
     /// With what this letter asks for, if it is one of an option.
     fn with_letter(self, letter: u8) -> Option<Options>
         ensures { result ≡ with_letter self letter }
     {
         let mut options = self;
         match letter {
+            b'b' => options.offsets = true,
             b'c' => options.count = true,
             b'i' => options.ignore_case = true,
             b'n' => options.numbers = true,
+            b'o' => options.only = true,
             b'v' => options.others = true,
             _ => return None,
         }
@@ -59,42 +82,51 @@ pub struct Request<'w> {
 impl<'w> Request<'w> {
     /// What these words ask for: options in front, of which `--` is the last, and then the words to look for, of which
     /// there is none only where there is a file.
-    pub fn of(args: &'w [String]) -> Result<Request<'w>, Fault> {
+    pub fn of(args: &'w [String]) -> Result<Request<'w>, Fault>
+        ensures { MatchResult result
+            (λ request. request_of (map string_bytes args.now) ≡ Some (value_of_request request))
+            (λ fault. (fault ≡ Usage) × (request_of (map string_bytes args.now) ≡ None)) }
+    {
         let mut request = Request {
-            options: Options {
-                ignore_case: false,
-                others: false,
-                count: false,
-                numbers: false,
-            },
+            options: Options::none(),
             file: None,
             words: args,
         };
-        while let Some((first, others)) = request.words.split_first() {
-            let letters = match first.as_bytes() {
-                [b'-', letters @ ..] if !letters.is_empty() => letters,
-                _ => break,
-            };
-            request.words = others;
-            if first.as_str() == "--" {
-                break;
-            }
-            request.take_letters(letters)?;
-        }
+        request.take_options()?;
         if request.words.is_empty() && request.file.is_none() {
             return Err(Fault::Usage);
         }
         Ok(request)
     }
 
+    /// Takes the options in front, of which `--` is the last.
+    fn take_options(&mut self) -> Result<(), Fault>
+        ensures { MatchResult result
+            (λ done. asked_by (value_of_request self.old) ≡ if_searched (value_of_request self.new))
+            (λ fault. (fault ≡ Usage) × (asked_by (value_of_request self.old) ≡ None)) }
+    {
+        while let Some((first, others)) = self.words.split_first() {
+            let word = first.as_bytes();
+            if !is_option(word) {
+                return Ok(());
+            }
+            self.words = others;
+            if first.as_str() == "--" {
+                return Ok(());
+            }
+            self.take_letters(&word[1..])?;
+        }
+        Ok(())
+    }
+
     /// Takes what the letters of a word ask for, and the next word where the last of them is `f`.
     fn take_letters(&mut self, letters: &[u8]) -> Result<(), Fault>
-        ensures { length self.new.words.now ≤ length self.old.words.now }
+        ensures shorter { length self.new.words.now ≤ length self.old.words.now }
+        ensures taken { MatchResult result
+            (λ done. asked_behind letters.now (value_of_request self.old) ≡ asked_by (value_of_request self.new))
+            (λ fault. (fault ≡ Usage) × (asked_behind letters.now (value_of_request self.old) ≡ None)) }
     {
-        let (flags, names_file) = match letters {
-            [flags @ .., b'f'] => (flags, true),
-            _ => (letters, false),
-        };
+        let (flags, names_file) = flags_of(letters);
         self.options = self.options.with_letters(flags).ok_or(Fault::Usage)?;
         if names_file {
             let (file, others) = self.words.split_first().ok_or(Fault::Usage)?;
@@ -102,5 +134,23 @@ impl<'w> Request<'w> {
             self.words = others;
         }
         Ok(())
+    }
+}
+
+/// Whether a word is an option: a dash, and something behind it.
+fn is_option(word: &[u8]) -> bool
+    ensures { result ≡ is_option word.now }
+{
+    word.len() > 1 && word[0] == b'-'
+}
+
+/// The letters without an `f` at their end, and whether there is one.
+fn flags_of(letters: &[u8]) -> (&[u8], bool)
+    ensures flags { result.0.now ≡ strip_last 102 letters.now }
+    ensures names_file { result.1 ≡ ends_with_byte 102 letters.now }
+{
+    match letters {
+        [flags @ .., b'f'] => (flags, true),
+        _ => (letters, false),
     }
 }

@@ -1,9 +1,13 @@
 //! Which lines count, and what is printed of them.
-ghost use Rattle.std.specs.Prelude.{◌≡◌, ◌≤◌, ℕ, List, [], ◌∷◌, IfOk, OnOk, if◌then◌else◌};
+ghost use Rattle.std.specs.Prelude.{◌≡◌, ◌<◌, ◌≤◌, ◌+◌, ◌^◌, ℕ, List, ◌∷◌, [], length, if◌then◌else◌, IfOk, OnOk};
+ghost use Rattle.std.specs.Fmt.{decimal};
 ghost use Rattle.std.specs.List.{count_by};
 ghost use Rattle.std.specs.Io.KnownBytes.{Appends};
-ghost use Rattle.litscan.specs.Lines.{last_line, lines_of};
-ghost use Rattle.litscan.specs.Printed.{ReadsAll, counts, printed, printed_line, printed_lines};
+ghost use Rattle.literal_base.specs.Greedy.{IsGreedy};
+ghost use Rattle.literal_base.specs.MatchValue.{MatchValue};
+ghost use Rattle.litscan.specs.Lines.{last_line, lines_of, with_feed};
+ghost use Rattle.litscan.specs.Printed.{Prints, PrintsFound, PrintsUnlessCounted, ReadsAll, counts, printed_matches};
+ghost use Rattle.litscan.specs.Printed.{printed_part};
 
 use crate::fault::Fault;
 use crate::lines::read_line;
@@ -20,20 +24,31 @@ pub fn scan<R: BufRead, W: Write>(
     reader: &mut R,
     writer: &mut W,
 ) -> Result<u64, Fault>
-    ensures { IfOk result (λ count. (text : List ℕ)
+    ensures { IfOk result (λ count. (text out : List ℕ)
         × ReadsAll (R.remaining reader.old) (R.remaining reader.new) text
-        × Appends (W.contents writer.old) (W.contents writer.new) (printed search.now options text)
+        × Appends (W.contents writer.old) (W.contents writer.new) out
+        × Prints options.count search.now options text out
         × (count ≡ count_by (counts search.now options.others) (lines_of text))) }
 {
     let count = scan_lines(alloc, search, options, reader, writer)?;
-    if options.count {
-        writeln!(writer, "{count}").map_err(|error| Fault::of_write(error))?;
-    }
+    print_count(options, count, writer)?;
     writer.flush().map_err(|error| Fault::of_write(error))?;
     Ok(count)
 }
 
-/// Reads a text, prints its lines that count, unless only their number is asked for, and says how many these are.
+/// Prints how many lines count, if that is asked for.
+fn print_count<W: Write>(options: Options, count: u64, writer: &mut W) -> Result<(), Fault>
+    ensures { OnOk result (Appends (W.contents writer.old) (W.contents writer.new)
+        (if options.count then with_feed (decimal count) else [])) }
+{
+    if options.count {
+        writeln!(writer, "{count}").map_err(|error| Fault::of_write(error))?;
+    }
+    Ok(())
+}
+
+/// Reads a text, prints what is asked for of its lines that count, unless only their number is, and says how many
+/// these are.
 fn scan_lines<R: BufRead, W: Write>(
     alloc: Global,
     search: &Search,
@@ -41,24 +56,37 @@ fn scan_lines<R: BufRead, W: Write>(
     reader: &mut R,
     writer: &mut W,
 ) -> Result<u64, Fault>
-    ensures { IfOk result (λ count. (text : List ℕ)
+    ensures { IfOk result (λ count. (text out : List ℕ)
         × ReadsAll (R.remaining reader.old) (R.remaining reader.new) text
-        × Appends (W.contents writer.old) (W.contents writer.new)
-        (if options.count then [] else printed_lines search.now options 1 (lines_of text))
+        × Appends (W.contents writer.old) (W.contents writer.new) out
+        × PrintsUnlessCounted options.count search.now options 1 0 (lines_of text) out
         × (count ≡ count_by (counts search.now options.others) (lines_of text))) }
 {
     let mut line = Vec::new(alloc);
     let mut count = 0;
+    let mut offset = 0;
     for number in 1..u64::MAX {
         let fed = read_line(reader, &mut line)?;
+        let next = offset_behind(offset, line.as_slice())?;
         if !fed {
-            let last = take_last(search, options, number, line.as_slice(), writer)?;
+            let last = take_last(search, options, number, offset, line.as_slice(), writer)?;
             return Ok(count + last);
         }
-        let one = take_line(search, options, number, line.as_slice(), writer)?;
+        let one = take_line(search, options, number, offset, line.as_slice(), writer)?;
         count += one;
+        offset = next;
     }
     Err(Fault::ReadFailed)
+}
+
+/// The offset in the text behind a line and its line feed. A text longer than a number counts is not read.
+fn offset_behind(offset: u64, line: &[u8]) -> Result<u64, Fault>
+    ensures { IfOk result (λ next. next ≡ offset + length line.now + 1) }
+{
+    offset
+        .checked_add(line.len() as u64)
+        .and_then(|end| end.checked_add(1))
+        .ok_or(Fault::ReadFailed)
 }
 
 /// Takes what stands behind the last line feed, if it is not empty.
@@ -66,59 +94,116 @@ fn take_last<W: Write>(
     search: &Search,
     options: Options,
     number: u64,
+    offset: u64,
     last: &[u8],
     writer: &mut W,
 ) -> Result<u64, Fault>
+    requires { offset + length last.now < 2 ^ 64 }
     ensures few { IfOk result (λ count. count ≤ 1) }
     ensures counted { IfOk result (λ count.
         count ≡ count_by (counts search.now options.others) (last_line last.now)) }
-    ensures printed { OnOk result (Appends (W.contents writer.old) (W.contents writer.new)
-        (if options.count then [] else printed_lines search.now options number (last_line last.now))) }
+    ensures printed { OnOk result ((out : List ℕ) × Appends (W.contents writer.old) (W.contents writer.new) out
+        × PrintsUnlessCounted options.count search.now options number offset (last_line last.now) out) }
 {
     if last.is_empty() {
         return Ok(0);
     }
-    take_line(search, options, number, last, writer)
+    take_line(search, options, number, offset, last, writer)
 }
 
-/// Prints a line if it counts, unless only the number of such lines is asked for. Answers 1 if it counts, and else 0.
+/// Prints what is asked for of a line if it counts, unless only the number of such lines is. Answers 1 if it counts,
+/// and else 0.
 fn take_line<W: Write>(
     search: &Search,
     options: Options,
     number: u64,
+    offset: u64,
     line: &[u8],
     writer: &mut W,
 ) -> Result<u64, Fault>
+    requires { offset + length line.now < 2 ^ 64 }
     ensures few { IfOk result (λ count. count ≤ 1) }
     ensures counted { IfOk result (λ count.
         count ≡ count_by (counts search.now options.others) (line.now ∷ [])) }
-    ensures printed { OnOk result (Appends (W.contents writer.old) (W.contents writer.new)
-        (if options.count then [] else printed_lines search.now options number (line.now ∷ []))) }
+    ensures printed { OnOk result ((out : List ℕ) × Appends (W.contents writer.old) (W.contents writer.new) out
+        × PrintsUnlessCounted options.count search.now options number offset (line.now ∷ []) out) }
 {
-    if search.is_match(line) == options.others {
+    if !counts(search, options, line) {
         return Ok(0);
     }
     if !options.count {
-        print_line(options, number, line, writer)?;
+        print_found(search, options, number, offset, line, writer)?;
     }
     Ok(1)
 }
 
-/// Prints a line.
-fn print_line<W: Write>(
+/// Whether a line counts.
+fn counts(search: &Search, options: Options, line: &[u8]) -> bool
+    ensures { result ≡ counts search.now options.others line.now }
+{
+    search.is_match(line) != options.others
+}
+
+/// Prints what is asked for of a line that counts.
+fn print_found<W: Write>(
+    search: &Search,
     options: Options,
     number: u64,
+    offset: u64,
     line: &[u8],
     writer: &mut W,
 ) -> Result<(), Fault>
+    requires { offset + length line.now < 2 ^ 64 }
+    ensures { OnOk result ((out : List ℕ) × Appends (W.contents writer.old) (W.contents writer.new) out
+        × PrintsFound options.only search.now options number offset line.now out) }
+{
+    if options.only {
+        return print_matches(search, options, number, offset, line, writer);
+    }
+    print_part(options, number, offset, line, writer)
+}
+
+/// Prints the matches in a line, each as a line of its own.
+fn print_matches<W: Write>(
+    search: &Search,
+    options: Options,
+    number: u64,
+    offset: u64,
+    line: &[u8],
+    writer: &mut W,
+) -> Result<(), Fault>
+    requires { offset + length line.now < 2 ^ 64 }
+    ensures { OnOk result ((all : List MatchValue)
+        × IsGreedy search.now.query search.now.ignore_case line.now 0 all
+        × Appends (W.contents writer.old) (W.contents writer.new)
+        (printed_matches options number offset line.now all)) }
+{
+    for found in search.find_iter(line) {
+        let start = offset + found.start() as u64;
+        print_part(options, number, start, found.span().of(line), writer)?;
+    }
+    Ok(())
+}
+
+/// Prints a line, or a match in it.
+fn print_part<W: Write>(
+    options: Options,
+    number: u64,
+    offset: u64,
+    bytes: &[u8],
+    writer: &mut W,
+) -> Result<(), Fault>
     ensures { OnOk result (Appends (W.contents writer.old) (W.contents writer.new)
-        (printed_line options number line.now)) }
+        (printed_part options number offset bytes.now)) }
 {
     if options.numbers {
         write!(writer, "{number}:").map_err(|error| Fault::of_write(error))?;
     }
+    if options.offsets {
+        write!(writer, "{offset}:").map_err(|error| Fault::of_write(error))?;
+    }
     writer
-        .write_all(line)
+        .write_all(bytes)
         .map_err(|error| Fault::of_write(error))?;
     writer
         .write_all(b"\n")

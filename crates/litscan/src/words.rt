@@ -1,6 +1,6 @@
 //! The words, and the search for them.
 ghost use Rattle.std.specs.Prelude.{◌≡◌, ◌++◌, ℕ, List, IfOk, map, string_bytes};
-ghost use Rattle.literal_base.specs.declared.packed.MatchKind.TheVariants.{LeftmostFirst};
+ghost use Rattle.literal_base.specs.declared.packed.MatchKind.TheVariants.{LeftmostLongest};
 ghost use Rattle.literal_automaton.specs.DfaValue.{dfa_for};
 ghost use Rattle.litscan.specs.Lines.{lines_of};
 ghost use Rattle.litscan.specs.Printed.{ReadsAll};
@@ -25,10 +25,10 @@ pub fn bytes_of(alloc: Global, words: &[String]) -> Result<Vec<Vec<u8>>, AllocEr
 /// The search for these words.
 pub fn search_for(alloc: Global, ignore_case: bool, words: &[Vec<u8>]) -> Result<Search, Fault>
     ensures { IfOk result (λ search. search
-        ≡ dfa_for LeftmostFirst ignore_case (map (λ word. word.items) words.now)) }
+        ≡ dfa_for LeftmostLongest ignore_case (map (λ word. word.items) words.now)) }
 {
     let words = words.iter().map(|word| word.as_slice());
-    match Search::new(alloc, MatchKind::LeftmostFirst, ignore_case, words) {
+    match Search::new(alloc, MatchKind::LeftmostLongest, ignore_case, words) {
         Ok(search) => Ok(search),
         Err(BuildError::EmptyPattern(number)) => Err(Fault::EmptyWord(number)),
         Err(BuildError::OutOfMemory) => Err(Fault::OutOfMemory),
@@ -45,7 +45,7 @@ pub fn search_with_lines<R: BufRead>(
 ) -> Result<Search, Fault>
     ensures { IfOk result (λ search. (text : List ℕ)
         × ReadsAll (R.remaining reader.old) (R.remaining reader.new) text
-        × (search ≡ dfa_for LeftmostFirst ignore_case (map string_bytes words.now ++ lines_of text))) }
+        × (search ≡ dfa_for LeftmostLongest ignore_case (map string_bytes words.now ++ lines_of text))) }
 {
     let mut all = bytes_of(alloc, words).or(Err(Fault::OutOfMemory))?;
     add_lines(alloc, reader, &mut all)?;

@@ -1,53 +1,64 @@
 -- What is printed of one line more. For `scan`.
-use Rattle.std.proofs.Common.{◌≡◌, ◌+◌, ℕ, Bool, true, false, List, [], ◌∷◌, ◌++◌, length, Option, cond}
-use Rattle.std.proofs.Common.{refl, sym, ap, ◌∙◌, arith, subst, append_assoc}
-use Rattle.std.specs.Io.KnownBytes.{Appends}
-use Rattle.std.specs.List.{count_by, enumerate_from, filter, flat_map}
-use Rattle.std.proofs.KnownBytes.{Appends-trans}
+use Rattle.std.proofs.Common.{◌≡◌, ◌+◌, ℕ, Bool, true, false, List, [], ◌∷◌, ◌++◌, length, cond}
+use Rattle.std.proofs.Common.{refl, sym, ap, ◌∙◌, arith, subst, append_assoc, append-nil, length-append}
+use Rattle.std.specs.Fmt.{decimal}
+use Rattle.std.specs.List.{count_by, flat_map}
 use Rattle.std.proofs.lemmas.List.Sums.{sum_by-append}
 use Rattle.literal_automaton.specs.DfaValue.{DfaValue}
-use Rattle.litscan.specs.Printed.{counts, printed_line, printed_lines}
+use Rattle.litscan.specs.Lines.{lines_of, with_feed}
+use Rattle.litscan.specs.Printed.{Prints, PrintsLines, PrintsUnlessCounted, counts}
 use Rattle.litscan.specs.declared.request.Options.{Options}
 
 module _ (search : DfaValue) (options : Options) where
-  -- what is printed of a line, if it counts
-  abbrev one : ℕ → List ℕ → List ℕ
-  one number line = cond (counts search options.others line) (printed_line options number line) []
-
-  printed-cons : (number : ℕ) (line : List ℕ) (more : List (List ℕ))
-      → printed_lines search options number (line ∷ more)
-      ≡ one number line ++ printed_lines search options (number + 1) more
-  printed-cons number line more =
-      let rest = filter (λ (n : ℕ × List ℕ). counts search options.others n.1) (enumerate_from (number + 1) more) in
-      elim (counts search options.others line) as
-      (λ test. flat_map (λ (n : ℕ × List ℕ). printed_line options n.0 n.1) (cond test ((number, line) ∷ rest) rest)
-      ≡ cond test (printed_line options number line) []
-      ++ flat_map (λ (n : ℕ × List ℕ). printed_line options n.0 n.1) rest) [
-        | true ↦ refl
-        | false ↦ refl
-      ]
-
   -- one list of lines behind another
-  pub printed-append : (number at : ℕ) (seen more : List (List ℕ)) → at ≡ length seen + number
-      → printed_lines search options number (seen ++ more)
-      ≡ printed_lines search options number seen ++ printed_lines search options at more
-  printed-append number at [] more is =
-      let same : number ≡ at = omega arith in
-      ap (λ n. printed_lines search options n more) same
-  printed-append number at (first ∷ rest) more is =
-      let further : at ≡ length rest + (number + 1) = omega arith in
-      printed-cons number first (rest ++ more)
-      ∙ ap (λ text. one number first ++ text) (printed-append (number + 1) at rest more further)
-      ∙ sym (append_assoc (one number first) (printed_lines search options (number + 1) rest)
-      (printed_lines search options at more))
-      ∙ ap (λ text. text ++ printed_lines search options at more) (sym (printed-cons number first rest))
+  prints-append : (number offset at behind : ℕ) (seen more : List (List ℕ)) (front out : List ℕ)
+      → at ≡ length seen + number → behind ≡ length (flat_map with_feed seen) + offset
+      → PrintsLines search options number offset seen front → PrintsLines search options at behind more out
+      → PrintsLines search options number offset (seen ++ more) (front ++ out)
+  prints-append number offset at behind [] more front out at_is behind_is before after =
+      let number_is : at ≡ number = omega arith in
+      let offset_is : behind ≡ offset = omega arith in
+      rw before (subst (λ n. PrintsLines search options number n more out) offset_is
+      (subst (λ n. PrintsLines search options n behind more out) number_is after))
+  prints-append number offset at behind (line ∷ seen) more front out at_is behind_is before after =
+      let first = before.0 in
+      let rest = before.1 in
+      let size : length (with_feed line ++ flat_map with_feed seen)
+      ≡ length line + 1 + length (flat_map with_feed seen) =
+      length-append (with_feed line) (flat_map with_feed seen)
+      ∙ ap (λ n. n + length (flat_map with_feed seen)) (length-append line (10 ∷ [])) in (
+        first,
+        rest ++ out,
+        before.2,
+        prints-append (number + 1) (offset + length line + 1) at behind seen more rest out (omega arith)
+            (omega (arith, behind_is, size)) before.3 after,
+        ap (λ bytes. bytes ++ out) before.4 ∙ append_assoc first rest out,
+      )
 
--- two writes, or none where only the number of lines is asked for
-pub write_more : (silent : Bool) (a b c : Option (List ℕ)) (front more all : List ℕ) → all ≡ front ++ more
-    → Appends a b (cond silent [] front) → Appends b c (cond silent [] more) → Appends a c (cond silent [] all)
-write_more true a b c front more all is before after = Appends-trans a b c [] [] before after
-write_more false a b c front more all is before after =
-    subst (Appends a c) (sym is) (Appends-trans a b c front more before after)
+  -- the same, where nothing may be printed of lines
+  pub prints_more : (silent : Bool) (number offset at behind : ℕ) (seen more : List (List ℕ)) (front out : List ℕ)
+      → at ≡ length seen + number → behind ≡ length (flat_map with_feed seen) + offset
+      → PrintsUnlessCounted silent search options number offset seen front
+      → PrintsUnlessCounted silent search options at behind more out
+      → PrintsUnlessCounted silent search options number offset (seen ++ more) (front ++ out)
+  prints_more true number offset at behind seen more front out at_is behind_is before after = rw (before, after) refl
+  prints_more false number offset at behind seen more front out at_is behind_is before after =
+      prints-append number offset at behind seen more front out at_is behind_is before after
+
+  -- no line
+  pub prints_none : (silent : Bool) (number offset : ℕ)
+      → PrintsUnlessCounted silent search options number offset [] []
+  prints_none true number offset = refl
+  prints_none false number offset = refl
+
+  -- all lines, or their number
+  pub prints_all : (silent : Bool) (text out : List ℕ) (count : ℕ)
+      → count ≡ count_by (counts search options.others) (lines_of text)
+      → PrintsUnlessCounted silent search options 1 0 (lines_of text) out
+      → Prints silent search options text (out ++ cond silent (with_feed (decimal count)) [])
+  prints_all true text out count count_is printed = rw (printed, count_is) refl
+  prints_all false text out count count_is printed =
+      subst (PrintsLines search options 1 0 (lines_of text)) (sym (append-nil out)) printed
 
 -- the count goes on
 pub count-append : {X : Type 0} (p : X → Bool) (seen more : List X) (count one : ℕ) → count ≡ count_by p seen

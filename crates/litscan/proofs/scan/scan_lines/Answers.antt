@@ -1,29 +1,27 @@
-use Rattle.std.proofs.Common.{◌≡◌, ◌+◌, ◌++◌, ◌∷◌, [], refl, sym, ap, subst, ◌∙◌, arith, cond, length}
-use Rattle.std.proofs.KnownBytes.{Appends-nil, Consumes-nil}
-use Rattle.std.proofs.lemmas.Bool.{cond_both}
-use Rattle.std.proofs.lemmas.List.{length_push}
+use Rattle.std.proofs.Common.{◌≡◌, ◌+◌, ◌++◌, ◌∷◌, [], refl, sym, ap, subst, ◌∙◌, arith, length, length-append, List}
+use Rattle.std.proofs.KnownBytes.{Appends-nil, Appends-trans, Consumes-nil}
+use Rattle.std.proofs.lemmas.List.{flat_map_more, length_push}
 use Rattle.std.proofs.lemmas.List.Elements.{All-nil, All-push}
-use Rattle.std.specs.Io.KnownBytes.{Appends}
 use Rattle.std.specs.List.{count_by, flat_map}
 use Rattle.litscan.specs.Lines.{HasNoFeed, last_line, with_feed}
-use Rattle.litscan.specs.Printed.{counts, printed_lines}
+use Rattle.litscan.specs.Printed.{PrintsUnlessCounted, counts}
 use Rattle.litscan.proofs.lemmas.Lines.{lines_of-split}
-use Rattle.litscan.proofs.lemmas.Printing.{count-append, printed-append, write_more}
+use Rattle.litscan.proofs.lemmas.Printing.{count-append, prints_more, prints_none}
 use Rattle.litscan.proofs.lemmas.Reading.{read_all, read_more}
 use Rattle.litscan.proofs.scan.scan_lines.Goals as goal
 
 pub loop-number-init : goal.loop-number-init
-loop-number-init g c =
-    let contents = g.W.Write.contents c.args.writer.now in
-    record {
-      seen = [];
-      whole = All-nil HasNoFeed;
-      read = Consumes-nil _;
-      number = refl;
-      counted = refl;
-      written =
-          cond_both c.args.options.count [] [] (Appends contents contents) (λ _. Appends-nil _) (λ _. Appends-nil _);
-    }
+loop-number-init g c = record {
+  seen = [];
+  out = [];
+  whole = All-nil HasNoFeed;
+  read = Consumes-nil _;
+  number = refl;
+  offset = refl;
+  counted = refl;
+  written = Appends-nil _;
+  printed = prints_none c.args.search.now c.args.options c.args.options.count 1 0;
+}
 
 pub loop-number-preserved : goal.loop-number-preserved
 loop-number-preserved g c =
@@ -32,26 +30,32 @@ loop-number-preserved g c =
     let options = c.args.options in
     let test = counts dfa options.others in
     let number = c.loop-number.number in
+    let offset = c.loop-number.offset in
     let line = c.read_line.new.line.items in
     let shown = c.as_slice-in-loop-number.ensures.value in
-    let was = g.W.Write.contents c.loop-number.writer in
-    let is = g.W.Write.contents c.take_line.new.writer in
+    let taken = c.in_ok-one.ensures.printed in
     let longer = length_push so_far.seen line in
     let place : number ≡ length so_far.seen + 1 = so_far.number in
+    let more : length (flat_map with_feed (so_far.seen ++ line ∷ [])) ≡ length (flat_map with_feed so_far.seen)
+    + (length line + 1) =
+    ap (λ (l : List _). length l) (sym (flat_map_more with_feed [] so_far.seen line))
+    ∙ length-append (flat_map with_feed so_far.seen) (with_feed line)
+    ∙ ap (λ n. length (flat_map with_feed so_far.seen) + n) (length-append line (10 ∷ [])) in
     record {
       seen = so_far.seen ++ line ∷ [];
+      out = so_far.out ++ taken.0;
       whole = All-push HasNoFeed so_far.seen line so_far.whole c.in_ok-fed.ensures.whole;
       read = read_more _ _ _ so_far.seen line _ c.if-not-fed.false so_far.read c.in_ok-fed.ensures.bytes;
       number = omega (arith, longer, place);
+      offset = omega (arith, more, so_far.offset, c.in_ok-next.ensures, c.as_slice.ensures.len);
       counted =
           count-append test so_far.seen (line ∷ []) _ _ so_far.counted
           (c.in_ok-one.ensures.counted ∙ ap (λ l. count_by test (l ∷ [])) shown);
-      written =
-          write_more options.count _ _ _ (printed_lines dfa options 1 so_far.seen)
-          (printed_lines dfa options number (line ∷ [])) _
-          (printed-append dfa options 1 number so_far.seen (line ∷ []) place) so_far.written
-          (subst (λ l. Appends was is (cond options.count [] (printed_lines dfa options number (l ∷ [])))) shown
-          c.in_ok-one.ensures.printed);
+      written = Appends-trans _ _ _ so_far.out taken.0 so_far.written taken.1;
+      printed =
+          prints_more dfa options options.count 1 0 number offset so_far.seen (line ∷ []) so_far.out taken.0 place
+          so_far.offset so_far.printed
+          (subst (λ l. PrintsUnlessCounted options.count dfa options number offset (l ∷ []) taken.0) shown taken.2);
     }
 
 pub returns-then-not-fed : goal.returns-then-not-fed
@@ -61,21 +65,21 @@ returns-then-not-fed g c =
     let options = c.args.options in
     let test = counts dfa options.others in
     let number = c.loop-number.number in
+    let offset = c.loop-number.offset in
     let last = c.read_line.new.line.items in
-    let shown = c.as_slice.ensures.value in
-    let was = g.W.Write.contents c.loop-number.writer in
-    let is = g.W.Write.contents c.take_last.new.writer in
+    let shown = c.as_slice-then-not-fed.ensures.value in
+    let taken = c.in_ok-last.ensures.printed in
     let lines = lines_of-split so_far.seen last so_far.whole c.in_ok-fed.ensures.whole in (
       flat_map with_feed so_far.seen ++ last,
+      so_far.out ++ taken.0,
       read_all _ _ _ (flat_map with_feed so_far.seen) last _ c.if-not-fed.true so_far.read c.in_ok-fed.ensures.bytes
           c.in_ok-fed.ensures.ended,
-      write_more options.count _ _ _ (printed_lines dfa options 1 so_far.seen)
-          (printed_lines dfa options number (last_line last)) _
-          (ap (printed_lines dfa options 1) lines
-          ∙ printed-append dfa options 1 number so_far.seen (last_line last) so_far.number)
-          so_far.written
-          (subst (λ l. Appends was is (cond options.count [] (printed_lines dfa options number (last_line l)))) shown
-          c.in_ok-last.ensures.printed),
+      Appends-trans _ _ _ so_far.out taken.0 so_far.written taken.1,
+      subst (λ all. PrintsUnlessCounted options.count dfa options 1 0 all (so_far.out ++ taken.0)) (sym lines)
+          (prints_more dfa options options.count 1 0 number offset so_far.seen (last_line last) so_far.out taken.0
+          so_far.number so_far.offset so_far.printed
+          (subst (λ l. PrintsUnlessCounted options.count dfa options number offset (last_line l) taken.0) shown
+          taken.2)),
       count-append test so_far.seen (last_line last) _ _ so_far.counted
           (c.in_ok-last.ensures.counted ∙ ap (λ l. count_by test (last_line l)) shown)
           ∙ ap (count_by test) (sym lines),

@@ -1,18 +1,20 @@
-use Rattle.std.proofs.Common.{◌≡◌, ◌+◌, ℕ, List, [], cond, length}
+use Rattle.std.proofs.Common.{◌≡◌, ◌+◌, ℕ, List, length}
 use Rattle.std.specs.Io.KnownBytes.{Appends, Consumes}
 use Rattle.std.specs.List.{All, count_by, flat_map}
 use Rattle.litscan.specs.Lines.{HasNoFeed, with_feed}
-use Rattle.litscan.specs.Printed.{counts, printed_lines}
+use Rattle.litscan.specs.Printed.{PrintsUnlessCounted, counts}
 use Rattle.litscan.proofs.scan.scan_lines.Given as goal
 
 -- the lines that were read so far are counted, and printed
 abbrev pub invariant-loop-number : goal.invariant-loop-number
 invariant-loop-number g l = record {
   seen : List (List ℕ);
+  out : List ℕ;
   whole : All HasNoFeed seen;
   read : Consumes (g.R.Read.remaining l.fn.reader) (g.R.Read.remaining l.reader) (flat_map with_feed seen);
   number : l.number ≡ length seen + 1;
+  offset : l.offset ≡ length (flat_map with_feed seen) + 0;
   counted : l.count ≡ count_by (counts l.search l.options.others) seen;
-  written : Appends (g.W.Write.contents l.fn.writer) (g.W.Write.contents l.writer)
-      (cond l.options.count [] (printed_lines l.search l.options 1 seen));
+  written : Appends (g.W.Write.contents l.fn.writer) (g.W.Write.contents l.writer) out;
+  printed : PrintsUnlessCounted l.options.count l.search l.options 1 0 seen out;
 }
