@@ -238,10 +238,12 @@ impl RabinKarp {
     }
 
     /// The first in match order of the patterns that stand at a place, whose window has the sum. It
-    /// is called at each place, mostly in vain.
+    /// is called at each place, mostly in vain. Where `single` says that no bucket has a second entry,
+    /// it asks for none.
     #[inline(always)]
     fn look_up(
         &self,
+        single: bool,
         rolling: &Rolling,
         patterns: &Patterns,
         haystack: &[u8],
@@ -251,6 +253,7 @@ impl RabinKarp {
         requires made { IsMadeFor patterns.now self.now }
         requires sum { rolling.now.sum ≡ window_sum patterns.now.patterns haystack.now at }
         requires in_haystack { at ≤ length haystack.now }
+        requires single { IsTrue single → (k : ℕ) → k < BUCKETS → length (bucket_at self.now k) ≤ 1 }
         ensures best { MatchOption result
             (NoneStandsAt patterns.now.patterns false haystack.now at)
             (IsBestAt (query_of patterns.now) false haystack.now at) }
@@ -264,6 +267,9 @@ impl RabinKarp {
         let sum = rolling.value();
         if let Some(id) = self.try_entry(0, sum, patterns, haystack, at, tally) {
             return Some(id);
+        }
+        if single {
+            return None;
         }
         if let Some(id) = self.try_entry(1, sum, patterns, haystack, at, tally) {
             return Some(id);
@@ -279,13 +285,12 @@ impl RabinKarp {
         None
     }
 
-    /// The leftmost match that begins at `at`, in bytes from the beginning of the haystack, or after
-    /// it. Offsets, in the answer too, are in the whole haystack. `at` may be no more than the
-    /// haystack's length, and the patterns have to be those that this was made for. The steps are
-    /// added to the tally.
-    // Where its loop lies in memory counts, up to 40 percent with few patterns (docs/MEASURED.md, "The packed search").
+    /// What [`RabinKarp::find_at`] answers. `SINGLE` may say that no bucket has a second entry: then a place is asked
+    /// one question in place of three.
+    // Out of line, so that each of its two loops has all registers to itself. Where a loop lies in memory counts, up to
+    // 40 percent with few patterns (docs/MEASURED.md, "The packed search").
     #[inline(never)]
-    pub fn find_at(
+    fn walk<const SINGLE: bool>(
         &self,
         patterns: &Patterns,
         haystack: &[u8],
@@ -294,6 +299,7 @@ impl RabinKarp {
     ) -> Option<Match>
         requires made { IsMadeFor patterns.now self.now }
         requires in_haystack { at ≤ length haystack.now }
+        requires single { IsTrue SINGLE → (k : ℕ) → k < BUCKETS → length (bucket_at self.now k) ≤ 1 }
         ensures leftmost { IsLeftmost (query_of patterns.now) false haystack.now (rest_from haystack.now at) result }
         ensures exact { tally.new ≡ counts_after tally.old (query_of patterns.now) haystack.now
             (rest_from haystack.now at) result }
@@ -309,12 +315,36 @@ impl RabinKarp {
         }
         let last = end - minimum_len;
         for place in at..last {
-            if let Some(id) = self.look_up(&rolling, patterns, haystack, place, tally) {
+            if let Some(id) = self.look_up(SINGLE, &rolling, patterns, haystack, place, tally) {
                 return Some(found_at(patterns, id, place));
             }
             rolling.roll(haystack[place], haystack[place + minimum_len], tally);
         }
-        let id = self.look_up(&rolling, patterns, haystack, last, tally)?;
+        let id = self.look_up(SINGLE, &rolling, patterns, haystack, last, tally)?;
         Some(found_at(patterns, id, last))
+    }
+
+    /// The leftmost match that begins at `at`, in bytes from the beginning of the haystack, or after
+    /// it. Offsets, in the answer too, are in the whole haystack. `at` may be no more than the
+    /// haystack's length, and the patterns have to be those that this was made for. The steps are
+    /// added to the tally.
+    pub fn find_at(
+        &self,
+        patterns: &Patterns,
+        haystack: &[u8],
+        at: usize,
+        tally: &mut Tally,
+    ) -> Option<Match>
+        requires made { IsMadeFor patterns.now self.now }
+        requires in_haystack { at ≤ length haystack.now }
+        ensures leftmost { IsLeftmost (query_of patterns.now) false haystack.now (rest_from haystack.now at) result }
+        ensures exact { tally.new ≡ counts_after tally.old (query_of patterns.now) haystack.now
+            (rest_from haystack.now at) result }
+    {
+        if self.entries.is_single() {
+            self.walk::<true>(patterns, haystack, at, tally)
+        } else {
+            self.walk::<false>(patterns, haystack, at, tally)
+        }
     }
 }

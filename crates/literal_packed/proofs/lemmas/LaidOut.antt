@@ -1,36 +1,38 @@
 -- What the fields of a `BucketEntries` say of its buckets.
 -- For the functions that make one or read from it.
-use Rattle.std.proofs.Common.{◌≡◌, ℕ, ◌+◌, ◌-◌, ◌/◌, ◌^◌, ◌<◌, ◌≤◌, inl, inr, bit_and, ltb, cond}
+use Rattle.std.proofs.Common.{◌≡◌, ◌↔◌, IsTrue, ℕ, ◌+◌, ◌-◌, ◌/◌, ◌^◌, ◌<◌, ◌≤◌, inl, inr, bit_and, Bool, ltb, cond}
 use Rattle.std.proofs.Common.{List, [], length, get_or, slice_get, Some, sym, ap, subst, ◌∙◌, arith}
 use Rattle.std.proofs.lemmas.Bool.{cases_lt, lt-ltb, le-ltb}
 use Rattle.std.proofs.lemmas.List.FromFn.{length-map-range_with_len, get_or-map-range_with_len}
 use Rattle.std.proofs.lemmas.Nat.Bits.{shr_and_one}
 use Rattle.std.proofs.lemmas.Option.{slice_get-get_or}
-use Rattle.literal_packed.specs.Inside.Entries.{AreStarts, AreHeads, AreLonger, IsHead, IsLaidOut}
+use Rattle.literal_packed.specs.Inside.Entries.{AreStarts, AreHeads, AreLonger, IsSingle, IsHead, IsLaidOut}
 use Rattle.literal_packed.specs.Inside.Entries.{start_at, len_at, part_at, buckets_of}
 use Rattle.literal_packed.proofs.lemmas.Parts.{starts_ordered, part_len, part_entry}
 
 -- what the fields say, each by itself
-pub record AreLaidOut (firsts seconds : List (ℕ × ℕ)) (starts : List ℕ) (longer : ℕ) (entries : List (ℕ × ℕ))
-    : Type 0 where
+pub record AreLaidOut (firsts seconds : List (ℕ × ℕ)) (starts : List ℕ) (longer : ℕ) (single : Bool)
+    (entries : List (ℕ × ℕ)) : Type 0 where
   pub starts_are : AreStarts starts entries
   pub firsts_are : AreHeads 0 starts entries firsts
   pub seconds_are : AreHeads 1 starts entries seconds
   pub longer_are : AreLonger starts longer
+  pub single_is : IsSingle starts single
 
-pub laid_out : {firsts seconds : List (ℕ × ℕ)} {starts : List ℕ} {longer : ℕ} {entries : List (ℕ × ℕ)}
-    → AreLaidOut firsts seconds starts longer entries → IsLaidOut firsts seconds starts longer entries
+pub laid_out : {firsts seconds : List (ℕ × ℕ)} {starts : List ℕ} {longer : ℕ} {single : Bool} {entries : List (ℕ × ℕ)}
+    → AreLaidOut firsts seconds starts longer single entries → IsLaidOut firsts seconds starts longer single entries
 unfolding IsLaidOut
-laid_out are = (are.starts_are, are.firsts_are, are.seconds_are, are.longer_are)
+laid_out are = (are.starts_are, are.firsts_are, are.seconds_are, are.longer_are, are.single_is)
 
-pub opened : (firsts seconds : List (ℕ × ℕ)) (starts : List ℕ) (longer : ℕ) (entries : List (ℕ × ℕ))
-    → IsLaidOut firsts seconds starts longer entries → AreLaidOut firsts seconds starts longer entries
+pub opened : (firsts seconds : List (ℕ × ℕ)) (starts : List ℕ) (longer : ℕ) (single : Bool) (entries : List (ℕ × ℕ))
+    → IsLaidOut firsts seconds starts longer single entries → AreLaidOut firsts seconds starts longer single entries
 unfolding IsLaidOut
-opened firsts seconds starts longer entries laid = record {
+opened firsts seconds starts longer single entries laid = record {
   starts_are = laid.0;
   firsts_are = laid.1;
   seconds_are = laid.2;
   longer_are = laid.3;
+  single_is = laid.4;
 }
 
 pub buckets_len : (starts : List ℕ) (entries : List (ℕ × ℕ)) → length (buckets_of starts entries) ≡ 64
@@ -44,13 +46,13 @@ buckets_at starts entries k below =
     get_or-map-range_with_len (part_at starts entries) 0 64 k k [] below (omega arith)
 
 -- the list is laid out, and these are its buckets
-pub record IsKept (firsts seconds : List (ℕ × ℕ)) (starts : List ℕ) (longer : ℕ) (entries : List (ℕ × ℕ))
-    (buckets : List (List (ℕ × ℕ))) : Type 0 where
-  pub laid : IsLaidOut firsts seconds starts longer entries
+pub record IsKept (firsts seconds : List (ℕ × ℕ)) (starts : List ℕ) (longer : ℕ) (single : Bool)
+    (entries : List (ℕ × ℕ)) (buckets : List (List (ℕ × ℕ))) : Type 0 where
+  pub laid : IsLaidOut firsts seconds starts longer single entries
   pub seen : buckets_of starts entries ≡ buckets
 
-module _ {firsts seconds : List (ℕ × ℕ)} {starts : List ℕ} {longer : ℕ} {entries : List (ℕ × ℕ)}
-    {buckets : List (List (ℕ × ℕ))} (is : IsKept firsts seconds starts longer entries buckets)
+module _ {firsts seconds : List (ℕ × ℕ)} {starts : List ℕ} {longer : ℕ} {single : Bool} {entries : List (ℕ × ℕ)}
+    {buckets : List (List (ℕ × ℕ))} (is : IsKept firsts seconds starts longer single entries buckets)
     (k : ℕ) (below : k < 64) where
   abbrev start : ℕ → ℕ
   start i = start_at starts i
@@ -58,8 +60,8 @@ module _ {firsts seconds : List (ℕ × ℕ)} {starts : List ℕ} {longer : ℕ}
   abbrev bucket : List (ℕ × ℕ)
   bucket = get_or buckets k []
 
-  are : AreLaidOut firsts seconds starts longer entries
-  are = opened firsts seconds starts longer entries is.laid
+  are : AreLaidOut firsts seconds starts longer single entries
+  are = opened firsts seconds starts longer single entries is.laid
 
   pub ordered_at : start k ≤ start (k + 1)
   ordered_at = starts_ordered starts entries are.starts_are k below
@@ -107,6 +109,17 @@ module _ {firsts seconds : List (ℕ × ℕ)} {starts : List ℕ} {longer : ℕ}
 
   pub second_is : (d : ℕ × ℕ) → IsHead 1 k bucket (get_or seconds k d)
   second_is d = head_is 1 seconds d are.seconds_are
+
+-- the truth value tells of the buckets
+pub few_exactly_if_single : {firsts seconds : List (ℕ × ℕ)} {starts : List ℕ} {longer : ℕ} {single : Bool}
+    {entries : List (ℕ × ℕ)} {buckets : List (List (ℕ × ℕ))}
+    → IsKept firsts seconds starts longer single entries buckets
+    → (IsTrue single ↔ ((k : ℕ) → k < 64 → length (get_or buckets k []) ≤ 1))
+few_exactly_if_single {starts = starts} {single = single} is =
+    let told : IsSingle starts single = (opened _ _ _ _ _ _ is.laid).single_is in (
+      λ yes k below. omega (arith, told.0 yes k below, len_is is k below),
+      λ few. told.1 (λ k below. omega (arith, few k below, len_is is k below)),
+    )
 
 -- so it is the entry of the bucket, if it has one more
 pub head_within : {i k : ℕ} {bucket : List (ℕ × ℕ)} {head : ℕ × ℕ} → IsHead i k bucket head → i < length bucket

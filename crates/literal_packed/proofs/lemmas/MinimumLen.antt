@@ -1,5 +1,5 @@
 -- The length of the shortest pattern, and the sums of what stands at a place.
--- For `RabinKarp::new` and `find_at`, and for a law.
+-- For `RabinKarp::new` and `walk`, and for a law.
 use Rattle.std.proofs.Common.{◌≡◌, ◌⊎◌, inl, inr, ℕ, zero, suc, ◌+◌, ◌-◌, ◌^◌, ◌<◌, ◌≤◌, min, false, List, []}
 use Rattle.std.proofs.Common.{◌∷◌, length, take, drop, get_or, refl, sym, ap, ◌∙◌, arith}
 use Rattle.std.specs.List.{All, fold, slice_range}

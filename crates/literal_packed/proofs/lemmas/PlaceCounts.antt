@@ -1,5 +1,5 @@
 -- The counts of a search, place by place.
--- For `RabinKarp::look_up` and `find_at`.
+-- For `RabinKarp::look_up` and `walk`.
 use Rattle.std.proofs.Common.{◌≡◌, ℕ, ◌+◌, ◌-◌, ◌≤◌, Bool, false, cond, ltb, List, length, Some, None, sym, ap, ◌∙◌}
 use Rattle.std.proofs.Common.{arith}
 use Rattle.std.specs.List.{range_with_len, sum_by}

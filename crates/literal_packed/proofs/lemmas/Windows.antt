@@ -1,5 +1,5 @@
 -- The windows of a haystack, one after another, and where no pattern occurs.
--- For `RabinKarp::find_at`.
+-- For `RabinKarp::walk`.
 use Rattle.std.proofs.Common.{◌≡◌, ℕ, suc, inl, inr, ◌+◌, ◌-◌, ◌<◌, ◌≤◌, Bool, false, List, [], ◌∷◌, ◌++◌, length, take}
 use Rattle.std.proofs.Common.{drop, get_or, sym, ap, subst, ◌∙◌, arith}
 use Rattle.std.specs.List.{slice_range}

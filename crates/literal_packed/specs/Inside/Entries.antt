@@ -1,6 +1,6 @@
 -- The fields of `BucketEntries`: the entries of all buckets in one list, bucket after bucket.
-use Rattle.std.specs.Prelude.{◌≡◌, ◌≢◌, ℕ, ◌+◌, ◌-◌, ◌%◌, ◌≤◌, ◌<◌, ◌==◌, nat_lt, if◌then◌else◌, List, [], length, map}
-use Rattle.std.specs.Prelude.{take, drop, filter, slice_range, slice_index_or}
+use Rattle.std.specs.Prelude.{◌≡◌, ◌≢◌, ◌↔◌, ℕ, ◌+◌, ◌-◌, ◌%◌, ◌≤◌, ◌<◌, Bool, IsTrue, ◌==◌, nat_lt, if◌then◌else◌}
+use Rattle.std.specs.Prelude.{List, [], length, map, take, drop, filter, slice_range, slice_index_or}
 use Rattle.std.specs.Int.{bit_at}
 use Rattle.std.specs.List.{range_with_len}
 use Rattle.std.specs.List.Sorted.{IsPartitionPoint}
@@ -49,12 +49,16 @@ AreHeads i starts entries heads =
 abbrev pub AreLonger : List ℕ → ℕ → Type 0
 AreLonger starts longer = (k : ℕ) → k < 64 → bit_at longer k ≡ (if nat_lt 2 (len_at starts k) then 1 else 0)
 
--- the first and the second entries, the starts and the bits are those of the list. Abstract: as facts about all buckets
--- they would stand in the way of each proof in which a `BucketEntries` is opened or dropped
-unfoldable pub IsLaidOut : List (ℕ × ℕ) → List (ℕ × ℕ) → List ℕ → ℕ → List (ℕ × ℕ) → Type 0
-IsLaidOut firsts seconds starts longer entries =
+-- no bucket has a second entry, exactly if this is true
+abbrev pub IsSingle : List ℕ → Bool → Type 0
+IsSingle starts single = IsTrue single ↔ ((k : ℕ) → k < 64 → len_at starts k ≤ 1)
+
+-- the first and the second entries, the starts, the bits and the truth value are those of the list. Abstract: as facts
+-- about all buckets they would stand in the way of each proof in which a `BucketEntries` is opened or dropped
+unfoldable pub IsLaidOut : List (ℕ × ℕ) → List (ℕ × ℕ) → List ℕ → ℕ → Bool → List (ℕ × ℕ) → Type 0
+IsLaidOut firsts seconds starts longer single entries =
     AreStarts starts entries × AreHeads 0 starts entries firsts × AreHeads 1 starts entries seconds
-    × AreLonger starts longer
+    × AreLonger starts longer × IsSingle starts single
 
 -- 64 buckets: bucket k has the entries of a list whose sum is k modulo 64, in the order of the list
 pub record AreBucketsOf (entries : List (ℕ × ℕ)) (buckets : List (List (ℕ × ℕ))) : Type 0 where

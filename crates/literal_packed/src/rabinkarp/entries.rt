@@ -6,7 +6,7 @@ ghost use Rattle.std.specs.Prelude.{IfOk, IsTrue, Some, slice_get, slice_index_o
 ghost use Rattle.std.specs.List.{range_with_len};
 ghost use Rattle.std.specs.List.Sorted.{IsNonDecreasingBy};
 ghost use Rattle.literal_packed.specs.Inside.Entries.{bucket_number, AreBucketsOf, AreStarts, AreHeads, AreLonger};
-ghost use Rattle.literal_packed.specs.Inside.Entries.{buckets_of, start_at};
+ghost use Rattle.literal_packed.specs.Inside.Entries.{IsSingle, buckets_of, start_at};
 
 use literal_base::count::Tally;
 use literal_ids::PatternID;
@@ -22,12 +22,13 @@ pub const BUCKETS: usize = 64;
 /// All stand in one list, bucket after bucket: those of bucket `k` from `starts[k]` up to `starts[k + 1]`. The first
 /// two of each bucket stand in `firsts` and `seconds` too, so that a look-up may ask for them without asking whether
 /// they are there: where bucket `k` has no such entry stands one with the sum `k + 1`, which is no sum of that
-/// bucket. Bit `k` of `longer` says whether it has more.
+/// bucket. Bit `k` of `longer` says whether it has more. `single` says whether no bucket has a second one.
 #[derive(Drop)]
 pub struct BucketEntries {
     firsts: [(usize, PatternID); BUCKETS],
     seconds: [(usize, PatternID); BUCKETS],
     longer: u64,
+    single: bool,
     starts: [usize; BUCKETS + 1],
     list: Vec<(usize, PatternID)>,
 }
@@ -40,7 +41,7 @@ impl Model for BucketEntries {
 
     ghost view = { λ b. buckets_of b.starts b.list.items };
 
-    ghost invariant = { λ b. IsLaidOut b.firsts b.seconds b.starts b.longer b.list.items };
+    ghost invariant = { λ b. IsLaidOut b.firsts b.seconds b.starts b.longer b.single b.list.items };
 }
 
 impl BucketEntries {
@@ -55,6 +56,7 @@ impl BucketEntries {
             firsts: heads_of(&starts, list.as_slice(), 0),
             seconds: heads_of(&starts, list.as_slice(), 1),
             longer: longer_of(&starts),
+            single: single_of(&starts),
             starts,
             list,
         })
@@ -69,6 +71,7 @@ impl BucketEntries {
             firsts: heads_of(&self.starts, list.as_slice(), 0),
             seconds: heads_of(&self.starts, list.as_slice(), 1),
             longer: self.longer,
+            single: self.single,
             starts: self.starts,
             list,
         })
@@ -88,6 +91,13 @@ impl BucketEntries {
         ensures { IsTrue result ↔ (2 < length (slice_index_or self.now bucket [])) }
     {
         self.longer >> bucket & 1 == 1
+    }
+
+    /// Whether no bucket has a second entry.
+    pub fn is_single(&self) -> bool
+        ensures { IsTrue result ↔ ((k : ℕ) → k < BUCKETS → length (slice_index_or self.now k []) ≤ 1) }
+    {
+        self.single
     }
 
     /// Reads one entry of a bucket, and counts it. The first two of a bucket may be asked for where it has none: then
@@ -158,6 +168,18 @@ fn longer_of(starts: &[usize; BUCKETS + 1]) -> u64
         }
     }
     longer
+}
+
+/// Whether no bucket has a second entry.
+fn single_of(starts: &[usize; BUCKETS + 1]) -> bool
+    ensures { IsSingle starts.now result }
+{
+    for bucket in 0..BUCKETS {
+        if starts[bucket + 1].saturating_sub(starts[bucket]) > 1 {
+            return false;
+        }
+    }
+    true
 }
 
 /// Where the entries of three patterns stand, worked out by hand: `ab`, `ba` and `ab` have the sums 292, 293 and 292,

@@ -1,5 +1,6 @@
 use Rattle.std.proofs.Common.{◌%◌, sym, ◌∙◌, arith}
 use Rattle.std.proofs.lemmas.Bool.{false≢true}
+use Rattle.std.proofs.lemmas.Nat.{mod_below}
 use Rattle.literal_packed.proofs.lemmas.LookUp.{look_up_in, none_first, counts_first, none_more, counts_more}
 use Rattle.literal_packed.proofs.lemmas.LookUp.{best_found, counts_found, none_found, counts_none, ended_with}
 use Rattle.literal_packed.proofs.lemmas.LookUp.{few_unless_longer}
@@ -37,6 +38,22 @@ returns-in-Some-clause-exact c =
     c.requires.made (c.value-sum.ensures ∙ c.requires.sum) in
     counts_found here 0 c.in-Some.id c.args.tally.now _ c.try_entry.new.tally c.in-Some.ensures.found.0
     (counts_first here c.args.tally.now) c.try_entry.ensures.exact
+
+pub returns-then-single-clause-best : goal.returns-then-single-clause-best
+returns-then-single-clause-best c =
+    let here = look_up_in c.args.patterns.now c.args.self.now c.args.haystack.now c.args.at c.value-sum.result
+    c.requires.made (c.value-sum.ensures ∙ c.requires.sum) in
+    let sum = c.value-sum.result in
+    let few = c.requires.single c.if-single.true (sum % 64) (mod_below sum 64 (omega arith)) in
+    none_found here 1 few c.in_default.ensures.found
+
+pub returns-then-single-clause-exact : goal.returns-then-single-clause-exact
+returns-then-single-clause-exact c =
+    let here = look_up_in c.args.patterns.now c.args.self.now c.args.haystack.now c.args.at c.value-sum.result
+    c.requires.made (c.value-sum.ensures ∙ c.requires.sum) in
+    let sum = c.value-sum.result in
+    let few = c.requires.single c.if-single.true (sum % 64) (mod_below sum 64 (omega arith)) in
+    counts_none here 1 c.args.tally.now c.try_entry.new.tally few c.try_entry.ensures.exact
 
 pub returns-in-Some-try_entry-clause-best : goal.returns-in-Some-try_entry-clause-best
 returns-in-Some-try_entry-clause-best c =

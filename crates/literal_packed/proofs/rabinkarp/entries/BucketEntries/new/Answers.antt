@@ -22,6 +22,7 @@ invariant_of-result c =
       seconds_are = subst (λ (es : List (ℕ × ℕ)). AreHeads 1 starts es c.heads_of-2.result) c.as_slice-3.ensures.value
           c.heads_of-2.ensures;
       longer_are = c.longer_of.ensures;
+      single_is = c.single_of.ensures;
     })
 
 pub returns : goal.returns

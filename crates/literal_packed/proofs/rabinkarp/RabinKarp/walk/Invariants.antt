@@ -4,11 +4,11 @@ use Rattle.literal_packed.specs.PatternsValue.{minimum_len_of}
 use Rattle.literal_packed.specs.Inside.Place.{NoneStandsAt}
 use Rattle.literal_packed.specs.Sum.{sum_of}
 use Rattle.literal_packed.specs.Pairs.{window_sum, pairs_between, has_equal_bucket, has_equal_sum}
-use Rattle.literal_packed.proofs.rabinkarp.RabinKarp.find_at.Given as goal
+use Rattle.literal_packed.proofs.rabinkarp.RabinKarp.walk.Given as goal
 
 -- the bytes so far are in the sum
 abbrev pub invariant-loop-k : goal.invariant-loop-k
-invariant-loop-k l = record {
+invariant-loop-k g l = record {
   sum : l.rolling.sum ≡ sum_of (slice_range l.haystack l.at l.k);
   window : l.rolling.window ≡ l.minimum_len;
   counted : l.tally ≡ record l.initial.tally { hashed = l.initial.tally.hashed + (l.k - l.at) };
@@ -16,7 +16,7 @@ invariant-loop-k l = record {
 
 -- no pattern stands at a place so far
 abbrev pub invariant-loop-place : goal.invariant-loop-place
-invariant-loop-place l =
+invariant-loop-place g l =
     let patterns = l.patterns.patterns in
     record {
       sum : l.rolling.sum ≡ window_sum patterns l.haystack l.place;

@@ -9,7 +9,7 @@ use Rattle.literal_packed.specs.Pairs.{hashed_up_to, pairs_up_to, has_equal_buck
 use Rattle.literal_packed.proofs.lemmas.MinimumLen.{minimum_len_of_some}
 use Rattle.literal_packed.proofs.lemmas.Windows.{sum-roll_by, sum-push, nothing_short, nothing_after, passed_more}
 use Rattle.literal_packed.proofs.lemmas.PlaceCounts.{counted_all, counts_rolled, counts_some, counts_end, before}
-use Rattle.literal_packed.proofs.rabinkarp.RabinKarp.find_at.Goals as goal
+use Rattle.literal_packed.proofs.rabinkarp.RabinKarp.walk.Goals as goal
 
 abbrev window_of : RabinKarpValue → ℕ
 window_of b = b.minimum_len
@@ -21,20 +21,20 @@ abbrev pattern : MatchValue → ℕ
 pattern f = f.pattern
 
 pub returns-then-minimum_len-end-clause-leftmost : goal.returns-then-minimum_len-end-clause-leftmost
-returns-then-minimum_len-end-clause-leftmost c =
+returns-then-minimum_len-end-clause-leftmost g c =
     let window : c.self.inside.minimum_len ≡ minimum_len_of c.args.patterns.now.patterns = ap window_of c.self.view_is
     ∙ c.requires.made.minimum_len in
     nothing_short c.args.patterns.now.patterns c.args.haystack.now c.args.at (omega arith)
 
 pub new-rolling-requires : goal.new-rolling-requires
-new-rolling-requires c =
+new-rolling-requires g c =
     let window : c.self.inside.minimum_len ≡ minimum_len_of c.args.patterns.now.patterns = ap window_of c.self.view_is
     ∙ c.requires.made.minimum_len in
     let some = minimum_len_of_some c.args.patterns.now.patterns c.requires.made.searchable.well_formed.not_empty in
     omega arith
 
 pub loop-k-preserved : goal.loop-k-preserved
-loop-k-preserved c = record {
+loop-k-preserved g c = record {
   sum = sum-push c.args.haystack.now c.args.at c.loop-k.k c.loop-k.rolling.sum c.push.new.self.sum c.loop-k.auto.k
       (omega arith) c.push.ensures.sum c.loop-k.invariant.sum;
   window = c.push.ensures.window ∙ c.loop-k.invariant.window;
@@ -49,7 +49,7 @@ loop-k-preserved c = record {
 }
 
 pub loop-place-preserved : goal.loop-place-preserved
-loop-place-preserved c =
+loop-place-preserved g c =
     let window : c.self.inside.minimum_len ≡ minimum_len_of c.args.patterns.now.patterns = ap window_of c.self.view_is
     ∙ c.requires.made.minimum_len in
     let haystack = c.args.haystack.now in
@@ -71,14 +71,14 @@ loop-place-preserved c =
     }
 
 pub returns-in-Some-clause-exact : goal.returns-in-Some-clause-exact
-returns-in-Some-clause-exact c =
+returns-in-Some-clause-exact g c =
     counts_some c.args.patterns.now c.args.haystack.now c.args.at c.args.tally.now c.loop-place.tally
     c.look_up.new.tally c.loop-place.place c.in-Some.id c.found_at.result
     (ap start c.found_at.ensures) (ap pattern c.found_at.ensures) c.loop-place.invariant.counted
     c.in-Some.ensures.exact
 
 pub returns-in_err-id-clause-leftmost : goal.returns-in_err-id-clause-leftmost
-returns-in_err-id-clause-leftmost c =
+returns-in_err-id-clause-leftmost g c =
     let patterns = c.args.patterns.now in
     let haystack = c.args.haystack.now in
     let window : c.self.inside.minimum_len ≡ minimum_len_of c.args.patterns.now.patterns = ap window_of c.self.view_is
@@ -96,7 +96,7 @@ returns-in_err-id-clause-leftmost c =
     (λ s low high. c.loop-place.invariant.passed s low (omega arith)) c.in_err-id.ensures.best))
 
 pub returns-in_err-id-clause-exact : goal.returns-in_err-id-clause-exact
-returns-in_err-id-clause-exact c =
+returns-in_err-id-clause-exact g c =
     let patterns = c.args.patterns.now in
     let haystack = c.args.haystack.now in
     let at = c.args.at in
@@ -120,7 +120,7 @@ returns-in_err-id-clause-exact c =
     c.loop-place.invariant.counted) c.in_err-id.ensures.exact)
 
 pub returns-clause-exact : goal.returns-clause-exact
-returns-clause-exact c =
+returns-clause-exact g c =
     let window : c.self.inside.minimum_len ≡ minimum_len_of c.args.patterns.now.patterns = ap window_of c.self.view_is
     ∙ c.requires.made.minimum_len in
     let fits = c.if-minimum_len-end.false in
