@@ -67,7 +67,7 @@ KEEPERS = (
 
 # The fields of `BucketEntries` that tell nothing of an entry, and the functions that may name the others: the one that
 # reads an entry, and those that make and copy it.
-PLAIN_FIELDS = ("starts", "longer")
+PLAIN_FIELDS = ("starts", "longer", "single")
 ENTRY_READERS = ("BucketEntries::entry", "BucketEntries::new", "BucketEntries::try_clone")
 
 # How a haystack is used: its length is asked for, it is cut into another, bytes of it are hashed with a tally, or it is
@@ -155,7 +155,7 @@ def haystacks(sources):
                     yield source.at(function.start + place, (
                         "a haystack is asked for its `len()`, cut by a range into another `haystack`, or handed on to "
                         "a function whose parameter is called `haystack`; its bytes are read in `matches_at`, in the "
-                        "scan of `ByteTable`, and in `find_at` as arguments of `push` or `roll`, with the tally"))
+                        "scan of `ByteTable`, and in `walk` as arguments of `push` or `roll`, with the tally"))
 
 
 def odd_uses(code, calls, name):
@@ -164,7 +164,7 @@ def odd_uses(code, calls, name):
         return found[0].replace("haystack", " " * len("haystack"))
 
     code = BOUND.sub(passed_over, LENGTH.sub(passed_over, code))
-    code = HASHED.sub(passed_over, code) if name.endswith("RabinKarp::find_at") else code
+    code = HASHED.sub(passed_over, code) if name.endswith("RabinKarp::walk") else code
     code = calls.sub(lambda found: HANDED.sub(passed_over, found[0]), code)
     return [found.start() for found in re.finditer(r"\bhaystack\b", code)]
 
