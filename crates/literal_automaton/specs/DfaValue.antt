@@ -1,11 +1,10 @@
 -- An automaton as contracts see it, and what it is built from.
-use Rattle.std.specs.Prelude.{◌==◌, ◌++◌, min}
+use Rattle.std.specs.Prelude.{◌==◌, min}
 use Rattle.std.specs.Prelude.{◌≡◌, ◌+◌, ◌-◌, ◌*◌, ◌<◌, ◌≤◌, ◌⊎◌, ℕ, Bool, List, length, Option, Some, IfSome, map}
 use Rattle.std.specs.Borrow.{Bor}
 use Rattle.std.specs.Iterator.{Drains, Yields}
 use Rattle.std.specs.List.{All, count_by, list_any, range_with_len}
 use Rattle.literal_base.specs.Counts.{Counts}
-use Rattle.literal_base.specs.Greedy.{IsGreedy}
 use Rattle.literal_base.specs.MatchValue.{MatchValue}
 use Rattle.literal_base.specs.Occurs.{NoneIsEmpty}
 use Rattle.literal_base.specs.Query.{Query}

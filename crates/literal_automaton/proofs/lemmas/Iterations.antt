@@ -5,9 +5,9 @@ use Rattle.literal_base.specs.declared.search.Span.{Span}
 use Rattle.literal_base.specs.Counts.{Counts}
 use Rattle.literal_base.specs.MatchValue.{MatchValue}
 use Rattle.literal_base.specs.Greedy.{IsGreedy, RefusesList}
-use Rattle.literal_base.specs.Occurs.{NoneIsEmpty, NothingOccurs, rest_from, whole_of}
+use Rattle.literal_base.specs.Occurs.{NothingOccurs, rest_from, whole_of}
 use Rattle.literal_base.specs.Query.{Query}
-use Rattle.literal_packed.proofs.lemmas.GreedyLists.{IsGreedyBefore, found_occurs}
+use Rattle.literal_packed.proofs.lemmas.GreedyLists.{found_occurs}
 use Rattle.literal_automaton.specs.DfaValue.{ScansAtMost, ScansListAtMost}
 use Rattle.literal_automaton.specs.Inside.Dfa.{ScansTo}
 
