@@ -6,8 +6,14 @@ use Rattle.std.specs.List.{count_by, flat_map}
 use Rattle.std.proofs.lemmas.List.Sums.{sum_by-append}
 use Rattle.literal_automaton.specs.DfaValue.{DfaValue}
 use Rattle.litscan.specs.Lines.{lines_of, with_feed}
-use Rattle.litscan.specs.Printed.{Prints, PrintsLines, PrintsUnlessCounted, counts}
+use Rattle.litscan.specs.Printed.{Prints, PrintsLine, PrintsLines, PrintsUnlessCounted, counts}
 use Rattle.litscan.specs.declared.request.Options.{Options}
+
+length-feeds : (line : List ℕ) (more : List (List ℕ))
+    → length (with_feed line ++ flat_map with_feed more) ≡ length line + 1 + length (flat_map with_feed more)
+length-feeds line more =
+    length-append (with_feed line) (flat_map with_feed more)
+    ∙ ap (λ n. n + length (flat_map with_feed more)) (length-append line (10 ∷ []))
 
 module _ (search : DfaValue) (options : Options) where
   -- one list of lines behind another
@@ -23,16 +29,45 @@ module _ (search : DfaValue) (options : Options) where
   prints-append number offset at behind (line ∷ seen) more front out at_is behind_is before after =
       let first = before.0 in
       let rest = before.1 in
-      let size : length (with_feed line ++ flat_map with_feed seen)
-      ≡ length line + 1 + length (flat_map with_feed seen) =
-      length-append (with_feed line) (flat_map with_feed seen)
-      ∙ ap (λ n. n + length (flat_map with_feed seen)) (length-append line (10 ∷ [])) in (
+      let size = length-feeds line seen in (
         first,
         rest ++ out,
         before.2,
         prints-append (number + 1) (offset + length line + 1) at behind seen more rest out (omega arith)
             (omega (arith, behind_is, size)) before.3 after,
         ap (λ bytes. bytes ++ out) before.4 ∙ append_assoc first rest out,
+      )
+
+  -- one line among others
+  pub prints_in_turn : (number offset at behind : ℕ) (front more : List (List ℕ)) (line out : List ℕ)
+      → at ≡ length front + number → behind ≡ length (flat_map with_feed front) + offset
+      → PrintsLines search options number offset (front ++ line ∷ more) out
+      → (before part after : List ℕ) × (out ≡ before ++ (part ++ after))
+      × PrintsLines search options number offset front before
+      × PrintsLine (counts search options.others line) search options at behind line part
+  prints_in_turn number offset at behind [] more line out at_is behind_is printed =
+      let number_is : number ≡ at = omega arith in
+      let offset_is : offset ≡ behind = omega arith in
+      let test = counts search options.others line in (
+        [],
+        printed.0,
+        printed.1,
+        printed.4,
+        refl,
+        subst (λ n. PrintsLine test search options at n line printed.0) offset_is
+            (subst (λ n. PrintsLine test search options n offset line printed.0) number_is printed.2),
+      )
+  prints_in_turn number offset at behind (first ∷ front) more line out at_is behind_is printed =
+      let size = length-feeds first front in
+      let others = prints_in_turn (number + 1) (offset + length first + 1) at behind front more line printed.1
+      (omega arith) (omega (arith, behind_is, size)) printed.3 in (
+        printed.0 ++ others.0,
+        others.1,
+        others.2,
+        printed.4 ∙ ap (λ rest. printed.0 ++ rest) others.3
+            ∙ sym (append_assoc printed.0 others.0 (others.1 ++ others.2)),
+        (printed.0, others.0, printed.2, others.4, refl),
+        others.5,
       )
 
   -- the same, where nothing may be printed of lines
