@@ -1,11 +1,11 @@
 -- Lemmas that several proofs share, by topic.
+pub mod Anew
 pub mod Ascending
 pub mod Behind
 pub mod Built
 pub mod Callers
 pub mod Chains
 pub mod Classes
-pub mod Earliest
 pub mod EndLists
 pub mod Ends
 pub mod Found
@@ -16,12 +16,14 @@ pub mod Iterations
 pub mod LentTables
 pub mod Links
 pub mod Lists
+pub mod Longest
 pub mod Numbers
 pub mod Overlapping
 pub mod Places
 pub mod Prepared
 pub mod Recognised
 pub mod Rows
+pub mod Scan
 pub mod Standard
 pub mod Standing
 pub mod States

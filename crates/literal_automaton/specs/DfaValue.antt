@@ -1,5 +1,5 @@
 -- An automaton as contracts see it, and what it is built from.
-use Rattle.std.specs.Prelude.{◌==◌, min}
+use Rattle.std.specs.Prelude.{◌==◌, [], ◌∷◌, MatchOption, max, min}
 use Rattle.std.specs.Prelude.{◌≡◌, ◌+◌, ◌-◌, ◌*◌, ◌<◌, ◌≤◌, ◌⊎◌, ℕ, Bool, List, length, Option, Some, IfSome, map}
 use Rattle.std.specs.Borrow.{Bor}
 use Rattle.std.specs.Iterator.{Drains, Yields}
@@ -98,19 +98,34 @@ abbrev pub NeedFewStates : search.MatchKind → Bool → List (List ℕ) → Typ
 NeedFewStates kind ignore_case patterns =
     HoldsInClasses (λ texts width. ¬ HasTooManyStates kind texts width) ignore_case patterns
 
--- what a search in a span scans: each of its bytes at most once, and with a match, from the span's start on, at most
--- one byte more than those before the match and those of the longest pattern
+-- how long the longest of some patterns is, and 0 where there is none
+abbrev pub longest_of : List (List ℕ) → ℕ
+longest_of [] = 0
+longest_of (bytes ∷ more) = max (length bytes) (longest_of more)
+
+-- what a search in a span scans: at most three times its bytes, and with a match three times those before it, and once
+-- those of the longest pattern and one more
 pub record ScansAtMost (patterns : List (List ℕ)) (span : Span) (answer : Option MatchValue) (old new : Counts)
     : Type 0 where
   pub others : new ≡ record old { scanned = new.scanned }
-  pub once : new.scanned ≤ old.scanned + (span.end - span.start)
-  pub near : (longest : ℕ) → All (λ (bytes : List ℕ). length bytes ≤ longest) patterns
-      → IfSome answer (λ found. new.scanned + span.start ≤ old.scanned + found.start + longest + 1)
+  pub most : new.scanned ≤ old.scanned + 3 * (span.end - span.start)
+  pub near : IfSome answer (λ found. new.scanned + 3 * span.start
+      ≤ old.scanned + 3 * found.start + longest_of patterns + 1)
 
--- what the searches for all matches scan, one after another: at most the bytes of the haystack, and for each match as
--- many as the longest pattern has
+-- what a walk through a span scans: each of its bytes at most once, all where nothing is found; with a match at least
+-- those up to its end, and at most, from the span's start on, one byte more than those before the match and those of
+-- the longest pattern
+pub record ScansOnce (patterns : List (List ℕ)) (span : Span) (answer : Option MatchValue) (old new : Counts)
+    : Type 0 where
+  pub others : new ≡ record old { scanned = new.scanned }
+  pub once : new.scanned ≤ old.scanned + (span.end - span.start)
+  pub exact : MatchOption answer (new.scanned ≡ old.scanned + (span.end - span.start))
+      (λ found. (old.scanned + found.end ≤ new.scanned + span.start)
+      × (new.scanned + span.start ≤ old.scanned + found.start + longest_of patterns + 1))
+
+-- what the searches for all matches scan, one after another: at most three times the bytes of the haystack, and for each
+-- match as many as the longest pattern has
 pub record ScansListAtMost (patterns : List (List ℕ)) (haystack : List ℕ) (matches : ℕ) (old new : Counts)
     : Type 0 where
   pub others : new ≡ record old { scanned = new.scanned }
-  pub near : (longest : ℕ) → All (λ (bytes : List ℕ). length bytes ≤ longest) patterns
-      → new.scanned ≤ old.scanned + length haystack + matches * longest
+  pub near : new.scanned ≤ old.scanned + 3 * length haystack + matches * longest_of patterns

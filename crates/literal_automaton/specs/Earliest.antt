@@ -1,5 +1,5 @@
 -- The earliest end of an occurrence.
-use Rattle.std.specs.Prelude.{◌≡◌, ℕ, ◌+◌, ◌-◌, ◌≤◌, Bool, List, length, Option, MatchOption}
+use Rattle.std.specs.Prelude.{◌≡◌, ℕ, ◌+◌, ◌-◌, ◌*◌, ◌≤◌, Bool, List, length, Option, MatchOption}
 use Rattle.literal_base.specs.Counts.{Counts}
 use Rattle.literal_base.specs.declared.search.Span.{Span}
 use Rattle.literal_base.specs.Occurs.{NothingOccurs, Occurs, pattern_at}
@@ -23,3 +23,9 @@ pub record ScansToEnd (span : Span) (answer : Option ℕ) (old new : Counts) : T
   pub others : new ≡ record old { scanned = new.scanned }
   pub scanned : MatchOption answer (new.scanned ≤ old.scanned + (span.end - span.start))
       (λ end. new.scanned + span.start ≡ old.scanned + end)
+
+-- the same three times at most
+pub record ScansToEndAtMost (span : Span) (answer : Option ℕ) (old new : Counts) : Type 0 where
+  pub others : new ≡ record old { scanned = new.scanned }
+  pub scanned : MatchOption answer (new.scanned ≤ old.scanned + 3 * (span.end - span.start))
+      (λ end. new.scanned + 3 * span.start ≤ old.scanned + 3 * end)

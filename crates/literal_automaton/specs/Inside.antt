@@ -8,5 +8,6 @@ pub mod LentTables
 pub mod Lists
 pub mod Prepared
 pub mod Rows
+pub mod Scan
 pub mod Standing
 pub mod Walk

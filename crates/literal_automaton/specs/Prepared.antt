@@ -7,7 +7,7 @@ use Rattle.literal_base.specs.MatchValue.{MatchValue}
 use Rattle.literal_base.specs.Query.{Query}
 use Rattle.literal_base.specs.declared.search.Span.{Span}
 use Rattle.literal_ids.specs.declared.primitives.pattern_id.TheConstants.PatternID
-use Rattle.literal_automaton.specs.DfaValue.{CanBeKept, HoldsInClasses}
+use Rattle.literal_automaton.specs.DfaValue.{CanBeKept, HoldsInClasses, longest_of}
 use Rattle.literal_automaton.specs.Inside.Classes.{AreClasses, Tells, symbols_in}
 use Rattle.literal_automaton.specs.States.{IsRowsLength}
 use Rattle.literal_automaton.specs.Table.{Recognises}
@@ -55,10 +55,11 @@ pub record IsWhole (numbers : List ℕ) : Type 0 where
   pub parts : HasParts PREPARED_VERSION numbers
   pub check : slice_index numbers 1 ≡ check_of (slice_range numbers 2 (prepared_len numbers))
 
--- the array begins with a whole search for the patterns: classes that tell their bytes, the length of each, and rows
--- that recognise their texts in these classes
+-- the array begins with a whole search for the patterns: the length of the longest, classes that tell their bytes, the
+-- length of each, and rows that recognise their texts in these classes
 pub record IsPrepared (query : Query) (ignore_case : Bool) (numbers : List ℕ) : Type 0 where
   pub whole : IsWhole numbers
+  pub longest : slice_index numbers 5 ≡ longest_of query.patterns
   pub classes : AreClasses (classes_in numbers) (width_in numbers)
   pub tells : Tells ignore_case (classes_in numbers) query.patterns
   pub lengths : lengths_in numbers ≡ map (λ bytes. length bytes) query.patterns

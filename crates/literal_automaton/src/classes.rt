@@ -12,6 +12,29 @@ pub struct Classes {
     pub width: usize,
 }
 
+/// The same with numbers as long as those in rows.
+#[derive(Clone, Copy)]
+pub struct ClassNumbers {
+    pub table: [u32; 256],
+    pub width: usize,
+}
+
+impl Classes {
+    /// Each class as a longer number.
+    pub fn to_numbers(&self) -> ClassNumbers
+        ensures { result ≡ record { table = self.now.table; width = self.now.width } }
+    {
+        let mut table = [0; 256];
+        for byte in 0usize..256 {
+            table[byte] = u32::from(self.table[byte]);
+        }
+        ClassNumbers {
+            table,
+            width: self.width,
+        }
+    }
+}
+
 /// Classes that tell the bytes of these patterns from all others. Where case is ignored, both letters
 /// of a case have one class.
 pub fn classes_for(ignore_case: bool, patterns: &[Vec<u8>]) -> Classes

@@ -5,13 +5,14 @@
 ghost use Rattle.std.specs.Prelude.{◌≡◌, ◌<◌, ◌↔◌, ◌++◌, ◌∷◌, [], ℕ, length, map, IfErr, IfOk, IfSome, IsTrue, OnErr};
 ghost use Rattle.literal_base.specs.Greedy.{IsGreedy, RefusesList};
 ghost use Rattle.literal_base.specs.Kinds.{root_kind_of};
-ghost use Rattle.literal_base.specs.Leftmost.{IsLeftmost};
+ghost use Rattle.literal_base.specs.Leftmost.{IsLeftmost, IsLeftmostMatch};
 ghost use Rattle.literal_base.specs.Occurs.{IsValidSpan, NothingOccurs, Occurs, one_occurs, whole_of};
 ghost use Rattle.literal_packed.specs.Lending.{CanBeTaken};
 ghost use Rattle.literal_automaton.specs.DfaValue.{BuildsDfa, CanBeKept, GivesAll, NeedFewStates};
 ghost use Rattle.literal_automaton.specs.DfaValue.{NeedTooManyStates, RefusesDfa};
-ghost use Rattle.literal_automaton.specs.DfaValue.{ScansAtMost, ScansListAtMost};
-ghost use Rattle.literal_automaton.specs.Earliest.{IsEarliestEnd, ScansToEnd};
+ghost use Rattle.literal_automaton.specs.DfaValue.{ScansAtMost, ScansListAtMost, ScansOnce, longest_of};
+ghost use Rattle.literal_automaton.specs.Earliest.{IsEarliestEnd, ScansToEnd, ScansToEndAtMost};
+ghost use Rattle.literal_automaton.specs.Inside.Scan.{IsTableOf, match_by};
 ghost use Rattle.literal_automaton.specs.MatchesValue.{GivesMatch, most_to_come};
 ghost use Rattle.literal_automaton.specs.Prepared.{RefusesToPrepare, WritesPrepared};
 
@@ -23,10 +24,11 @@ mod overlapping;
 mod prepared;
 mod prepared_overlapping;
 mod rows;
+mod scan;
 mod standing;
 mod walk;
 
-use classes::{Classes, classes_for};
+use classes::{ClassNumbers, classes_for};
 use grow::GrowError;
 use literal_base::count::Tally;
 pub use literal_base::packed::MatchKind;
@@ -41,7 +43,7 @@ use std::alloc::{AllocError, Global};
 use std::error::Error;
 use std::fmt;
 use std::marker::Model;
-use walk::{first_ended, last_ended};
+use walk::{Ended, Table};
 
 /// Why there is no automaton for some patterns.
 #[derive(Clone, Copy, Debug, PartialEq, Eq, Drop)]
@@ -114,8 +116,9 @@ pub struct Dfa {
     kind: MatchKind,
     ignore_case: bool,
     patterns: Vec<Vec<u8>>,
-    classes: Classes,
+    classes: ClassNumbers,
     rows: Rows,
+    longest: usize,
 }
 
 impl Model for Dfa {
@@ -150,12 +153,14 @@ impl Dfa {
         let patterns = copies(alloc, patterns)?;
         let classes = classes_for(ignore_case, &patterns);
         let rows = rows_for(alloc, root_kind(kind), &classes, &patterns)?;
+        let longest = longest_len(&patterns);
         Ok(Dfa {
             kind,
             ignore_case,
             patterns,
-            classes,
+            classes: classes.to_numbers(),
             rows,
+            longest,
         })
     }
 
@@ -180,24 +185,59 @@ impl Dfa {
         self.find_in_counted(haystack, span, &mut Tally::new())
     }
 
-    /// Answers as [`Dfa::find_in`], and adds each byte that it looks up to a tally, as scanned: each byte of
-    /// the span at most once, and with a match none that is further behind its start than the longest pattern
-    /// is long.
+    /// Answers as [`Dfa::find_in`], and adds each byte that it looks up to a tally, as scanned: at most three times the
+    /// bytes of the span, and with a match three times those before it, and once those of the longest pattern and one
+    /// more.
     pub fn find_in_counted(&self, haystack: &[u8], span: Span, tally: &mut Tally) -> Option<Match>
         requires { IsValidSpan haystack.now span }
         ensures leftmost { IsLeftmost self.now.query self.now.ignore_case haystack.now span result }
         ensures not_empty { IfSome result (λ found. found.start < found.end) }
         ensures bounded { ScansAtMost self.now.query.patterns span result tally.old tally.new }
     {
-        let (table, width) = (&self.classes.table, self.classes.width);
-        let Some(ended) = last_ended(table, self.rows.as_slice(), width, haystack, span, tally)
-        else {
-            return None;
-        };
+        let answer = self.table().search(haystack, span, false, tally);
+        let ended = answer.unwrap_or(None)?;
+        Some(self.match_by(haystack, span, ended))
+    }
+
+    /// Answers as [`Dfa::find_in`] by one walk through the span, which takes longer where matches are rare. It adds each
+    /// byte that it looks up to a tally, as scanned: each byte of the span at most once, all where nothing is found, and
+    /// else at least those up to the match's end, and none that is further behind its start than the longest pattern is
+    /// long.
+    pub fn find_in_once(&self, haystack: &[u8], span: Span, tally: &mut Tally) -> Option<Match>
+        requires { IsValidSpan haystack.now span }
+        ensures leftmost { IsLeftmost self.now.query self.now.ignore_case haystack.now span result }
+        ensures not_empty { IfSome result (λ found. found.start < found.end) }
+        ensures bounded { ScansOnce self.now.query.patterns span result tally.old tally.new }
+    {
+        let answer = self.table().search_once(haystack, span, false, tally);
+        let ended = answer.unwrap_or(None)?;
+        Some(self.match_by(haystack, span, ended))
+    }
+
+    /// The match of a pattern by its end.
+    fn match_by(&self, haystack: &[u8], span: Span, ended: Ended) -> Match
+        requires valid { IsValidSpan haystack.now span }
+        requires leftmost { IsLeftmostMatch self.now.query self.now.ignore_case haystack.now span
+            (match_by self.now.query.patterns ended) }
+        ensures { result ≡ match_by self.now.query.patterns ended }
+    {
+        prove!(span.end <= haystack.len());
         let pattern = ended.pattern as usize;
         let start = ended.end - self.patterns[pattern].len();
         let end = ended.end;
-        Some(Match::must(pattern, Span { start, end }))
+        Match::must(pattern, Span { start, end })
+    }
+
+    /// The numbers by which it searches.
+    fn table(&self) -> Table<'_>
+        ensures { IsTableOf result self.now.query self.now.ignore_case }
+    {
+        Table {
+            classes: &self.classes.table,
+            width: self.classes.width,
+            rows: self.rows.as_slice(),
+            longest: self.longest,
+        }
     }
 
     /// All matches in the haystack, from the left, none of which overlaps another: first the leftmost match of the
@@ -260,8 +300,8 @@ impl Dfa {
         self.earliest_end_counted(haystack, span, &mut Tally::new())
     }
 
-    /// Answers as [`Dfa::earliest_end`], and adds each byte that it looks up to a tally, as scanned: each up to that
-    /// end once, and none behind it.
+    /// Answers as [`Dfa::earliest_end`], and adds each byte that it looks up to a tally, as scanned: at most three times
+    /// those up to that end, or those of the span where nothing ends.
     pub fn earliest_end_counted(
         &self,
         haystack: &[u8],
@@ -270,14 +310,23 @@ impl Dfa {
     ) -> Option<usize>
         requires { IsValidSpan haystack.now span }
         ensures end { IsEarliestEnd self.now.query.patterns self.now.ignore_case haystack.now span result }
+        ensures bounded { ScansToEndAtMost span result tally.old tally.new }
+    {
+        let answer = self.table().search(haystack, span, true, tally);
+        let ended = answer.unwrap_or(None)?;
+        Some(ended.end)
+    }
+
+    /// Answers as [`Dfa::earliest_end`] by one walk through the span, which takes longer where matches are rare. It adds
+    /// each byte that it looks up to a tally, as scanned: each up to that end once, and none behind it.
+    pub fn earliest_end_once(&self, haystack: &[u8], span: Span, tally: &mut Tally) -> Option<usize>
+        requires { IsValidSpan haystack.now span }
+        ensures end { IsEarliestEnd self.now.query.patterns self.now.ignore_case haystack.now span result }
         ensures bounded { ScansToEnd span result tally.old tally.new }
     {
-        let (table, width) = (&self.classes.table, self.classes.width);
-        let Some(stop) = first_ended(table, self.rows.as_slice(), width, haystack, 0, span, tally)
-        else {
-            return None;
-        };
-        Some(stop.end)
+        let answer = self.table().search_once(haystack, span, true, tally);
+        let ended = answer.unwrap_or(None)?;
+        Some(ended.end)
     }
 
     /// Whether a pattern occurs in the haystack.
@@ -286,7 +335,9 @@ impl Dfa {
             × Occurs self.now.query.patterns self.now.ignore_case haystack.now (whole_of haystack.now) i at) }
         ensures told { result ≡ one_occurs self.now.query.patterns self.now.ignore_case haystack.now }
     {
-        self.find(haystack).is_some()
+        let end = haystack.len();
+        self.earliest_end(haystack, Span { start: 0, end })
+            .is_some()
     }
 
     /// Writes the search into the first places of an array, and answers how many these are: about as many as the
@@ -339,6 +390,17 @@ fn copies<'a, I: IntoIterator<Item = &'a [u8]>>(
         push_copy(alloc, &mut all, bytes)?;
     }
     Ok(all)
+}
+
+/// How long the longest of some patterns is, and 0 where there is none.
+fn longest_len(patterns: &[Vec<u8>]) -> usize
+    ensures { result ≡ longest_of (map (λ pattern. pattern.items) patterns.now) }
+{
+    let mut longest: usize = 0;
+    for pattern in patterns {
+        longest = longest.max(pattern.len());
+    }
+    longest
 }
 
 /// Adds a copy of a pattern. Without memory the list stays as it was.

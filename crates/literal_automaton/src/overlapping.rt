@@ -1,5 +1,5 @@
 //! A search for everything that occurs.
-ghost use Rattle.std.specs.Prelude.{◌≡◌, ◌+◌, ◌<◌, length, IfErr, IfOk, IfSome, MatchOption, None, OnErr, Some};
+ghost use Rattle.std.specs.Prelude.{◌≡◌, ◌+◌, ◌<◌, ◌≤◌, length, IfErr, IfOk, IfSome, MatchOption, None, OnErr, Some};
 ghost use Rattle.std.specs.Option.{option_map};
 ghost use Rattle.literal_base.specs.MatchValue.{MatchValue};
 ghost use Rattle.literal_base.specs.Occurs.{IsValidSpan, between, whole_of};
@@ -7,6 +7,7 @@ ghost use Rattle.literal_base.specs.declared.search.MatchKind.TheVariants.{Stand
 ghost use Rattle.literal_packed.specs.Lending.{CanBeTaken};
 ghost use Rattle.literal_automaton.specs.DfaValue.{CanBeKept, NeedFewStates, NeedTooManyStates, RefusesDfa};
 ghost use Rattle.literal_automaton.specs.Earliest.{ScansToEnd};
+ghost use Rattle.literal_automaton.specs.Inside.Walk.{FindsEnd, IsRow};
 ghost use Rattle.literal_automaton.specs.Overlapping.{BuildsOverlapping};
 ghost use Rattle.literal_automaton.specs.OverlappingMatchesValue.{GivesOverlapping, IsNextToCome, IsToCome};
 ghost use Rattle.literal_automaton.specs.OverlappingMatchesValue.{gone_on, most_overlapping};
@@ -15,12 +16,12 @@ ghost use Rattle.literal_automaton.specs.declared.standing.Standing.{Standing};
 ghost use Rattle.literal_automaton.specs.Inside.Standing.{HaveSameToCome, IsStanding, longest_at};
 ghost use Rattle.literal_automaton.specs.Inside.Standing.{overlapping_value, standing_at, standing_value, tables_of};
 
-use crate::classes::{Classes, classes_for};
+use crate::classes::{ClassNumbers, classes_for};
 use crate::ends::{Lists, Recognised};
 use crate::prepared::{OVERLAPPING_VERSION, PrepareError, write};
 use crate::rows::{Rows, rows_for};
 use crate::standing::Standing;
-use crate::walk::{Stop, first_ended};
+use crate::walk::{Stop, Table};
 use crate::{BuildError, copies};
 use literal_base::count::Tally;
 use literal_base::search::MatchKind;
@@ -51,7 +52,7 @@ pub struct Overlapping {
 struct Parts {
     ignore_case: bool,
     patterns: Vec<Vec<u8>>,
-    classes: Classes,
+    classes: ClassNumbers,
     rows: Rows,
     lists: Lists,
 }
@@ -97,7 +98,7 @@ impl Overlapping {
         let parts = Parts {
             ignore_case,
             patterns,
-            classes,
+            classes: classes.to_numbers(),
             rows,
             lists,
         };
@@ -210,18 +211,42 @@ impl Parts {
             start: standing.at,
             end: span.end,
         };
-        let (table, width) = (&self.classes.table, self.classes.width);
-        let place = standing.place;
-        let stop = first_ended(
-            table,
-            self.rows.as_slice(),
-            width,
-            haystack,
-            place,
-            rest,
-            tally,
-        )?;
+        let stop = self.first_ended(haystack, standing.place, rest, tally)?;
         Some(self.standing_at(stop))
+    }
+
+    /// The first place in a span behind which a pattern ends, and the row there, from a row on.
+    fn first_ended(
+        &self,
+        haystack: &[u8],
+        from: usize,
+        span: Span,
+        tally: &mut Tally,
+    ) -> Option<Stop>
+        requires parts { AreTables (tables_of self.now) }
+        requires row { IsRow self.now.classes.width self.now.rows from }
+        requires valid { IsValidSpan haystack.now span }
+        ensures first { FindsEnd self.now.classes.width self.now.rows from self.now.classes.table haystack.now span
+            result }
+        ensures inside { IfSome result (λ stop. (span.start < stop.end) × (stop.end ≤ span.end)) }
+        ensures bounded { ScansToEnd span (option_map (λ stop. stop.end) result) tally.old tally.new }
+    {
+        let answer = self.table().first_ended(haystack, from, span, tally);
+        answer.unwrap_or(None)
+    }
+
+    /// What a walk reads of them.
+    fn table(&self) -> Table<'_>
+        ensures classes { result.classes.now ≡ self.now.classes.table }
+        ensures width { result.width ≡ self.now.classes.width }
+        ensures rows { result.rows.now ≡ self.now.rows }
+    {
+        Table {
+            classes: &self.classes.table,
+            width: self.classes.width,
+            rows: self.rows.as_slice(),
+            longest: 0,
+        }
     }
 
     /// Where a walk stands that stopped where a pattern ends: before all patterns that end there.

@@ -1,16 +1,18 @@
 //! A search as numbers in an array that its caller lends: written once, and then searched by, with no memory of its
 //! own. A search does not trust the array: where a number leads out of it, the search says so.
-ghost use Rattle.std.specs.Prelude.{◌≡◌, ◌+◌, ◌-◌, ◌<◌, ◌≤◌, ◌^◌, ◌↔◌, length, map};
-ghost use Rattle.std.specs.Prelude.{ℕ, IfErr, IfOk, IfSome, IsTrue, MatchBool, MatchResult, OnErr};
+ghost use Rattle.std.specs.Prelude.{◌≡◌, ◌+◌, ◌-◌, ◌*◌, ◌<◌, ◌≤◌, ◌^◌, ◌↔◌, length, map};
+ghost use Rattle.std.specs.Prelude.{ℕ, IfErr, IfOk, IfSome, IsTrue, MatchResult, OnErr};
 ghost use Rattle.std.specs.Prelude.{slice_index, slice_range};
 ghost use Rattle.std.specs.Result.{IsOkAnd};
 ghost use Rattle.literal_base.specs.Occurs.{IsValidSpan};
 ghost use Rattle.literal_base.specs.Leftmost.{IsLeftmost};
 ghost use Rattle.literal_automaton.specs.Prepared.{AreShort, ForPrepared, HasParts, IsWhole, LiesIn, check_of};
-ghost use Rattle.literal_automaton.specs.Inside.Prepared.{IsFront, Puts, RefusesArray, numbers_for};
+ghost use Rattle.literal_automaton.specs.DfaValue.{ScansAtMost};
+ghost use Rattle.literal_automaton.specs.Inside.Prepared.{IsFront, Puts, RefusesArray, numbers_for, table_of};
 
-use crate::classes::Classes;
-use crate::walk::last_ended_in_lent;
+use crate::classes::ClassNumbers;
+use crate::longest_len;
+use crate::walk::Table;
 use literal_base::count::Tally;
 use literal_base::{Match, Span};
 use literal_ids::PatternID;
@@ -19,14 +21,14 @@ use std::fmt;
 use std::marker::Model;
 
 /// What the first number of a prepared search for the leftmost match is.
-pub const PREPARED_VERSION: u32 = 0x4C50_0001;
+pub const PREPARED_VERSION: u32 = 0x4C50_0002;
 
 /// What that of one for everything that occurs is.
-pub const OVERLAPPING_VERSION: u32 = 0x4C4F_0001;
+pub const OVERLAPPING_VERSION: u32 = 0x4C4F_0002;
 
-/// Where the classes of all bytes begin, behind the version, the check, the width, and how many patterns and places in
-/// the rows there are.
-pub const CLASSES_AT: usize = 5;
+/// Where the classes of all bytes begin, behind the version, the check, the width, how many patterns and places in the
+/// rows there are, and how long the longest pattern is.
+pub const CLASSES_AT: usize = 6;
 
 /// Where the lengths of the patterns begin. Behind them stand the rows.
 pub const LENGTHS_AT: usize = CLASSES_AT + 256;
@@ -80,6 +82,21 @@ pub struct Front<'p> {
     pub width: usize,
     pub lengths: &'p [u32],
     pub rows: &'p [u32],
+    pub longest: usize,
+}
+
+impl<'p> Front<'p> {
+    /// What a walk reads of them.
+    pub fn table(&self) -> Table<'p>
+        ensures { result ≡ table_of self.now }
+    {
+        Table {
+            classes: self.classes,
+            width: self.width,
+            rows: self.rows,
+            longest: self.longest,
+        }
+    }
 }
 
 /// Where these parts lie, where the first numbers say that they are those of a search of a version, and that the array
@@ -103,6 +120,7 @@ pub fn split<'p>(numbers: &'p [u32], version: u32) -> Result<Front<'p>, Damaged>
         width: numbers[2] as usize,
         lengths: &numbers[LENGTHS_AT..rows_at],
         rows: &numbers[rows_at..rows_at + places],
+        longest: numbers[5] as usize,
     })
 }
 
@@ -157,18 +175,21 @@ impl<'p> Prepared<'p> {
 
     /// The leftmost match in a span of the haystack, for which the same holds as for
     /// [`Dfa::find_in`](crate::Dfa::find_in). With numbers that were changed it may be another, or [`Damaged`]; but it
-    /// lies in the span, and is not empty.
+    /// lies in the span, is not empty, and names one of the patterns.
     pub fn find_in(&self, haystack: &[u8], span: Span) -> Result<Option<Match>, Damaged>
         requires { IsValidSpan haystack.now span }
         ensures prepared { ForPrepared self.now (λ query ignore_case. IsOkAnd result
             (IsLeftmost query ignore_case haystack.now span)) }
         ensures inside { IfOk result (λ answer. IfSome answer (LiesIn span)) }
+        ensures pattern { IfOk result (λ answer. IfSome answer
+            (λ found. found.pattern < slice_index self.now 3)) }
     {
         self.find_in_counted(haystack, span, &mut Tally::new())
     }
 
-    /// Answers as [`Prepared::find_in`], and adds each byte that it looks up to a tally, as scanned: each byte of
-    /// the span at most once, whatever the numbers are.
+    /// Answers as [`Prepared::find_in`], and adds each byte that it looks up to a tally, as scanned: at most three times
+    /// the bytes of the span, whatever the numbers are, and with those that were prepared as
+    /// [`Dfa::find_in_counted`](crate::Dfa::find_in_counted).
     pub fn find_in_counted(
         &self,
         haystack: &[u8],
@@ -178,13 +199,16 @@ impl<'p> Prepared<'p> {
         requires { IsValidSpan haystack.now span }
         ensures prepared { ForPrepared self.now (λ query ignore_case. IsOkAnd result
             (IsLeftmost query ignore_case haystack.now span)) }
+        ensures near { ForPrepared self.now (λ query ignore_case. IfOk result
+            (λ answer. ScansAtMost query.patterns span answer tally.old tally.new)) }
         ensures inside { IfOk result (λ answer. IfSome answer (LiesIn span)) }
+        ensures pattern { IfOk result (λ answer. IfSome answer
+            (λ found. found.pattern < slice_index self.now 3)) }
         ensures others { tally.new ≡ record tally.old { scanned = tally.new.scanned } }
-        ensures once { tally.new.scanned ≤ tally.old.scanned + (span.end - span.start) }
+        ensures most { tally.new.scanned ≤ tally.old.scanned + 3 * (span.end - span.start) }
     {
         let front = &self.front;
-        let (classes, rows, width) = (front.classes, front.rows, front.width);
-        let ended = last_ended_in_lent(classes, rows, width, haystack, span, tally)?;
+        let ended = front.table().search(haystack, span, false, tally)?;
         let Some(ended) = ended else {
             return Ok(None);
         };
@@ -205,7 +229,7 @@ impl<'p> Prepared<'p> {
 /// of which `starts` says where each begins.
 pub fn write(
     version: u32,
-    classes: &Classes,
+    classes: &ClassNumbers,
     patterns: &[Vec<u8>],
     rows: &[u32],
     starts: &[usize],
@@ -228,7 +252,8 @@ pub fn write(
         starts.now ends.now) array.old) }
     ensures as_before { OnErr result (array.new ≡ array.old) }
 {
-    if has_long(patterns) {
+    let longest = longest_len(patterns);
+    if longest > u32::MAX as usize {
         return Err(PrepareError::PatternTooLong);
     }
     if ends.len() > u32::MAX as usize {
@@ -242,9 +267,13 @@ pub fn write(
         return Err(PrepareError::ArrayTooShort(needed));
     }
     let width = classes.width as u32;
-    let front = [version, 0, width, patterns.len() as u32, rows.len() as u32];
-    put_numbers(array, 0, &front);
-    put_classes(array, &classes.table);
+    let (count, places) = (patterns.len() as u32, rows.len() as u32);
+    put_numbers(
+        array,
+        0,
+        &[version, 0, width, count, places, longest as u32],
+    );
+    put_numbers(array, CLASSES_AT, &classes.table);
     put_lengths(array, patterns);
     put_numbers(array, rows_at, rows);
     put_starts(array, starts_at, starts);
@@ -253,35 +282,12 @@ pub fn write(
     Ok(needed)
 }
 
-/// Whether a pattern has 2^32 bytes or more.
-fn has_long(patterns: &[Vec<u8>]) -> bool
-    ensures { MatchBool result (¬ AreShort (map (λ pattern. pattern.items) patterns.now))
-        (AreShort (map (λ pattern. pattern.items) patterns.now)) }
-{
-    for pattern in patterns {
-        if pattern.len() > u32::MAX as usize {
-            return true;
-        }
-    }
-    false
-}
-
 /// Writes numbers into an array, from a place on.
 fn put_numbers(array: &mut [u32], at: usize, numbers: &[u32])
     requires { at + length numbers.now ≤ length array.old }
     ensures { Puts at numbers.now array.old array.new }
 {
     array[at..at + numbers.len()].copy_from_slice(numbers);
-}
-
-/// Writes the classes of bytes.
-fn put_classes(array: &mut [u32], classes: &[u8])
-    requires { CLASSES_AT + length classes.now ≤ length array.old }
-    ensures { Puts CLASSES_AT classes.now array.old array.new }
-{
-    for (i, class) in classes.iter().enumerate() {
-        array[CLASSES_AT + i] = u32::from(*class);
-    }
 }
 
 /// Writes the lengths of the patterns.

@@ -17,7 +17,7 @@ ghost use Rattle.literal_automaton.specs.declared.standing.Standing.{Standing};
 
 use crate::prepared::{Damaged, Front, LENGTHS_AT, OVERLAPPING_VERSION, is_checked, split};
 use crate::standing::Standing;
-use crate::walk::{Stop, first_ended_in_lent};
+use crate::walk::Stop;
 use literal_base::count::Tally;
 use literal_base::{Match, Span};
 use std::marker::Model;
@@ -207,10 +207,8 @@ impl<'p> LentTables<'p> {
             start: standing.at,
             end: span.end,
         };
-        let (classes, rows, width) = (self.front.classes, self.front.rows, self.front.width);
-        let place = standing.place;
-        let stop = first_ended_in_lent(classes, rows, width, haystack, place, rest, tally)?;
-        let Some(stop) = stop else {
+        let table = self.front.table();
+        let Some(stop) = table.first_ended(haystack, standing.place, rest, tally)? else {
             return Ok(None);
         };
         Ok(Some(self.standing_at(stop)?))

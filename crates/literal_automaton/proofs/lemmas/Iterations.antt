@@ -8,7 +8,7 @@ use Rattle.literal_base.specs.Greedy.{IsGreedy, RefusesList}
 use Rattle.literal_base.specs.Occurs.{NothingOccurs, rest_from, whole_of}
 use Rattle.literal_base.specs.Query.{Query}
 use Rattle.literal_packed.proofs.lemmas.GreedyLists.{found_occurs}
-use Rattle.literal_automaton.specs.DfaValue.{ScansAtMost, ScansListAtMost}
+use Rattle.literal_automaton.specs.DfaValue.{ScansAtMost, ScansListAtMost, longest_of}
 use Rattle.literal_automaton.specs.Inside.Dfa.{ScansTo}
 
 -- only one count changes
@@ -27,9 +27,10 @@ pub scans_more : (patterns : List (List ℕ)) (done : List MatchValue) (old now 
     → ScansTo patterns found.end (length (done ++ found ∷ [])) old new
 scans_more patterns done old now new rest found before more some = record {
   others = scanned_on old now new before.others more.others;
-  near = λ longest each.
-      let last = before.near longest each in
-      let next = more.near longest each in
+  near =
+      let longest = longest_of patterns in
+      let last = before.near in
+      let next = more.near in
       let count = length-append done (found ∷ []) in
       let product : length (done ++ found ∷ []) * longest ≡ length done * longest + longest =
       ap (λ n. n * longest) count ∙ one_more (length done) longest in
@@ -41,7 +42,7 @@ pub scans_found : (patterns : List (List ℕ)) (haystack : List ℕ) (matches at
     → at ≤ length haystack → ScansTo patterns at matches old new → ScansListAtMost patterns haystack matches old new
 scans_found patterns haystack matches at old new within before = record {
   others = before.others;
-  near = λ longest each. omega (arith, before.near longest each);
+  near = omega (arith, before.near);
 }
 
 -- where memory is refused for the list a pattern occurs
@@ -65,8 +66,8 @@ pub scans_all : (patterns : List (List ℕ)) (haystack : List ℕ) (matches : �
     → ScansAtMost patterns rest None now new → ScansListAtMost patterns haystack matches old new
 scans_all patterns haystack matches old now new rest within to_end before more = record {
   others = scanned_on old now new before.others more.others;
-  near = λ longest each.
-      let last = before.near longest each in
-      let once = more.once in
-      omega (arith, last, once);
+  near =
+      let last = before.near in
+      let most = more.most in
+      omega (arith, last, most);
 }

@@ -81,16 +81,16 @@ are_for p lent search prepared = record {
 
 -- where the rows end, and how many lengths there are, by the parts of an array
 pub parts_end : {version : ℕ} (f : Front) (numbers : List ℕ) → f.numbers.now ≡ numbers → IsFront version f
-    → (261 + length f.lengths.now + length f.rows.now ≡ prepared_len numbers)
+    → (262 + length f.lengths.now + length f.rows.now ≡ prepared_len numbers)
     × (length f.lengths.now ≡ get_or numbers 3 0)
 parts_end {version} f numbers same front =
     let own = f.numbers.now in
     let fits = front.parts.fits in
     let lengths = ap (λ (l : List ℕ). length l) front.lengths_are
-    ∙ length_part own 261 (rows_at own) (omega arith) (omega arith) in
+    ∙ length_part own 262 (rows_at own) (omega arith) (omega arith) in
     let rows = ap (λ (l : List ℕ). length l) front.rows_are
     ∙ length_part own (rows_at own) (prepared_len own) (omega arith) (omega arith) in
-    subst (λ (n : List ℕ). (261 + length f.lengths.now + length f.rows.now ≡ prepared_len n)
+    subst (λ (n : List ℕ). (262 + length f.lengths.now + length f.rows.now ≡ prepared_len n)
     × (length f.lengths.now ≡ get_or n 3 0)) same (omega (arith, lengths, rows), omega (arith, lengths))
 
 -- there is the length of each pattern
@@ -218,7 +218,7 @@ module _ (t : Tables) (tables : AreTables t) where
   long : length t.starts ≡ length t.patterns + 1
   long = tables.lists.long
 
-  size : length all_of ≡ 261 + length t.patterns + length t.rows + length t.starts + length t.ends
+  size : length all_of ≡ 262 + length t.patterns + length t.rows + length t.starts + length t.ends
   size = numbers_long OVERLAPPING_VERSION t.classes t.width t.patterns t.rows t.starts t.ends tables.classes.each
 
   ends_at_is : ends_at all_of ≡ prepared_len all_of + length t.starts
@@ -290,7 +290,7 @@ module _ (t : Tables) (tables : AreTables t) where
     unfolding TakesListedPlaces
     takes_all =
         have_tables (λ rows ends starts. length all_of
-        ≡ 261 + length t.patterns + rows + length starts + length ends) size
+        ≡ 262 + length t.patterns + rows + length starts + length ends) size
 
     long_lists : 2 ^ 32 ≤ length t.ends → HasLongLists (overlapping_value t)
     unfolding HasLongLists

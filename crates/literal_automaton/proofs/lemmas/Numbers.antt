@@ -5,6 +5,7 @@ use Rattle.std.proofs.Math.Seq.{drop-append_seam, take-append_seam}
 use Rattle.std.proofs.lemmas.List.{length-drop, length-map}
 use Rattle.std.specs.List.{slice_range}
 use Rattle.literal_automaton.specs.Inside.Prepared.{Puts, RefusesArray, numbers_for}
+use Rattle.literal_automaton.specs.DfaValue.{longest_of}
 use Rattle.literal_automaton.specs.Prepared.{RefusesNumbers, WritesNumbers, check_of, classes_in, lengths_in}
 use Rattle.literal_automaton.specs.Prepared.{prepared_len, rows_in}
 use Rattle.literal_automaton.specs.declared.prepared.PrepareError.{PrepareError}
@@ -31,16 +32,16 @@ module _ (version : ℕ) (classes : List ℕ) (width : ℕ) (patterns : List (Li
     numbers = numbers_for version classes width patterns rows starts ends
 
     abbrev body : List ℕ
-    body = width ∷ length patterns ∷ length rows ∷ classes ++ lengths ++ rows ++ starts ++ ends
+    body = width ∷ length patterns ∷ length rows ∷ longest_of patterns ∷ classes ++ lengths ++ rows ++ starts ++ ends
 
     abbrev head : List ℕ
-    head = version ∷ check_of body ∷ width ∷ length patterns ∷ length rows ∷ []
+    head = version ∷ check_of body ∷ width ∷ length patterns ∷ length rows ∷ longest_of patterns ∷ []
 
     many : length lengths ≡ length patterns
     many = length-map patterns (λ (bytes : List ℕ). length bytes)
 
     -- how many they are
-    pub numbers_long : length numbers ≡ 261 + length patterns + length rows + length starts + length ends
+    pub numbers_long : length numbers ≡ 262 + length patterns + length rows + length starts + length ends
     numbers_long = omega (
       arith,
       length-append (classes ++ lengths ++ rows ++ starts) ends,
@@ -63,21 +64,21 @@ module _ (version : ℕ) (classes : List ℕ) (width : ℕ) (patterns : List (Li
 
     pub classes_written : classes_in numbers ≡ classes
     classes_written =
-        part_at numbers head classes (lengths ++ (rows ++ (starts ++ ends))) 5 261 (ap (λ l. head ++ l) behind_classes)
+        part_at numbers head classes (lengths ++ (rows ++ (starts ++ ends))) 6 262 (ap (λ l. head ++ l) behind_classes)
         refl (omega (arith, each))
 
     pub lengths_written : lengths_in numbers ≡ lengths
     lengths_written =
-        part_at numbers (head ++ classes) lengths (rows ++ (starts ++ ends)) 261 (261 + length patterns)
+        part_at numbers (head ++ classes) lengths (rows ++ (starts ++ ends)) 262 (262 + length patterns)
         (ap (λ l. head ++ l) behind_classes) (omega (arith, length-append head classes, each)) (omega (arith, many))
 
-    upto_rows : length ((head ++ classes) ++ lengths) ≡ 261 + length patterns
+    upto_rows : length ((head ++ classes) ++ lengths) ≡ 262 + length patterns
     upto_rows = omega (arith, length-append (head ++ classes) lengths, length-append head classes, each, many)
 
     pub rows_written : rows_in numbers ≡ rows
     rows_written =
-        part_at numbers ((head ++ classes) ++ lengths) rows (starts ++ ends) (261 + length patterns)
-        (261 + length patterns + length rows) (ap (λ l. head ++ l) behind_lengths) (omega (arith, upto_rows))
+        part_at numbers ((head ++ classes) ++ lengths) rows (starts ++ ends) (262 + length patterns)
+        (262 + length patterns + length rows) (ap (λ l. head ++ l) behind_lengths) (omega (arith, upto_rows))
         (omega arith)
 
     upto_starts : length (((head ++ classes) ++ lengths) ++ rows) ≡ prepared_len numbers

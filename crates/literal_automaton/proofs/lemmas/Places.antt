@@ -25,7 +25,7 @@ part_of_first n numbers from to ordered inside =
 
 -- an array that has the same numbers as one that is prepared, as far as these go
 module _ (query : Query) (ignore_case : Bool) (old new : List ℕ)
-    (same : (k : ℕ) → k < 5 → get_or new k 0 ≡ get_or old k 0)
+    (same : (k : ℕ) → k < 6 → get_or new k 0 ≡ get_or old k 0)
     (parts : (from to : ℕ) → from ≤ to → to ≤ prepared_len old → slice_range new from to ≡ slice_range old from to)
     (fits : prepared_len old ≤ length new)
   where
@@ -51,16 +51,17 @@ module _ (query : Query) (ignore_case : Bool) (old new : List ℕ)
 
     pub prepared_as : IsPrepared query ignore_case old → IsPrepared query ignore_case new
     prepared_as prepared =
-        let classes_same : classes_in new ≡ classes_in old = parts 5 261 (omega arith) (omega arith) in
+        let classes_same : classes_in new ≡ classes_in old = parts 6 262 (omega arith) (omega arith) in
         let width_same : width_in new ≡ width_in old = same 2 (omega arith) in
         let lengths_same : lengths_in new ≡ lengths_in old =
-        ap (slice_range new 261) rows_same ∙ parts 261 (rows_at old) (omega arith) (omega arith) in
+        ap (slice_range new 262) rows_same ∙ parts 262 (rows_at old) (omega arith) (omega arith) in
         let rows_are : rows_in new ≡ rows_in old =
         ap (λ from. slice_range new from (prepared_len new)) rows_same
         ∙ (ap (slice_range new (rows_at old)) len_same
         ∙ parts (rows_at old) (prepared_len old) (omega arith) (omega arith)) in
         record {
           whole = is_whole prepared.whole;
+          longest = same 5 (omega arith) ∙ prepared.longest;
           classes = subst (λ (w : ℕ). AreClasses (classes_in new) w) (sym width_same)
               (subst (λ (c : List ℕ). AreClasses c (width_in old)) (sym classes_same) prepared.classes);
           tells = subst (λ (c : List ℕ). Tells ignore_case c query.patterns) (sym classes_same) prepared.tells;
@@ -142,7 +143,7 @@ module _ (search : OverlappingValue) (old new : List ℕ)
                 ∙ ap check_of
                 (sym (part_is 2 (listed_len old) 2 (listed_len new) refl listed_is (omega arith) (omega arith))));
           };
-          tables = same_tables search _ _ _ _ _ _ _ _ _ _ (sym (parts 5 261 (omega arith) (omega arith)))
+          tables = same_tables search _ _ _ _ _ _ _ _ _ _ (sym (parts 6 262 (omega arith) (omega arith)))
               (sym (same 2 (omega arith)))
               (sym (part_is (rows_at old) (prepared_len old) (rows_at new) (prepared_len new) rows_is len_is
               (omega arith) (omega arith)))
@@ -150,7 +151,7 @@ module _ (search : OverlappingValue) (old new : List ℕ)
               (omega arith) (omega arith)))
               (sym (part_is (prepared_len old) (ends_at old) (prepared_len new) (ends_at new) len_is ends_is
               (omega arith) (omega arith))) prepared.tables;
-          lengths = part_is 261 (rows_at old) 261 (rows_at new) refl rows_is (omega arith) (omega arith)
+          lengths = part_is 262 (rows_at old) 262 (rows_at new) refl rows_is (omega arith) (omega arith)
               ∙ prepared.lengths;
         }
 

@@ -12,7 +12,12 @@ use Rattle.literal_base.specs.declared.packed.MatchKind.{MatchKind}
 use Rattle.literal_base.specs.declared.search.Span.{Span}
 use Rattle.literal_automaton.specs.DfaValue.{CanBeKept}
 use Rattle.literal_automaton.specs.Inside.Classes.{AreClasses, Tells, symbols_in}
-use Rattle.literal_automaton.specs.Inside.Prepared.{IsSplit, Puts, RefusesArray, numbers_for}
+use Rattle.literal_automaton.specs.Inside.Scan.{IsTableOf, match_by}
+use Rattle.literal_automaton.specs.Inside.Prepared.{IsFront, IsSplit, table_of}
+use Rattle.literal_automaton.specs.declared.prepared.Front.{Front}
+use Rattle.literal_automaton.specs.declared.walk.Table.{Table}
+use Rattle.literal_base.specs.MatchValue.{MatchValue}
+use Rattle.literal_automaton.specs.Inside.Prepared.{Puts, RefusesArray, numbers_for}
 use Rattle.literal_automaton.specs.Inside.Dfa.{IsSound, patterns_in}
 use Rattle.literal_automaton.specs.Inside.Walk.{FindsIn, IsFound, IsTable, text_of}
 use Rattle.literal_automaton.specs.Prepared.{IsPrepared, RefusesToPrepare, TakesPlaces, WritesPrepared, classes_in}
@@ -27,7 +32,6 @@ use Rattle.literal_automaton.proofs.lemmas.Found.{found_pattern, found_start, le
 use Rattle.literal_automaton.proofs.lemmas.Found.{some_symbols}
 use Rattle.literal_automaton.proofs.lemmas.Numbers.{check_written, classes_written, lengths_written, numbers_long}
 use Rattle.literal_automaton.proofs.lemmas.Numbers.{numbers_refused, numbers_written, rows_written}
-use Rattle.literal_automaton.proofs.lemmas.Walk.{table_of}
 
 -- the length of a part of a list
 pub length_part : (numbers : List ℕ) (from to : ℕ) → from ≤ to → to ≤ length numbers
@@ -36,15 +40,15 @@ length_part numbers from to ordered inside =
     omega (arith, length-take (to - from) (drop from numbers), length-drop from numbers)
 
 -- there is a class for each byte
-pub classes_long : {version : ℕ} {numbers classes : List ℕ} {width : ℕ} {lengths rows : List ℕ}
-    → IsSplit version numbers classes width lengths rows → length classes ≡ 256
+pub classes_long : {version : ℕ} {numbers classes : List ℕ} {width : ℕ} {lengths rows : List ℕ} {longest : ℕ}
+    → IsSplit version numbers classes width lengths rows longest → length classes ≡ 256
 classes_long {version} {numbers} split =
     let fits = split.parts.fits in
-    ap (λ (l : List ℕ). length l) split.classes_are ∙ length_part numbers 5 261 (omega arith) (omega arith)
+    ap (λ (l : List ℕ). length l) split.classes_are ∙ length_part numbers 6 262 (omega arith) (omega arith)
 
 -- an array that is prepared, in its parts
-module _ {version : ℕ} {numbers classes : List ℕ} {width : ℕ} {lengths rows : List ℕ}
-    (split : IsSplit version numbers classes width lengths rows) {query : Query} {ignore_case : Bool}
+module _ {version : ℕ} {numbers classes : List ℕ} {width : ℕ} {lengths rows : List ℕ} {longest : ℕ}
+    (split : IsSplit version numbers classes width lengths rows longest) {query : Query} {ignore_case : Bool}
     (prepared : IsPrepared query ignore_case numbers)
   where
     are_classes : AreClasses classes width
@@ -67,9 +71,6 @@ module _ {version : ℕ} {numbers classes : List ℕ} {width : ℕ} {lengths row
         (map (symbols_in (classes_in numbers)) query.patterns)
         (width_in numbers) r) (sym split.rows_are) prepared.recognises))
 
-    is_table : IsTable width rows
-    is_table = table_of (root_kind_of query.kind) (map (symbols_in classes) query.patterns) width rows recognises
-
     -- there is the length of each pattern
     pub lengths_many : length lengths ≡ length query.patterns
     lengths_many =
@@ -81,54 +82,48 @@ module _ {version : ℕ} {numbers classes : List ℕ} {width : ℕ} {lengths row
         ap (λ (l : List ℕ). get_or l i 0) (split.lengths_are ∙ prepared.lengths)
         ∙ get_or-map (λ (bytes : List ℕ). length bytes) query.patterns i [] 0 below
 
-    -- no walk by it says that it is damaged
-    pub not_damaged : ¬ (AreClasses classes width → IsTable width rows → ⊥)
-    not_damaged damaged = damaged are_classes is_table
+-- so are those of a lent array by which a walk goes
+pub table_for : {version : ℕ} (f : Front) → IsFront version f → (query : Query) (ignore_case : Bool)
+    → IsPrepared query ignore_case f.numbers.now → IsTableOf (table_of f) query ignore_case
+table_for f split query ignore_case prepared = record {
+  classes = are_classes split prepared;
+  tells = tells split prepared;
+  recognises = recognises split prepared;
+  some = prepared.kept.some;
+  longest = split.longest_is ∙ prepared.longest;
+}
 
-    module _ (haystack : List ℕ) (bytes : (i : ℕ) → get_or haystack i 0 < 256) (span : Span)
-        (valid : IsValidSpan haystack span) {answer : Option Ended}
-        (finds : AreClasses classes width → IsTable width rows
-        → FindsIn width rows span.start (text_of classes haystack span) answer)
-      where
-        found_by : (o : Option Ended) → answer ≡ o
-            → IsFound query.kind (map (symbols_in classes) query.patterns) span.start (text_of classes haystack span) o
-        found_by o is =
-            subst (λ (o : Option Ended). IsFound query.kind (map (symbols_in classes) query.patterns) span.start
-            (text_of classes haystack span) o) is
-            (finds are_classes is_table query.kind (map (symbols_in classes) query.patterns) recognises
-            (some_symbols classes query.patterns prepared.kept.some))
+pub is_for : {version : ℕ} (f : Front) → IsFront version f → (t : Table) → t ≡ table_of f → (query : Query)
+    (ignore_case : Bool) → IsPrepared query ignore_case f.numbers.now → IsTableOf t query ignore_case
+is_for f split t same query ignore_case prepared =
+    subst (λ t. IsTableOf t query ignore_case) (sym same) (table_for f split query ignore_case prepared)
 
-        pub nothing_by : answer ≡ None → NothingOccurs query.patterns ignore_case haystack span
-        nothing_by is =
-            nothing_found ignore_case classes query.patterns tells haystack bytes span valid prepared.kept.some
-            query.kind (found_by None is)
+-- what is found by it is the match with the length that the array has
+module _ {version : ℕ} (f : Front) (split : IsFront version f) (query : Query) (ignore_case : Bool)
+    (prepared : IsPrepared query ignore_case f.numbers.now) (haystack : List ℕ) (span : Span) (e : Ended)
+    (found : IsLeftmostMatch query ignore_case haystack span (match_by query.patterns e))
+  where
+    pub pattern_by : e.pattern < length f.lengths.now
+    pattern_by = let below = found.occurs.is_pattern in omega (arith, below, lengths_many split prepared)
 
-        module _ (e : Ended) (is : answer ≡ Some e) where
-          below_by : e.pattern < length query.patterns
-          below_by =
-              found_pattern ignore_case classes query.patterns tells haystack bytes span valid prepared.kept.some
-              query.kind e (found_by (Some e) is)
+    -- the match lies in the span, and is not empty
+    pub inside_by : (0 < get_or f.lengths.now e.pattern 0) × (span.start + get_or f.lengths.now e.pattern 0 ≤ e.end)
+    inside_by =
+        let some = prepared.kept.some e.pattern [] found.occurs.is_pattern in
+        let size = length_at split prepared e.pattern found.occurs.is_pattern in
+        let after = found.occurs.after_start in
+        let whole = found.whole in
+        (omega arith, omega arith)
 
-          -- there is the length of its pattern
-          pub pattern_by : e.pattern < length lengths
-          pattern_by = omega (arith, below_by, lengths_many)
-
-          -- the match lies in the span, and is not empty
-          pub inside_by : (0 < get_or lengths e.pattern 0) × (span.start + get_or lengths e.pattern 0 ≤ e.end)
-          inside_by =
-              let start = found_start ignore_case classes query.patterns tells haystack bytes span valid
-              prepared.kept.some query.kind e (found_by (Some e) is) in
-              let some = prepared.kept.some e.pattern [] below_by in
-              let size = length_at e.pattern below_by in
-              (omega arith, omega arith)
-
-          pub leftmost_by : IsLeftmostMatch query ignore_case haystack span
-              (record { pattern = e.pattern; start = e.end - get_or lengths e.pattern 0; end = e.end })
-          leftmost_by =
-              subst (λ (n : ℕ). IsLeftmostMatch query ignore_case haystack span
-              (record { pattern = e.pattern; start = e.end - n; end = e.end })) (sym (length_at e.pattern below_by))
-              (leftmost_found ignore_case classes query.patterns tells haystack bytes span valid prepared.kept.some
-              query.kind e (found_by (Some e) is))
+    pub match_is : match_by query.patterns e
+        ≡ (let m : MatchValue = record {
+          pattern = e.pattern;
+          start = e.end - get_or f.lengths.now e.pattern 0;
+          end = e.end;
+        } in m)
+    match_is =
+        ap (λ n. let m : MatchValue = record { pattern = e.pattern; start = e.end - n; end = e.end } in m)
+        (sym (length_at split prepared e.pattern found.occurs.is_pattern))
 
 -- what is written for a search is prepared for its patterns
 module _ (classes : List ℕ) (width : ℕ) (kind : MatchKind) (ignore_case : Bool) (patterns : List (List ℕ))
@@ -153,6 +148,7 @@ module _ (classes : List ℕ) (width : ℕ) (kind : MatchKind) (ignore_case : Bo
             check = check_written PREPARED_VERSION classes width patterns rows [] [] are.each (prepared_len numbers)
                 (omega (arith, long));
           };
+          longest = refl;
           classes = subst (λ (c : List ℕ). AreClasses c width) (sym first) are;
           tells = subst (λ (c : List ℕ). Tells ignore_case c patterns) (sym first) told;
           lengths = lengths_written PREPARED_VERSION classes width patterns rows [] [] are.each;

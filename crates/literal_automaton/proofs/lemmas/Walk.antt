@@ -22,12 +22,14 @@ use Rattle.literal_automaton.specs.Inside.Classes.{AreClasses, symbols_in}
 use Rattle.literal_automaton.specs.Inside.Grown.{ending_held}
 use Rattle.literal_automaton.specs.Inside.Walk.{FindsIn, IsAt, IsBehind, IsBest, IsFirst, IsFound, IsRow, IsTable}
 use Rattle.literal_automaton.specs.Inside.Walk.{Reads}
-use Rattle.literal_automaton.specs.Inside.Walk.{FindsEnd, GoesOn, IsFirstEnd, NoneEnds, StopsNear, from_match, place_of}
-use Rattle.literal_automaton.specs.Inside.Walk.{read_to, text_of}
+use Rattle.literal_automaton.specs.Inside.Walk.{Finds, FindsEarliest, FindsEnd, GoesOn, IsFirstEnd, NoneEnds, ReadsAll, StopsBy}
+use Rattle.literal_automaton.specs.Inside.Walk.{StopsNear, from_match, place_of, read_to, text_in, text_of}
 use Rattle.literal_automaton.specs.Table.{LeadsTo, Leads, Recognises, code_of, nothing, stride_of}
 use Rattle.literal_automaton.specs.Words.{begins_one, ending, first_equal, held, word_of}
 use Rattle.literal_automaton.specs.declared.walk.Ended.{Ended}
 use Rattle.literal_automaton.specs.declared.walk.Stop.{Stop}
+use Rattle.literal_automaton.specs.declared.walk.Table.{Table}
+use Rattle.literal_automaton.specs.declared.walk.Walked.TheVariants.{Known}
 use Rattle.literal_automaton.proofs.lemmas.Behind.{ending_by_held}
 use Rattle.literal_automaton.proofs.lemmas.Ends.{ending_is, from_match_dead, from_match_held}
 use Rattle.literal_automaton.proofs.lemmas.Ends.{from_match_push, from_match_short, held_is_short, pushed}
@@ -315,6 +317,16 @@ module _ (kind : MatchKind) (patterns : List (List ℕ)) (some : NoneIsEmpty pat
               on.1 (omega (arith, end_is, length-append text (symbol ∷ [])));
         }
 
+    -- where it leads to none there is a match
+    pub dead_has_one : code ≡ nothing → ¬ (last ≡ None)
+    dead_has_one is_dead none =
+        let on = at_dead (root_kind_of kind) patterns width rows recognises text place behind.at symbol below code
+        code_is is_dead in
+        let found = subst (λ (o : Option Ended). IsFound kind patterns start (text ++ symbol ∷ []) o) none
+        (found_push kind patterns some start text symbol last on.1 behind.found) in
+        let is = from_match_dead kind patterns (text ++ symbol ∷ []) [] on.0 in
+        omega (arith, is.2, ap (λ (l : List ℕ). length l) found)
+
     -- where it leads to none the last match is that of the text, however it goes on
     pub dead_on : code ≡ nothing → (more : List ℕ) → IsFound kind patterns start (text ++ symbol ∷ more) last
     dead_on is_dead more =
@@ -431,6 +443,11 @@ module _ (width : ℕ) (rows : List ℕ) (table : IsTable width rows) (start : �
       finds_dead is_dead more = λ kind patterns recognises some. dead_on kind patterns some width rows recognises start
           text place last (reads.behind kind patterns recognises some) symbol below code code_is is_dead more
 
+      pub reads_dead : code ≡ nothing → last ≡ None → (kind : MatchKind) (patterns : List (List ℕ))
+          → Recognises (root_kind_of kind) patterns width rows → NoneIsEmpty patterns → ⊥
+      reads_dead is_dead none kind patterns recognises some = dead_has_one kind patterns some width rows recognises start
+          text place last (reads.behind kind patterns recognises some) symbol below code code_is is_dead none
+
   -- behind all bytes
   pub finds_all : (text : List ℕ) (place : ℕ) (last : Option Ended) → Reads width rows start text place last
       → FindsIn width rows start text last
@@ -467,6 +484,11 @@ pub stops_nearer : (last : Option Ended) (place before longest : ℕ) (patterns 
 stops_nearer None place before longest patterns earlier near = tt
 stops_nearer (Some e) place before longest patterns earlier near = omega arith
 
+pub near_before : (width : ℕ) (rows : List ℕ) (place before : ℕ) (answer : Option Ended) → before ≤ place
+    → StopsNear width rows place answer → StopsNear width rows before answer
+near_before width rows place before answer earlier near kind patterns recognises some longest short =
+    stops_nearer answer place before longest patterns earlier (near kind patterns recognises some longest short)
+
 -- one byte more of a span
 module _ (classes rows haystack : List ℕ) (width : ℕ) (are : AreClasses classes width) (table : IsTable width rows)
     (start at : ℕ) (after : start ≤ at) (inside : at < length haystack) (is_byte : get_or haystack at 0 < 256)
@@ -499,6 +521,38 @@ module _ (classes rows haystack : List ℕ) (width : ℕ) (are : AreClasses clas
           (finds_dead width rows table start (text_of classes haystack (between start at)) place last reads
           (get_or classes (get_or haystack at 0) 0) (are.below (get_or haystack at 0) is_byte) code code_is is_dead
           (text_of classes haystack (between (at + 1) end)))
+
+      -- where no more bytes matter there is a match
+      pub step_dead_has_one : code ≡ nothing → last ≡ None → (kind : MatchKind) (patterns : List (List ℕ))
+          → Recognises (root_kind_of kind) patterns width rows → NoneIsEmpty patterns → ⊥
+      step_dead_has_one =
+          reads_dead width rows table start (text_of classes haystack (between start at)) place last reads
+          (get_or classes (get_or haystack at 0) 0) (are.below (get_or haystack at 0) is_byte) code code_is
+
+-- what is found is the match of the span, if that is asked for
+pub finds_by : (t : Table) (haystack : List ℕ) (span : Span) (is_earliest : Bool) (last : Option Ended)
+    → (is_earliest ≡ true → last ≡ None)
+    → FindsIn t.width t.rows.now span.start (text_in t haystack span.start span.end) last
+    → Finds t haystack span is_earliest last
+finds_by t haystack span is_earliest None none finds = finds
+finds_by t haystack span false (Some e) none finds = finds
+finds_by t haystack span true (Some e) none finds =
+    let never : ⊥ = let some = none refl in cc in absurd never
+
+-- and the one that ends first
+pub finds_first : (t : Table) (haystack : List ℕ) (span : Span) (is_earliest : Bool) (e : Ended) → is_earliest ≡ true
+    → FindsEarliest t haystack span.start e → Finds t haystack span is_earliest (Some e)
+finds_first t haystack span true e is finds = finds
+finds_first t haystack span false e is finds =
+    let never : ⊥ = cc in absurd never
+
+-- how far a walk goes that knows what it found
+pub stops_by : (t : Table) (span : Span) (steps place : ℕ) (last : Option Ended)
+    → (last ≡ None → ReadsAll t span steps) → place ≡ span.start + steps - 1
+    → StopsNear t.width t.rows.now place last → StopsBy t span steps (Known last)
+stops_by t span steps place None all is near = all refl
+stops_by t span steps place (Some e) all is near =
+    subst (λ (n : ℕ). StopsNear t.width t.rows.now n (Some e)) is near
 
 -- what `get` answers, if it answers, is the number there
 pub got_is : (numbers : List ℕ) (i : ℕ) (answer : Option (Bor ℕ)) (item : Bor ℕ) → IsItemAt numbers i answer

@@ -68,14 +68,14 @@ puts_behind at front numbers old now new at_is before puts =
     ∙ sym (append_assoc front numbers (drop (length (front ++ numbers)) old))))
 
 -- the parts of a prepared search, one behind the other, and the check over them
-module _ (version width patterns places : ℕ) (classes lengths rows starts ends old : List ℕ)
+module _ (version width patterns places longest : ℕ) (classes lengths rows starts ends old : List ℕ)
     (each : length classes ≡ 256) (lengths_are : length lengths ≡ patterns) (rows_are : length rows ≡ places)
   where
     abbrev body : List ℕ
-    body = width ∷ patterns ∷ places ∷ classes ++ lengths ++ rows ++ starts ++ ends
+    body = width ∷ patterns ∷ places ∷ longest ∷ classes ++ lengths ++ rows ++ starts ++ ends
 
     -- how many they are
-    pub size_of_all : length (checked version body) ≡ 261 + patterns + places + length starts + length ends
+    pub size_of_all : length (checked version body) ≡ 262 + patterns + places + length starts + length ends
     size_of_all = omega (
       arith,
       length-append (classes ++ lengths ++ rows ++ starts) ends,
@@ -85,29 +85,29 @@ module _ (version width patterns places : ℕ) (classes lengths rows starts ends
     )
 
     pub puts_all : (first second third fourth fifth last : List ℕ) (check : ℕ)
-        → Puts 0 (version ∷ 0 ∷ width ∷ patterns ∷ places ∷ []) old first
-        → Puts 5 classes first second → Puts 261 lengths second third → Puts (261 + patterns) rows third fourth
-        → Puts (261 + patterns + places) starts fourth fifth
-        → Puts (261 + patterns + places + length starts) ends fifth last
-        → check ≡ check_of (slice_range last 2 (261 + patterns + places + length starts + length ends))
+        → Puts 0 (version ∷ 0 ∷ width ∷ patterns ∷ places ∷ longest ∷ []) old first
+        → Puts 6 classes first second → Puts 262 lengths second third → Puts (262 + patterns) rows third fourth
+        → Puts (262 + patterns + places) starts fourth fifth
+        → Puts (262 + patterns + places + length starts) ends fifth last
+        → check ≡ check_of (slice_range last 2 (262 + patterns + places + length starts + length ends))
         → Puts 0 (checked version body) old (set last 1 check)
     puts_all first second third fourth fifth last check a b c d e f check_is =
-        let front = version ∷ 0 ∷ width ∷ patterns ∷ places ∷ [] in
-        let needed = 261 + patterns + places + length starts + length ends in
+        let front = version ∷ 0 ∷ width ∷ patterns ∷ places ∷ longest ∷ [] in
+        let needed = 262 + patterns + places + length starts + length ends in
         let size : length (checked version body) ≡ needed = size_of_all in
         let rest = drop needed old in
         let one = puts_behind 0 [] front old old first refl refl a in
-        let two = puts_behind 5 front classes old first second refl one b in
-        let three = puts_behind 261 (front ++ classes) lengths old second third
+        let two = puts_behind 6 front classes old first second refl one b in
+        let three = puts_behind 262 (front ++ classes) lengths old second third
         (omega (arith, length-append front classes)) two c in
-        let four = puts_behind (261 + patterns) ((front ++ classes) ++ lengths) rows old third fourth
+        let four = puts_behind (262 + patterns) ((front ++ classes) ++ lengths) rows old third fourth
         (omega (arith, length-append (front ++ classes) lengths, length-append front classes)) three d in
         let upto_rows = length-append ((front ++ classes) ++ lengths) rows in
         let upto_lengths = length-append (front ++ classes) lengths in
         let upto_classes = length-append front classes in
-        let five = puts_behind (261 + patterns + places) (((front ++ classes) ++ lengths) ++ rows) starts old fourth
+        let five = puts_behind (262 + patterns + places) (((front ++ classes) ++ lengths) ++ rows) starts old fourth
         fifth (omega (arith, upto_rows, upto_lengths, upto_classes)) four e in
-        let six = puts_behind (261 + patterns + places + length starts)
+        let six = puts_behind (262 + patterns + places + length starts)
         ((((front ++ classes) ++ lengths) ++ rows) ++ starts) ends old fifth last
         (omega (
           arith,

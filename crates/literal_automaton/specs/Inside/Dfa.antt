@@ -3,7 +3,7 @@ use Rattle.std.specs.Prelude.{◌≡◌, ◌+◌, ◌*◌, ◌≤◌, ℕ, List,
 use Rattle.std.specs.List.{All}
 use Rattle.literal_base.specs.Counts.{Counts}
 use Rattle.literal_base.specs.Kinds.{root_kind_of}
-use Rattle.literal_automaton.specs.DfaValue.{CanBeKept, DfaValue, dfa_for, width_for}
+use Rattle.literal_automaton.specs.DfaValue.{CanBeKept, DfaValue, dfa_for, longest_of, width_for}
 use Rattle.literal_automaton.specs.Inside.Classes.{AreClasses, Tells, symbols_in}
 use Rattle.literal_automaton.specs.States.{IsRowsLength}
 use Rattle.literal_automaton.specs.Table.{Recognises}
@@ -31,6 +31,7 @@ pub record IsSound (a : Inside) : Type 0 where
   pub width : a.classes.width ≡ width_for a.ignore_case (patterns_in a)
   pub rows : IsRowsLength (root_kind_of a.kind) (map (symbols_in a.classes.table) (patterns_in a)) a.classes.width
       (length a.rows)
+  pub longest : a.longest ≡ longest_of (patterns_in a)
   pub kept : CanBeKept (patterns_in a)
 
 -- the error of the same name
@@ -41,5 +42,4 @@ IsErrorOf grow_error.TooManyStates error = error ≡ TooManyStates
 -- what searches one after another scan up to the place from which the next one goes on
 pub record ScansTo (patterns : List (List ℕ)) (at matches : ℕ) (old now : Counts) : Type 0 where
   pub others : now ≡ record old { scanned = now.scanned }
-  pub near : (longest : ℕ) → All (λ (bytes : List ℕ). length bytes ≤ longest) patterns
-      → now.scanned ≤ old.scanned + at + matches * longest
+  pub near : now.scanned ≤ old.scanned + 3 * at + matches * longest_of patterns

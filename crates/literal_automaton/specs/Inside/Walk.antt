@@ -1,6 +1,6 @@
 -- What a walk through the rows of an automaton finds.
-use Rattle.std.specs.Prelude.{◌≡◌, ℕ, ◌+◌, ◌*◌, ◌-◌, ◌<◌, ◌≤◌, ◌⊎◌, ◌^◌, true, false, List, [], ◌∷◌, ◌++◌, Option}
-use Rattle.std.specs.Prelude.{None, Some}
+use Rattle.std.specs.Prelude.{◌≡◌, ℕ, ◌+◌, ◌*◌, ◌-◌, ◌<◌, ◌≤◌, ◌⊎◌, ◌^◌, Bool, true, false, List, [], ◌∷◌, ◌++◌}
+use Rattle.std.specs.Prelude.{⊤, Option, None, Some}
 use Rattle.std.specs.Prelude.{MatchOption, IfSome, IsSome, length}
 use Rattle.std.specs.Prelude.{if◌then◌else◌, nat_eq, nat_lt, slice_index, slice_range}
 use Rattle.std.specs.List.{starts_with}
@@ -15,6 +15,9 @@ use Rattle.literal_automaton.specs.Table.{Recognises, nothing, stride_of}
 use Rattle.literal_automaton.specs.Words.{ending, held, one_stands, word_of}
 use Rattle.literal_automaton.specs.declared.walk.Ended.{Ended}
 use Rattle.literal_automaton.specs.declared.walk.Stop.{Stop}
+use Rattle.literal_automaton.specs.declared.walk.Table.{Table}
+use Rattle.literal_automaton.specs.declared.walk.Walked.{Walked}
+use Rattle.literal_automaton.specs.declared.walk.Walked.TheVariants.{Anew, Known}
 
 -- at the place the row of a state begins
 pub record IsRow (width : ℕ) (rows : List ℕ) (place : ℕ) : Type 0 where
@@ -132,3 +135,65 @@ pub record GoesOn (width : ℕ) (rows : List ℕ) (from : ℕ) (classes haystack
       (text : List ℕ) → IsAt kind patterns width rows recognises text from
       → IsAt kind patterns width rows recognises (read_to text classes haystack start at) place
       × NoneEnds kind patterns text classes haystack start at
+
+-- no pattern stands at any place of a text, however it goes on, for all patterns, none empty, that the rows recognise
+abbrev pub BeginsAnew : ℕ → List ℕ → List ℕ → Type 0
+BeginsAnew width rows text =
+    (kind : MatchKind) (patterns : List (List ℕ)) → Recognises (root_kind_of kind) patterns width rows
+    → NoneIsEmpty patterns → (more : List ℕ) → from_match patterns (text ++ more) ≡ from_match patterns more
+
+-- the classes of the bytes from one place to another
+abbrev pub text_in : Table → List ℕ → ℕ → ℕ → List ℕ
+text_in t haystack start end = text_of t.classes.now haystack (between start end)
+
+-- up to one byte before its end no pattern stands in the span, and up to its end it is the match
+pub record FindsEarliest (t : Table) (haystack : List ℕ) (start : ℕ) (e : Ended) : Type 0 where
+  pub before : FindsIn t.width t.rows.now start (text_in t haystack start (e.end - 1)) None
+  pub there : FindsIn t.width t.rows.now start (text_in t haystack start e.end) (Some e)
+
+-- the match of the span, or the one that ends first
+abbrev pub Finds : Table → List ℕ → Span → Bool → Option Ended → Type 0
+Finds t haystack span is_earliest None =
+    FindsIn t.width t.rows.now span.start (text_in t haystack span.start span.end) None
+Finds t haystack span false (Some e) =
+    FindsIn t.width t.rows.now span.start (text_in t haystack span.start span.end) (Some e)
+Finds t haystack span true (Some e) = FindsEarliest t haystack span.start e
+
+-- a walk knows it, or no pattern stands before the place where it ended
+abbrev pub Walks : Table → List ℕ → Span → Bool → Walked → Type 0
+Walks t haystack span is_earliest (Known answer) = Finds t haystack span is_earliest answer
+Walks t haystack span is_earliest (Anew at) =
+    BeginsAnew t.width t.rows.now (text_in t haystack span.start at)
+
+-- all bytes of a span were read, for all patterns, none empty, that the rows recognise
+abbrev pub ReadsAll : Table → Span → ℕ → Type 0
+ReadsAll t span steps =
+    (kind : MatchKind) (patterns : List (List ℕ)) → Recognises (root_kind_of kind) patterns t.width t.rows.now
+    → NoneIsEmpty patterns → steps ≡ span.end - span.start
+
+-- how far a walk goes that knows the answer: to the end of the span where there is none, and else at most as far behind
+-- the place of the match as the longest pattern is long
+abbrev pub StopsBy : Table → Span → ℕ → Walked → Type 0
+StopsBy t span steps (Known None) = ReadsAll t span steps
+StopsBy t span steps (Known (Some e)) = StopsNear t.width t.rows.now (span.start + steps - 1) (Some e)
+StopsBy t span steps (Anew at) = ⊤
+
+-- whatever the numbers are, it goes as far as its answer says, and no further where that is the first end, or none is
+-- known
+abbrev pub WalksFar : Span → Bool → ℕ → Walked → Type 0
+WalksFar span is_earliest steps (Known None) = ⊤
+WalksFar span is_earliest steps (Known (Some e)) =
+    (e.end ≤ span.start + steps) × (is_earliest ≡ true → e.end ≡ span.start + steps)
+WalksFar span is_earliest steps (Anew at) = at ≡ span.start + steps
+
+-- its answer lies in the span, and where none is known, behind the least place
+abbrev pub LiesWithin : Span → ℕ → Walked → Type 0
+LiesWithin span least (Known None) = ⊤
+LiesWithin span least (Known (Some e)) = (span.start < e.end) × (e.end ≤ span.end)
+LiesWithin span least (Anew at) = (span.start < at) × (at ≤ span.end) × (least < at)
+
+-- nothing is found in any of four spans of one length that begin one block behind another
+abbrev pub NoneInFour : Table → List ℕ → ℕ → ℕ → ℕ → Type 0
+NoneInFour t haystack at block len =
+    (k : ℕ) → k < 4 → FindsIn t.width t.rows.now (at + k * block)
+    (text_in t haystack (at + k * block) (at + k * block + len)) None

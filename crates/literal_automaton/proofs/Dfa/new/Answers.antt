@@ -3,8 +3,11 @@ use Rattle.std.proofs.lemmas.List.{length-map}
 use Rattle.std.specs.Global.{Global}
 use Rattle.std.specs.declared.vec.Vec.{Vec}
 use Rattle.literal_base.specs.Kinds.{root_kind_of}
-use Rattle.literal_automaton.specs.DfaValue.{NeedTooManyStates, width_for}
+use Rattle.literal_automaton.specs.DfaValue.{NeedTooManyStates, longest_of, width_for}
 use Rattle.literal_automaton.specs.Inside.Classes.{Tells}
+use Rattle.literal_automaton.specs.Inside.Dfa.{IsSound}
+use Rattle.literal_automaton.specs.declared.Dfa.TheInside.{Inside}
+use Rattle.literal_automaton.specs.declared.classes.ClassNumbers.{ClassNumbers}
 use Rattle.literal_automaton.specs.States.{HasTooManyStates, IsRowsLength}
 use Rattle.literal_automaton.specs.Table.{Recognises}
 use Rattle.literal_automaton.proofs.lemmas.Built.{holds_in, holds_of, refused_rows}
@@ -21,7 +24,14 @@ rows_for-requires-clause-one g c none =
 pub invariant_of-result : goal.invariant_of-result
 invariant_of-result g c =
     let classes = c.classes_for-classes.result in
-    record {
+    subst (λ (n : ClassNumbers). let a : Inside = record {
+      kind = c.args.kind;
+      ignore_case = c.args.ignore_case;
+      patterns = c.in_ok-patterns.patterns;
+      classes = n;
+      rows = c.in_ok-rows.rows;
+      longest = c.longest_len-longest.result;
+    } in IsSound a) (sym c.to_numbers.ensures) (record {
       classes = c.classes_for-classes.ensures.classes;
       tells = subst (λ (patterns : List (Vec ℕ Global)). Tells c.args.ignore_case classes.table
           (map (λ (pattern : Vec ℕ Global). pattern.items) patterns)) c.deref.ensures.value
@@ -35,8 +45,10 @@ invariant_of-result g c =
       rows = holds_of (λ kind texts. IsRowsLength kind texts classes.width (length c.in_ok-rows.rows))
           c.args.kind c.root_kind.result classes.table c.deref-2.result.now c.in_ok-patterns.patterns.items
           c.root_kind.ensures c.deref-2.ensures.value c.in_ok-rows.ensures.states;
+      longest = c.longest_len-longest.ensures ∙ ap (λ (patterns : List (Vec ℕ Global)). longest_of
+          (map (λ (pattern : Vec ℕ Global). pattern.items) patterns)) c.deref-3.ensures.value;
       kept = c.in_ok-patterns.ensures.ok.5;
-    }
+    })
 
 pub returns-in_err-rows-clause-error : goal.returns-in_err-rows-clause-error
 unfolding NeedTooManyStates

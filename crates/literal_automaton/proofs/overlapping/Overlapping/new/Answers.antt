@@ -8,7 +8,11 @@ use Rattle.literal_automaton.specs.DfaValue.{NeedTooManyStates, width_for}
 use Rattle.literal_automaton.specs.Inside.Classes.{Tells, symbols_in}
 use Rattle.literal_automaton.specs.Inside.Lists.{AreLists, starts_of}
 use Rattle.literal_automaton.specs.States.{HasTooManyStates, IsRowsLength}
+use Rattle.literal_automaton.specs.Inside.Standing.{tables_of}
+use Rattle.literal_automaton.specs.PreparedOverlapping.{AreSized, AreTables}
 use Rattle.literal_automaton.specs.Table.{Recognises}
+use Rattle.literal_automaton.specs.declared.classes.ClassNumbers.{ClassNumbers}
+use Rattle.literal_automaton.specs.declared.overlapping.Parts.{Parts}
 use Rattle.literal_automaton.proofs.lemmas.Built.{holds_in, refused_lists, refused_rows, same_texts}
 use Rattle.literal_automaton.proofs.lemmas.Found.{some_symbols}
 use Rattle.literal_automaton.proofs.lemmas.Rows.{one_class}
@@ -85,7 +89,14 @@ pub invariant_of-result : goal.invariant_of-result
 invariant_of-result g c =
     let classes = c.classes_for-classes.result in
     let patterns = c.in_ok-patterns.patterns.items in
-    let texts_are = same_texts classes.table c.deref-2.result.now patterns c.deref-2.ensures.value in (
+    let texts_are = same_texts classes.table c.deref-2.result.now patterns c.deref-2.ensures.value in
+    subst (λ (n : ClassNumbers). let p : Parts = record {
+      ignore_case = c.args.ignore_case;
+      patterns = c.in_ok-patterns.patterns;
+      classes = n;
+      rows = c.in_ok-rows.rows;
+      lists = c.in_ok-lists.lists;
+    } in AreTables (tables_of p) × AreSized (tables_of p)) (sym c.to_numbers.ensures) (
       record {
         classes = c.classes_for-classes.ensures.classes;
         tells = subst (λ (patterns : List (Vec ℕ Global)). Tells c.args.ignore_case classes.table

@@ -19,20 +19,13 @@ returns-then-standing-span-clause-to_come c =
     (λ k. omega (arith, c.type_inv.haystack k))
     c.args.span c.requires.valid c.args.standing c.requires.standing c.if-standing.false c.if-standing-span.true
 
-pub first_ended-requires-clause-table : goal.first_ended-requires-clause-table
-first_ended-requires-clause-table c =
-    let p = tables_of c.args.self.now in
-    subst (IsTable p.width) (sym c.as_slice.ensures)
-    (table_of Standard (texts_in p) p.width p.rows c.requires.parts.recognises)
-
 pub first_ended-requires-clause-row : goal.first_ended-requires-clause-row
 first_ended-requires-clause-row c =
     let p = tables_of c.args.self.now in
     let inside = c.requires.standing.inside in
     let more : c.args.standing.at < c.args.span.end = omega arith in
-    subst (λ (rows : List ℕ). IsRow p.width rows c.args.standing.place) (sym c.as_slice.ensures)
-    (row_at Standard (texts_in p) p.width p.rows c.requires.parts.recognises _ c.args.standing.place
-    (c.requires.standing.stands more c.requires.parts.recognises))
+    row_at Standard (texts_in p) p.width p.rows c.requires.parts.recognises _ c.args.standing.place
+    (c.requires.standing.stands more c.requires.parts.recognises)
 
 pub returns-in_err-stop-clause-to_come : goal.returns-in_err-stop-clause-to_come
 returns-in_err-stop-clause-to_come c =
@@ -46,8 +39,7 @@ returns-in_err-stop-clause-to_come c =
     (standing_value p c.args.haystack.now c.args.span here))) (sym c.from_residual.ensures)
     (none_to_come p c.requires.parts c.args.haystack.now (λ k. omega (arith, c.type_inv.haystack k)) c.args.span
     c.requires.valid s c.requires.standing more
-    (subst (λ (rows : List ℕ). FindsEnd p.width rows s.place p.classes c.args.haystack.now
-    (between s.at c.args.span.end) None) c.as_slice.ensures c.in_err-stop.ensures.first) c.if-standing.false)
+    c.in_err-stop.ensures.first c.if-standing.false)
 
 pub standing_at-requires-clause-row : goal.standing_at-requires-clause-row
 standing_at-requires-clause-row c =
@@ -57,9 +49,7 @@ standing_at-requires-clause-row c =
     let more : s.at < c.args.span.end = omega arith in
     let ends = c.in_ok-stop.ensures.inside in
     row_inside p c.requires.parts c.args.haystack.now (λ k. omega (arith, c.type_inv.haystack k)) c.args.span
-    c.requires.valid s c.requires.standing more c.in_ok-stop.stop
-    (subst (λ (rows : List ℕ). FindsEnd p.width rows s.place p.classes c.args.haystack.now
-    (between s.at c.args.span.end) (Some c.in_ok-stop.stop)) c.as_slice.ensures c.in_ok-stop.ensures.first)
+    c.requires.valid s c.requires.standing more c.in_ok-stop.stop c.in_ok-stop.ensures.first
     ends.0 ends.1
 
 pub standing_at-requires-clause-listed : goal.standing_at-requires-clause-listed
@@ -70,9 +60,7 @@ standing_at-requires-clause-listed c =
     let more : s.at < c.args.span.end = omega arith in
     let ends = c.in_ok-stop.ensures.inside in
     let below = longest_below p c.requires.parts c.args.haystack.now (λ k. omega (arith, c.type_inv.haystack k))
-    c.args.span c.requires.valid s c.requires.standing more c.in_ok-stop.stop
-    (subst (λ (rows : List ℕ). FindsEnd p.width rows s.place p.classes c.args.haystack.now
-    (between s.at c.args.span.end) (Some c.in_ok-stop.stop)) c.as_slice.ensures c.in_ok-stop.ensures.first)
+    c.args.span c.requires.valid s c.requires.standing more c.in_ok-stop.stop c.in_ok-stop.ensures.first
     ends.0 ends.1 in
     omega (arith, below, c.requires.parts.lists.long)
 
@@ -85,9 +73,7 @@ returns-clause-stands c =
     let ends = c.in_ok-stop.ensures.inside in
     subst (IsStanding p c.args.haystack.now c.args.span) (sym c.standing_at.ensures)
     (stands_there p c.requires.parts c.args.haystack.now (λ k. omega (arith, c.type_inv.haystack k)) c.args.span
-    c.requires.valid s c.requires.standing more c.in_ok-stop.stop
-    (subst (λ (rows : List ℕ). FindsEnd p.width rows s.place p.classes c.args.haystack.now
-    (between s.at c.args.span.end) (Some c.in_ok-stop.stop)) c.as_slice.ensures c.in_ok-stop.ensures.first)
+    c.requires.valid s c.requires.standing more c.in_ok-stop.stop c.in_ok-stop.ensures.first
     ends.0 ends.1)
 
 pub returns-clause-more : goal.returns-clause-more
@@ -99,9 +85,7 @@ returns-clause-more c =
     let ends = c.in_ok-stop.ensures.inside in
     subst (λ (here : Standing). here.next < here.end) (sym c.standing_at.ensures)
     (some_left p c.requires.parts c.args.haystack.now (λ k. omega (arith, c.type_inv.haystack k)) c.args.span
-    c.requires.valid s c.requires.standing more c.in_ok-stop.stop
-    (subst (λ (rows : List ℕ). FindsEnd p.width rows s.place p.classes c.args.haystack.now
-    (between s.at c.args.span.end) (Some c.in_ok-stop.stop)) c.as_slice.ensures c.in_ok-stop.ensures.first)
+    c.requires.valid s c.requires.standing more c.in_ok-stop.stop c.in_ok-stop.ensures.first
     ends.0 ends.1)
 
 pub returns-clause-to_come : goal.returns-clause-to_come
@@ -114,7 +98,5 @@ returns-clause-to_come c =
     subst (λ (here : Standing). HaveSameToCome (standing_value p c.args.haystack.now c.args.span s)
     (standing_value p c.args.haystack.now c.args.span here)) (sym c.standing_at.ensures)
     (same_to_come p c.requires.parts c.args.haystack.now (λ k. omega (arith, c.type_inv.haystack k)) c.args.span
-    c.requires.valid s c.requires.standing more c.in_ok-stop.stop
-    (subst (λ (rows : List ℕ). FindsEnd p.width rows s.place p.classes c.args.haystack.now
-    (between s.at c.args.span.end) (Some c.in_ok-stop.stop)) c.as_slice.ensures c.in_ok-stop.ensures.first)
+    c.requires.valid s c.requires.standing more c.in_ok-stop.stop c.in_ok-stop.ensures.first
     ends.0 ends.1 c.if-standing.false)

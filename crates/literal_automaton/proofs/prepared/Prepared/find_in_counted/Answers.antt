@@ -1,37 +1,50 @@
-use Rattle.std.proofs.Common.{arith, subst, sym}
+use Rattle.std.proofs.Common.{◌≡◌, ◌-◌, ◌+◌, ◌≤◌, ◌<◌, ℕ, List, None, Option, Some, ap, arith, false, get_or, length, refl}
+use Rattle.std.proofs.Common.{subst, sym, ◌∙◌}
 use Rattle.literal_base.specs.Leftmost.{IsLeftmostMatch}
 use Rattle.literal_base.specs.MatchValue.{MatchValue}
+use Rattle.literal_automaton.specs.DfaValue.{ScansAtMost}
+use Rattle.literal_automaton.specs.Inside.Scan.{Answers, SearchesTo, match_by}
 use Rattle.literal_automaton.specs.Prepared.{IsPrepared}
-use Rattle.literal_automaton.proofs.lemmas.Prepared.{classes_long, inside_by, leftmost_by, not_damaged, nothing_by}
-use Rattle.literal_automaton.proofs.lemmas.Prepared.{pattern_by}
+use Rattle.literal_automaton.specs.declared.walk.Table.{Table}
+use Rattle.literal_automaton.proofs.lemmas.Prepared.{classes_long, inside_by, is_for, match_is, pattern_by}
+use Rattle.literal_automaton.proofs.lemmas.Scan.{scans_at_most}
 use Rattle.literal_automaton.proofs.prepared.Prepared.find_in_counted.Goals as goal
 
-pub last_ended_in_lent-requires-clause-each : goal.last_ended_in_lent-requires-clause-each
-last_ended_in_lent-requires-clause-each c = classes_long c.self.invariant
+pub search-requires-clause-classes : goal.search-requires-clause-classes
+search-requires-clause-classes c =
+    subst (λ (t : Table). length t.classes.now ≡ 256) (sym c.table.ensures) (classes_long c.self.invariant)
 
 pub returns-in_err-ended-clause-prepared : goal.returns-in_err-ended-clause-prepared
 returns-in_err-ended-clause-prepared c = λ query ignore_case is.
     let prepared = subst (IsPrepared query ignore_case) (sym c.self.view_is) is in
-    absurd (not_damaged c.self.invariant prepared c.in_err-ended.ensures.found)
+    absurd (c.in_err-ended.ensures.found query ignore_case
+    (is_for c.self.inside.front c.self.invariant c.table.result c.table.ensures query ignore_case prepared))
 
 pub returns-in_default-clause-prepared : goal.returns-in_default-clause-prepared
 returns-in_default-clause-prepared c = λ query ignore_case is.
     let prepared = subst (IsPrepared query ignore_case) (sym c.self.view_is) is in
-    nothing_by c.self.invariant prepared c.args.haystack.now (λ k. omega (arith, c.type_inv.haystack k)) c.args.span
-    c.requires c.in_ok-ended.ensures.found c.in_default.is
+    subst (Answers false query ignore_case c.args.haystack.now c.args.span) c.in_default.is
+    (c.in_ok-ended.ensures.found query ignore_case
+    (is_for c.self.inside.front c.self.invariant c.table.result c.table.ensures query ignore_case prepared))
 
 pub returns-then-pattern-front-clause-prepared : goal.returns-then-pattern-front-clause-prepared
 returns-then-pattern-front-clause-prepared c = λ query ignore_case is.
     let prepared = subst (IsPrepared query ignore_case) (sym c.self.view_is) is in
-    let below = pattern_by c.self.invariant prepared c.args.haystack.now (λ k. omega (arith, c.type_inv.haystack k))
-    c.args.span c.requires c.in_ok-ended.ensures.found c.in-Some.ended c.in-Some.is in
+    let found = subst (Answers false query ignore_case c.args.haystack.now c.args.span) c.in-Some.is
+    (c.in_ok-ended.ensures.found query ignore_case
+    (is_for c.self.inside.front c.self.invariant c.table.result c.table.ensures query ignore_case prepared)) in
+    let below = pattern_by c.self.inside.front c.self.invariant query ignore_case prepared c.args.haystack.now
+    c.args.span c.in-Some.ended found in
     omega (arith, below, c.if-pattern-front.true)
 
 pub returns-then-len-eq0-clause-prepared : goal.returns-then-len-eq0-clause-prepared
 returns-then-len-eq0-clause-prepared c = λ query ignore_case is.
     let prepared = subst (IsPrepared query ignore_case) (sym c.self.view_is) is in
-    let inside = inside_by c.self.invariant prepared c.args.haystack.now (λ k. omega (arith, c.type_inv.haystack k))
-    c.args.span c.requires c.in_ok-ended.ensures.found c.in-Some.ended c.in-Some.is in
+    let found = subst (Answers false query ignore_case c.args.haystack.now c.args.span) c.in-Some.is
+    (c.in_ok-ended.ensures.found query ignore_case
+    (is_for c.self.inside.front c.self.invariant c.table.result c.table.ensures query ignore_case prepared)) in
+    let inside = inside_by c.self.inside.front c.self.invariant query ignore_case prepared c.args.haystack.now
+    c.args.span c.in-Some.ended found in
     elim c.then-len-eq0.branch [
       | goal.then-len-eq0-via-then-len-eq0 w ↦ omega (arith, inside.0, w.if-len-eq0.true)
       | goal.then-len-eq0-via-else-len-eq0+then-len-ended w ↦ omega (arith, inside.1, w.if-len-ended.true)
@@ -40,7 +53,25 @@ returns-then-len-eq0-clause-prepared c = λ query ignore_case is.
 pub returns-clause-prepared : goal.returns-clause-prepared
 returns-clause-prepared c = λ query ignore_case is.
     let prepared = subst (IsPrepared query ignore_case) (sym c.self.view_is) is in
-    subst (λ (m : MatchValue). IsLeftmostMatch query ignore_case c.args.haystack.now c.args.span m)
-    (sym c.must.ensures)
-    (leftmost_by c.self.invariant prepared c.args.haystack.now (λ k. omega (arith, c.type_inv.haystack k)) c.args.span
-    c.requires c.in_ok-ended.ensures.found c.in-Some.ended c.in-Some.is)
+    let found = subst (Answers false query ignore_case c.args.haystack.now c.args.span) c.in-Some.is
+    (c.in_ok-ended.ensures.found query ignore_case
+    (is_for c.self.inside.front c.self.invariant c.table.result c.table.ensures query ignore_case prepared)) in
+    let same = match_is c.self.inside.front c.self.invariant query ignore_case prepared c.args.haystack.now
+    c.args.span c.in-Some.ended found ∙ sym c.must.ensures in
+    subst (IsLeftmostMatch query ignore_case c.args.haystack.now c.args.span) same found
+
+pub returns-clause-near : goal.returns-clause-near
+returns-clause-near c = λ query ignore_case is.
+    let prepared = subst (IsPrepared query ignore_case) (sym c.self.view_is) is in
+    let found = subst (Answers false query ignore_case c.args.haystack.now c.args.span) c.in-Some.is
+    (c.in_ok-ended.ensures.found query ignore_case
+    (is_for c.self.inside.front c.self.invariant c.table.result c.table.ensures query ignore_case prepared)) in
+    let same = match_is c.self.inside.front c.self.invariant query ignore_case prepared c.args.haystack.now
+    c.args.span c.in-Some.ended found ∙ sym c.must.ensures in
+    let told = c.in_ok-ended.ensures in
+    let steps = c.search.new.tally.scanned - c.args.tally.now.scanned in
+    subst (λ (m : MatchValue). ScansAtMost query.patterns c.args.span (Some m) c.args.tally.now c.search.new.tally) same
+    (scans_at_most query ignore_case c.args.haystack.now c.args.span c.args.tally.now c.search.new.tally
+    c.in-Some.ended found told.others told.most
+    (subst (SearchesTo query.patterns c.args.span steps) c.in-Some.is (told.near refl query ignore_case
+    (is_for c.self.inside.front c.self.invariant c.table.result c.table.ensures query ignore_case prepared))))

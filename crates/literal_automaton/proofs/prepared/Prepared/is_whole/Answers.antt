@@ -11,10 +11,10 @@ returns c =
     let split = c.self.invariant in
     let fits = split.parts.fits in
     let lengths = ap (λ (l : List ℕ). length l) split.lengths_are
-    ∙ length_part numbers 261 (rows_at numbers) (omega arith) (omega arith) in
+    ∙ length_part numbers 262 (rows_at numbers) (omega arith) (omega arith) in
     let rows = ap (λ (l : List ℕ). length l) split.rows_are
     ∙ length_part numbers (rows_at numbers) (prepared_len numbers) (omega arith) (omega arith) in
-    let end_is : 261 + length p.lengths.now + length p.rows.now ≡ prepared_len numbers =
+    let end_is : 262 + length p.lengths.now + length p.rows.now ≡ prepared_len numbers =
     omega (arith, lengths, rows) in
     let check_is = ap (λ end. check_of (slice_range numbers 2 end)) end_is in (
       λ same. subst IsWhole c.self.view_is

@@ -11,7 +11,7 @@ returns-then-numbers-ends_at c = λ lists.
     let f = c.in_ok-front.front in
     let known = parts_end f numbers c.in_ok-front.ensures.0 c.in_ok-front.ensures.2 in
     let fits = lists.fits in
-    let last : 261 + length f.lengths.now + length f.rows.now + length f.lengths.now
+    let last : 262 + length f.lengths.now + length f.rows.now + length f.lengths.now
     ≡ prepared_len numbers + get_or numbers 3 0 = omega (arith, known.0, known.1) in
     omega (arith, known.0, known.1, fits, ap (λ k. get_or numbers k 0) last, c.if-numbers-ends_at.true)
 
@@ -21,12 +21,12 @@ invariant_of-result c =
     let f = c.in_ok-front.front in
     let same = c.in_ok-front.ensures.0 in
     let known = parts_end f numbers same c.in_ok-front.ensures.2 in
-    let last : 261 + length f.lengths.now + length f.rows.now + length f.lengths.now
+    let last : 262 + length f.lengths.now + length f.rows.now + length f.lengths.now
     ≡ prepared_len numbers + get_or numbers 3 0 = omega (arith, known.0, known.1) in
-    let ends : 261 + length f.lengths.now + length f.rows.now + length f.lengths.now + 1 ≡ ends_at numbers =
+    let ends : 262 + length f.lengths.now + length f.rows.now + length f.lengths.now + 1 ≡ ends_at numbers =
     omega (arith, last) in
-    let listed : 261 + length f.lengths.now + length f.rows.now + length f.lengths.now + 1
-    + get_or numbers (261 + length f.lengths.now + length f.rows.now + length f.lengths.now) 0 ≡ listed_len numbers =
+    let listed : 262 + length f.lengths.now + length f.rows.now + length f.lengths.now + 1
+    + get_or numbers (262 + length f.lengths.now + length f.rows.now + length f.lengths.now) 0 ≡ listed_len numbers =
     omega (arith, ends, ap (λ k. get_or numbers k 0) last) in
     record {
       front = c.in_ok-front.ensures.2;
@@ -35,11 +35,11 @@ invariant_of-result c =
         fits = omega (arith, listed, c.if-numbers-ends_at.false, c.if-numbers-last.false);
       });
       starts_are = ap (λ from. slice_range numbers from
-          (261 + length f.lengths.now + length f.rows.now + length f.lengths.now + 1)) known.0
+          (262 + length f.lengths.now + length f.rows.now + length f.lengths.now + 1)) known.0
           ∙ (ap (slice_range numbers (prepared_len numbers)) ends ∙ ap starts_in (sym same));
       ends_are = ap (λ from. slice_range numbers from
-          (261 + length f.lengths.now + length f.rows.now + length f.lengths.now + 1
-          + get_or numbers (261 + length f.lengths.now + length f.rows.now + length f.lengths.now) 0)) ends
+          (262 + length f.lengths.now + length f.rows.now + length f.lengths.now + 1
+          + get_or numbers (262 + length f.lengths.now + length f.rows.now + length f.lengths.now) 0)) ends
           ∙ (ap (slice_range numbers (ends_at numbers)) listed ∙ ap ends_in (sym same));
     }
 
@@ -48,7 +48,7 @@ returns c =
     let numbers = c.args.numbers.now in
     let f = c.in_ok-front.front in
     let known = parts_end f numbers c.in_ok-front.ensures.0 c.in_ok-front.ensures.2 in
-    let last : 261 + length f.lengths.now + length f.rows.now + length f.lengths.now
+    let last : 262 + length f.lengths.now + length f.rows.now + length f.lengths.now
     ≡ prepared_len numbers + get_or numbers 3 0 = omega (arith, known.0, known.1) in (
       c.in_ok-front.ensures.0,
       record {

@@ -1,18 +1,17 @@
-use Rattle.std.proofs.Common.{◌≡◌, ◌+◌, ◌-◌, ◌<◌, ◌∙◌, ℕ, ap, arith, get_or, length, refl, rules, subst}
+use Rattle.std.proofs.Common.{◌≡◌, ◌+◌, ◌-◌, ◌<◌, ◌∙◌, ℕ, ap, arith, get_or, length, refl, subst}
 use Rattle.literal_base.specs.Counts.{Counts}
 use Rattle.literal_automaton.specs.Inside.Walk.{GoesOn}
 use Rattle.literal_automaton.proofs.lemmas.Walk.{finds_dead_end, finds_end, finds_no_end, goes_further, goes_start}
-use Rattle.literal_automaton.proofs.lemmas.Walk.{got_is}
-use Rattle.literal_automaton.proofs.walk.first_ended_in_lent.Goals as goal
+use Rattle.literal_automaton.proofs.walk.Table.first_ended.Goals as goal
 
 pub loop-at-init : goal.loop-at-init
 loop-at-init c =
     let none : c.args.span.start - c.args.span.start ≡ 0 = omega arith in
     record {
       small = c.requires.small;
-      goes = λ are table row. goes_start c.args.width c.args.rows.now c.args.from c.args.classes.now c.args.haystack.now
+      goes = λ are table row. goes_start c.args.self.now.width c.args.self.now.rows.now c.args.from c.args.self.now.classes.now c.args.haystack.now
           c.args.span.start row;
-      counted = search rules;
+      counted = ap (λ (n : ℕ). let t : Counts = record c.args.tally.now { scanned = n } in t) (omega arith);
     }
 
 pub returns-in_err-code-clause-first : goal.returns-in_err-code-clause-first
@@ -21,37 +20,39 @@ returns-in_err-code-clause-first c = λ are table row.
     let at = c.loop-at.at in
     let below = are.below (get_or haystack at 0) (omega (arith, c.type_inv.haystack at)) in
     let fits = (c.loop-at.invariant.goes are table row).row.fits in
-    search (rules, below, fits)
+    let never : ⊥ = omega (arith, below, fits, c.in_err-code.ensures, c.class_at-class.ensures.class) in absurd never
 
 pub returns-then-code-clause-first : goal.returns-then-code-clause-first
 returns-then-code-clause-first c = λ are table row.
-    let classes = c.args.classes.now in
-    let rows = c.args.rows.now in
+    let classes = c.args.self.now.classes.now in
+    let rows = c.args.self.now.rows.now in
     let haystack = c.args.haystack.now in
     let at = c.loop-at.at in
     let inside : at < length haystack = omega (arith, c.loop-at-test.true, c.requires.valid.in_haystack) in
-    let code_is = got_is rows _ c.get.result c.in_ok-code.field-0 c.get.ensures.lookup c.in_ok-code.ensures.ok_part in
-    finds_dead_end c.args.width rows c.args.from classes haystack c.args.span.start table at
+    let code_is = c.in_ok-code.ensures.1
+    ∙ ap (λ k. get_or rows (c.loop-at.place + k) 0) c.class_at-class.ensures.class in
+    finds_dead_end c.args.self.now.width rows c.args.from classes haystack c.args.span.start table at
     c.loop-at.place (c.loop-at.invariant.goes are table row) c.loop-at.auto.at inside
-    (are.below (get_or haystack at 0) (omega (arith, c.type_inv.haystack at))) c.in_ok-code.field-0.now code_is
+    (are.below (get_or haystack at 0) (omega (arith, c.type_inv.haystack at))) c.in_ok-code.code code_is
     c.if-code.true c.args.span refl c.requires.valid.in_haystack
 
 pub returns-else-code-clause-first : goal.returns-else-code-clause-first
 returns-else-code-clause-first c = λ are table row.
-    let classes = c.args.classes.now in
-    let rows = c.args.rows.now in
+    let classes = c.args.self.now.classes.now in
+    let rows = c.args.self.now.rows.now in
     let haystack = c.args.haystack.now in
     let at = c.loop-at.at in
     let inside : at < length haystack = omega (arith, c.loop-at-test.true, c.requires.valid.in_haystack) in
-    let code_is = got_is rows _ c.get.result c.in_ok-code.field-0 c.get.ensures.lookup c.in_ok-code.ensures.ok_part in
-    finds_end c.args.width rows c.args.from classes haystack c.args.span.start table at
+    let code_is = c.in_ok-code.ensures.1
+    ∙ ap (λ k. get_or rows (c.loop-at.place + k) 0) c.class_at-class.ensures.class in
+    finds_end c.args.self.now.width rows c.args.from classes haystack c.args.span.start table at
     c.loop-at.place (c.loop-at.invariant.goes are table row) c.loop-at.auto.at inside
-    (are.below (get_or haystack at 0) (omega (arith, c.type_inv.haystack at))) c.in_ok-code.field-0.now code_is
+    (are.below (get_or haystack at 0) (omega (arith, c.type_inv.haystack at))) c.in_ok-code.code code_is
     c.if-code-lt-ENDS.false c.if-code.false c.args.span refl
 
 pub loop-at-preserved : goal.loop-at-preserved
 loop-at-preserved c =
-    let rows = c.args.rows.now in
+    let rows = c.args.self.now.rows.now in
     let haystack = c.args.haystack.now in
     let at = c.loop-at.at in
     let start = c.args.span.start in
@@ -59,14 +60,15 @@ loop-at-preserved c =
     let inside : at < length haystack = omega (arith, c.loop-at-test.true, c.requires.valid.in_haystack) in
     let more : c.args.tally.now.scanned + (at - start) + 1 ≡ c.args.tally.now.scanned + (at + 1 - start) =
     omega arith in
-    let code_is = got_is rows _ c.get.result c.in_ok-code.field-0 c.get.ensures.lookup c.in_ok-code.ensures.ok_part in
+    let code_is = c.in_ok-code.ensures.1
+    ∙ ap (λ k. get_or rows (c.loop-at.place + k) 0) c.class_at-class.ensures.class in
     record {
       small = omega (arith, c.if-code-lt-ENDS.true);
-      goes = λ are table row. goes_further c.args.width rows c.args.from c.args.classes.now haystack start table at
+      goes = λ are table row. goes_further c.args.self.now.width rows c.args.from c.args.self.now.classes.now haystack start table at
           c.loop-at.place (c.loop-at.invariant.goes are table row) c.loop-at.auto.at inside
-          (are.below (get_or haystack at 0) (omega (arith, c.type_inv.haystack at))) c.in_ok-code.field-0.now code_is
+          (are.below (get_or haystack at 0) (omega (arith, c.type_inv.haystack at))) c.in_ok-code.code code_is
           c.if-code-lt-ENDS.true;
-      counted = c.tick_scanned.ensures
+      counted = c.class_at-class.ensures.ticks
           ∙ (ap (λ (t : Counts). let t' : Counts = record t { scanned = t.scanned + 1 } in t')
           c.loop-at.invariant.counted
           ∙ ap (λ (n : ℕ). let t : Counts = record c.args.tally.now { scanned = n } in t) more);
@@ -76,7 +78,7 @@ pub returns-clause-first : goal.returns-clause-first
 returns-clause-first c = λ are table row.
     let end : c.loop-at.at ≡ c.args.span.end =
     omega (arith, c.loop-at-test.false, c.loop-at.auto.at-end c.requires.valid.ordered) in
-    finds_no_end c.args.width c.args.rows.now c.args.from c.args.classes.now c.args.haystack.now c.args.span.start
+    finds_no_end c.args.self.now.width c.args.self.now.rows.now c.args.from c.args.self.now.classes.now c.args.haystack.now c.args.span.start
     c.loop-at.place c.args.span refl
-    (subst (λ (at : ℕ). GoesOn c.args.width c.args.rows.now c.args.from c.args.classes.now c.args.haystack.now
+    (subst (λ (at : ℕ). GoesOn c.args.self.now.width c.args.self.now.rows.now c.args.from c.args.self.now.classes.now c.args.haystack.now
     c.args.span.start at c.loop-at.place) end (c.loop-at.invariant.goes are table row))

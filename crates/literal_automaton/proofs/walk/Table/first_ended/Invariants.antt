@@ -1,12 +1,13 @@
 use Rattle.std.proofs.Common.{◌≡◌, ◌+◌, ◌-◌, ◌<◌, ◌^◌}
 use Rattle.literal_automaton.specs.Inside.Classes.{AreClasses}
 use Rattle.literal_automaton.specs.Inside.Walk.{GoesOn, IsRow, IsTable}
-use Rattle.literal_automaton.proofs.walk.first_ended_in_lent.Given as goal
+use Rattle.literal_automaton.proofs.walk.Table.first_ended.Given as goal
 
 abbrev pub invariant-loop-at : goal.invariant-loop-at
 invariant-loop-at l = record {
   small : l.place < 2 ^ 32;
-  goes : AreClasses l.classes l.width → IsTable l.width l.rows → IsRow l.width l.rows l.fn.from
-      → GoesOn l.width l.rows l.fn.from l.classes l.haystack l.fn.span.start l.at l.place;
+  goes : AreClasses l.self.classes.now l.self.width → IsTable l.self.width l.self.rows.now
+      → IsRow l.self.width l.self.rows.now l.fn.from
+      → GoesOn l.self.width l.self.rows.now l.fn.from l.self.classes.now l.haystack l.fn.span.start l.at l.place;
   counted : l.tally ≡ record l.initial.tally { scanned = l.initial.tally.scanned + (l.at - l.fn.span.start) };
 }
