@@ -58,6 +58,11 @@ pub enum BuildError {
 
 /// What is wrong, in a few words.
 impl fmt::Display for BuildError {
+    ghost use Rattle.std.specs.Prelude.{Some};
+    ghost use Rattle.literal_automaton.specs.ErrorText.{build_error_text};
+
+    ghost output = { λ error. Some (build_error_text error) };
+
     fn fmt<W: fmt::Write>(&self, f: &mut fmt::Formatter<W>) -> fmt::Result {
         match self {
             BuildError::EmptyPattern(number) => write!(f, "pattern {number} is empty"),
