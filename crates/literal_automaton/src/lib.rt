@@ -52,7 +52,8 @@ pub enum BuildError {
     OutOfMemory,
     /// There are more patterns than [`PatternID::LIMIT`].
     TooManyPatterns,
-    /// The rows of all states would be longer than the numbers in them reach.
+    /// The rows of all states would be longer than the numbers in them reach. It comes only there, and memory may be
+    /// refused before that is found.
     TooManyStates,
 }
 
@@ -136,9 +137,8 @@ impl Model for Dfa {
 
 impl Dfa {
     /// The automaton for the patterns that the iterator gives, by this kind of match, and with ASCII case
-    /// ignored or not. The iterator has to end; the first empty pattern stops it. There may be no pattern:
-    /// then nothing is found, and no memory is asked for. Else it is asked for only for a pattern that is kept,
-    /// and behind the last of them.
+    /// ignored or not. The iterator has to end. There may be no pattern: then nothing is found, and no memory is
+    /// asked for. Else it is asked for only for a pattern that is kept, and behind the last of them.
     pub fn new<'a, I: IntoIterator<Item = &'a [u8]>>(
         alloc: Global,
         kind: MatchKind,
