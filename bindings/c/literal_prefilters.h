@@ -59,7 +59,7 @@ extern "C" {
 #define LITERAL_NO_SEARCHER 2    /* the patterns can't be searched for: one is empty, or there are 2^31 or more */
 #define LITERAL_OUT_OF_MEMORY 3  /* malloc or realloc refused a request; there are patterns that can be searched for */
 #define LITERAL_BAD_ARGUMENTS 4  /* the arguments contradict each other, as each function says */
-#define LITERAL_TOO_LARGE 5      /* the table of the search would have 2^31 places or more; so may a call that finds */
+#define LITERAL_TOO_LARGE 5      /* only where the table of the search would have 2^31 places or more, or as said below */
 #define LITERAL_TOO_SHORT 6      /* the lent array is shorter than it has to be */
 #define LITERAL_DAMAGED 7        /* the array is not as it was written for such a call */
 

@@ -1,5 +1,6 @@
 pub mod DfaValue
 pub mod Earliest
+pub mod ErrorText
 pub mod Inside
 pub mod MatchesValue
 pub mod Overlapping

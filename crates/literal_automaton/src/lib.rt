@@ -54,12 +54,18 @@ pub enum BuildError {
     OutOfMemory,
     /// There are more patterns than [`PatternID::LIMIT`].
     TooManyPatterns,
-    /// The rows of all states would be longer than the numbers in them reach.
+    /// The rows of all states would be longer than the numbers in them reach. It comes only there, and memory may be
+    /// refused before that is found.
     TooManyStates,
 }
 
 /// What is wrong, in a few words.
 impl fmt::Display for BuildError {
+    ghost use Rattle.std.specs.Prelude.{Some};
+    ghost use Rattle.literal_automaton.specs.ErrorText.{build_error_text};
+
+    ghost output = { λ error. Some (build_error_text error) };
+
     fn fmt<W: fmt::Write>(&self, f: &mut fmt::Formatter<W>) -> fmt::Result {
         match self {
             BuildError::EmptyPattern(number) => write!(f, "pattern {number} is empty"),
@@ -134,9 +140,8 @@ impl Model for Dfa {
 
 impl Dfa {
     /// The automaton for the patterns that the iterator gives, by this kind of match, and with ASCII case
-    /// ignored or not. The iterator has to end; the first empty pattern stops it. There may be no pattern:
-    /// then nothing is found, and no memory is asked for. Else it is asked for only for a pattern that is kept,
-    /// and behind the last of them.
+    /// ignored or not. The iterator has to end. There may be no pattern: then nothing is found, and no memory is
+    /// asked for. Else it is asked for only for a pattern that is kept, and behind the last of them.
     pub fn new<'a, I: IntoIterator<Item = &'a [u8]>>(
         alloc: Global,
         kind: MatchKind,

@@ -70,9 +70,9 @@ impl Model for Overlapping {
 }
 
 impl Overlapping {
-    /// The search for the patterns that the iterator gives, with ASCII case ignored or not. The iterator has to end;
-    /// the first empty pattern stops it. There may be no pattern: then nothing is found, and no memory is asked for.
-    /// Else it is asked for only for a pattern that is kept, and behind the last of them.
+    /// The search for the patterns that the iterator gives, with ASCII case ignored or not. The iterator has to end.
+    /// There may be no pattern: then nothing is found, and no memory is asked for. Else it is asked for only for a
+    /// pattern that is kept, and behind the last of them.
     pub fn new<'a, I: IntoIterator<Item = &'a [u8]>>(
         alloc: Global,
         ignore_case: bool,

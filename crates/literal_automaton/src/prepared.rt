@@ -50,6 +50,11 @@ pub enum PrepareError {
 
 /// What is wrong, in a few words.
 impl fmt::Display for PrepareError {
+    ghost use Rattle.std.specs.Prelude.{Some};
+    ghost use Rattle.literal_automaton.specs.ErrorText.{prepare_error_text};
+
+    ghost output = { λ error. Some (prepare_error_text error) };
+
     fn fmt<W: fmt::Write>(&self, f: &mut fmt::Formatter<W>) -> fmt::Result {
         match self {
             PrepareError::PatternTooLong => write!(f, "a pattern is too long"),
@@ -67,6 +72,10 @@ pub struct Damaged;
 
 /// What is wrong, in a few words.
 impl fmt::Display for Damaged {
+    ghost use Rattle.std.specs.Prelude.{Some, codes};
+
+    ghost output = { λ _. Some (codes "the prepared search is damaged") };
+
     fn fmt<W: fmt::Write>(&self, f: &mut fmt::Formatter<W>) -> fmt::Result {
         write!(f, "the prepared search is damaged")
     }

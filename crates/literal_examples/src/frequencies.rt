@@ -1,5 +1,6 @@
 //! How often each pattern is a match.
-ghost use Rattle.std.specs.Prelude.{◌≡◌, ◌==◌, ◌<◌, ◌≤◌, ℕ, List, IfOk, false, count_by, length, slice_index};
+ghost use Rattle.std.specs.Prelude.{◌≡◌, ◌==◌, ◌<◌, ◌≤◌, ℕ, List, IfOk, OnErr, false, count_by, length};
+ghost use Rattle.std.specs.Prelude.{replicate, slice_index};
 ghost use Rattle.literal_base.specs.Greedy.{IsGreedy};
 ghost use Rattle.literal_base.specs.MatchValue.{MatchValue};
 
@@ -7,7 +8,7 @@ use literal_prefilters::packed::Searcher;
 use std::alloc::{AllocError, Global};
 
 /// How often each of the first so many patterns is a match, of those from the left that do not overlap.
-/// The searcher has no more patterns.
+/// The searcher has no more patterns. Memory is asked for only where there is a pattern to count.
 pub fn frequencies(
     alloc: Global,
     searcher: &Searcher,
@@ -15,14 +16,26 @@ pub fn frequencies(
     haystack: &[u8],
 ) -> Result<Vec<usize>, AllocError>
     requires { length searcher.now.patterns ≤ patterns }
-    ensures { IfOk result (λ counts. (all : List MatchValue) × IsGreedy searcher.now false haystack.now 0 all
+    ensures counted { IfOk result (λ counts. (all : List MatchValue) × IsGreedy searcher.now false haystack.now 0 all
         × (length counts.items ≡ patterns)
         × ((i : ℕ) → i < patterns → slice_index counts.items i ≡ count_by (λ m. m.pattern == i) all)) }
+    ensures no_memory { OnErr result (0 < patterns) }
 {
-    let mut counts = Vec::from_elem(alloc, 0, patterns)?;
+    let mut counts = zeroes(alloc, patterns)?;
     for found in searcher.find_iter(haystack) {
         let _ = found.end(); // (a `usize`, which no count passes)
         counts[found.pattern().as_usize()] += 1;
     }
     Ok(counts)
+}
+
+/// A list of so many zeroes.
+fn zeroes(alloc: Global, count: usize) -> Result<Vec<usize>, AllocError>
+    ensures zeroes { IfOk result (λ all. all.items ≡ replicate count 0) }
+    ensures no_memory { OnErr result (0 < count) }
+{
+    if count == 0 {
+        return Ok(Vec::new(alloc));
+    }
+    Vec::from_elem(alloc, 0, count)
 }

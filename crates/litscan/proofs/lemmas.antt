@@ -3,3 +3,4 @@ pub mod Lines
 pub mod Options
 pub mod Printing
 pub mod Reading
+pub mod Refused

@@ -1,8 +1,15 @@
 -- What a fault stands for, and what it prints.
-use Rattle.std.specs.Prelude.{ℕ, List, ◌++◌, codes}
+use Rattle.std.specs.Prelude.{◌≡◌, ◌<◌, ◌⊎◌, ℕ, Bool, List, [], ◌++◌, Option, Some, codes, length, take}
 use Rattle.std.specs.Fmt.{decimal}
+use Rattle.std.specs.Option.{option_map}
 use Rattle.std.specs.declared.io.ErrorKind.{ErrorKind}
 use Rattle.std.specs.declared.io.ErrorKind.TheVariants as kind
+use Rattle.literal_base.specs.Occurs.{NoneIsEmpty, pattern_at}
+use Rattle.literal_base.specs.declared.search.MatchKind.TheVariants.{LeftmostLongest}
+use Rattle.literal_ids.specs.declared.primitives.pattern_id.TheConstants.PatternID
+use Rattle.literal_automaton.specs.DfaValue.{NeedTooManyStates}
+use Rattle.literal_automaton.specs.declared.BuildError.{BuildError}
+use Rattle.literal_automaton.specs.declared.BuildError.TheVariants as build
 use Rattle.litscan.specs.declared.fault.Fault.{Fault}
 use Rattle.litscan.specs.declared.fault.Fault.TheVariants.{EmptyWord, NoFile, NoText, OutOfMemory, ReadFailed}
 use Rattle.litscan.specs.declared.fault.Fault.TheVariants.{TooManyWords, Unread, Usage, WriteFailed}
@@ -21,6 +28,31 @@ read_fault _ = ReadFailed
 abbrev pub write_fault : ErrorKind → Fault
 write_fault kind.BrokenPipe = Unread
 write_fault _ = WriteFailed
+
+-- the fault of words for which no search is built, with this error
+abbrev pub build_fault : BuildError → Fault
+build_fault (build.EmptyPattern number) = EmptyWord number
+build_fault build.OutOfMemory = OutOfMemory
+build_fault build.TooManyPatterns = TooManyWords
+build_fault build.TooManyStates = TooManyWords
+
+-- it is the fault of a read that failed with an error of this kind
+abbrev pub IsReadFault : Option ErrorKind → Fault → Type 0
+IsReadFault failure fault = option_map read_fault failure ≡ Some fault
+
+-- it is the fault of a write that failed with an error of this kind
+abbrev pub IsWriteFault : Option ErrorKind → Fault → Type 0
+IsWriteFault failure fault = option_map write_fault failure ≡ Some fault
+
+-- why there is no search for some words: one is the first that is empty; memory is refused, where there is a word; they
+-- are more than identifiers, or their automaton needs too many states
+abbrev pub RefusesWords : Bool → List (List ℕ) → Fault → Type 0
+RefusesWords ignore_case words (EmptyWord number) =
+    (number < length words) × (pattern_at words number ≡ []) × NoneIsEmpty (take number words)
+RefusesWords ignore_case words OutOfMemory = 0 < length words
+RefusesWords ignore_case words TooManyWords =
+    (PatternID.LIMIT < length words) ⊎ NeedTooManyStates LeftmostLongest ignore_case words
+RefusesWords ignore_case words _ = ⊥
 
 -- the line, without the line feed
 abbrev pub fault_text : Fault → List ℕ

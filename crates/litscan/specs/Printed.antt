@@ -1,19 +1,33 @@
 -- What is read, and what is printed of it.
-use Rattle.std.specs.Prelude.{◌≡◌, ℕ, ◌+◌, ◌++◌, Bool, true, false, List, [], ◌∷◌, length, Option, Some, None, ⊤, codes}
-use Rattle.std.specs.Prelude.{if◌then◌else◌, not}
+use Rattle.std.specs.Prelude.{◌≡◌, ◌≤◌, ◌⊎◌, ℕ, ◌+◌, ◌^◌, ◌++◌, Bool, true, false, List, [], ◌∷◌, length, Option, Some}
+use Rattle.std.specs.Prelude.{None, ⊤, codes, if◌then◌else◌, not}
 use Rattle.std.specs.Fmt.{decimal}
+use Rattle.std.specs.Io.KnownBytes.{Consumes}
 use Rattle.std.specs.List.{count_by, flat_map, slice_range}
 use Rattle.literal_base.specs.Greedy.{IsGreedy}
 use Rattle.literal_base.specs.MatchValue.{MatchValue}
 use Rattle.literal_base.specs.Occurs.{one_occurs}
 use Rattle.literal_automaton.specs.DfaValue.{DfaValue}
+use Rattle.std.specs.declared.io.ErrorKind.{ErrorKind}
+use Rattle.litscan.specs.Fault.{IsReadFault, IsWriteFault}
 use Rattle.litscan.specs.Lines.{lines_of, with_feed}
+use Rattle.litscan.specs.declared.fault.Fault.{Fault}
+use Rattle.litscan.specs.declared.fault.Fault.TheVariants.{ReadFailed}
 use Rattle.litscan.specs.declared.request.Options.{Options}
 
 -- known bytes were all of these, and none is left
 abbrev pub ReadsAll : Option (List ℕ) → Option (List ℕ) → List ℕ → Type 0
 ReadsAll None new text = ⊤
 ReadsAll (Some bytes) new text = (bytes ≡ text) × (new ≡ Some [])
+
+-- known bytes of a reader were read, and are more than a number counts, but for two
+abbrev pub ReadsTooMany : Option (List ℕ) → Option (List ℕ) → Type 0
+ReadsTooMany old new = (text : List ℕ) × Consumes old new text × (2 ^ 64 ≤ length text + 2)
+
+-- why a text is not scanned: a read failed, or the text is too long, or a write failed
+abbrev pub StopsScan : Option ErrorKind → Type 0 → Option ErrorKind → Fault → Type 0
+StopsScan read_failure IsTooLong write_failure fault =
+    IsReadFault read_failure fault ⊎ (IsTooLong × (fault ≡ ReadFailed)) ⊎ IsWriteFault write_failure fault
 
 -- whether a line counts: a pattern occurs in it, or none where the others are asked for
 abbrev pub counts : DfaValue → Bool → List ℕ → Bool

@@ -1,8 +1,9 @@
 //! Why not all was read and printed.
 ghost use Rattle.std.specs.Prelude.{◌≡◌};
 ghost use Rattle.std.specs.IoError.{error_kind};
-ghost use Rattle.litscan.specs.Fault.{args_fault, read_fault, write_fault};
+ghost use Rattle.litscan.specs.Fault.{args_fault, build_fault, read_fault, write_fault};
 
+use literal_search::BuildError;
 use std::fmt;
 use std::io::{self, ErrorKind};
 
@@ -57,6 +58,17 @@ impl Fault {
         match error.kind() {
             ErrorKind::BrokenPipe => Fault::Unread,
             _ => Fault::WriteFailed,
+        }
+    }
+
+    /// What is wrong with words for which no search is built.
+    pub fn of_build(error: BuildError) -> Fault
+        ensures { result ≡ build_fault error }
+    {
+        match error {
+            BuildError::EmptyPattern(number) => Fault::EmptyWord(number),
+            BuildError::OutOfMemory => Fault::OutOfMemory,
+            BuildError::TooManyPatterns | BuildError::TooManyStates => Fault::TooManyWords,
         }
     }
 }

@@ -1,6 +1,7 @@
 //! Prints the lines of standard input in which a word stands, or its matches: `litscan [-bcinov] [-f FILE] [WORD...]`.
 #![tactic(auto)]
 
+mod device;
 mod fault;
 mod laws;
 mod lines;
@@ -8,6 +9,7 @@ mod request;
 mod scan;
 mod words;
 
+use device::Device;
 use fault::Fault;
 use literal_search::Search;
 use request::{Options, Request};
@@ -51,18 +53,20 @@ fn search_of(rt: &HostRuntime, request: &Request<'_>) -> Result<Search, Fault> {
         return search_for(rt.alloc(), ignore_case, words.as_slice());
     };
     let file = fs::open(rt, name).or(Err(Fault::NoFile))?;
-    let mut reader = BufReader::with_capacity(rt.alloc(), BLOCK, file).or(Err(Fault::OutOfMemory))?;
+    let reader = BufReader::with_capacity(rt.alloc(), BLOCK, file).or(Err(Fault::OutOfMemory))?;
+    let mut reader = Device::new(reader);
     search_with_lines(rt.alloc(), ignore_case, request.words, &mut reader)
 }
 
 /// Scans standard input. What is printed is kept until a block is full, but on a terminal.
 fn scan_input(rt: &HostRuntime, search: &Search, options: Options) -> Result<u64, Fault> {
     let room = if rt.stdout().is_terminal() { 0 } else { BLOCK };
-    let mut reader = BufReader::with_capacity(rt.alloc(), BLOCK, rt.stdin()).or(Err(
+    let reader = BufReader::with_capacity(rt.alloc(), BLOCK, rt.stdin()).or(Err(
         Fault::OutOfMemory,
     ))?;
-    let mut writer = BufWriter::with_capacity(rt.alloc(), room, rt.stdout()).or(Err(
+    let writer = BufWriter::with_capacity(rt.alloc(), room, rt.stdout()).or(Err(
         Fault::OutOfMemory,
     ))?;
+    let (mut reader, mut writer) = (Device::new(reader), Device::new(writer));
     scan(rt.alloc(), search, options, &mut reader, &mut writer)
 }

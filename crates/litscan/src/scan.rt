@@ -1,14 +1,18 @@
 //! Which lines count, and what is printed of them.
-ghost use Rattle.std.specs.Prelude.{◌≡◌, ◌<◌, ◌≤◌, ◌+◌, ◌^◌, ℕ, List, ◌∷◌, [], length, if◌then◌else◌, IfOk, OnOk};
+ghost use Rattle.std.specs.Prelude.{◌≡◌, ◌<◌, ◌≤◌, ◌+◌, ◌^◌, ◌&&◌, ◌||◌, ℕ, List, ◌∷◌, [], length, min, if◌then◌else◌};
+ghost use Rattle.std.specs.Prelude.{IfErr, IfOk, OnOk};
 ghost use Rattle.std.specs.Fmt.{decimal};
 ghost use Rattle.std.specs.List.{count_by};
 ghost use Rattle.std.specs.Io.KnownBytes.{Appends};
 ghost use Rattle.literal_base.specs.Greedy.{IsGreedy};
 ghost use Rattle.literal_base.specs.MatchValue.{MatchValue};
+ghost use Rattle.litscan.specs.Fault.{IsWriteFault};
 ghost use Rattle.litscan.specs.Lines.{last_line, lines_of, with_feed};
-ghost use Rattle.litscan.specs.Printed.{Prints, PrintsFound, PrintsUnlessCounted, ReadsAll, counts, printed_matches};
-ghost use Rattle.litscan.specs.Printed.{printed_part};
+ghost use Rattle.litscan.specs.Printed.{Prints, PrintsUnlessCounted, ReadsAll, ReadsTooMany, StopsScan, counts};
+ghost use Rattle.litscan.specs.Printed.{printed_matches, printed_part};
+ghost use Rattle.litscan.specs.declared.fault.Fault.TheVariants.{ReadFailed};
 
+use crate::device::Device;
 use crate::fault::Fault;
 use crate::lines::read_line;
 use crate::request::Options;
@@ -21,28 +25,31 @@ pub fn scan<R: BufRead, W: Write>(
     alloc: Global,
     search: &Search,
     options: Options,
-    reader: &mut R,
-    writer: &mut W,
+    reader: &mut Device<R>,
+    writer: &mut Device<W>,
 ) -> Result<u64, Fault>
-    ensures { IfOk result (λ count. (text out : List ℕ)
-        × ReadsAll (R.remaining reader.old) (R.remaining reader.new) text
-        × Appends (W.contents writer.old) (W.contents writer.new) out
+    ensures scanned { IfOk result (λ count. (text out : List ℕ)
+        × ReadsAll (R.remaining reader.old.inner) (R.remaining reader.new.inner) text
+        × Appends (W.contents writer.old.inner) (W.contents writer.new.inner) out
         × Prints options.count search.now options text out
         × (count ≡ count_by (counts search.now options.others) (lines_of text))) }
+    ensures error { IfErr result (StopsScan reader.new.failure
+        (ReadsTooMany (R.remaining reader.old.inner) (R.remaining reader.new.inner)) writer.new.failure) }
 {
     let count = scan_lines(alloc, search, options, reader, writer)?;
     print_count(options, count, writer)?;
-    writer.flush().map_err(|error| Fault::of_write(error))?;
+    writer.flush()?;
     Ok(count)
 }
 
 /// Prints how many lines count, if that is asked for.
-fn print_count<W: Write>(options: Options, count: u64, writer: &mut W) -> Result<(), Fault>
-    ensures { OnOk result (Appends (W.contents writer.old) (W.contents writer.new)
+fn print_count<W: Write>(options: Options, count: u64, writer: &mut Device<W>) -> Result<(), Fault>
+    ensures printed { OnOk result (Appends (W.contents writer.old.inner) (W.contents writer.new.inner)
         (if options.count then with_feed (decimal count) else [])) }
+    ensures error { IfErr result (IsWriteFault writer.new.failure) }
 {
     if options.count {
-        writeln!(writer, "{count}").map_err(|error| Fault::of_write(error))?;
+        writeln!(writer, "{count}")?;
     }
     Ok(())
 }
@@ -53,14 +60,16 @@ fn scan_lines<R: BufRead, W: Write>(
     alloc: Global,
     search: &Search,
     options: Options,
-    reader: &mut R,
-    writer: &mut W,
+    reader: &mut Device<R>,
+    writer: &mut Device<W>,
 ) -> Result<u64, Fault>
-    ensures { IfOk result (λ count. (text out : List ℕ)
-        × ReadsAll (R.remaining reader.old) (R.remaining reader.new) text
-        × Appends (W.contents writer.old) (W.contents writer.new) out
+    ensures scanned { IfOk result (λ count. (text out : List ℕ)
+        × ReadsAll (R.remaining reader.old.inner) (R.remaining reader.new.inner) text
+        × Appends (W.contents writer.old.inner) (W.contents writer.new.inner) out
         × PrintsUnlessCounted options.count search.now options 1 0 (lines_of text) out
         × (count ≡ count_by (counts search.now options.others) (lines_of text))) }
+    ensures error { IfErr result (StopsScan reader.new.failure
+        (ReadsTooMany (R.remaining reader.old.inner) (R.remaining reader.new.inner)) writer.new.failure) }
 {
     let mut line = Vec::new(alloc);
     let mut count = 0;
@@ -81,7 +90,8 @@ fn scan_lines<R: BufRead, W: Write>(
 
 /// The offset in the text behind a line and its line feed. A text longer than a number counts is not read.
 fn offset_behind(offset: u64, line: &[u8]) -> Result<u64, Fault>
-    ensures { IfOk result (λ next. next ≡ offset + length line.now + 1) }
+    ensures next { IfOk result (λ next. next ≡ offset + length line.now + 1) }
+    ensures error { IfErr result (λ fault. (fault ≡ ReadFailed) × (2 ^ 64 ≤ offset + length line.now + 1)) }
 {
     offset
         .checked_add(line.len() as u64)
@@ -96,14 +106,16 @@ fn take_last<W: Write>(
     number: u64,
     offset: u64,
     last: &[u8],
-    writer: &mut W,
+    writer: &mut Device<W>,
 ) -> Result<u64, Fault>
     requires { offset + length last.now < 2 ^ 64 }
     ensures few { IfOk result (λ count. count ≤ 1) }
     ensures counted { IfOk result (λ count.
         count ≡ count_by (counts search.now options.others) (last_line last.now)) }
-    ensures printed { OnOk result ((out : List ℕ) × Appends (W.contents writer.old) (W.contents writer.new) out
+    ensures printed { OnOk result ((out : List ℕ)
+        × Appends (W.contents writer.old.inner) (W.contents writer.new.inner) out
         × PrintsUnlessCounted options.count search.now options number offset (last_line last.now) out) }
+    ensures error { IfErr result (IsWriteFault writer.new.failure) }
 {
     if last.is_empty() {
         return Ok(0);
@@ -119,22 +131,35 @@ fn take_line<W: Write>(
     number: u64,
     offset: u64,
     line: &[u8],
-    writer: &mut W,
+    writer: &mut Device<W>,
 ) -> Result<u64, Fault>
     requires { offset + length line.now < 2 ^ 64 }
     ensures few { IfOk result (λ count. count ≤ 1) }
     ensures counted { IfOk result (λ count.
         count ≡ count_by (counts search.now options.others) (line.now ∷ [])) }
-    ensures printed { OnOk result ((out : List ℕ) × Appends (W.contents writer.old) (W.contents writer.new) out
+    ensures printed { OnOk result ((out : List ℕ)
+        × Appends (W.contents writer.old.inner) (W.contents writer.new.inner) out
         × PrintsUnlessCounted options.count search.now options number offset (line.now ∷ []) out) }
+    ensures error { IfErr result (IsWriteFault writer.new.failure) }
 {
+    if prints_nothing(options) {
+        return Ok(u64::from(counts(search, options, line)));
+    }
+    if options.only {
+        return print_matches(search, options, number, offset, line, writer);
+    }
     if !counts(search, options, line) {
         return Ok(0);
     }
-    if !options.count {
-        print_found(search, options, number, offset, line, writer)?;
-    }
+    print_part(options, number, offset, line, writer)?;
     Ok(1)
+}
+
+/// Whether nothing is printed of any line: only the number of lines is asked for, or the matches of lines without one.
+fn prints_nothing(options: Options) -> bool
+    ensures { result ≡ (options.count || (options.only && options.others)) }
+{
+    options.count || options.only && options.others
 }
 
 /// Whether a line counts.
@@ -144,45 +169,29 @@ fn counts(search: &Search, options: Options, line: &[u8]) -> bool
     search.is_match(line) != options.others
 }
 
-/// Prints what is asked for of a line that counts.
-fn print_found<W: Write>(
-    search: &Search,
-    options: Options,
-    number: u64,
-    offset: u64,
-    line: &[u8],
-    writer: &mut W,
-) -> Result<(), Fault>
-    requires { offset + length line.now < 2 ^ 64 }
-    ensures { OnOk result ((out : List ℕ) × Appends (W.contents writer.old) (W.contents writer.new) out
-        × PrintsFound options.only search.now options number offset line.now out) }
-{
-    if options.only {
-        return print_matches(search, options, number, offset, line, writer);
-    }
-    print_part(options, number, offset, line, writer)
-}
-
-/// Prints the matches in a line, each as a line of its own.
+/// Prints the matches in a line, each as a line of its own. Answers 1 if there is one, and else 0.
 fn print_matches<W: Write>(
     search: &Search,
     options: Options,
     number: u64,
     offset: u64,
     line: &[u8],
-    writer: &mut W,
-) -> Result<(), Fault>
+    writer: &mut Device<W>,
+) -> Result<u64, Fault>
     requires { offset + length line.now < 2 ^ 64 }
-    ensures { OnOk result ((all : List MatchValue)
+    ensures printed { IfOk result (λ count. (all : List MatchValue)
         × IsGreedy search.now.query search.now.ignore_case line.now 0 all
-        × Appends (W.contents writer.old) (W.contents writer.new)
-        (printed_matches options number offset line.now all)) }
+        × Appends (W.contents writer.old.inner) (W.contents writer.new.inner)
+        (printed_matches options number offset line.now all) × (count ≡ min 1 (length all))) }
+    ensures error { IfErr result (IsWriteFault writer.new.failure) }
 {
+    let mut count = 0;
     for found in search.find_iter(line) {
         let start = offset + found.start() as u64;
         print_part(options, number, start, found.span().of(line), writer)?;
+        count = 1;
     }
-    Ok(())
+    Ok(count)
 }
 
 /// Prints a line, or a match in it.
@@ -191,21 +200,18 @@ fn print_part<W: Write>(
     number: u64,
     offset: u64,
     bytes: &[u8],
-    writer: &mut W,
+    writer: &mut Device<W>,
 ) -> Result<(), Fault>
-    ensures { OnOk result (Appends (W.contents writer.old) (W.contents writer.new)
+    ensures printed { OnOk result (Appends (W.contents writer.old.inner) (W.contents writer.new.inner)
         (printed_part options number offset bytes.now)) }
+    ensures error { IfErr result (IsWriteFault writer.new.failure) }
 {
     if options.numbers {
-        write!(writer, "{number}:").map_err(|error| Fault::of_write(error))?;
+        write!(writer, "{number}:")?;
     }
     if options.offsets {
-        write!(writer, "{offset}:").map_err(|error| Fault::of_write(error))?;
+        write!(writer, "{offset}:")?;
     }
-    writer
-        .write_all(bytes)
-        .map_err(|error| Fault::of_write(error))?;
-    writer
-        .write_all(b"\n")
-        .map_err(|error| Fault::of_write(error))
+    writer.write_all(bytes)?;
+    writer.write_all(b"\n")
 }

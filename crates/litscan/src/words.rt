@@ -1,13 +1,16 @@
 //! The words, and the search for them.
-ghost use Rattle.std.specs.Prelude.{◌≡◌, ◌++◌, ℕ, List, IfOk, map, string_bytes};
+ghost use Rattle.std.specs.Prelude.{◌≡◌, ◌⊎◌, ◌++◌, ℕ, List, IfErr, IfOk, map, string_bytes};
 ghost use Rattle.literal_base.specs.declared.packed.MatchKind.TheVariants.{LeftmostLongest};
 ghost use Rattle.literal_automaton.specs.DfaValue.{dfa_for};
+ghost use Rattle.litscan.specs.Fault.{IsReadFault, RefusesWords};
 ghost use Rattle.litscan.specs.Lines.{lines_of};
 ghost use Rattle.litscan.specs.Printed.{ReadsAll};
+ghost use Rattle.litscan.specs.declared.fault.Fault.TheVariants.{OutOfMemory};
 
+use crate::device::Device;
 use crate::fault::Fault;
 use crate::lines::add_lines;
-use literal_search::{BuildError, MatchKind, Search};
+use literal_search::{MatchKind, Search};
 use std::alloc::{AllocError, Global};
 use std::io::BufRead;
 
@@ -24,15 +27,14 @@ pub fn bytes_of(alloc: Global, words: &[String]) -> Result<Vec<Vec<u8>>, AllocEr
 
 /// The search for these words.
 pub fn search_for(alloc: Global, ignore_case: bool, words: &[Vec<u8>]) -> Result<Search, Fault>
-    ensures { IfOk result (λ search. search
+    ensures built { IfOk result (λ search. search
         ≡ dfa_for LeftmostLongest ignore_case (map (λ word. word.items) words.now)) }
+    ensures error { IfErr result (RefusesWords ignore_case (map (λ word. word.items) words.now)) }
 {
     let words = words.iter().map(|word| word.as_slice());
     match Search::new(alloc, MatchKind::LeftmostLongest, ignore_case, words) {
         Ok(search) => Ok(search),
-        Err(BuildError::EmptyPattern(number)) => Err(Fault::EmptyWord(number)),
-        Err(BuildError::OutOfMemory) => Err(Fault::OutOfMemory),
-        Err(_) => Err(Fault::TooManyWords),
+        Err(error) => Err(Fault::of_build(error)),
     }
 }
 
@@ -41,11 +43,14 @@ pub fn search_with_lines<R: BufRead>(
     alloc: Global,
     ignore_case: bool,
     words: &[String],
-    reader: &mut R,
+    reader: &mut Device<R>,
 ) -> Result<Search, Fault>
-    ensures { IfOk result (λ search. (text : List ℕ)
-        × ReadsAll (R.remaining reader.old) (R.remaining reader.new) text
+    ensures built { IfOk result (λ search. (text : List ℕ)
+        × ReadsAll (R.remaining reader.old.inner) (R.remaining reader.new.inner) text
         × (search ≡ dfa_for LeftmostLongest ignore_case (map string_bytes words.now ++ lines_of text))) }
+    ensures error { IfErr result (λ fault. IsReadFault reader.new.failure fault ⊎ (fault ≡ OutOfMemory)
+        ⊎ ((text : List ℕ) × ReadsAll (R.remaining reader.old.inner) (R.remaining reader.new.inner) text
+        × RefusesWords ignore_case (map string_bytes words.now ++ lines_of text) fault)) }
 {
     let mut all = bytes_of(alloc, words).or(Err(Fault::OutOfMemory))?;
     add_lines(alloc, reader, &mut all)?;

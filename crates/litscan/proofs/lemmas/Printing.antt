@@ -1,13 +1,45 @@
 -- What is printed of one line more. For `scan`.
-use Rattle.std.proofs.Common.{◌≡◌, ◌+◌, ℕ, Bool, true, false, List, [], ◌∷◌, ◌++◌, length, cond}
+use Rattle.std.proofs.Common.{◌≡◌, ◌+◌, ◌&&◌, ◌||◌, ℕ, Bool, true, false, List, [], ◌∷◌, ◌++◌, length, cond, min, not}
+use Rattle.std.proofs.Common.{Option, None, Some, inl, inr}
 use Rattle.std.proofs.Common.{refl, sym, ap, ◌∙◌, arith, subst, append_assoc, append-nil, length-append}
 use Rattle.std.specs.Fmt.{decimal}
 use Rattle.std.specs.List.{count_by, flat_map}
+use Rattle.std.proofs.lemmas.Bool.{cases_Bool}
 use Rattle.std.proofs.lemmas.List.Sums.{sum_by-append}
+use Rattle.std.specs.Option.{is_some}
+use Rattle.literal_base.specs.Greedy.{IsGreedy}
+use Rattle.literal_base.specs.MatchValue.{MatchValue}
+use Rattle.literal_base.specs.Occurs.{one_occurs}
+use Rattle.literal_base.proofs.lemmas.Met.{is_some_where_one_occurs, one_occurs_if}
 use Rattle.literal_automaton.specs.DfaValue.{DfaValue}
 use Rattle.litscan.specs.Lines.{lines_of, with_feed}
-use Rattle.litscan.specs.Printed.{Prints, PrintsLine, PrintsLines, PrintsUnlessCounted, counts}
+use Rattle.litscan.specs.Printed.{Prints, PrintsFound, PrintsLine, PrintsLines, PrintsUnlessCounted, counts}
+use Rattle.litscan.specs.Printed.{printed_matches, printed_part}
 use Rattle.litscan.specs.declared.request.Options.{Options}
+
+-- the first match, if there is one
+abbrev first_of : List MatchValue → Option MatchValue
+first_of [] = None
+first_of (found ∷ more) = Some found
+
+-- a test and its opposite do not both hold
+not_both : (b : Bool) → b ≡ true → not b ≡ true → ⊥
+not_both true is other = absurd (cc)
+not_both false is other = absurd (cc)
+
+-- where nothing is printed and the number of lines is not asked for, matches of lines without one are
+both_asked : (silent only others : Bool) → (silent || (only && others)) ≡ true → silent ≡ false
+    → (only ≡ true) × (others ≡ true)
+both_asked true only others quiet loud = absurd (cc)
+both_asked false true others quiet loud = (refl, quiet)
+both_asked false false others quiet loud = absurd (cc)
+
+-- where something is printed, the number of lines is not asked for, and matches are those of lines with one
+not_asked : (silent only others : Bool) → (silent || (only && others)) ≡ false
+    → (silent ≡ false) × (only ≡ true → others ≡ false)
+not_asked true only others loud = absurd (cc)
+not_asked false true others loud = (refl, λ asked. loud)
+not_asked false false others loud = (refl, λ asked. absurd (cc))
 
 length-feeds : (line : List ℕ) (more : List (List ℕ))
     → length (with_feed line ++ flat_map with_feed more) ≡ length line + 1 + length (flat_map with_feed more)
@@ -85,6 +117,101 @@ module _ (search : DfaValue) (options : Options) where
       → PrintsUnlessCounted silent search options number offset [] []
   prints_none true number offset = refl
   prints_none false number offset = refl
+
+  -- a line counts by its matches
+  counts_matched : (line : List ℕ) (all : List MatchValue) → options.others ≡ false
+      → IsGreedy search.query search.ignore_case line 0 all → counts search options.others line ≡ is_some (first_of all)
+  counts_matched line [] kept nothing =
+      ap (λ others. counts search others line) kept
+      ∙ sym (is_some_where_one_occurs search.query search.ignore_case line None nothing)
+  counts_matched line (found ∷ more) kept greedy =
+      ap (λ others. counts search others line) kept
+      ∙ sym (is_some_where_one_occurs search.query search.ignore_case line (Some found) greedy.0)
+
+  -- where no pattern occurs in a line that counts, it has no match
+  nothing_matched : (line : List ℕ) → options.others ≡ true → counts search options.others line ≡ true
+      → IsGreedy search.query search.ignore_case line 0 []
+  nothing_matched line others counted = λ i at occurs.
+      not_both (one_occurs search.query.patterns search.ignore_case line)
+      (one_occurs_if search.query.patterns search.ignore_case line i at occurs)
+      (sym (ap (λ o. counts search o line) others) ∙ counted)
+
+  -- one line, of which something may be printed
+  one_line : (number offset : ℕ) (line out : List ℕ) → options.count ≡ false
+      → PrintsLine (counts search options.others line) search options number offset line out
+      → PrintsUnlessCounted options.count search options number offset (line ∷ []) out
+  one_line number offset line out loud printed =
+      subst (λ silent. PrintsUnlessCounted silent search options number offset (line ∷ []) out) (sym loud)
+      (out, [], printed, refl, sym (append-nil out))
+
+  -- the matches in a line
+  pub prints_matches : (number offset : ℕ) (line : List ℕ) (all : List MatchValue)
+      → (options.count || (options.only && options.others)) ≡ false → options.only ≡ true
+      → IsGreedy search.query search.ignore_case line 0 all
+      → PrintsUnlessCounted options.count search options number offset (line ∷ [])
+      (printed_matches options number offset line all)
+  prints_matches number offset line all loud only greedy =
+      let asked = not_asked options.count options.only options.others loud in
+      let out = printed_matches options number offset line all in
+      one_line number offset line out asked.0 (by (asked.1 only) all greedy)
+    where
+      by : options.others ≡ false → (all : List MatchValue) → IsGreedy search.query search.ignore_case line 0 all
+          → PrintsLine (counts search options.others line) search options number offset line
+          (printed_matches options number offset line all)
+      by kept [] greedy =
+          subst (λ b. PrintsLine b search options number offset line []) (sym (counts_matched line [] kept greedy)) refl
+      by kept (found ∷ more) greedy =
+          subst (λ b. PrintsLine b search options number offset line
+          (printed_matches options number offset line (found ∷ more)))
+          (sym (counts_matched line (found ∷ more) kept greedy))
+          (subst (λ b. PrintsFound b search options number offset line
+          (printed_matches options number offset line (found ∷ more))) (sym only) (found ∷ more, greedy, refl))
+
+  -- a line counts once if it has a match
+  pub counts_once : (line : List ℕ) (all : List MatchValue) (count : ℕ)
+      → (options.count || (options.only && options.others)) ≡ false → options.only ≡ true
+      → IsGreedy search.query search.ignore_case line 0 all → count ≡ min 1 (length all)
+      → count ≡ count_by (counts search options.others) (line ∷ [])
+  counts_once line [] count loud only greedy is =
+      let kept = (not_asked options.count options.only options.others loud).1 only in
+      is ∙ sym (ap (λ b. 0 + cond b 1 0) (counts_matched line [] kept greedy))
+  counts_once line (found ∷ more) count loud only greedy is =
+      let kept = (not_asked options.count options.only options.others loud).1 only in
+      let one : min 1 (length (found ∷ more)) ≡ 1 = omega arith in
+      is ∙ one ∙ sym (ap (λ b. 0 + cond b 1 0) (counts_matched line (found ∷ more) kept greedy))
+
+  -- a whole line
+  pub prints_whole : (number offset : ℕ) (line : List ℕ) → (options.count || (options.only && options.others)) ≡ false
+      → options.only ≡ false → counts search options.others line ≡ true
+      → PrintsUnlessCounted options.count search options number offset (line ∷ [])
+      (printed_part options number offset line)
+  prints_whole number offset line loud all counted =
+      let out = printed_part options number offset line in
+      one_line number offset line out (not_asked options.count options.only options.others loud).0
+      (subst (λ b. PrintsLine b search options number offset line out) (sym counted)
+      (subst (λ b. PrintsFound b search options number offset line out) (sym all) refl))
+
+  -- nothing of a line
+  pub prints_nothing : (number offset : ℕ) (line : List ℕ) → (options.count || (options.only && options.others)) ≡ true
+      → PrintsUnlessCounted options.count search options number offset (line ∷ []) []
+  prints_nothing number offset line quiet =
+      elim (cases_Bool options.count) [
+        | inl silent ↦ subst (λ b. PrintsUnlessCounted b search options number offset (line ∷ []) []) (sym silent) refl
+        | inr loud ↦
+            let both = both_asked options.count options.only options.others quiet loud in
+            one_line number offset line [] loud (by both.0 both.1)
+      ]
+    where
+      by : options.only ≡ true → options.others ≡ true
+          → PrintsLine (counts search options.others line) search options number offset line []
+      by only others =
+          elim (cases_Bool (counts search options.others line)) [
+            | inl counted ↦
+                subst (λ b. PrintsLine b search options number offset line []) (sym counted)
+                (subst (λ b. PrintsFound b search options number offset line []) (sym only)
+                ([], nothing_matched line others counted, refl))
+            | inr passed ↦ subst (λ b. PrintsLine b search options number offset line []) (sym passed) refl
+          ]
 
   -- all lines, or their number
   pub prints_all : (silent : Bool) (text out : List ℕ) (count : ℕ)

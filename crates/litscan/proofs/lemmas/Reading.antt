@@ -1,17 +1,19 @@
 -- What is read line by line is the text, and its lines are those that were read. For `lines` and `scan`.
 use Rattle.std.proofs.Common.{◌≡◌, ◌==◌, ℕ, Bool, true, false, List, [], ◌∷◌, ◌++◌, cond}
-use Rattle.std.proofs.Common.{Option, None, Some}
+use Rattle.std.proofs.Common.{◌+◌, ◌≤◌, ◌^◌, Option, None, Some, Result, Ok, Err, IfErr, arith, length, length-append}
 use Rattle.std.proofs.Common.{refl, sym, ap, ◌∙◌, inl, inr, subst}
 use Rattle.std.specs.Io.BufRead.{DropsThrough, drop_through, take_through}
 use Rattle.std.specs.Io.KnownBytes.{Consumes, IsAtEnd}
 use Rattle.std.specs.List.{flat_map}
 use Rattle.std.specs.Option.{IfSome, OnSome}
+use Rattle.std.specs.Result.{IsErrAnd}
 use Rattle.std.proofs.KnownBytes.{Consumes-trans}
 use Rattle.std.proofs.lemmas.Bool.{cases_eq, cond-false, cond-true, eq-eqb, ne_eqb}
 use Rattle.std.proofs.lemmas.List.{append-nil, flat_map_more}
 use Rattle.std.proofs.lemmas.List.Elements.{All-head, All-tail}
 use Rattle.litscan.specs.Lines.{HasNoFeed, with_feed}
-use Rattle.litscan.specs.Printed.{ReadsAll}
+use Rattle.litscan.specs.Printed.{ReadsAll, ReadsTooMany}
+use Rattle.litscan.specs.declared.fault.Fault.{Fault}
 use Rattle.litscan.proofs.lemmas.Lines.{Other}
 
 -- what is read up to a line feed, and has none, is all
@@ -61,3 +63,31 @@ read_all (Some xs) (Some ys) (Some zs) front last fed is before more end =
     more ∙ ap (λ bytes. bytes ++ zs) (cond-false fed (with_feed last) last is)
     ∙ ap (λ bytes. last ++ bytes) (end is) ∙ append-nil last in
     (before ∙ ap (λ bytes. front ++ bytes) rest, ap Some (end is))
+
+-- what is read line by line is at least as long as there are lines
+pub length-feeds_most : (seen : List (List ℕ)) → length seen ≤ length (flat_map with_feed seen)
+length-feeds_most [] = omega arith
+length-feeds_most (line ∷ more) =
+    let rest = length-feeds_most more in
+    let first = length-append line (10 ∷ []) in
+    let all = length-append (with_feed line) (flat_map with_feed more) in
+    omega (arith, rest, first, all)
+
+-- too much was read, with the line that was read last
+pub too_many_with : (a b c : Option (List ℕ)) (front line : List ℕ) (fed : Bool) → Consumes a b front
+    → Consumes b c (cond fed (with_feed line) line) → 2 ^ 64 ≤ length front + length line + 2 → ReadsTooMany a c
+too_many_with a b c front line fed before last many = (
+  front ++ cond fed (with_feed line) line,
+  Consumes-trans a b c front (cond fed (with_feed line) line) before last,
+  omega (arith, many, length-append front (cond fed (with_feed line) line), by fed),
+)
+  where
+    by : (fed : Bool) → length line ≤ length (cond fed (with_feed line) line)
+    by true = omega (arith, length-append line (10 ∷ []))
+    by false = omega arith
+
+-- a fault that is handed on
+pub err_gives : {A : Type 0} (P : Fault → Type 0) (result : Result A Fault) (fault : Fault)
+    → IsErrAnd result (λ e. e ≡ fault) → P fault → IfErr result P
+err_gives P (Err e) fault same holds = subst P (sym same) holds
+err_gives P (Ok done) fault same holds = tt

@@ -33,8 +33,8 @@ overflow_add-index_mut c =
       c.end.type_inv,
     )
 
-pub returns : goal.returns
-returns c = (
+pub returns-clause-counted : goal.returns-clause-counted
+returns-clause-counted c = (
   c.loop-found.yielded,
   greedy_from_run c.args.searcher.now c.args.haystack.now _ _ _ _ (cc) c.loop-found.yielded_by c.in-None.ensures.steps,
   c.loop-found.invariant.len,

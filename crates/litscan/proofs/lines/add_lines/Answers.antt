@@ -22,8 +22,8 @@ loop-preserved g c =
           ∙ ap (λ words. words ++ line.items ∷ []) so_far.added ∙ append_assoc _ so_far.seen (line.items ∷ []);
     }
 
-pub returns-then-not-branch : goal.returns-then-not-branch
-returns-then-not-branch g c =
+pub returns-then-not-branch-clause-read : goal.returns-then-not-branch-clause-read
+returns-then-not-branch-clause-read g c =
     let so_far = c.loop.invariant in
     let last = c.read_line.new.line.items in
     let had = map (λ word. word.items) c.args.words.now.items in
@@ -36,4 +36,4 @@ returns-then-not-branch g c =
       added ∙ ap (λ words. words ++ last_line last) so_far.added ∙ append_assoc had so_far.seen (last_line last)
           ∙ ap (λ lines. had ++ lines) (sym (lines_of-split so_far.seen last so_far.whole whole)),
     ))
-    c.add_last.ensures
+    c.add_last.ensures.added

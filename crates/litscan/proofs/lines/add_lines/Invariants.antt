@@ -9,6 +9,6 @@ abbrev pub invariant-loop : goal.invariant-loop
 invariant-loop g l = record {
   seen : List (List ℕ);
   whole : All HasNoFeed seen;
-  read : Consumes (g.R.Read.remaining l.fn.reader) (g.R.Read.remaining l.reader) (flat_map with_feed seen);
+  read : Consumes (g.R.Read.remaining l.fn.reader.inner) (g.R.Read.remaining l.reader.inner) (flat_map with_feed seen);
   added : map (λ word. word.items) l.words.items ≡ map (λ word. word.items) l.fn.words.items ++ seen;
 }

@@ -1,4 +1,4 @@
-use Rattle.std.proofs.Common.{◌≡◌}
+use Rattle.std.proofs.Common.{◌≡◌, length, min}
 use Rattle.std.specs.Io.KnownBytes.{Appends}
 use Rattle.litscan.specs.Printed.{printed_matches}
 use Rattle.litscan.proofs.scan.print_matches.Given as goal
@@ -8,6 +8,7 @@ abbrev pub invariant-loop-found : goal.invariant-loop-found
 invariant-loop-found g l = record {
   search_is : l.found-iterator.search ≡ l.search;
   haystack_is : l.found-iterator.haystack ≡ l.line;
-  written : Appends (g.W.Write.contents l.fn.writer) (g.W.Write.contents l.writer)
+  written : Appends (g.W.Write.contents l.fn.writer.inner) (g.W.Write.contents l.writer.inner)
       (printed_matches l.options l.number l.offset l.line l.yielded);
+  counted : l.count ≡ min 1 (length l.yielded);
 }

@@ -1,4 +1,5 @@
-use Rattle.std.proofs.Common.{◌≡◌, ◌+◌, ◌++◌, ◌∷◌, [], refl, sym, ap, subst, ◌∙◌, arith, length, length-append, List}
+use Rattle.std.proofs.Common.{◌≡◌, ◌+◌, ◌++◌, ◌∷◌, [], List, length, length-append}
+use Rattle.std.proofs.Common.{inl, inr, refl, sym, ap, subst, ◌∙◌, arith}
 use Rattle.std.proofs.KnownBytes.{Appends-nil, Appends-trans, Consumes-nil}
 use Rattle.std.proofs.lemmas.List.{flat_map_more, length_push}
 use Rattle.std.proofs.lemmas.List.Elements.{All-nil, All-push}
@@ -7,7 +8,7 @@ use Rattle.litscan.specs.Lines.{HasNoFeed, last_line, with_feed}
 use Rattle.litscan.specs.Printed.{PrintsUnlessCounted, counts}
 use Rattle.litscan.proofs.lemmas.Lines.{lines_of-split}
 use Rattle.litscan.proofs.lemmas.Printing.{count-append, prints_more, prints_none}
-use Rattle.litscan.proofs.lemmas.Reading.{read_all, read_more}
+use Rattle.litscan.proofs.lemmas.Reading.{err_gives, length-feeds_most, read_all, read_more, too_many_with}
 use Rattle.litscan.proofs.scan.scan_lines.Goals as goal
 
 pub loop-number-init : goal.loop-number-init
@@ -47,7 +48,7 @@ loop-number-preserved g c =
       whole = All-push HasNoFeed so_far.seen line so_far.whole c.in_ok-fed.ensures.whole;
       read = read_more _ _ _ so_far.seen line _ c.if-not-fed.false so_far.read c.in_ok-fed.ensures.bytes;
       number = omega (arith, longer, place);
-      offset = omega (arith, more, so_far.offset, c.in_ok-next.ensures, c.as_slice.ensures.len);
+      offset = omega (arith, more, so_far.offset, c.in_ok-next.ensures.next, c.as_slice.ensures.len);
       counted =
           count-append test so_far.seen (line ∷ []) _ _ so_far.counted
           (c.in_ok-one.ensures.counted ∙ ap (λ l. count_by test (l ∷ [])) shown);
@@ -58,8 +59,8 @@ loop-number-preserved g c =
           (subst (λ l. PrintsUnlessCounted options.count dfa options number offset (l ∷ []) taken.0) shown taken.2);
     }
 
-pub returns-then-not-fed : goal.returns-then-not-fed
-returns-then-not-fed g c =
+pub returns-then-not-fed-clause-scanned : goal.returns-then-not-fed-clause-scanned
+returns-then-not-fed-clause-scanned g c =
     let so_far = c.loop-number.invariant in
     let dfa = c.args.search.now in
     let options = c.args.options in
@@ -84,3 +85,29 @@ returns-then-not-fed g c =
           (c.in_ok-last.ensures.counted ∙ ap (λ l. count_by test (last_line l)) shown)
           ∙ ap (count_by test) (sym lines),
     )
+
+pub returns-in_err-next-clause-error : goal.returns-in_err-next-clause-error
+returns-in_err-next-clause-error g c =
+    let so_far = c.loop-number.invariant in
+    let error = c.in_err-next.ensures.error in
+    let line = c.read_line.new.line.items in
+    let long = error.1 in
+    err_gives _ c.from_residual-in_err-next.result _ c.from_residual-in_err-next.ensures.1
+    (inr (inl (
+      too_many_with _ _ _ (flat_map with_feed so_far.seen) line _ so_far.read c.in_ok-fed.ensures.bytes
+          (omega (arith, long, so_far.offset, c.as_slice.ensures.len)),
+      error.0,
+    )))
+
+pub returns-clause-error : goal.returns-clause-error
+returns-clause-error g c =
+    let so_far = c.loop-number.invariant in
+    let front = flat_map with_feed so_far.seen in
+    inr (inl (
+      (
+        front,
+        so_far.read,
+        omega (arith, c.loop-number-test.false, so_far.number, length-feeds_most so_far.seen),
+      ),
+      refl,
+    ))

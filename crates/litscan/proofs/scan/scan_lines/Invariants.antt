@@ -11,10 +11,10 @@ invariant-loop-number g l = record {
   seen : List (List ℕ);
   out : List ℕ;
   whole : All HasNoFeed seen;
-  read : Consumes (g.R.Read.remaining l.fn.reader) (g.R.Read.remaining l.reader) (flat_map with_feed seen);
+  read : Consumes (g.R.Read.remaining l.fn.reader.inner) (g.R.Read.remaining l.reader.inner) (flat_map with_feed seen);
   number : l.number ≡ length seen + 1;
   offset : l.offset ≡ length (flat_map with_feed seen) + 0;
   counted : l.count ≡ count_by (counts l.search l.options.others) seen;
-  written : Appends (g.W.Write.contents l.fn.writer) (g.W.Write.contents l.writer) out;
+  written : Appends (g.W.Write.contents l.fn.writer.inner) (g.W.Write.contents l.writer.inner) out;
   printed : PrintsUnlessCounted l.options.count l.search l.options 1 0 seen out;
 }
