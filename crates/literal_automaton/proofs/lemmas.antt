@@ -1,5 +1,4 @@
 -- Lemmas that several proofs share, by topic.
-pub mod Ascending
 pub mod Behind
 pub mod Built
 pub mod Callers
