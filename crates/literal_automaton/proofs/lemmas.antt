@@ -1,6 +1,5 @@
 -- Lemmas that several proofs share, by topic.
 pub mod Anew
-pub mod Ascending
 pub mod Behind
 pub mod Built
 pub mod Callers

@@ -5,7 +5,7 @@ ghost use Rattle.literal_base.specs.Occurs.{pattern_at};
 ghost use Rattle.literal_base.specs.declared.search.MatchKind.TheVariants.{Standard};
 ghost use Rattle.literal_automaton.specs.Table.{nothing};
 ghost use Rattle.literal_automaton.specs.Words.{ending};
-ghost use Rattle.literal_automaton.specs.Inside.Ends.{AreEnds, Ascends, HasOneMore};
+ghost use Rattle.literal_automaton.specs.Inside.Ends.{AreEnds};
 ghost use Rattle.literal_automaton.specs.Inside.Lists.{AreLinks, AreLists, Recognise, starts_of, symbols_of};
 
 use crate::walk::{ENDS, NOTHING};
@@ -89,9 +89,11 @@ impl<'p> Recognised<'p> {
         }
         let mut next = pattern as u32;
         while next != NOTHING {
-            add(&mut list, next)?;
+            list.push(next)?;
             next = links[next as usize];
         }
+        // Equals stand one behind another, and ascend: the sort keeps such runs.
+        list.sort()?;
         Ok(list)
     }
 
@@ -143,16 +145,4 @@ impl Lists {
         self.starts.push(self.ends.len())?;
         Ok(())
     }
-}
-
-/// Adds a number to a list that ascends, at its place.
-fn add(list: &mut Vec<u32>, number: u32) -> Result<(), AllocError>
-    requires { Ascends list.old.items }
-    ensures ascends { IfOk result (λ _. Ascends list.new.items) }
-    ensures more { IfOk result (λ _. HasOneMore list.old.items number list.new.items) }
-{
-    if let Err(at) = list.binary_search(&number) {
-        list.insert(at, number)?;
-    }
-    Ok(())
 }

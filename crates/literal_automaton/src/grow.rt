@@ -1,8 +1,7 @@
 //! The states of an automaton, made from the shorter to the longer words, and their rows.
 ghost use Rattle.std.specs.Prelude.{◌≡◌, ◌+◌, ◌-◌, ◌*◌, ◌<◌, ◌≤◌, ◌^◌, ◌++◌, ◌∷◌, ◌==◌, ◌&&◌, [], ℕ, if◌then◌else◌};
 ghost use Rattle.std.specs.Prelude.{IfErr, IfOk, IfSome, List, None, Option, Some, false, length, map, slice_index};
-ghost use Rattle.std.specs.Prelude.{slice_index_or};
-ghost use Rattle.std.specs.Prelude.{slice_range};
+ghost use Rattle.std.specs.Prelude.{slice_index_or, slice_range, true};
 ghost use Rattle.std.specs.List.{filter, find, range_with_len};
 ghost use Rattle.std.specs.Option.{unwrap_or};
 ghost use Rattle.literal_base.specs.Occurs.{NoneIsEmpty, pattern_at};
@@ -69,6 +68,32 @@ impl<'p> Texts<'p> {
         ensures { result ≡ (length (pattern_at (texts_of self.now) pattern) == depth + 1) }
     {
         self.patterns[pattern as usize].len() == depth as usize + 1
+    }
+
+    /// Whether the rows of the fronts of a pattern are too long.
+    fn is_too_long(&self, pattern: usize) -> bool
+        requires texts { AreTexts self.now }
+        requires is_pattern { pattern < length self.now.patterns.now }
+        ensures { result ≡ true → 2 ^ 31 - 1
+            < (length (pattern_at (texts_of self.now) pattern) + 1) * stride_of self.now.width }
+    {
+        self.patterns[pattern].len() >= LIMIT / (self.width + 1)
+    }
+
+    /// Whether one pattern alone makes the rows too long, of those of which every front has a state.
+    fn has_too_long(&self) -> bool
+        requires { AreTexts self.now }
+        ensures { result ≡ true → HasTooManyStates self.now.kind (texts_of self.now) self.now.width }
+    {
+        for pattern in 0..self.patterns.len() {
+            if self.is_too_long(pattern) {
+                return true;
+            }
+            if self.kind == MatchKind::LeftmostFirst {
+                return false;
+            }
+        }
+        false
     }
 }
 
@@ -474,6 +499,9 @@ pub fn grow(
         width,
         patterns,
     };
+    if texts.has_too_long() {
+        return Err(GrowError::TooManyStates);
+    }
     let mut growing = start(alloc, texts)?;
     let mut state = 0;
     while state < growing.states.len() {

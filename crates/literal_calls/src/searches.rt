@@ -1,6 +1,6 @@
 //! `Search` and `Overlapping`.
 use literal_base::count::Tally;
-use literal_search::{Match, MatchKind, Overlapping, Search, Span};
+use literal_search::{BuildError, Match, MatchKind, Overlapping, Search, Span};
 use std::alloc::{AllocError, Global};
 use std::process::Abort;
 use std::test::Fail;
@@ -43,6 +43,18 @@ fn finds_all_matches(rt: HostRuntime) -> Result<(), Fail> {
             .is_none()
     );
     assert!(rt; search.earliest_end(haystack, whole) == Some(8));
+    Ok(())
+}
+
+#[test]
+fn too_large_a_table_is_refused(rt: HostRuntime) -> Result<(), Fail> {
+    let mut long = Vec::new(rt.alloc());
+    for place in 0..1usize << 23 {
+        long.push((place % 256) as u8)?;
+    }
+    let words = [long.as_slice()];
+    let refused = Search::new(rt.alloc(), MatchKind::LeftmostFirst, false, words);
+    assert!(rt; refused.err() == Some(BuildError::TooManyStates));
     Ok(())
 }
 

@@ -1,16 +1,25 @@
 -- The patterns that are an end of a pattern, from one to the next.
-use Rattle.std.proofs.Common.{mul-le-mul_right}
-use Rattle.std.proofs.Common.{◌≡◌, ◌≢◌, ℕ, ◌+◌, ◌*◌, ◌-◌, ◌<◌, ◌≤◌, ◌^◌, List, [], length, get_or, take, drop, set}
-use Rattle.std.proofs.Common.{Option, Some, None, inl, inr, ◌⊎◌, refl, sym, ap, subst, ◌∙◌, arith}
+use Rattle.std.proofs.Common.{◌≡◌, ◌≢◌, ℕ, ◌+◌, ◌*◌, ◌-◌, ◌<◌, ◌≤◌, ◌^◌, List, [], ◌∷◌, ◌++◌, length, get_or, take}
+use Rattle.std.proofs.Common.{drop, eqb, set}
+use Rattle.std.proofs.Common.{Option, Some, None, inl, inr, ◌⊎◌, refl, sym, ap, subst, ◌∙◌, arith, mul-le-mul_right}
 use Rattle.std.proofs.lemmas.Bool.{cases_lt}
-use Rattle.std.proofs.lemmas.List.{get_or-set_other, get_or-set_same, get_or_past, length-drop, length-set}
-use Rattle.std.proofs.lemmas.List.{take-append-drop}
+use Rattle.std.proofs.lemmas.Bool.Decides.{Decides-eqb, nat_tests}
+use Rattle.std.proofs.lemmas.List.{get_or-set_other, get_or-set_same, get_or_default, get_or_past, length-drop}
+use Rattle.std.proofs.lemmas.List.{length-set, take-append-drop}
+use Rattle.std.proofs.lemmas.List.Elements.{All-nil, All-push, All-weaker, Contains-append_left, Contains-push}
+use Rattle.std.proofs.lemmas.List.Kept.{AllPairs-from_increasing}
+use Rattle.std.proofs.lemmas.List.Quantifiers.{all_pairs_push}
+use Rattle.std.proofs.lemmas.List.Sorted.{All-permutation, Contains-permutation, IsNonDecreasingBy-from_sort}
+use Rattle.std.proofs.lemmas.Map.Keys.{IsDistinct-IsPermutation, IsStrictlyIncreasing-from_distinct}
+use Rattle.std.proofs.lemmas.Map.Made.{IsDistinct-from_AllPairs}
+use Rattle.std.specs.List.{Contains}
+use Rattle.std.specs.List.Sorted.{IsPermutation, IsSorted}
+use Rattle.std.specs.Ordering.{nat_cmp}
 use Rattle.std.specs.Option.{unwrap_or}
 use Rattle.literal_base.specs.declared.search.MatchKind.TheVariants.{Standard}
 use Rattle.literal_base.specs.Occurs.{NoneIsEmpty, pattern_at}
-use Rattle.literal_automaton.specs.Inside.Ends.{AreEnds, Ascends, ComesLater, EndsWith, HasOneMore, HasUpTo, IsEnd}
-use Rattle.literal_automaton.specs.Inside.Ends.{IsIn, IsLink}
-use Rattle.literal_automaton.specs.Inside.Ends.{IsNextEqual, left_from}
+use Rattle.literal_automaton.specs.Inside.Ends.{AreEnds, ComesLater, EndsWith, HasUpTo, IsEnd, IsLink, IsNextEqual}
+use Rattle.literal_automaton.specs.Inside.Ends.{left_from}
 use Rattle.literal_automaton.specs.Inside.Lists.{AreHeads, AreLinks}
 use Rattle.literal_automaton.specs.Table.{nothing}
 use Rattle.literal_automaton.specs.Words.{ending}
@@ -228,27 +237,42 @@ module _ (patterns : List (List ℕ)) (some : NoneIsEmpty patterns) (few : lengt
       let all = first_ends patterns some (pattern_at patterns first) first is in
       let below = all.is.is_pattern in
       record {
-        ascends = λ j k before inside. absurd (omega arith);
-        each = λ k inside. absurd (omega arith);
+        each = All-nil (IsEnd patterns (pattern_at patterns first));
+        order = λ j k d before inside. absurd (omega arith);
+        earlier = λ found. All-nil (λ i. ComesLater patterns i first);
         others = λ i end. inr (λ no. omega (arith, no), all.others i end);
         next_is = inr all.is;
       }
 
+  later_still : (i next link : ℕ) → ComesLater patterns i next → ComesLater patterns next link
+      → ComesLater patterns i link
+  later_still i next link (inl one) (inl other) = inl (omega arith)
+  later_still i next link (inl one) (inr other) = inl (omega (arith, other.0))
+  later_still i next link (inr one) (inl other) = inl (omega (arith, one.0))
+  later_still i next link (inr one) (inr other) = inr (other.0 ∙ one.0, omega (arith, one.1, other.1))
+
+  differs : (i other : ℕ) → ComesLater patterns i other → i ≢ other
+  differs i other (inl shorter) same = omega (arith, ap (λ k. length (pattern_at patterns k)) same)
+  differs i other (inr as_long) same = omega (arith, as_long.1, same)
+
   -- with the next of them it goes on with what that one's link leads to
-  pub up_to_more : (text list longer : List ℕ) (next link : ℕ) → HasUpTo patterns text list next → next ≢ nothing
-      → HasOneMore list next longer → Ascends longer → IsLink patterns next link → HasUpTo patterns text longer link
-  up_to_more text list longer next link has go_on more ascends is = elim has.next_is [
+  pub up_to_more : (text list : List ℕ) (next link : ℕ) → HasUpTo patterns text list next → next ≢ nothing
+      → IsLink patterns next link → HasUpTo patterns text (list ++ next ∷ []) link
+  up_to_more text list next link has go_on is = elim has.next_is [
     | inl none ↦ absurd (go_on none)
     | inr here ↦ record {
-      ascends = ascends;
-      each = λ k below. elim (more.only k below) [
-        | inl same ↦ subst (IsEnd patterns text) (sym same) here
-        | inr old ↦ subst (IsEnd patterns text) old.2 (has.each old.0 old.1)
+      each = All-push (IsEnd patterns text) list next has.each here;
+      order = all_pairs_push (ComesLater patterns) list next has.order (has.earlier go_on);
+      earlier = λ found. elim is.next [
+        | inl none ↦ absurd (found none)
+        | inr one ↦ All-push (λ i. ComesLater patterns i link) list next
+            (All-weaker (λ i. ComesLater patterns i next) (λ i. ComesLater patterns i link)
+            (λ i sooner. later_still i next link sooner one.1) list (has.earlier go_on)) one.1
       ];
       others = λ i end. elim (has.others i end) [
-        | inl in_list ↦ inl (more.keeps i in_list)
+        | inl in_list ↦ inl (Contains-append_left list (next ∷ []) i in_list)
         | inr rest ↦ elim rest.1 [
-          | inl same ↦ inl (subst (IsIn longer) same more.has)
+          | inl same ↦ inl (subst (Contains (list ++ next ∷ [])) same (Contains-push list next))
           | inr later ↦ inr (is.others i (within i here end later) later)
         ]
       ];
@@ -274,17 +298,25 @@ module _ (patterns : List (List ℕ)) (some : NoneIsEmpty patterns) (few : lengt
             (omega (arith, as_long.0));
       }
 
-  -- and at the end it has all
-  pub up_to_all : (text list : List ℕ) (next : ℕ) → HasUpTo patterns text list next → next ≡ nothing
-      → AreEnds patterns text 0 list 0 (length list)
-  up_to_all text list next has none = record {
-    ascends = λ j k from before inside. has.ascends j k before inside;
-    each = λ k from inside. (has.each k inside, omega arith);
-    every = λ i end from. elim (has.others i end) [
-      | inl in_list ↦ (in_list.0, omega arith, in_list.1, in_list.2)
-      | inr rest ↦ absurd (rest.0 none)
-    ];
-  }
+  -- and at the end it has all: sorted, they ascend
+  pub up_to_all : (text list sorted : List ℕ) (next : ℕ) → HasUpTo patterns text list next → next ≡ nothing
+      → IsPermutation list sorted → IsSorted nat_cmp sorted → AreEnds patterns text 0 sorted 0 (length sorted)
+  up_to_all text list sorted next has none moved rises =
+      let apart = IsDistinct-from_AllPairs Decides-eqb list
+      (λ j k d before inside. differs (get_or list j d) (get_or list k d) (has.order j k d before inside)) in
+      let increases = IsStrictlyIncreasing-from_distinct sorted (IsNonDecreasingBy-from_sort (λ n. n) sorted rises)
+      (IsDistinct-IsPermutation eqb (λ x y. grind (arith, nat_tests)) list sorted moved apart) in
+      record {
+        ascends = λ j k from before inside. AllPairs-from_increasing sorted increases j k 0 before inside;
+        each = λ k from inside.
+            (All-permutation (IsEnd patterns text) list sorted moved has.each k 0 inside, omega arith);
+        every = λ i end from. elim (has.others i end) [
+          | inl in_list ↦
+              let one = Contains-permutation list sorted i moved in_list in
+              (one.0, omega arith, one.1, sym (get_or_default sorted one.0 i 0 one.1) ∙ one.2)
+          | inr rest ↦ absurd (rest.0 none)
+        ];
+      }
 
   -- a chain ends
   pub left_falls : (next link : ℕ) → next < length patterns → IsLink patterns next link

@@ -1,28 +1,30 @@
 -- How many states there are.
-use Rattle.std.proofs.Common.{◌≡◌, ◌≢◌, ℕ, ◌+◌, ◌*◌, ◌<◌, ◌≤◌, ◌⊎◌, true, List, [], ◌∷◌, ◌++◌, suc, zero}
+use Rattle.std.proofs.Common.{◌≡◌, ◌≢◌, ℕ, ◌+◌, ◌*◌, ◌-◌, ◌<◌, ◌≤◌, ◌^◌, ◌⊎◌, true, List, [], ◌∷◌, ◌++◌, suc, zero}
 use Rattle.std.proofs.Common.{length, get_or}
 use Rattle.std.proofs.Common.{map, take, drop, eqb, nat_eq, inl, inr, refl, sym, ap, ◌∙◌, arith, subst}
 use Rattle.std.proofs.lemmas.Bool.{cases_lt, cases_order, eqb-true, ne_eqb}
 use Rattle.std.proofs.lemmas.Bool.Decides.{Decides-eqb}
 use Rattle.std.proofs.lemmas.List.{get_or-map, get_or_append_left, get_or_default, get_or_past, get_or_push}
-use Rattle.std.proofs.lemmas.List.{length-append, length-map}
+use Rattle.std.proofs.lemmas.List.{length-append, length-map, length-take-le}
 use Rattle.std.proofs.lemmas.List.{length_push, same_from_push, take-append-drop, take_all, take_more}
 use Rattle.std.proofs.lemmas.List.Elements.{All-head, All-tail}
 use Rattle.std.proofs.lemmas.List.Folds.{Any-from_list_any}
+use Rattle.std.proofs.lemmas.List.FromFn.{get_or-map-range_with_len, length-map-range_with_len}
 use Rattle.std.proofs.lemmas.Map.Keys.{IsDistinct-from_apart}
 use Rattle.std.proofs.lemmas.Map.Steps.{length-le_from_distinct_below}
 use Rattle.std.proofs.lemmas.Slice.Eq.{starts_is}
 use Rattle.std.specs.Global.{Vec}
-use Rattle.std.specs.List.{All, starts_with}
+use Rattle.std.specs.List.{All, range_with_len, starts_with}
 use Rattle.literal_base.specs.Occurs.{pattern_at}
 use Rattle.literal_base.specs.declared.search.MatchKind.{MatchKind}
+use Rattle.literal_base.specs.declared.search.MatchKind.TheVariants.{LeftmostFirst, LeftmostLongest, Standard}
 use Rattle.literal_automaton.specs.Inside.Classes.{AreClasses, symbols_in}
 use Rattle.literal_automaton.specs.Inside.Grown.{AreWords, LeadsBy}
-use Rattle.literal_automaton.specs.States.{AreStates}
+use Rattle.literal_automaton.specs.States.{AreStates, HasTooManyStates}
 use Rattle.literal_automaton.specs.Table.{Recognises, stride_of}
 use Rattle.literal_automaton.specs.Words.{begins_one, held, word_of}
 use Rattle.literal_automaton.proofs.lemmas.Behind.{held_begun}
-use Rattle.literal_automaton.proofs.lemmas.Held.{any_in_question, begins_front}
+use Rattle.literal_automaton.proofs.lemmas.Held.{NoneBefore, any_in_question, any_in_question_at, begins_front}
 
 module _ (kind : MatchKind) (patterns : List (List ℕ)) (width : ℕ)
     (below : (i k : ℕ) → get_or (pattern_at patterns i) k 0 < width) (rows : List ℕ)
@@ -243,3 +245,58 @@ symbols_below classes width are patterns i k = elim (cases_lt i (length patterns
     at [] j inside = absurd (omega arith)
     at (p ∷ ps) zero inside = symbol_below p.items
     at (p ∷ ps) (suc j) inside = at ps j (omega arith)
+
+-- the fronts of a pattern, where each of them may lead to the match
+module _ (kind : MatchKind) (patterns : List (List ℕ)) (i : ℕ) (below : i < length patterns)
+    (first : kind ≡ LeftmostFirst → i ≡ 0) where
+  front : ℕ → List ℕ
+  front n = take n (pattern_at patterns i)
+
+  front_begins : (n : ℕ) → begins_one kind patterns (front n) ≡ true
+  unfolding front
+  front_begins n = any_in_question_at (λ e. starts_with nat_eq e (front n)) kind patterns (front n) i record {
+    below = below;
+    passes = (starts_is Decides-eqb (pattern_at patterns i) (front n) _ refl).1 (drop n (pattern_at patterns i))
+        (sym (take-append-drop n (pattern_at patterns i)));
+    in_question = by_kind kind first;
+  }
+    where
+      by_kind : (k : MatchKind) → (k ≡ LeftmostFirst → i ≡ 0) → NoneBefore k patterns (front n) i
+      by_kind Standard is = tt
+      by_kind LeftmostFirst is = λ j before. absurd (omega (arith, before, is refl))
+      by_kind LeftmostLongest is = tt
+
+  -- where these are too many for rows, all states are
+  pub too_many_fronts : (width : ℕ) → 2 ^ 31 - 1 < (length (pattern_at patterns i) + 1) * stride_of width
+      → HasTooManyStates kind patterns width
+  unfolding front
+  too_many_fronts width long = (
+    map front (range_with_len 0 count),
+    record {
+      apart = λ j k d before inside same. omega (
+        arith,
+        before,
+        inside,
+        many,
+        length-take-le j (pattern_at patterns i) (omega (arith, before, inside, many)),
+        length-take-le k (pattern_at patterns i) (omega (arith, inside, many)),
+        ap (λ (l : List ℕ). length l) (sym (at j d (omega (arith, before, inside, many))) ∙ (same ∙ at k d (omega (
+          arith,
+          inside,
+          many,
+        )))),
+      );
+      begun = λ k d inside. inr (subst (λ (text : List ℕ). begins_one kind patterns text ≡ true)
+          (sym (at k d (omega (arith, inside, many)))) (front_begins k));
+    },
+    subst (λ n. 2 ^ 31 - 1 < n * stride_of width) (sym many) long,
+  )
+    where
+      count : ℕ
+      count = length (pattern_at patterns i) + 1
+
+      many : length (map front (range_with_len 0 count)) ≡ count
+      many = length-map-range_with_len front 0 count
+
+      at : (k : ℕ) (d : List ℕ) → k < count → get_or (map front (range_with_len 0 count)) k d ≡ front k
+      at k d inside = get_or-map-range_with_len front 0 count k k d inside (omega arith)

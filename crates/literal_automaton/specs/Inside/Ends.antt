@@ -1,5 +1,6 @@
 -- Which patterns are an end of a text: the order in which they are found, and lists of them.
 use Rattle.std.specs.Prelude.{◌≡◌, ◌≢◌, ◌⊎◌, ℕ, ◌+◌, ◌*◌, ◌-◌, ◌<◌, ◌≤◌, List, ◌++◌, length, slice_index}
+use Rattle.std.specs.List.{All, AllPairs, Contains}
 use Rattle.literal_base.specs.Occurs.{pattern_at}
 use Rattle.literal_automaton.specs.Table.{nothing}
 
@@ -38,26 +39,14 @@ pub record IsNextEqual (patterns : List (List ℕ)) (pattern from next : ℕ) : 
   pub others : (i : ℕ) → from ≤ i → i < length patterns → pattern_at patterns i ≡ pattern_at patterns pattern
       → (next ≢ nothing) × (next ≤ i)
 
--- the numbers of a list ascend
-abbrev pub Ascends : List ℕ → Type 0
-Ascends list = (j k : ℕ) → j < k → k < length list → slice_index list j < slice_index list k
-
--- a number is in a list
-abbrev pub IsIn : List ℕ → ℕ → Type 0
-IsIn list number = (k : ℕ) × (k < length list) × (slice_index list k ≡ number)
-
--- a list has what another has, and a number
-pub record HasOneMore (list : List ℕ) (number : ℕ) (longer : List ℕ) : Type 0 where
-  pub has : IsIn longer number
-  pub keeps : (n : ℕ) → IsIn list n → IsIn longer n
-  pub only : (k : ℕ) → k < length longer → (slice_index longer k ≡ number) ⊎ IsIn list (slice_index longer k)
-
--- a list has patterns that are an end of a text; each other one is the next, or comes later than that
+-- a list has patterns that are an end of a text, each later than those before it, and the next later than all; each
+-- other end of the text is the next, or comes later than that
 pub record HasUpTo (patterns : List (List ℕ)) (text list : List ℕ) (next : ℕ) : Type 0 where
-  pub ascends : Ascends list
-  pub each : (k : ℕ) → k < length list → IsEnd patterns text (slice_index list k)
+  pub each : All (IsEnd patterns text) list
+  pub order : AllPairs (ComesLater patterns) list
+  pub earlier : next ≢ nothing → All (λ i. ComesLater patterns i next) list
   pub others : (i : ℕ) → IsEnd patterns text i
-      → IsIn list i ⊎ ((next ≢ nothing) × ((next ≡ i) ⊎ ComesLater patterns next i))
+      → Contains list i ⊎ ((next ≢ nothing) × ((next ≡ i) ⊎ ComesLater patterns next i))
   pub next_is : (next ≡ nothing) ⊎ IsEnd patterns text next
 
 -- how far a chain has to go at most

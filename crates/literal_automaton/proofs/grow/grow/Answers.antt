@@ -8,6 +8,13 @@ use Rattle.literal_automaton.proofs.lemmas.Growing.{recognises, some_texts}
 use Rattle.literal_automaton.proofs.lemmas.States.{few_states, states_made, symbols_below}
 use Rattle.literal_automaton.proofs.grow.grow.Goals as goal
 
+pub has_too_long-requires : goal.has_too_long-requires
+has_too_long-requires c = record {
+  classes = c.requires.classes;
+  some = some_texts c.args.classes.now c.args.patterns.now c.requires.some;
+  few = c.requires.few;
+}
+
 pub start-requires : goal.start-requires
 start-requires c = record {
   classes = c.requires.classes;

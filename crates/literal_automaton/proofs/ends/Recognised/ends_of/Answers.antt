@@ -1,4 +1,5 @@
-use Rattle.std.proofs.Common.{◌≡◌, ◌<◌, ◌≤◌, ◌^◌, ◌∙◌, ℕ, List, Some, ap, arith, ◌-◌, inl, inr, length, subst, sym}
+use Rattle.std.proofs.Common.{◌≡◌, ◌<◌, ◌≤◌, ◌^◌, ◌∙◌, ℕ, List, Some, ap, arith, ◌-◌, get_or, inl, inr, length}
+use Rattle.std.proofs.Common.{subst, sym}
 use Rattle.std.proofs.lemmas.List.{length-map}
 use Rattle.std.specs.Global.{Vec}
 use Rattle.std.specs.Option.{unwrap_or}
@@ -41,9 +42,12 @@ loop-next-preserved c =
       | inl none ↦ absurd (c.loop-next-test.true none)
       | inr here ↦ here.is_pattern
     ] in
-    up_to_more texts c.requires.recognise.some few (pattern_at texts c.args.pattern) c.loop-next.list.items
-    c.add.new.list.items c.loop-next.next _ c.loop-next.invariant c.loop-next-test.true c.in_ok-add.ensures.more
-    c.in_ok-add.ensures.ascends (c.requires.links.each c.loop-next.next (omega arith) below)
+    let link = get_or c.args.links.now c.loop-next.next 0 in
+    subst (λ (list : List ℕ). HasUpTo texts (pattern_at texts c.args.pattern) list link)
+    (sym c.in_ok-push.ensures.items)
+    (up_to_more texts c.requires.recognise.some few (pattern_at texts c.args.pattern) c.loop-next.list.items
+    c.loop-next.next link c.loop-next.invariant c.loop-next-test.true
+    (c.requires.links.each c.loop-next.next (omega arith) below))
 
 pub loop-next-smaller : goal.loop-next-smaller
 loop-next-smaller c =
@@ -65,7 +69,8 @@ returns-clause-ends c = λ first.
     length-map c.args.self.now.patterns.now (λ (p : Vec ℕ). symbols_in c.args.self.now.classes.now p.items) in
     let few : length texts ≤ 2 ^ 31 - 1 = omega (arith, known, c.requires.recognise.few) in
     up_to_all texts c.requires.recognise.some few (pattern_at texts c.args.pattern) c.loop-next.list.items
-    c.loop-next.next c.loop-next.invariant c.loop-next-test.false
+    c.sort.new.self.items c.loop-next.next c.loop-next.invariant c.loop-next-test.false c.sort.ensures.permutation
+    c.in_ok-sort.ensures.sorted
 
 pub returns-clause-none : goal.returns-clause-none
 returns-clause-none c = λ other.
