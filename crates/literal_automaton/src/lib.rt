@@ -199,7 +199,7 @@ impl Dfa {
         ensures not_empty { IfSome result (λ found. found.start < found.end) }
         ensures bounded { ScansAtMost self.now.query.patterns span result tally.old tally.new }
     {
-        let answer = self.table().search(haystack, span, false, tally);
+        let answer = self.table().search(haystack, span, false, true, tally);
         let ended = answer.unwrap_or(None)?;
         Some(self.match_by(haystack, span, ended))
     }
@@ -214,7 +214,7 @@ impl Dfa {
         ensures not_empty { IfSome result (λ found. found.start < found.end) }
         ensures bounded { ScansOnce self.now.query.patterns span result tally.old tally.new }
     {
-        let answer = self.table().search_once(haystack, span, false, tally);
+        let answer = self.table().search_once(haystack, span, false, true, tally);
         let ended = answer.unwrap_or(None)?;
         Some(self.match_by(haystack, span, ended))
     }
@@ -317,7 +317,7 @@ impl Dfa {
         ensures end { IsEarliestEnd self.now.query.patterns self.now.ignore_case haystack.now span result }
         ensures bounded { ScansToEndAtMost span result tally.old tally.new }
     {
-        let answer = self.table().search(haystack, span, true, tally);
+        let answer = self.table().search(haystack, span, true, true, tally);
         let ended = answer.unwrap_or(None)?;
         Some(ended.end)
     }
@@ -329,7 +329,7 @@ impl Dfa {
         ensures end { IsEarliestEnd self.now.query.patterns self.now.ignore_case haystack.now span result }
         ensures bounded { ScansToEnd span result tally.old tally.new }
     {
-        let answer = self.table().search_once(haystack, span, true, tally);
+        let answer = self.table().search_once(haystack, span, true, true, tally);
         let ended = answer.unwrap_or(None)?;
         Some(ended.end)
     }

@@ -231,7 +231,7 @@ impl Parts {
         ensures inside { IfSome result (λ stop. (span.start < stop.end) × (stop.end ≤ span.end)) }
         ensures bounded { ScansToEnd span (option_map (λ stop. stop.end) result) tally.old tally.new }
     {
-        let answer = self.table().first_ended(haystack, from, span, tally);
+        let answer = self.table().first_ended(haystack, from, span, true, tally);
         answer.unwrap_or(None)
     }
 

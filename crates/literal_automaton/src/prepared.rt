@@ -217,7 +217,7 @@ impl<'p> Prepared<'p> {
         ensures most { tally.new.scanned ≤ tally.old.scanned + 3 * (span.end - span.start) }
     {
         let front = &self.front;
-        let ended = front.table().search(haystack, span, false, tally)?;
+        let ended = front.table().search(haystack, span, false, false, tally)?;
         let Some(ended) = ended else {
             return Ok(None);
         };

@@ -208,7 +208,7 @@ impl<'p> LentTables<'p> {
             end: span.end,
         };
         let table = self.front.table();
-        let Some(stop) = table.first_ended(haystack, standing.place, rest, tally)? else {
+        let Some(stop) = table.first_ended(haystack, standing.place, rest, false, tally)? else {
             return Ok(None);
         };
         Ok(Some(self.standing_at(stop)?))

@@ -3,6 +3,7 @@ ghost use Rattle.std.specs.Prelude.{◌≡◌, ◌+◌, ◌-◌, ◌*◌, ◌<�
 ghost use Rattle.std.specs.Prelude.{IfOk, IfSome, false, length, true};
 ghost use Rattle.std.specs.Result.{IsOkAnd};
 ghost use Rattle.literal_base.specs.Occurs.{IsValidSpan, between};
+ghost use Rattle.literal_automaton.specs.Inside.Walk.{ClassesFit};
 ghost use Rattle.literal_automaton.specs.Inside.Scan.{Answers, ForTable, NoneBefore, SearchesTo, WalksTo};
 
 use crate::prepared::Damaged;
@@ -25,15 +26,18 @@ impl<'t> Table<'t> {
     /// The leftmost match in a span of the haystack, or where `is_earliest` one that ends first. One walk begins; where it
     /// is back in the first state behind some blocks, four go on as long as nothing occurs, and then one again. What
     /// four walks read in vain is no more than twice what the one before them read.
+    #[inline(always)]
     pub fn search(
         &self,
         haystack: &[u8],
         span: Span,
         is_earliest: bool,
+        fits: bool,
         tally: &mut Tally,
     ) -> Result<Option<Ended>, Damaged>
         requires classes { length self.now.classes.now ≡ 256 }
         requires valid { IsValidSpan haystack.now span }
+        requires fits { fits ≡ true → ClassesFit self.now }
         ensures found { ForTable self.now (λ query ignore_case. IsOkAnd result
             (Answers is_earliest query ignore_case haystack.now span)) }
         ensures near { is_earliest ≡ false → ForTable self.now (λ query ignore_case. IsOkAnd result (SearchesTo
@@ -47,34 +51,33 @@ impl<'t> Table<'t> {
         let end = span.end;
         let mut start = span.start;
         let block = self.first_block();
-        while self.longest <= LONGEST && (BLOCKS_NEAR + 5) * block <= end - start {
+        let begins_four = self.begins_four(end - start, fits);
+        while begins_four && (BLOCKS_NEAR + 5) * block <= end - start {
             let rest = Span { start, end };
-            match self.walk(
-                haystack,
-                rest,
-                start + BLOCKS_NEAR * block,
-                is_earliest,
-                tally,
-            )? {
+            let least = start + BLOCKS_NEAR * block;
+            match self.walk(haystack, rest, least, is_earliest, fits, tally)? {
                 Walked::Known(answer) => return Ok(answer),
                 Walked::Anew(at) => {
                     start = self.pass_over(haystack, Span { start: at, end }, block, tally)?;
                 }
             }
         }
-        self.search_once(haystack, Span { start, end }, is_earliest, tally)
+        self.search_once(haystack, Span { start, end }, is_earliest, fits, tally)
     }
 
     /// The same by one walk.
+    #[inline(always)]
     pub fn search_once(
         &self,
         haystack: &[u8],
         span: Span,
         is_earliest: bool,
+        fits: bool,
         tally: &mut Tally,
     ) -> Result<Option<Ended>, Damaged>
         requires classes { length self.now.classes.now ≡ 256 }
         requires valid { IsValidSpan haystack.now span }
+        requires fits { fits ≡ true → ClassesFit self.now }
         ensures found { ForTable self.now (λ query ignore_case. IsOkAnd result
             (Answers is_earliest query ignore_case haystack.now span)) }
         ensures near { ForTable self.now (λ query ignore_case. IsOkAnd result (WalksTo
@@ -88,10 +91,22 @@ impl<'t> Table<'t> {
         ensures first { IfOk result (λ answer. IfSome answer (λ e. is_earliest ≡ true
             → tally.new.scanned + span.start ≡ tally.old.scanned + e.end)) }
     {
-        match self.walk(haystack, span, usize::MAX, is_earliest, tally)? {
+        match self.walk(haystack, span, usize::MAX, is_earliest, fits, tally)? {
             Walked::Known(answer) => Ok(answer),
             Walked::Anew(_) => Ok(None),
         }
+    }
+
+    /// Whether four walks may begin in so many bytes: these are many enough, no pattern is too long, and the classes fit.
+    fn begins_four(&self, bytes: usize, fits: bool) -> bool
+        requires classes { length self.now.classes.now ≡ 256 }
+        requires fits { fits ≡ true → ClassesFit self.now }
+        ensures { result ≡ true → ClassesFit self.now × (self.now.longest ≤ LONGEST) }
+    {
+        if self.longest > LONGEST || bytes < (BLOCKS_NEAR + 5) * FIRST_BLOCK {
+            return false;
+        }
+        fits || self.classes_fit()
     }
 
     /// How long the first blocks are: each at least twice as long as the longest pattern.
@@ -108,6 +123,7 @@ impl<'t> Table<'t> {
     }
 
     /// A place in a span before which nothing begins, by four walks at once through blocks that become longer.
+    #[inline(always)]
     fn pass_over(
         &self,
         haystack: &[u8],
@@ -119,6 +135,7 @@ impl<'t> Table<'t> {
         requires valid { IsValidSpan haystack.now span }
         requires some { 0 < first }
         requires long { 2 * self.now.longest ≤ first }
+        requires fits { ClassesFit self.now }
         requires short { first ≤ 2 * LONGEST }
         ensures none { ForTable self.now (λ query ignore_case. IsOkAnd result
             (NoneBefore query ignore_case haystack.now span)) }
@@ -128,8 +145,9 @@ impl<'t> Table<'t> {
         ensures counted { IfOk result (λ at. tally.new.scanned ≤ tally.old.scanned + 6 * first
             + 3 * (at - span.start)) }
     {
+        let limit = self.limit()?;
         let (mut at, mut block) = (span.start, first);
-        while 5 * block <= span.end - at && self.none_begins(haystack, at, block, tally)? {
+        while 5 * block <= span.end - at && self.none_begins(haystack, at, block, limit, tally) {
             at += 4 * block;
             block = if block < LAST_BLOCK { 2 * block } else { block };
         }
@@ -137,20 +155,26 @@ impl<'t> Table<'t> {
     }
 
     /// Whether nothing begins in the four blocks from a place on.
+    #[inline(always)]
     fn none_begins(
         &self,
         haystack: &[u8],
         at: usize,
         block: usize,
+        limit: usize,
         tally: &mut Tally,
-    ) -> Result<bool, Damaged>
+    ) -> bool
         requires classes { length self.now.classes.now ≡ 256 }
+        requires fits { ClassesFit self.now }
+        requires some { 0 < limit }
+        requires limit { limit ≤ 2 ^ 31 }
+        requires within { limit + self.now.width ≤ length self.now.rows.now }
         requires inside { at + 4 * block + self.now.longest ≤ length haystack.now }
-        ensures none { ForTable self.now (λ query ignore_case. IsOkAnd result (λ none. none ≡ true
-            → NoneBefore query ignore_case haystack.now (between at (length haystack.now)) (at + 4 * block))) }
+        ensures none { result ≡ true → ForTable self.now (λ query ignore_case.
+            NoneBefore query ignore_case haystack.now (between at (length haystack.now)) (at + 4 * block)) }
         ensures others { tally.new ≡ record tally.old { scanned = tally.new.scanned } }
         ensures most { tally.new.scanned ≤ tally.old.scanned + 4 * (block + self.now.longest) }
     {
-        self.none_in_four(haystack, at, block, tally)
+        self.none_in_four(haystack, at, block, limit, tally)
     }
 }

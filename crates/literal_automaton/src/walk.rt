@@ -1,11 +1,11 @@
 //! Walks through the rows of an automaton. The numbers may be lent, and so any: they are damaged where one leads out of
 //! the rows.
-ghost use Rattle.std.specs.Prelude.{◌≡◌, ◌+◌, ◌-◌, ◌*◌, ◌<◌, ◌≤◌, ◌^◌};
-ghost use Rattle.std.specs.Prelude.{IfOk, IfSome, MatchResult, length, slice_index, true};
+ghost use Rattle.std.specs.Prelude.{◌≡◌, ◌⊎◌, ◌+◌, ◌-◌, ◌*◌, ◌<◌, ◌≤◌, ◌^◌};
+ghost use Rattle.std.specs.Prelude.{IfOk, IfSome, MatchResult, length, min, slice_index, true};
 ghost use Rattle.std.specs.Result.{IsOkAnd};
 ghost use Rattle.literal_base.specs.Occurs.{IsValidSpan};
 ghost use Rattle.literal_automaton.specs.Inside.Classes.{AreClasses};
-ghost use Rattle.literal_automaton.specs.Inside.Walk.{FindsEnd, IsRow, IsTable, LiesWithin, NoneInFour, StopsBy};
+ghost use Rattle.literal_automaton.specs.Inside.Walk.{ClassesFit, FindsEnd, IsRow, IsTable, LiesWithin, NoneInFour, StopsBy};
 ghost use Rattle.literal_automaton.specs.Inside.Walk.{Walks, WalksFar};
 
 use crate::prepared::Damaged;
@@ -55,50 +55,85 @@ pub struct Table<'t> {
 }
 
 impl<'t> Table<'t> {
-    /// The class of a byte of a haystack, which so counts as scanned.
+    /// Whether no class is above the width: then no class has to be tested.
+    pub fn classes_fit(&self) -> bool
+        requires { length self.now.classes.now ≡ 256 }
+        ensures { result ≡ true → ClassesFit self.now }
+    {
+        for class in self.classes {
+            if *class as usize > self.width {
+                return false;
+            }
+        }
+        true
+    }
+
+    /// The class of a byte of a haystack, which so counts as scanned. Where the classes do not fit, it is tested.
     #[inline(always)]
-    fn class_at(&self, haystack: &[u8], at: usize, tally: &mut Tally) -> usize
+    fn class_at(
+        &self,
+        haystack: &[u8],
+        at: usize,
+        fits: bool,
+        tally: &mut Tally,
+    ) -> Result<usize, Damaged>
         requires classes { length self.now.classes.now ≡ 256 }
         requires inside { at < length haystack.now }
-        ensures class { result ≡ slice_index self.now.classes.now (slice_index haystack.now at) }
+        requires fits { fits ≡ true → ClassesFit self.now }
+        ensures class { MatchResult result
+            (λ class. (class ≡ slice_index self.now.classes.now (slice_index haystack.now at))
+            × (class ≤ self.now.width))
+            (λ _. self.now.width < slice_index self.now.classes.now (slice_index haystack.now at)) }
         ensures ticks { tally.new ≡ record tally.old { scanned = tally.old.scanned + 1 } }
     {
         tally.tick_scanned();
-        self.classes[haystack[at] as usize] as usize
+        let class = self.classes[haystack[at] as usize] as usize;
+        if !fits && class > self.width {
+            return Err(Damaged);
+        }
+        Ok(class)
+    }
+
+    /// Below which place rows begin: the last number of a row that begins there lies in the rows.
+    #[inline(always)]
+    pub fn limit(&self) -> Result<usize, Damaged>
+        ensures { MatchResult result
+            (λ limit. (0 < limit) × (limit ≤ 2 ^ 31)
+            × (limit ≡ min (length self.now.rows.now - self.now.width) (2 ^ 31)))
+            (λ _. length self.now.rows.now ≤ self.now.width) }
+    {
+        if self.rows.len() <= self.width {
+            return Err(Damaged);
+        }
+        Ok((self.rows.len() - self.width).min(ENDS as usize))
     }
 
     /// The number for a class in the row that begins at a place. What begins at the class is known before the place is,
     /// so that a walk waits for one look-up a byte, and for no sum.
     #[inline(always)]
-    fn number_at(&self, place: usize, class: usize) -> Result<u32, Damaged>
-        ensures { MatchResult result
-            (λ number. (place + class < length self.now.rows.now)
-            × (number ≡ slice_index self.now.rows.now (place + class)))
-            (λ _. length self.now.rows.now ≤ place + class) }
+    fn number_at(&self, place: usize, class: usize) -> u32
+        requires { place + class < length self.now.rows.now }
+        ensures { result ≡ slice_index self.now.rows.now (place + class) }
     {
-        if class > self.rows.len() {
-            return Err(Damaged);
-        }
-        let behind = &self.rows[class..];
-        if place >= behind.len() {
-            return Err(Damaged);
-        }
-        Ok(behind[place])
+        self.rows[class..][place]
     }
 
     /// The leftmost match in a span of the haystack, or where `is_earliest` the match that ends first: the walk goes
     /// from state to state until no more bytes matter, and answers the last pattern that ended. It ends too where it
     /// comes back to the first state, from the least place on.
+    #[inline(always)]
     pub fn walk(
         &self,
         haystack: &[u8],
         span: Span,
         least: usize,
         is_earliest: bool,
+        fits: bool,
         tally: &mut Tally,
     ) -> Result<Walked, Damaged>
         requires classes { length self.now.classes.now ≡ 256 }
         requires valid { IsValidSpan haystack.now span }
+        requires fits { fits ≡ true → ClassesFit self.now }
         ensures found { AreClasses self.now.classes.now self.now.width → IsTable self.now.width self.now.rows.now
             → IsOkAnd result (Walks self.now haystack.now span is_earliest) }
         ensures near { AreClasses self.now.classes.now self.now.width → IsTable self.now.width self.now.rows.now
@@ -109,21 +144,22 @@ impl<'t> Table<'t> {
         ensures once { tally.new.scanned ≤ tally.old.scanned + (span.end - span.start) }
         ensures counted { IfOk result (WalksFar span is_earliest (tally.new.scanned - tally.old.scanned)) }
     {
+        let limit = self.limit()?;
         let mut last = None;
         let mut place = 0;
         for at in span.start..span.end {
-            let class = self.class_at(haystack, at, tally);
-            let code = self.number_at(place, class)?;
+            let class = self.class_at(haystack, at, fits, tally)?;
+            let code = self.number_at(place, class);
             if at >= least && code == 0 {
                 return Ok(Walked::Anew(at + 1));
             }
-            if code < ENDS {
+            if (code as usize) < limit {
                 place = code as usize;
             } else if code == NOTHING {
                 return Ok(Walked::Known(last));
             } else {
-                place = (code - ENDS) as usize;
-                let pattern = self.number_at(place, self.width)?;
+                place = behind_end(code, limit)?;
+                let pattern = self.number_at(place, self.width);
                 last = Some(Ended {
                     pattern,
                     end: at + 1,
@@ -138,16 +174,18 @@ impl<'t> Table<'t> {
 
     /// The first place in a span behind which a match ends, and the row there. The walk stands at a row as it begins to
     /// read the span. It stops where no more bytes matter.
+    #[inline(always)]
     pub fn first_ended(
         &self,
         haystack: &[u8],
         from: usize,
         span: Span,
+        fits: bool,
         tally: &mut Tally,
     ) -> Result<Option<Stop>, Damaged>
         requires classes { length self.now.classes.now ≡ 256 }
-        requires small { from < 2 ^ 32 }
         requires valid { IsValidSpan haystack.now span }
+        requires fits { fits ≡ true → ClassesFit self.now }
         ensures first { AreClasses self.now.classes.now self.now.width → IsTable self.now.width self.now.rows.now
             → IsRow self.now.width self.now.rows.now from → IsOkAnd result
             (FindsEnd self.now.width self.now.rows.now from self.now.classes.now haystack.now span) }
@@ -158,16 +196,20 @@ impl<'t> Table<'t> {
         ensures near { IfOk result (λ answer. IfSome answer
             (λ stop. tally.new.scanned + span.start ≡ tally.old.scanned + stop.end)) }
     {
+        let limit = self.limit()?;
+        if from >= limit {
+            return Err(Damaged);
+        }
         let mut place = from;
         for at in span.start..span.end {
-            let class = self.class_at(haystack, at, tally);
-            let code = self.number_at(place, class)?;
-            if code < ENDS {
+            let class = self.class_at(haystack, at, fits, tally)?;
+            let code = self.number_at(place, class);
+            if (code as usize) < limit {
                 place = code as usize;
             } else if code == NOTHING {
                 return Ok(None);
             } else {
-                let place = (code - ENDS) as usize;
+                let place = behind_end(code, limit)?;
                 return Ok(Some(Stop { place, end: at + 1 }));
             }
         }
@@ -175,37 +217,69 @@ impl<'t> Table<'t> {
     }
 
     /// Whether nothing occurs in any of four spans, each as long as a block and the longest pattern, which begin one
-    /// block behind another. It walks through all four at once, so that no look-up waits for those of the others.
+    /// block behind another. It walks through all four at once, so that no look-up waits for those of the others. Where
+    /// a number leads out of the rows it does not know.
+    #[inline(always)]
     pub fn none_in_four(
         &self,
         haystack: &[u8],
         at: usize,
         block: usize,
+        limit: usize,
         tally: &mut Tally,
-    ) -> Result<bool, Damaged>
+    ) -> bool
         requires classes { length self.now.classes.now ≡ 256 }
+        requires fits { ClassesFit self.now }
+        requires some { 0 < limit }
+        requires limit { limit ≤ 2 ^ 31 }
+        requires within { limit + self.now.width ≤ length self.now.rows.now }
         requires inside { at + 4 * block + self.now.longest ≤ length haystack.now }
-        ensures none { AreClasses self.now.classes.now self.now.width → IsTable self.now.width self.now.rows.now
-            → IsOkAnd result (λ none. none ≡ true
-            → NoneInFour self.now haystack.now at block (block + self.now.longest)) }
+        ensures none { result ≡ true → AreClasses self.now.classes.now self.now.width
+            → IsTable self.now.width self.now.rows.now
+            → NoneInFour self.now haystack.now at block (block + self.now.longest) }
         ensures others { tally.new ≡ record tally.old { scanned = tally.new.scanned } }
         ensures most { tally.new.scanned ≤ tally.old.scanned + 4 * (block + self.now.longest) }
     {
         let (mut first, mut second, mut third, mut fourth) = (0, 0, 0, 0);
         for step in 0..block + self.longest {
             let here = at + step;
-            let one = self.number_at(first, self.class_at(haystack, here, tally))?;
-            let two = self.number_at(second, self.class_at(haystack, here + block, tally))?;
-            let three = self.number_at(third, self.class_at(haystack, here + 2 * block, tally))?;
-            let four = self.number_at(fourth, self.class_at(haystack, here + 3 * block, tally))?;
-            if one >= ENDS || two >= ENDS || three >= ENDS || four >= ENDS {
-                return Ok(false);
+            let one = self.next_at(first, haystack, here, tally);
+            let two = self.next_at(second, haystack, here + block, tally);
+            let three = self.next_at(third, haystack, here + 2 * block, tally);
+            let four = self.next_at(fourth, haystack, here + 3 * block, tally);
+            if one >= limit || two >= limit || three >= limit || four >= limit {
+                return false;
             }
-            first = one as usize;
-            second = two as usize;
-            third = three as usize;
-            fourth = four as usize;
+            (first, second, third, fourth) = (one, two, three, four);
         }
-        Ok(true)
+        true
     }
+
+    /// The number in the row that begins at a place for a byte of the haystack, where the classes fit.
+    #[inline(always)]
+    fn next_at(&self, place: usize, haystack: &[u8], at: usize, tally: &mut Tally) -> usize
+        requires classes { length self.now.classes.now ≡ 256 }
+        requires fits { ClassesFit self.now }
+        requires inside { at < length haystack.now }
+        requires within { place + self.now.width < length self.now.rows.now }
+        ensures number { result ≡ slice_index self.now.rows.now
+            (place + slice_index self.now.classes.now (slice_index haystack.now at)) }
+        ensures ticks { tally.new ≡ record tally.old { scanned = tally.old.scanned + 1 } }
+    {
+        tally.tick_scanned();
+        let class = self.classes[haystack[at] as usize] as usize;
+        self.number_at(place, class) as usize
+    }
+}
+
+/// Where the row begins to which a number leads with which a match ends.
+#[inline(always)]
+fn behind_end(code: u32, limit: usize) -> Result<usize, Damaged>
+    ensures { MatchResult result (λ place. (2 ^ 31 ≤ code) × (place ≡ code - 2 ^ 31) × (place < limit))
+        (λ _. (code < 2 ^ 31) ⊎ (2 ^ 31 + limit ≤ code)) }
+{
+    if code < ENDS || (code - ENDS) as usize >= limit {
+        return Err(Damaged);
+    }
+    Ok((code - ENDS) as usize)
 }

@@ -142,6 +142,10 @@ BeginsAnew width rows text =
     (kind : MatchKind) (patterns : List (List ℕ)) → Recognises (root_kind_of kind) patterns width rows
     → NoneIsEmpty patterns → (more : List ℕ) → from_match patterns (text ++ more) ≡ from_match patterns more
 
+-- no class is above the width
+abbrev pub ClassesFit : Table → Type 0
+ClassesFit t = (byte : ℕ) → byte < 256 → slice_index t.classes.now byte ≤ t.width
+
 -- the classes of the bytes from one place to another
 abbrev pub text_in : Table → List ℕ → ℕ → ℕ → List ℕ
 text_in t haystack start end = text_of t.classes.now haystack (between start end)

@@ -1,6 +1,6 @@
-use Rattle.std.proofs.Common.{◌≡◌, ◌+◌, ◌-◌, ◌<◌, ◌∙◌, ℕ, ap, arith, get_or, length, refl, subst}
+use Rattle.std.proofs.Common.{◌≡◌, ◌+◌, ◌-◌, ◌<◌, ◌∙◌, ℕ, ap, arith, get_or, length, refl, subst, sym, Some}
 use Rattle.literal_base.specs.Counts.{Counts}
-use Rattle.literal_automaton.specs.Inside.Walk.{GoesOn}
+use Rattle.literal_automaton.specs.Inside.Walk.{FindsEnd, GoesOn}
 use Rattle.literal_automaton.proofs.lemmas.Walk.{finds_dead_end, finds_end, finds_no_end, goes_further, goes_start}
 use Rattle.literal_automaton.proofs.walk.Table.first_ended.Goals as goal
 
@@ -8,19 +8,11 @@ pub loop-at-init : goal.loop-at-init
 loop-at-init c =
     let none : c.args.span.start - c.args.span.start ≡ 0 = omega arith in
     record {
-      small = c.requires.small;
-      goes = λ are table row. goes_start c.args.self.now.width c.args.self.now.rows.now c.args.from c.args.self.now.classes.now c.args.haystack.now
-          c.args.span.start row;
+      within = omega (arith, c.if-from-limit.false);
+      goes = λ are table row. goes_start c.args.self.now.width c.args.self.now.rows.now c.args.from
+          c.args.self.now.classes.now c.args.haystack.now c.args.span.start row;
       counted = ap (λ (n : ℕ). let t : Counts = record c.args.tally.now { scanned = n } in t) (omega arith);
     }
-
-pub returns-in_err-code-clause-first : goal.returns-in_err-code-clause-first
-returns-in_err-code-clause-first c = λ are table row.
-    let haystack = c.args.haystack.now in
-    let at = c.loop-at.at in
-    let below = are.below (get_or haystack at 0) (omega (arith, c.type_inv.haystack at)) in
-    let fits = (c.loop-at.invariant.goes are table row).row.fits in
-    let never : ⊥ = omega (arith, below, fits, c.in_err-code.ensures, c.class_at-class.ensures.class) in absurd never
 
 pub returns-then-code-clause-first : goal.returns-then-code-clause-first
 returns-then-code-clause-first c = λ are table row.
@@ -29,11 +21,11 @@ returns-then-code-clause-first c = λ are table row.
     let haystack = c.args.haystack.now in
     let at = c.loop-at.at in
     let inside : at < length haystack = omega (arith, c.loop-at-test.true, c.requires.valid.in_haystack) in
-    let code_is = c.in_ok-code.ensures.1
-    ∙ ap (λ k. get_or rows (c.loop-at.place + k) 0) c.class_at-class.ensures.class in
+    let code_is = c.number_at-code.ensures
+    ∙ ap (λ k. get_or rows (c.loop-at.place + k) 0) c.in_ok-class.ensures.class.0 in
     finds_dead_end c.args.self.now.width rows c.args.from classes haystack c.args.span.start table at
     c.loop-at.place (c.loop-at.invariant.goes are table row) c.loop-at.auto.at inside
-    (are.below (get_or haystack at 0) (omega (arith, c.type_inv.haystack at))) c.in_ok-code.code code_is
+    (are.below (get_or haystack at 0) (omega (arith, c.type_inv.haystack at))) c.number_at-code.result code_is
     c.if-code.true c.args.span refl c.requires.valid.in_haystack
 
 pub returns-else-code-clause-first : goal.returns-else-code-clause-first
@@ -43,12 +35,14 @@ returns-else-code-clause-first c = λ are table row.
     let haystack = c.args.haystack.now in
     let at = c.loop-at.at in
     let inside : at < length haystack = omega (arith, c.loop-at-test.true, c.requires.valid.in_haystack) in
-    let code_is = c.in_ok-code.ensures.1
-    ∙ ap (λ k. get_or rows (c.loop-at.place + k) 0) c.class_at-class.ensures.class in
-    finds_end c.args.self.now.width rows c.args.from classes haystack c.args.span.start table at
+    let code_is = c.number_at-code.ensures
+    ∙ ap (λ k. get_or rows (c.loop-at.place + k) 0) c.in_ok-class.ensures.class.0 in
+    subst (λ (place : ℕ). FindsEnd c.args.self.now.width rows c.args.from classes haystack c.args.span
+    (Some (record { place = place; end = at + 1 }))) (sym c.in_ok-place.ensures.1)
+    (finds_end c.args.self.now.width rows c.args.from classes haystack c.args.span.start table at
     c.loop-at.place (c.loop-at.invariant.goes are table row) c.loop-at.auto.at inside
-    (are.below (get_or haystack at 0) (omega (arith, c.type_inv.haystack at))) c.in_ok-code.code code_is
-    c.if-code-lt-ENDS.false c.if-code.false c.args.span refl
+    (are.below (get_or haystack at 0) (omega (arith, c.type_inv.haystack at))) c.number_at-code.result code_is
+    c.in_ok-place.ensures.0 c.if-code.false c.args.span refl)
 
 pub loop-at-preserved : goal.loop-at-preserved
 loop-at-preserved c =
@@ -60,15 +54,15 @@ loop-at-preserved c =
     let inside : at < length haystack = omega (arith, c.loop-at-test.true, c.requires.valid.in_haystack) in
     let more : c.args.tally.now.scanned + (at - start) + 1 ≡ c.args.tally.now.scanned + (at + 1 - start) =
     omega arith in
-    let code_is = c.in_ok-code.ensures.1
-    ∙ ap (λ k. get_or rows (c.loop-at.place + k) 0) c.class_at-class.ensures.class in
+    let code_is = c.number_at-code.ensures
+    ∙ ap (λ k. get_or rows (c.loop-at.place + k) 0) c.in_ok-class.ensures.class.0 in
     record {
-      small = omega (arith, c.if-code-lt-ENDS.true);
+      within = omega (arith, c.if-code-limit.true);
       goes = λ are table row. goes_further c.args.self.now.width rows c.args.from c.args.self.now.classes.now haystack start table at
           c.loop-at.place (c.loop-at.invariant.goes are table row) c.loop-at.auto.at inside
-          (are.below (get_or haystack at 0) (omega (arith, c.type_inv.haystack at))) c.in_ok-code.code code_is
-          c.if-code-lt-ENDS.true;
-      counted = c.class_at-class.ensures.ticks
+          (are.below (get_or haystack at 0) (omega (arith, c.type_inv.haystack at))) c.number_at-code.result code_is
+          (omega (arith, c.if-code-limit.true, c.in_ok-limit.ensures.1));
+      counted = c.in_ok-class.ensures.ticks
           ∙ (ap (λ (t : Counts). let t' : Counts = record t { scanned = t.scanned + 1 } in t')
           c.loop-at.invariant.counted
           ∙ ap (λ (n : ℕ). let t : Counts = record c.args.tally.now { scanned = n } in t) more);

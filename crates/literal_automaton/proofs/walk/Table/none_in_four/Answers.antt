@@ -10,17 +10,16 @@ use Rattle.literal_automaton.proofs.walk.Table.none_in_four.Goals as goal
 -- one byte more of one of the spans, whose place, class and number are known
 lane : (classes rows haystack : List ℕ) (width : ℕ) → AreClasses classes width → IsTable width rows
     → (start step at : ℕ) → at ≡ start + step → at < length haystack → get_or haystack at 0 < 256
-    → (place class code : ℕ)
+    → (place code : ℕ)
     → Reads width rows start (text_of classes haystack (between start (start + step))) place None
-    → class ≡ get_or classes (get_or haystack at 0) 0 → code ≡ get_or rows (place + class) 0 → code < 2 ^ 31
+    → code ≡ get_or rows (place + get_or classes (get_or haystack at 0) 0) 0 → code < 2 ^ 31
     → Reads width rows start (text_of classes haystack (between start (start + (step + 1)))) code None
-lane classes rows haystack width are table start step at at_is inside is_byte place class code reads class_is code_is
-    small =
+lane classes rows haystack width are table start step at at_is inside is_byte place code reads code_is small =
     let next : at + 1 ≡ start + (step + 1) = omega arith in
     subst (λ (end : ℕ). Reads width rows start (text_of classes haystack (between start end)) code None) next
     (step_on classes rows haystack width are table start at (omega arith) inside is_byte place None
     (subst (λ (end : ℕ). Reads width rows start (text_of classes haystack (between start end)) place None) (sym at_is)
-    reads) code (code_is ∙ ap (λ k. get_or rows (place + k) 0) class_is) small)
+    reads) code code_is small)
 
 one_more : (a b : Counts) → a ≡ b
     → (let t : Counts = record a { scanned = a.scanned + 1 } in t)
@@ -40,25 +39,26 @@ loop-step-preserved c =
     let sum : c.args.tally.now.scanned + 4 * step + 1 + 1 + 1 + 1 ≡ c.args.tally.now.scanned + 4 * (step + 1) =
     omega arith in
     record {
+      first_within = omega (arith, c.if-one-limit.false);
+      second_within = omega (arith, c.if-two-limit.false);
+      third_within = omega (arith, c.if-three-limit.false);
+      fourth_within = omega (arith, c.if-four-limit.false);
       first = λ are table. more are table at step (at + step) (omega arith) (omega arith) (byte (at + step))
-          c.loop-step.first c.class_at.result c.in_ok-one.one (so_far.first are table) c.class_at.ensures.class
-          c.in_ok-one.ensures.1 (omega (arith, c.if-one-ge-ENDS.false));
+          c.loop-step.first c.next_at-one.result (so_far.first are table) c.next_at-one.ensures.number
+          (omega (arith, c.if-one-limit.false, c.requires.limit));
       second = λ are table. more are table (at + block) step (at + step + block) (omega arith) (omega arith)
-          (byte (at + step + block)) c.loop-step.second c.class_at-in-loop-step.result c.in_ok-two.two
-          (so_far.second are table) c.class_at-in-loop-step.ensures.class c.in_ok-two.ensures.1
-          (omega (arith, c.if-two-ge-ENDS.false));
+          (byte (at + step + block)) c.loop-step.second c.next_at-two.result (so_far.second are table)
+          c.next_at-two.ensures.number (omega (arith, c.if-two-limit.false, c.requires.limit));
       third = λ are table. more are table (at + 2 * block) step (at + step + 2 * block) (omega arith) (omega arith)
-          (byte (at + step + 2 * block)) c.loop-step.third c.class_at-in-loop-step-2.result c.in_ok-three.three
-          (so_far.third are table) c.class_at-in-loop-step-2.ensures.class c.in_ok-three.ensures.1
-          (omega (arith, c.if-three-ge-ENDS.false));
+          (byte (at + step + 2 * block)) c.loop-step.third c.next_at-three.result (so_far.third are table)
+          c.next_at-three.ensures.number (omega (arith, c.if-three-limit.false, c.requires.limit));
       fourth = λ are table. more are table (at + 3 * block) step (at + step + 3 * block) (omega arith) (omega arith)
-          (byte (at + step + 3 * block)) c.loop-step.fourth c.class_at-in-loop-step-3.result c.in_ok-four.four
-          (so_far.fourth are table) c.class_at-in-loop-step-3.ensures.class c.in_ok-four.ensures.1
-          (omega (arith, c.if-four-ge-ENDS.false));
-      counted = c.class_at-in-loop-step-3.ensures.ticks
-          ∙ (one_more _ _ (c.class_at-in-loop-step-2.ensures.ticks
-          ∙ one_more _ _ (c.class_at-in-loop-step.ensures.ticks
-          ∙ one_more _ _ (c.class_at.ensures.ticks ∙ one_more _ _ so_far.counted)))
+          (byte (at + step + 3 * block)) c.loop-step.fourth c.next_at-four.result (so_far.fourth are table)
+          c.next_at-four.ensures.number (omega (arith, c.if-four-limit.false, c.requires.limit));
+      counted = c.next_at-four.ensures.ticks
+          ∙ (one_more _ _ (c.next_at-three.ensures.ticks
+          ∙ one_more _ _ (c.next_at-two.ensures.ticks
+          ∙ one_more _ _ (c.next_at-one.ensures.ticks ∙ one_more _ _ so_far.counted)))
           ∙ ap (λ (n : ℕ). let n' : Counts = record c.args.tally.now { scanned = n } in n') sum);
     }
 
@@ -73,7 +73,7 @@ whole classes rows haystack width table start start' step len place same all rea
     (finds_all width rows table start (text_of classes haystack (between start (start + step))) place None reads))
 
 pub returns-clause-none : goal.returns-clause-none
-returns-clause-none c = λ are table _ k below.
+returns-clause-none c = λ _ are table k below.
     let t = c.args.self.now in
     let at = c.args.at in
     let block = c.args.block in

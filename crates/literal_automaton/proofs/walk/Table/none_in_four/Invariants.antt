@@ -1,10 +1,14 @@
-use Rattle.std.proofs.Common.{◌≡◌, ◌+◌, ◌*◌, None}
+use Rattle.std.proofs.Common.{◌≡◌, ◌+◌, ◌*◌, ◌<◌, None}
 use Rattle.literal_automaton.specs.Inside.Classes.{AreClasses}
 use Rattle.literal_automaton.specs.Inside.Walk.{IsTable, Reads, text_in}
 use Rattle.literal_automaton.proofs.walk.Table.none_in_four.Given as goal
 
 abbrev pub invariant-loop-step : goal.invariant-loop-step
 invariant-loop-step l = record {
+  first_within : l.first < l.limit;
+  second_within : l.second < l.limit;
+  third_within : l.third < l.limit;
+  fourth_within : l.fourth < l.limit;
   first : AreClasses l.self.classes.now l.self.width → IsTable l.self.width l.self.rows.now → Reads l.self.width
       l.self.rows.now l.at (text_in l.self l.haystack l.at (l.at + l.step)) l.first None;
   second : AreClasses l.self.classes.now l.self.width → IsTable l.self.width l.self.rows.now → Reads l.self.width

@@ -5,6 +5,7 @@ use Rattle.literal_automaton.proofs.walk.Table.walk.Given as goal
 
 abbrev pub invariant-loop-at : goal.invariant-loop-at
 invariant-loop-at l = record {
+  within : l.place < l.limit;
   reads : AreClasses l.self.classes.now l.self.width → IsTable l.self.width l.self.rows.now
       → Reads l.self.width l.self.rows.now l.fn.span.start (text_in l.self l.haystack l.fn.span.start l.at) l.place
       l.last;
