@@ -28,15 +28,3 @@ pub fn ticked() -> Tally
     tick_each(&mut tally);
     tally
 }
-
-#[cfg(test)]
-mod tests {
-    use super::*;
-
-    #[test]
-    fn takes_no_bytes(rt: HostRuntime) {
-        let tally = ticked();
-        assert!(rt; size_of::<Tally>() == 0);
-        let _ = tally;
-    }
-}

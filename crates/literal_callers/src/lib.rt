@@ -1,5 +1,5 @@
 //! Callers that rely on contracts alone: that what they promise is proved shows that the contracts suffice. Each is run
-//! once.
+//! once in `literal_calls`, since a crate with tests is proved once more with them.
 #![tactic(auto)]
 
 pub mod classes;
@@ -7,10 +7,6 @@ pub mod copies;
 pub mod counts;
 pub mod given;
 pub mod inputs;
-#[cfg(test)]
-mod laws;
-#[cfg(test)]
-mod together;
 pub mod uses;
 pub mod uses_of_ids;
 pub mod uses_of_prefilters;

@@ -5,6 +5,8 @@
 #[cfg(test)]
 mod builders;
 #[cfg(test)]
+mod callers;
+#[cfg(test)]
 mod identifiers;
 #[cfg(test)]
 mod paths;

@@ -1,0 +1,12 @@
+//! The callers of `literal_callers`, each run once, and laws that make a call.
+mod classes;
+mod copies;
+mod counts;
+mod given;
+mod inputs;
+mod laws;
+mod together;
+mod uses;
+mod uses_of_ids;
+mod uses_of_prefilters;
+mod words;

@@ -1,0 +1,97 @@
+//! Callers of byte classes, each run once.
+use literal_base::alphabet::{ByteClassSet, ByteClasses, ByteSet};
+use literal_callers::classes::{
+    classes_of, copied, count_of_classes, count_of_elements, elements_taken, have_their_class,
+    last_bytes, next_after_all, runs_collected,
+};
+use std::alloc::{AllocError, Global};
+use std::fmt::Debug;
+use std::process::Abort;
+use std::test::Fail;
+
+const THREE: [(u8, u8); 3] = [(b'b', b'd'), (b'g', b'm'), (b'z', b'z')];
+
+#[test]
+fn tells_what_its_callers_ask(rt: HostRuntime) {
+    let classes = classes_of(&THREE);
+    assert!(rt; count_of_classes(&classes) == 7 && classes.stride() == 8);
+    assert!(rt; count_of_elements(&classes, 0) == 98 && count_of_elements(&classes, 6) == 133);
+    assert!(rt; have_their_class(&classes, 2) && have_their_class(&classes, 9));
+    let mut fifth = classes.elements(5);
+    assert!(rt; fifth.next() == Some(b'z') && next_after_all(&mut fifth).is_none());
+    assert!(rt; fifth.next().is_none());
+    let mut all = classes.iter();
+    for class in 0..7 {
+        assert!(rt; all.next() == Some(class));
+    }
+    assert!(rt; all.next().is_none() && all.next().is_none());
+}
+
+#[test]
+fn lists_bytes(rt: HostRuntime) -> Result<(), Fail> {
+    let classes = classes_of(&THREE);
+    let bytes = elements_taken(rt.alloc(), &classes, 2)?;
+    assert!(rt; bytes.as_slice() == b"ef".as_slice());
+    let runs = runs_collected(rt.alloc(), &ByteClasses::empty(), 0)?;
+    assert!(rt; runs.as_slice() == [(0, 255)].as_slice());
+    let mut set = ByteClassSet::default();
+    set.set_range(b'a', b'z');
+    let last = last_bytes(rt.alloc(), &copied(&set)?)?;
+    assert!(rt; last.as_slice() == [b'`', b'z', 255].as_slice());
+    Ok(())
+}
+
+/// The classes of a set in which each byte is marked.
+fn classes_of_all() -> ByteClasses {
+    let mut set = ByteClassSet::empty();
+    for byte in 0..=255 {
+        set.set_range(byte, byte);
+    }
+    set.byte_classes()
+}
+
+#[test]
+fn gives_each_byte_a_class(rt: HostRuntime) {
+    for classes in [ByteClasses::singletons(), classes_of_all()] {
+        assert!(rt; classes.alphabet_len() == 256 && classes.stride2() == 8);
+        assert!(rt; classes.stride() == 256 && classes.is_singleton());
+        assert!(rt; classes.get(b'a') == b'a' && count_of_elements(&classes, b'a') == 1);
+    }
+    assert_sets_one(&rt);
+}
+
+/// One byte with another class than all others.
+fn assert_sets_one(rt: &impl Abort) {
+    let empty = ByteClasses::empty();
+    let mut classes = empty;
+    classes.set(5, 1);
+    assert!(rt; classes.get(5) == 1 && empty.get(5) == 0 && !empty.is_singleton());
+    let mut runs = classes.element_ranges(0);
+    for run in [Some((0, 4)), Some((6, 255)), None, None] {
+        assert!(rt; runs.next() == run);
+    }
+}
+
+#[test]
+fn holds_bytes(rt: HostRuntime) -> Result<(), Fail> {
+    let mut set = ByteSet::empty();
+    assert!(rt; set == ByteSet::default());
+    set.add(0);
+    set.add(b'a');
+    let copy = set;
+    set.add(255);
+    set.add(255);
+    assert!(rt; set.contains(0) && set.contains(b'a') && set.contains(255));
+    assert!(rt; !set.contains(1) && !set.contains(b'A'));
+    assert!(rt; !copy.contains(255) && copy != set);
+    assert_prints(&rt, rt.alloc(), &set)?;
+    assert_prints(&rt, rt.alloc(), &ByteClassSet::empty())?;
+    assert_prints(&rt, rt.alloc(), &ByteClasses::empty())?;
+    Ok(())
+}
+
+/// What is printed of a value has a byte.
+fn assert_prints<T: Debug>(rt: &impl Abort, alloc: Global, it: &T) -> Result<(), AllocError> {
+    assert!(rt; !format!(in alloc; "{it:?}")?.is_empty());
+    Ok(())
+}

@@ -1,0 +1,28 @@
+//! Copies that callers make, each once.
+use literal_callers::copies::{copy_of_candidate, copy_of_config, copy_of_input, copy_of_pattern};
+use literal_prefilters::packed::pattern::Patterns;
+use literal_prefilters::packed::{Config, MatchKind};
+use literal_prefilters::prefilter::Candidate;
+use literal_prefilters::{Input, PatternID, Span};
+use std::test::Fail;
+
+#[test]
+fn copies_are_equal(rt: HostRuntime) -> Result<(), Fail> {
+    let copy = copy_of_candidate(&Candidate::PossibleStartOfMatch(3))?;
+    assert!(rt; copy.into_option() == Some(3));
+    let copy = copy_of_input(&Input::new(b"foobar").span(Span { start: 1, end: 4 }))?;
+    assert!(rt; copy.get_span() == Span { start: 1, end: 4 });
+    let mut patterns = Patterns::new(rt.alloc());
+    patterns.add(b"foo")?;
+    let copy = copy_of_pattern(&patterns.get(PatternID::ZERO))?;
+    assert!(rt; copy.bytes() == b"foo".as_slice());
+    let mut config = Config::new();
+    config
+        .match_kind(MatchKind::LeftmostLongest)
+        .pattern_limit(1);
+    let mut builder = copy_of_config(&config)?.builder(rt.alloc());
+    builder.add(b"foo")?;
+    let built = builder.build()?.ok_or("nothing is built")?;
+    assert!(rt; *built.match_kind() == MatchKind::LeftmostLongest);
+    Ok(())
+}

@@ -1,0 +1,69 @@
+//! Callers that build, collect and count, each run once.
+use literal_callers::uses::{
+    built_by_kind, built_of_items, built_of_two, built_of_words, collected, count_of,
+    count_of_matches, extend_and_add, next_at_end, order_of,
+};
+use literal_prefilters::PatternID;
+use literal_prefilters::packed::pattern::Patterns;
+use literal_prefilters::packed::{Builder, MatchKind, Searcher};
+use std::alloc::{AllocError, Global};
+use std::process::Abort;
+use std::test::Fail;
+
+/// Of `ab` and `a` it finds `ab` in `xab`.
+fn assert_finds_ab(rt: &impl Abort, built: Option<Searcher>) {
+    let found = built.and_then(|it| it.find(b"xab"));
+    assert!(rt; found.is_some_and(|it| it.range() == (1..3)));
+}
+
+const AB_AND_A: [&[u8]; 2] = [b"ab", b"a"];
+
+#[test]
+fn builds_as_its_callers_say(rt: HostRuntime) -> Result<(), Fail> {
+    assert_finds_ab(&rt, built_of_two(rt.alloc(), b"ab", b"a")?);
+    assert_finds_ab(&rt, built_of_items(rt.alloc(), AB_AND_A)?);
+    let longest = MatchKind::LeftmostLongest;
+    assert_finds_ab(&rt, built_by_kind(rt.alloc(), longest, b"a", b"ab")?);
+    Ok(())
+}
+
+fn two_words(alloc: Global) -> Result<Vec<String>, AllocError> {
+    let mut words = Vec::new(alloc);
+    words.push(String::from_str(alloc, "ab")?)?;
+    words.push(String::from_str(alloc, "a")?)?;
+    Ok(words)
+}
+
+#[test]
+fn builds_of_words(rt: HostRuntime) -> Result<(), Fail> {
+    let words = two_words(rt.alloc())?;
+    assert_finds_ab(&rt, built_of_words(rt.alloc(), &words)?);
+    let mut builder = Builder::new(rt.alloc());
+    extend_and_add(&mut builder, AB_AND_A, b"c")?;
+    assert!(rt; builder.len() == 3);
+    Ok(())
+}
+
+#[test]
+fn goes_over_patterns(rt: HostRuntime) -> Result<(), Fail> {
+    let mut patterns = Patterns::new(rt.alloc());
+    let mut items = patterns.iter();
+    assert!(rt; next_at_end(&mut items).is_none() && next_at_end(&mut items).is_none());
+    patterns.add(b"a")?;
+    patterns.add(b"bc")?;
+    patterns.set_match_kind(MatchKind::LeftmostLongest)?;
+    assert!(rt; count_of(&patterns) == 2);
+    let order = order_of(rt.alloc(), &patterns)?;
+    assert!(rt; order.as_slice() == [PatternID::must(1), PatternID::ZERO].as_slice());
+    Ok(())
+}
+
+#[test]
+fn collects_and_counts_matches(rt: HostRuntime) -> Result<(), Fail> {
+    let searcher = built_of_two(rt.alloc(), b"ab", b"ba")?.ok_or("nothing is built")?;
+    let collected = collected(rt.alloc(), &searcher, b"abababa")?;
+    let spans = collected.iter().map(|it| it.range());
+    assert!(rt; spans.eq([0..2, 2..4, 4..6].into_iter()));
+    assert!(rt; count_of_matches(&searcher, b"abababa") == 3);
+    Ok(())
+}
