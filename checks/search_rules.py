@@ -43,10 +43,7 @@ TICKS = {
     ENTRIES: {"BucketEntries::entry": "tick_entries"},
     "crates/literal_prefilters/src/prefilter/byte_table.rt": {"ByteTable::find": "tick_scanned"},
     CONFIRMING: {"confirming::confirm": "tick_tried", "confirming::confirm_by_table": "tick_tried"},
-    "crates/literal_automaton/src/walk.rt": {
-        "walk::last_ended": "tick_scanned", "walk::last_ended_in_lent": "tick_scanned",
-        "walk::first_ended": "tick_scanned", "walk::first_ended_in_lent": "tick_scanned",
-    },
+    "crates/literal_automaton/src/walk.rt": {"Table::class_at": "tick_scanned", "Table::next_at": "tick_scanned"},
 }
 READS = ("tick_compared", "tick_scanned")
 

@@ -3,7 +3,7 @@ use Rattle.std.specs.Prelude.{◌==◌, [], ◌∷◌, MatchOption, max, min}
 use Rattle.std.specs.Prelude.{◌≡◌, ◌+◌, ◌-◌, ◌*◌, ◌<◌, ◌≤◌, ◌⊎◌, ℕ, Bool, List, length, Option, Some, IfSome, map}
 use Rattle.std.specs.Borrow.{Bor}
 use Rattle.std.specs.Iterator.{Drains, Yields}
-use Rattle.std.specs.List.{All, count_by, list_any, range_with_len}
+use Rattle.std.specs.List.{count_by, list_any, range_with_len}
 use Rattle.literal_base.specs.Counts.{Counts}
 use Rattle.literal_base.specs.MatchValue.{MatchValue}
 use Rattle.literal_base.specs.Occurs.{NoneIsEmpty}
@@ -123,8 +123,8 @@ pub record ScansOnce (patterns : List (List ℕ)) (span : Span) (answer : Option
       (λ found. (old.scanned + found.end ≤ new.scanned + span.start)
       × (new.scanned + span.start ≤ old.scanned + found.start + longest_of patterns + 1))
 
--- what the searches for all matches scan, one after another: at most three times the bytes of the haystack, and for each
--- match as many as the longest pattern has
+-- what the searches for all matches scan, one after another: at most three times the bytes of the haystack, and for
+-- each match as many as the longest pattern has
 pub record ScansListAtMost (patterns : List (List ℕ)) (haystack : List ℕ) (matches : ℕ) (old new : Counts)
     : Type 0 where
   pub others : new ≡ record old { scanned = new.scanned }

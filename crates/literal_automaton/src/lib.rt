@@ -204,10 +204,10 @@ impl Dfa {
         Some(self.match_by(haystack, span, ended))
     }
 
-    /// Answers as [`Dfa::find_in`] by one walk through the span, which takes longer where matches are rare. It adds each
-    /// byte that it looks up to a tally, as scanned: each byte of the span at most once, all where nothing is found, and
-    /// else at least those up to the match's end, and none that is further behind its start than the longest pattern is
-    /// long.
+    /// Answers as [`Dfa::find_in`] by one walk through the span, which takes longer where matches are rare. It adds
+    /// each byte that it looks up to a tally, as scanned: each byte of the span at most once, all where nothing is
+    /// found, and else at least those up to the match's end, and none that is further behind its start than the longest
+    /// pattern is long.
     pub fn find_in_once(&self, haystack: &[u8], span: Span, tally: &mut Tally) -> Option<Match>
         requires { IsValidSpan haystack.now span }
         ensures leftmost { IsLeftmost self.now.query self.now.ignore_case haystack.now span result }
@@ -305,8 +305,8 @@ impl Dfa {
         self.earliest_end_counted(haystack, span, &mut Tally::new())
     }
 
-    /// Answers as [`Dfa::earliest_end`], and adds each byte that it looks up to a tally, as scanned: at most three times
-    /// those up to that end, or those of the span where nothing ends.
+    /// Answers as [`Dfa::earliest_end`], and adds each byte that it looks up to a tally, as scanned: at most three
+    /// times those up to that end, or those of the span where nothing ends.
     pub fn earliest_end_counted(
         &self,
         haystack: &[u8],
@@ -322,8 +322,8 @@ impl Dfa {
         Some(ended.end)
     }
 
-    /// Answers as [`Dfa::earliest_end`] by one walk through the span, which takes longer where matches are rare. It adds
-    /// each byte that it looks up to a tally, as scanned: each up to that end once, and none behind it.
+    /// Answers as [`Dfa::earliest_end`] by one walk through the span, which takes longer where matches are rare. It
+    /// adds each byte that it looks up to a tally, as scanned: each up to that end once, and none behind it.
     pub fn earliest_end_once(&self, haystack: &[u8], span: Span, tally: &mut Tally) -> Option<usize>
         requires { IsValidSpan haystack.now span }
         ensures end { IsEarliestEnd self.now.query.patterns self.now.ignore_case haystack.now span result }

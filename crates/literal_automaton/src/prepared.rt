@@ -196,8 +196,8 @@ impl<'p> Prepared<'p> {
         self.find_in_counted(haystack, span, &mut Tally::new())
     }
 
-    /// Answers as [`Prepared::find_in`], and adds each byte that it looks up to a tally, as scanned: at most three times
-    /// the bytes of the span, whatever the numbers are, and with those that were prepared as
+    /// Answers as [`Prepared::find_in`], and adds each byte that it looks up to a tally, as scanned: at most three
+    /// times the bytes of the span, whatever the numbers are, and with those that were prepared as
     /// [`Dfa::find_in_counted`](crate::Dfa::find_in_counted).
     pub fn find_in_counted(
         &self,

@@ -23,8 +23,8 @@ const BLOCKS_NEAR: usize = 3;
 const LONGEST: usize = 1 << 16;
 
 impl<'t> Table<'t> {
-    /// The leftmost match in a span of the haystack, or where `is_earliest` one that ends first. One walk begins; where it
-    /// is back in the first state behind some blocks, four go on as long as nothing occurs, and then one again. What
+    /// The leftmost match in a span of the haystack, or where `is_earliest` one that ends first. One walk begins; where
+    /// it is back in the first state behind some blocks, four go on as long as nothing occurs, and then one again. What
     /// four walks read in vain is no more than twice what the one before them read.
     #[inline(always)]
     pub fn search(
@@ -97,7 +97,8 @@ impl<'t> Table<'t> {
         }
     }
 
-    /// Whether four walks may begin in so many bytes: these are many enough, no pattern is too long, and the classes fit.
+    /// Whether four walks may begin in so many bytes: these are many enough, no pattern is too long, and the classes
+    /// fit.
     fn begins_four(&self, bytes: usize, fits: bool) -> bool
         requires classes { length self.now.classes.now ≡ 256 }
         requires fits { fits ≡ true → ClassesFit self.now }

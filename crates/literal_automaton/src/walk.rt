@@ -5,7 +5,8 @@ ghost use Rattle.std.specs.Prelude.{IfOk, IfSome, MatchResult, length, min, slic
 ghost use Rattle.std.specs.Result.{IsOkAnd};
 ghost use Rattle.literal_base.specs.Occurs.{IsValidSpan};
 ghost use Rattle.literal_automaton.specs.Inside.Classes.{AreClasses};
-ghost use Rattle.literal_automaton.specs.Inside.Walk.{ClassesFit, FindsEnd, IsRow, IsTable, LiesWithin, NoneInFour, StopsBy};
+ghost use Rattle.literal_automaton.specs.Inside.Walk.{ClassesFit, FindsEnd, IsRow, IsTable, LiesWithin, NoneInFour};
+ghost use Rattle.literal_automaton.specs.Inside.Walk.{StopsBy};
 ghost use Rattle.literal_automaton.specs.Inside.Walk.{Walks, WalksFar};
 
 use crate::prepared::Damaged;

@@ -1,6 +1,6 @@
 -- The best match in the classes of a span's bytes is the leftmost match in the span.
 use Rattle.std.proofs.Common.{◌≡◌, ℕ, ◌+◌, ◌-◌, ◌<◌, ◌≤◌, Bool, true, false, List, [], ◌++◌, length, get_or}
-use Rattle.std.proofs.Common.{Option, Some, None, drop, take, map, refl, sym, ap, subst, ◌∙◌, arith, inl, inr, nat_eq}
+use Rattle.std.proofs.Common.{None, drop, take, map, refl, sym, ap, ◌∙◌, arith, inl, inr, nat_eq}
 use Rattle.std.proofs.Common.{length-append}
 use Rattle.std.proofs.lemmas.Bool.{cases_lt, false≢true}
 use Rattle.std.proofs.lemmas.Bool.Decides.{Decides-eqb}
@@ -9,18 +9,14 @@ use Rattle.std.proofs.lemmas.List.{get_or_past}
 use Rattle.std.proofs.lemmas.List.{length-drop, length-map, length-take, map-id, take-append-drop, take-map, take-take}
 use Rattle.std.proofs.lemmas.Grind.{common_steps}
 use Rattle.std.proofs.lemmas.Slice.Eq.{starts_is}
-use Rattle.std.specs.List.{All, slice_range, starts_with}
+use Rattle.std.specs.List.{slice_range, starts_with}
 use Rattle.literal_base.specs.declared.packed.MatchKind.{MatchKind}
 use Rattle.literal_base.specs.declared.packed.MatchKind.TheVariants.{LeftmostFirst, LeftmostLongest}
 use Rattle.literal_base.specs.declared.search.Span.{Span}
 use Rattle.literal_base.specs.Leftmost.{IsBetter, IsLeftmostMatch}
 use Rattle.literal_base.specs.Occurs.{IsValidSpan, NoneIsEmpty, NothingOccurs, Occurs, case_folded, pattern_at}
 use Rattle.literal_automaton.specs.Inside.Classes.{Tells, folded, symbols_in}
-use Rattle.literal_base.specs.Kinds.{root_kind_of}
-use Rattle.literal_automaton.specs.Inside.Dfa.{IsSound, patterns_in}
-use Rattle.literal_automaton.specs.Table.{Recognises}
-use Rattle.literal_automaton.specs.declared.Dfa.TheInside.{Inside}
-use Rattle.literal_automaton.specs.Inside.Walk.{FindsIn, IsFirst, IsFound, StopsNear, from_match, text_of}
+use Rattle.literal_automaton.specs.Inside.Walk.{IsFirst, IsFound, from_match, text_of}
 use Rattle.literal_automaton.specs.declared.walk.Ended.{Ended}
 use Rattle.literal_automaton.proofs.lemmas.Ends.{from_match_at, from_match_short}
 

@@ -1,5 +1,5 @@
 -- How long the longest of some patterns is.
-use Rattle.std.proofs.Common.{◌≡◌, ℕ, ◌<◌, ◌≤◌, List, [], ◌∷◌, arith, get_or, inl, inr, length, suc, zero}
+use Rattle.std.proofs.Common.{ℕ, ◌<◌, ◌≤◌, List, [], ◌∷◌, arith, length, suc, zero}
 use Rattle.std.specs.List.{All}
 use Rattle.literal_base.specs.Occurs.{pattern_at}
 use Rattle.literal_automaton.specs.DfaValue.{longest_of}

@@ -1,12 +1,12 @@
 -- Searches by an array that is lent.
 use Rattle.std.proofs.Common.{◌≡◌, ℕ, ◌+◌, ◌-◌, ◌<◌, ◌≤◌, ◌^◌, Bool, List, [], drop, length, get_or, map}
-use Rattle.std.proofs.Common.{Err, IfErr, IfOk, Ok, Option, None, Result, Some, refl}
+use Rattle.std.proofs.Common.{Err, IfErr, IfOk, Ok, Result, refl}
 use Rattle.std.proofs.Common.{sym, ap, subst, ◌∙◌, arith}
 use Rattle.std.proofs.lemmas.List.{get_or-map, length-drop, length-map, length-take}
 use Rattle.std.specs.List.{slice_range}
 use Rattle.literal_base.specs.Kinds.{root_kind_of}
 use Rattle.literal_base.specs.Leftmost.{IsLeftmostMatch}
-use Rattle.literal_base.specs.Occurs.{IsValidSpan, NothingOccurs, pattern_at}
+use Rattle.literal_base.specs.Occurs.{pattern_at}
 use Rattle.literal_base.specs.Query.{Query}
 use Rattle.literal_base.specs.declared.packed.MatchKind.{MatchKind}
 use Rattle.literal_base.specs.declared.search.Span.{Span}
@@ -19,7 +19,6 @@ use Rattle.literal_automaton.specs.declared.walk.Table.{Table}
 use Rattle.literal_base.specs.MatchValue.{MatchValue}
 use Rattle.literal_automaton.specs.Inside.Prepared.{Puts, RefusesArray, numbers_for}
 use Rattle.literal_automaton.specs.Inside.Dfa.{IsSound, patterns_in}
-use Rattle.literal_automaton.specs.Inside.Walk.{FindsIn, IsFound, IsTable, text_of}
 use Rattle.literal_automaton.specs.Prepared.{IsPrepared, RefusesToPrepare, TakesPlaces, WritesPrepared, classes_in}
 use Rattle.literal_automaton.specs.Prepared.{prepared_len, rows_in, width_in}
 use Rattle.literal_automaton.specs.declared.prepared.TheConstants.{PREPARED_VERSION}
@@ -28,8 +27,6 @@ use Rattle.literal_automaton.specs.Table.{Recognises}
 use Rattle.literal_automaton.specs.declared.Dfa.TheInside.{Inside}
 use Rattle.literal_automaton.specs.declared.prepared.PrepareError.{PrepareError}
 use Rattle.literal_automaton.specs.declared.walk.Ended.{Ended}
-use Rattle.literal_automaton.proofs.lemmas.Found.{found_pattern, found_start, leftmost_found, nothing_found}
-use Rattle.literal_automaton.proofs.lemmas.Found.{some_symbols}
 use Rattle.literal_automaton.proofs.lemmas.Numbers.{check_written, classes_written, lengths_written, numbers_long}
 use Rattle.literal_automaton.proofs.lemmas.Numbers.{numbers_refused, numbers_written, rows_written}
 

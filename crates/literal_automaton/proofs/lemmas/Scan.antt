@@ -1,7 +1,8 @@
 -- What walks by the numbers of an automaton find, as occurrences in the haystack.
-use Rattle.std.proofs.Common.{◌≡◌, ℕ, ◌+◌, ◌-◌, ◌*◌, ◌<◌, ◌≤◌, ◌∙◌, Bool, true, false, List, [], ◌∷◌, ap, arith}
-use Rattle.std.proofs.Common.{mul-le-mul_right, suc, zero}
-use Rattle.std.proofs.Common.{Err, IfSome, IfOk, Ok, Option, Result, Some, None, get_or, inl, inr, length, map, subst, sym}
+use Rattle.std.proofs.Common.{◌≡◌, ℕ, ◌+◌, ◌-◌, ◌*◌, ◌<◌, ◌≤◌, ◌∙◌, Bool, true, false, List, ap, arith}
+use Rattle.std.proofs.Common.{mul-le-mul_right}
+use Rattle.std.proofs.Common.{Err, IfSome, IfOk, Ok, Option, Result, Some, None, get_or, inl, inr, length, map, subst}
+use Rattle.std.proofs.Common.{sym}
 use Rattle.std.proofs.lemmas.Bool.{cases_lt, false≢true}
 use Rattle.std.proofs.lemmas.List.{length-map}
 use Rattle.std.specs.Result.{IsOkAnd, result_unwrap_or}
@@ -12,12 +13,11 @@ use Rattle.literal_base.specs.Occurs.{IsValidSpan, NothingOccurs, Occurs, betwee
 use Rattle.literal_base.specs.Query.{Query}
 use Rattle.literal_base.specs.declared.search.Span.{Span}
 use Rattle.literal_automaton.specs.DfaValue.{ScansAtMost, ScansOnce, longest_of}
-use Rattle.literal_automaton.specs.Earliest.{EndsEarliest}
 use Rattle.literal_automaton.specs.Inside.Classes.{symbols_in}
 use Rattle.literal_automaton.specs.Inside.Scan.{Answers, IsTableOf, NoneBefore, SearchesTo, WalksTo}
 use Rattle.literal_automaton.specs.Inside.Scan.{match_by}
-use Rattle.literal_automaton.specs.Inside.Walk.{BeginsAnew, Finds, FindsEarliest, FindsIn, IsFound, IsTable, LiesWithin}
-use Rattle.literal_automaton.specs.Inside.Walk.{NoneInFour, ReadsAll, StopsBy, StopsNear, from_match, text_in, text_of}
+use Rattle.literal_automaton.specs.Inside.Walk.{BeginsAnew, Finds, FindsIn, IsFound, IsTable, LiesWithin}
+use Rattle.literal_automaton.specs.Inside.Walk.{NoneInFour, StopsBy, from_match, text_in, text_of}
 use Rattle.literal_automaton.specs.declared.walk.Ended.{Ended}
 use Rattle.literal_automaton.specs.declared.walk.Table.{Table}
 use Rattle.literal_automaton.specs.declared.walk.Walked.TheVariants.{Known}
@@ -127,7 +127,8 @@ module _ (t : Table) (query : Query) (ignore_case : Bool) (is : IsTableOf t quer
           → Answers is_earliest query ignore_case haystack span answer
       answers_by is_earliest None inside finds = nothing_by finds
       answers_by false (Some e) inside finds =
-          leftmost_found ignore_case t.classes.now query.patterns is.tells haystack bytes span valid is.some query.kind e
+          leftmost_found ignore_case t.classes.now query.patterns is.tells haystack bytes span valid is.some
+          query.kind e
           (found_by (Some e) finds)
       answers_by true (Some e) inside finds =
           let all = valid.in_haystack in

@@ -22,7 +22,8 @@ use Rattle.literal_automaton.specs.Inside.Classes.{AreClasses, symbols_in}
 use Rattle.literal_automaton.specs.Inside.Grown.{ending_held}
 use Rattle.literal_automaton.specs.Inside.Walk.{FindsIn, IsAt, IsBehind, IsBest, IsFirst, IsFound, IsRow, IsTable}
 use Rattle.literal_automaton.specs.Inside.Walk.{Reads}
-use Rattle.literal_automaton.specs.Inside.Walk.{Finds, FindsEarliest, FindsEnd, GoesOn, IsFirstEnd, NoneEnds, ReadsAll, StopsBy}
+use Rattle.literal_automaton.specs.Inside.Walk.{Finds, FindsEarliest, FindsEnd, GoesOn, IsFirstEnd, NoneEnds}
+use Rattle.literal_automaton.specs.Inside.Walk.{ReadsAll, StopsBy}
 use Rattle.literal_automaton.specs.Inside.Walk.{StopsNear, from_match, place_of, read_to, text_in, text_of}
 use Rattle.literal_automaton.specs.Table.{LeadsTo, Leads, Recognises, code_of, nothing, stride_of}
 use Rattle.literal_automaton.specs.Words.{begins_one, ending, first_equal, held, word_of}
@@ -445,8 +446,9 @@ module _ (width : ℕ) (rows : List ℕ) (table : IsTable width rows) (start : �
 
       pub reads_dead : code ≡ nothing → last ≡ None → (kind : MatchKind) (patterns : List (List ℕ))
           → Recognises (root_kind_of kind) patterns width rows → NoneIsEmpty patterns → ⊥
-      reads_dead is_dead none kind patterns recognises some = dead_has_one kind patterns some width rows recognises start
-          text place last (reads.behind kind patterns recognises some) symbol below code code_is is_dead none
+      reads_dead is_dead none kind patterns recognises some =
+          dead_has_one kind patterns some width rows recognises start text place last
+          (reads.behind kind patterns recognises some) symbol below code code_is is_dead none
 
   -- behind all bytes
   pub finds_all : (text : List ℕ) (place : ℕ) (last : Option Ended) → Reads width rows start text place last

@@ -1,4 +1,4 @@
-use Rattle.std.proofs.Common.{◌≡◌, ◌+◌, ◌<◌, ◌∙◌, ℕ, List, [], ◌∷◌, ◌++◌, ap, arith, get_or, length, map, subst, sym, take}
+use Rattle.std.proofs.Common.{◌≡◌, ◌<◌, ◌∙◌, ℕ, List, [], ◌∷◌, ◌++◌, ap, arith, get_or, length, map, sym, take}
 use Rattle.std.proofs.lemmas.List.{get_or-map, length-map, take_all, take_more}
 use Rattle.std.specs.Global.{Vec}
 use Rattle.std.specs.Prelude.{max}

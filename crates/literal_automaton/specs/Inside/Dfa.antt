@@ -1,6 +1,5 @@
 -- The fields of a `Dfa`.
 use Rattle.std.specs.Prelude.{◌≡◌, ◌+◌, ◌*◌, ◌≤◌, ℕ, List, length, map}
-use Rattle.std.specs.List.{All}
 use Rattle.literal_base.specs.Counts.{Counts}
 use Rattle.literal_base.specs.Kinds.{root_kind_of}
 use Rattle.literal_automaton.specs.DfaValue.{CanBeKept, DfaValue, dfa_for, longest_of, width_for}

@@ -1,4 +1,4 @@
-use Rattle.std.proofs.Common.{◌≡◌, ◌+◌, ◌*◌, ◌≤◌, ℕ, IfSome, None, Option, Some, refl, subst, sym, true}
+use Rattle.std.proofs.Common.{◌≡◌, ◌+◌, ◌*◌, ◌≤◌, ℕ, IfSome, Option, refl, subst, sym, true}
 use Rattle.literal_automaton.specs.Earliest.{IsEarliestEnd, ScansToEndAtMost}
 use Rattle.literal_automaton.specs.Inside.Scan.{Answers}
 use Rattle.literal_automaton.specs.declared.walk.Ended.{Ended}

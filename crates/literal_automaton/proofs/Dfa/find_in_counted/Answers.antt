@@ -1,10 +1,9 @@
-use Rattle.std.proofs.Common.{◌-◌, ◌+◌, ◌≤◌, IfSome, None, Option, Some, [], ap, arith, false, refl, subst, sym}
+use Rattle.std.proofs.Common.{◌-◌, Some, [], ap, arith, false, refl, subst, sym}
 use Rattle.literal_base.specs.Leftmost.{IsLeftmost, IsLeftmostMatch}
 use Rattle.literal_base.specs.MatchValue.{MatchValue}
-use Rattle.literal_automaton.specs.DfaValue.{ScansAtMost, ScansOnce}
-use Rattle.literal_automaton.specs.Inside.Scan.{Answers, SearchesTo, WalksTo, match_by}
-use Rattle.literal_automaton.specs.declared.walk.Ended.{Ended}
-use Rattle.literal_automaton.proofs.lemmas.Scan.{scans_at_most, scans_once, unwrapped, unwrapped_if}
+use Rattle.literal_automaton.specs.DfaValue.{ScansAtMost}
+use Rattle.literal_automaton.specs.Inside.Scan.{Answers, SearchesTo, match_by}
+use Rattle.literal_automaton.proofs.lemmas.Scan.{scans_at_most, unwrapped}
 use Rattle.literal_automaton.proofs.Dfa.find_in_counted.Goals as goal
 
 pub returns-in_err-ended-clause-leftmost : goal.returns-in_err-ended-clause-leftmost
@@ -59,7 +58,8 @@ returns-clause-bounded c =
     let told = c.search-answer.ensures in
     subst (λ (m : MatchValue). ScansAtMost q.patterns c.args.span (Some m) c.args.tally.now c.search-answer.new.tally)
     (sym c.match_by.ensures)
-    (scans_at_most q c.args.self.now.ignore_case c.args.haystack.now c.args.span c.args.tally.now c.search-answer.new.tally
+    (scans_at_most q c.args.self.now.ignore_case c.args.haystack.now c.args.span c.args.tally.now
+    c.search-answer.new.tally
     c.in_ok-ended.ended (leftmost_by c) told.others told.most
     (subst (SearchesTo q.patterns c.args.span steps) c.in_ok-ended.was
     (unwrapped c.search-answer.result c.unwrap_or.result c.unwrap_or.ensures (SearchesTo q.patterns c.args.span steps)

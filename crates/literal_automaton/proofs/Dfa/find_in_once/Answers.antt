@@ -1,10 +1,10 @@
-use Rattle.std.proofs.Common.{◌≡◌, ◌-◌, ◌+◌, ◌≤◌, ℕ, IfSome, None, Option, Some, [], ap, arith, false, refl, subst, sym}
+use Rattle.std.proofs.Common.{◌≡◌, ◌-◌, ◌+◌, ◌≤◌, ℕ, IfSome, Option, Some, [], ap, arith, false, subst, sym}
 use Rattle.literal_base.specs.Leftmost.{IsLeftmost, IsLeftmostMatch}
 use Rattle.literal_base.specs.MatchValue.{MatchValue}
-use Rattle.literal_automaton.specs.DfaValue.{ScansAtMost, ScansOnce}
-use Rattle.literal_automaton.specs.Inside.Scan.{Answers, SearchesTo, WalksTo, match_by}
+use Rattle.literal_automaton.specs.DfaValue.{ScansOnce}
+use Rattle.literal_automaton.specs.Inside.Scan.{Answers, WalksTo, match_by}
 use Rattle.literal_automaton.specs.declared.walk.Ended.{Ended}
-use Rattle.literal_automaton.proofs.lemmas.Scan.{scans_at_most, scans_once, unwrapped, unwrapped_if}
+use Rattle.literal_automaton.proofs.lemmas.Scan.{scans_once, unwrapped, unwrapped_if}
 use Rattle.literal_automaton.proofs.Dfa.find_in_once.Goals as goal
 
 pub returns-in_err-ended-clause-leftmost : goal.returns-in_err-ended-clause-leftmost
@@ -26,7 +26,8 @@ returns-in_err-ended-clause-bounded c =
     let walked = subst (WalksTo q.patterns c.args.span steps) c.in_err-ended.was
     (unwrapped c.search_once-answer.result c.unwrap_or.result c.unwrap_or.ensures (WalksTo q.patterns c.args.span steps)
     (c.search_once-answer.ensures.near q c.args.self.now.ignore_case c.table.ensures)) in
-    subst (λ (o : Option MatchValue). ScansOnce q.patterns c.args.span o c.args.tally.now c.search_once-answer.new.tally)
+    subst (λ (o : Option MatchValue). ScansOnce q.patterns c.args.span o c.args.tally.now
+    c.search_once-answer.new.tally)
     (sym c.from_residual.ensures) (record {
       others = c.search_once-answer.ensures.others;
       once = c.search_once-answer.ensures.once;
@@ -75,9 +76,11 @@ returns-clause-bounded c =
     let q = c.args.self.now.query in
     let steps = c.search_once-answer.new.tally.scanned - c.args.tally.now.scanned in
     let told = c.search_once-answer.ensures in
-    subst (λ (m : MatchValue). ScansOnce q.patterns c.args.span (Some m) c.args.tally.now c.search_once-answer.new.tally)
+    subst (λ (m : MatchValue). ScansOnce q.patterns c.args.span (Some m) c.args.tally.now
+    c.search_once-answer.new.tally)
     (sym c.match_by.ensures)
-    (scans_once q c.args.self.now.ignore_case c.args.haystack.now c.args.span c.args.tally.now c.search_once-answer.new.tally
+    (scans_once q c.args.self.now.ignore_case c.args.haystack.now c.args.span c.args.tally.now
+    c.search_once-answer.new.tally
     c.in_ok-ended.ended (leftmost_by c) told.others told.once
     (subst (λ (o : Option Ended). IfSome o (λ e. c.args.tally.now.scanned + e.end
     ≤ c.search_once-answer.new.tally.scanned + c.args.span.start)) c.in_ok-ended.was

@@ -1,4 +1,4 @@
-use Rattle.std.proofs.Common.{◌≡◌, ◌∙◌, ℕ, Bool, false, true, List, None, Option, Some, is_some, sym}
+use Rattle.std.proofs.Common.{◌≡◌, ◌∙◌, ℕ, Bool, List, None, Option, Some, is_some, sym}
 use Rattle.std.proofs.lemmas.Bool.{false_from_ne_true}
 use Rattle.literal_base.proofs.lemmas.Met.{occurs_if, one_occurs_if}
 use Rattle.literal_base.specs.Occurs.{one_occurs, whole_of}

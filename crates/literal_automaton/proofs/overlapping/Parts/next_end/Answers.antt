@@ -1,16 +1,14 @@
-use Rattle.std.proofs.Common.{◌<◌, ℕ, List, None, Some, Option, arith, subst, sym}
+use Rattle.std.proofs.Common.{◌<◌, Option, arith, subst, sym}
 use Rattle.std.proofs.Common.{MatchOption}
 use Rattle.literal_base.specs.MatchValue.{MatchValue}
-use Rattle.literal_base.specs.Occurs.{between}
 use Rattle.literal_base.specs.declared.search.MatchKind.TheVariants.{Standard}
 use Rattle.literal_automaton.specs.Inside.Standing.{HaveSameToCome, IsStanding, standing_value, tables_of}
 use Rattle.literal_automaton.specs.PreparedOverlapping.{texts_in}
-use Rattle.literal_automaton.specs.Inside.Walk.{FindsEnd, IsRow, IsTable}
 use Rattle.literal_automaton.specs.OverlappingMatchesValue.{IsToCome}
 use Rattle.literal_automaton.specs.declared.standing.Standing.{Standing}
 use Rattle.literal_automaton.proofs.lemmas.Standing.{longest_below, none_to_come, nothing_to_come, row_inside}
 use Rattle.literal_automaton.proofs.lemmas.Standing.{same_to_come, some_left, stands_there}
-use Rattle.literal_automaton.proofs.lemmas.Walk.{row_at, table_of}
+use Rattle.literal_automaton.proofs.lemmas.Walk.{row_at}
 use Rattle.literal_automaton.proofs.overlapping.Parts.next_end.Goals as goal
 
 pub returns-then-standing-span-clause-to_come : goal.returns-then-standing-span-clause-to_come

@@ -1,9 +1,9 @@
-use Rattle.std.proofs.Common.{◌≡◌, ◌-◌, ◌+◌, ◌≤◌, ◌<◌, ℕ, List, None, Option, Some, ap, arith, false, get_or, length, refl}
+use Rattle.std.proofs.Common.{◌≡◌, ◌-◌, Some, arith, false, length, refl}
 use Rattle.std.proofs.Common.{subst, sym, ◌∙◌}
 use Rattle.literal_base.specs.Leftmost.{IsLeftmostMatch}
 use Rattle.literal_base.specs.MatchValue.{MatchValue}
 use Rattle.literal_automaton.specs.DfaValue.{ScansAtMost}
-use Rattle.literal_automaton.specs.Inside.Scan.{Answers, SearchesTo, match_by}
+use Rattle.literal_automaton.specs.Inside.Scan.{Answers, SearchesTo}
 use Rattle.literal_automaton.specs.Prepared.{IsPrepared}
 use Rattle.literal_automaton.specs.declared.walk.Table.{Table}
 use Rattle.literal_automaton.proofs.lemmas.Prepared.{classes_long, inside_by, is_for, match_is, pattern_by}

@@ -45,8 +45,10 @@ returns-in_default-clause-prepared c = λ search are standing.
     next_nowhere are c.args.haystack.now (λ k. omega (arith, c.type_inv.haystack k)) c.args.span c.requires.valid
     c.args.standing standing c.if-standing.false more
     (subst (FindsBy (table_of p.front) c.args.standing.place c.args.haystack.now
-    (between c.args.standing.at c.args.span.end)) c.in_default.is (subst (λ (t : Table). FindsBy t c.args.standing.place c.args.haystack.now
-    (between c.args.standing.at c.args.span.end) c.in_ok-stop.field-0) c.table-table.ensures c.in_ok-stop.ensures.first))
+    (between c.args.standing.at c.args.span.end)) c.in_default.is (subst (λ (t : Table). FindsBy t
+    c.args.standing.place c.args.haystack.now
+    (between c.args.standing.at c.args.span.end) c.in_ok-stop.field-0) c.table-table.ensures
+    c.in_ok-stop.ensures.first))
 
 pub returns-in_err-standing_at-clause-prepared : goal.returns-in_err-standing_at-clause-prepared
 returns-in_err-standing_at-clause-prepared c = λ search are standing.
@@ -55,8 +57,10 @@ returns-in_err-standing_at-clause-prepared c = λ search are standing.
     let p = c.args.self.now in
     let stop = c.in-Some.stop in
     let finds = subst (FindsBy (table_of p.front) c.args.standing.place c.args.haystack.now
-    (between c.args.standing.at c.args.span.end)) c.in-Some.is (subst (λ (t : Table). FindsBy t c.args.standing.place c.args.haystack.now
-    (between c.args.standing.at c.args.span.end) c.in_ok-stop.field-0) c.table-table.ensures c.in_ok-stop.ensures.first) in
+    (between c.args.standing.at c.args.span.end)) c.in-Some.is (subst (λ (t : Table). FindsBy t
+    c.args.standing.place c.args.haystack.now
+    (between c.args.standing.at c.args.span.end) c.in_ok-stop.field-0) c.table-table.ensures
+    c.in_ok-stop.ensures.first) in
     let ends = subst (λ (answer : Option Stop). IfSome answer
     (λ s. (c.args.standing.at < s.end) × (s.end ≤ c.args.span.end) × (s.place < 2 ^ 32))) c.in-Some.is
     c.in_ok-stop.ensures.inside in
@@ -73,8 +77,10 @@ returns-clause-prepared c = λ search are standing.
     let p = c.args.self.now in
     let stop = c.in-Some.stop in
     let finds = subst (FindsBy (table_of p.front) c.args.standing.place c.args.haystack.now
-    (between c.args.standing.at c.args.span.end)) c.in-Some.is (subst (λ (t : Table). FindsBy t c.args.standing.place c.args.haystack.now
-    (between c.args.standing.at c.args.span.end) c.in_ok-stop.field-0) c.table-table.ensures c.in_ok-stop.ensures.first) in
+    (between c.args.standing.at c.args.span.end)) c.in-Some.is (subst (λ (t : Table). FindsBy t
+    c.args.standing.place c.args.haystack.now
+    (between c.args.standing.at c.args.span.end) c.in_ok-stop.field-0) c.table-table.ensures
+    c.in_ok-stop.ensures.first) in
     let ends = subst (λ (answer : Option Stop). IfSome answer
     (λ s. (c.args.standing.at < s.end) × (s.end ≤ c.args.span.end) × (s.place < 2 ^ 32))) c.in-Some.is
     c.in_ok-stop.ensures.inside in

@@ -58,7 +58,8 @@ loop-at-preserved c =
     ∙ ap (λ k. get_or rows (c.loop-at.place + k) 0) c.in_ok-class.ensures.class.0 in
     record {
       within = omega (arith, c.if-code-limit.true);
-      goes = λ are table row. goes_further c.args.self.now.width rows c.args.from c.args.self.now.classes.now haystack start table at
+      goes = λ are table row. goes_further c.args.self.now.width rows c.args.from c.args.self.now.classes.now
+          haystack start table at
           c.loop-at.place (c.loop-at.invariant.goes are table row) c.loop-at.auto.at inside
           (are.below (get_or haystack at 0) (omega (arith, c.type_inv.haystack at))) c.number_at-code.result code_is
           (omega (arith, c.if-code-limit.true, c.in_ok-limit.ensures.1));
@@ -72,7 +73,9 @@ pub returns-clause-first : goal.returns-clause-first
 returns-clause-first c = λ are table row.
     let end : c.loop-at.at ≡ c.args.span.end =
     omega (arith, c.loop-at-test.false, c.loop-at.auto.at-end c.requires.valid.ordered) in
-    finds_no_end c.args.self.now.width c.args.self.now.rows.now c.args.from c.args.self.now.classes.now c.args.haystack.now c.args.span.start
+    finds_no_end c.args.self.now.width c.args.self.now.rows.now c.args.from c.args.self.now.classes.now
+    c.args.haystack.now c.args.span.start
     c.loop-at.place c.args.span refl
-    (subst (λ (at : ℕ). GoesOn c.args.self.now.width c.args.self.now.rows.now c.args.from c.args.self.now.classes.now c.args.haystack.now
+    (subst (λ (at : ℕ). GoesOn c.args.self.now.width c.args.self.now.rows.now c.args.from
+    c.args.self.now.classes.now c.args.haystack.now
     c.args.span.start at c.loop-at.place) end (c.loop-at.invariant.goes are table row))

@@ -1,4 +1,4 @@
-use Rattle.std.proofs.Common.{◌≡◌, ◌+◌, ◌*◌, ◌<◌, ◌≤◌, ◌∙◌, ◌^◌, ℕ, List, None, ap, arith, get_or, length, subst, suc, sym}
+use Rattle.std.proofs.Common.{◌≡◌, ◌+◌, ◌*◌, ◌<◌, ◌∙◌, ◌^◌, ℕ, List, None, ap, arith, get_or, length, subst, suc, sym}
 use Rattle.std.proofs.Common.{zero}
 use Rattle.literal_base.specs.Counts.{Counts}
 use Rattle.literal_base.specs.Occurs.{between}

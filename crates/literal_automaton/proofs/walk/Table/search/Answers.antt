@@ -1,8 +1,6 @@
-use Rattle.std.proofs.Common.{◌≡◌, ◌+◌, ◌-◌, ◌*◌, ◌<◌, ◌≤◌, ℕ, Bool, List, ap, arith, false, get_or, subst}
-use Rattle.std.specs.Result.{IsOkAnd}
-use Rattle.literal_base.specs.Counts.{Counts}
+use Rattle.std.proofs.Common.{◌+◌, ◌-◌, ◌*◌, ◌<◌, ℕ, Bool, arith, get_or, subst}
 use Rattle.literal_base.specs.Occurs.{IsValidSpan, between}
-use Rattle.literal_automaton.specs.Inside.Scan.{Answers, NoneBefore, SearchesTo, WalksTo}
+use Rattle.literal_automaton.specs.Inside.Scan.{Answers, SearchesTo, WalksTo}
 use Rattle.literal_automaton.specs.Inside.Walk.{LiesWithin, StopsBy, Walks, WalksFar}
 use Rattle.literal_automaton.proofs.lemmas.Scan.{answers_by, answers_later, is_table, lies_by, none_before, none_later}
 use Rattle.literal_automaton.proofs.lemmas.Scan.{both_ok, ok_and_map, others_on, searches_to, walks_to}
@@ -78,7 +76,8 @@ loop-rest-preserved c =
     let at = c.in-Anew.at in
     let lies = subst (LiesWithin rest (start + 3 * block)) c.in-Anew.is told.inside in
     let passed = c.in_ok-start-in-Anew.ensures in
-    let far = subst (WalksFar rest c.args.is_earliest (c.walk.new.tally.scanned - c.loop-rest.tally.scanned)) c.in-Anew.is
+    let far = subst (WalksFar rest c.args.is_earliest (c.walk.new.tally.scanned - c.loop-rest.tally.scanned))
+    c.in-Anew.is
     told.counted in
     let new = c.in_ok-start-in-Anew.start in
     let all = c.requires.valid.in_haystack in

@@ -1,4 +1,4 @@
-use Rattle.std.proofs.Common.{◌≡◌, ◌+◌, ◌-◌, ◌*◌, ◌<◌, ◌≤◌}
+use Rattle.std.proofs.Common.{◌≡◌, ◌+◌, ◌-◌, ◌*◌, ◌≤◌}
 use Rattle.literal_automaton.specs.Inside.Scan.{ForTable, NoneBefore}
 use Rattle.literal_automaton.proofs.walk.Table.search.Given as goal
 

@@ -1,5 +1,5 @@
-use Rattle.std.proofs.Common.{◌≡◌, ◌+◌, ◌-◌, ◌<◌, ◌≤◌, ◌∙◌, ◌^◌, ℕ, IfSome, None, Option, Some, arith, get_or, length}
-use Rattle.std.proofs.Common.{ap, refl, sym, subst, true}
+use Rattle.std.proofs.Common.{◌≡◌, ◌+◌, ◌-◌, ◌<◌, ◌≤◌, ◌∙◌, ℕ, IfSome, None, Option, Some, arith, get_or, length}
+use Rattle.std.proofs.Common.{ap, refl, sym, subst}
 use Rattle.literal_base.specs.Counts.{Counts}
 use Rattle.literal_base.specs.Occurs.{between}
 use Rattle.literal_automaton.specs.Inside.Walk.{FindsIn, Reads, text_of}
@@ -63,7 +63,8 @@ returns-then-code-clause-near c = λ are table.
     stops_by t c.args.span _ (start + length text) c.loop-at.last
     (λ none kind patterns recognises some. absurd (step_dead_has_one t.classes.now t.rows.now haystack t.width are table
     start at after inside (omega (arith, c.type_inv.haystack at)) c.loop-at.place c.loop-at.last
-    (c.loop-at.invariant.reads are table) c.number_at-code.result code_is c.if-code.true none kind patterns recognises some))
+    (c.loop-at.invariant.reads are table) c.number_at-code.result code_is c.if-code.true none kind patterns
+    recognises some))
     (omega (arith, size, ticked, before))
     (reads_near t.width t.rows.now start text c.loop-at.place c.loop-at.last (c.loop-at.invariant.reads are table))
 
@@ -126,7 +127,8 @@ loop-at-preserved c =
         | then-code-limit w ↦
             subst (λ (last : Option Ended). Reads t.width rows start text c.if-code-limit.place last) (sym w.last-is)
             (subst (λ (place : ℕ). Reads t.width rows start text place c.loop-at.last) (sym w.place-is)
-            (step_on classes rows haystack t.width are table start at after inside is_byte c.loop-at.place c.loop-at.last
+            (step_on classes rows haystack t.width are table start at after inside is_byte c.loop-at.place
+            c.loop-at.last
             (so_far.reads are table) code code_is (omega (arith, w.if-code-limit.true, c.in_ok-limit.ensures.1))))
         | else-code-limit+else-code+in_ok-place+else-is_earliest w ↦
             subst (λ (last : Option Ended). Reads t.width rows start text c.if-code-limit.place last) (sym w.last-is)
