@@ -1,5 +1,5 @@
 //! An automaton that finds any number of literals: the leftmost match, by both kinds of match, with ASCII case kept or
-//! ignored, in one look-up a byte.
+//! ignored.
 #![tactic(auto)]
 
 ghost use Rattle.std.specs.Prelude.{◌≡◌, ◌<◌, ◌↔◌, ◌++◌, ◌∷◌, [], ℕ, length, map, IfErr, IfOk, IfSome, IsTrue, OnErr};
@@ -107,9 +107,9 @@ impl From<GrowError> for BuildError {
 /// Searches for any number of patterns at once. Contracts see the kind of match, the patterns, and whether
 /// ASCII case is ignored.
 ///
-/// A search looks each byte up once, however many patterns there are, and stops as soon as the match is
-/// known. The automaton has a state for each front of a pattern, and a row of numbers for each state: one for
-/// each byte that stands in a pattern, and two more. `literal_search` has it under the name `Search`.
+/// A search looks a byte up three times at most, however many patterns there are, and mostly once, and stops as soon as
+/// the match is known. The automaton has a state for each front of a pattern, and a row of numbers for each state: one
+/// for each byte that stands in a pattern, and two more. `literal_search` has it under the name `Search`.
 ///
 /// ```rust
 /// let words = [b"password".as_slice(), b"secret"];

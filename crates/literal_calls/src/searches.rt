@@ -37,12 +37,15 @@ fn finds_all_matches(rt: HostRuntime) -> Result<(), Fail> {
     assert!(rt; search.find_all_counted(haystack, tally)?.len() == 2);
     let whole = Span { start: 0, end: 18 };
     assert!(rt; search.find_in_counted(haystack, whole, tally) == search.find(haystack));
+    assert!(rt; search.find_in_once(haystack, whole, tally) == search.find(haystack));
     assert!(rt;
         search
             .find_in(haystack, Span { start: 3, end: 17 })
             .is_none()
     );
     assert!(rt; search.earliest_end(haystack, whole) == Some(8));
+    assert!(rt; search.earliest_end_counted(haystack, whole, tally) == Some(8));
+    assert!(rt; search.earliest_end_once(haystack, whole, tally) == Some(8));
     Ok(())
 }
 
