@@ -248,7 +248,7 @@ impl<'t> Table<'t> {
             let two = self.next_at(second, haystack, here + block, tally);
             let three = self.next_at(third, haystack, here + 2 * block, tally);
             let four = self.next_at(fourth, haystack, here + 3 * block, tally);
-            if one >= limit || two >= limit || three >= limit || four >= limit {
+            if largest(one, two, three, four) >= limit {
                 return false;
             }
             (first, second, third, fourth) = (one, two, three, four);
@@ -283,4 +283,15 @@ fn behind_end(code: u32, limit: usize) -> Result<usize, Damaged>
         return Err(Damaged);
     }
     Ok((code - ENDS) as usize)
+}
+
+/// The largest of four numbers.
+#[inline(always)]
+fn largest(one: usize, two: usize, three: usize, four: usize) -> usize
+    ensures one { one ≤ result }
+    ensures two { two ≤ result }
+    ensures three { three ≤ result }
+    ensures four { four ≤ result }
+{
+    one.max(two).max(three.max(four))
 }
