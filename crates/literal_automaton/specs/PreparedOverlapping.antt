@@ -1,5 +1,5 @@
 -- A search for everything that occurs as numbers in an array that is lent.
-use Rattle.std.specs.Prelude.{◌≡◌, ◌+◌, ◌≤◌, ◌^◌, ℕ, Bool, List, length, map, slice_index, slice_range}
+use Rattle.std.specs.Prelude.{◌≡◌, ◌⊎◌, ◌+◌, ◌<◌, ◌≤◌, ◌^◌, ℕ, Bool, List, length, map, slice_index, slice_range}
 use Rattle.literal_base.specs.declared.search.MatchKind.TheVariants.{Standard}
 use Rattle.literal_base.specs.declared.search.Span.{Span}
 use Rattle.literal_automaton.specs.DfaValue.{CanBeKept, HoldsInClasses, width_for}
@@ -130,3 +130,11 @@ pub record PreparedMatchesValue : Type 0 where
 abbrev pub matches_for : OverlappingValue → PreparedMatchesValue → OverlappingMatchesValue
 matches_for search m =
     record { search = search; haystack = m.haystack; span = m.span; end = m.end; pattern = m.pattern }
+
+-- it stands at the end of the span, behind the last pattern, of which there are as many as the fourth number says
+abbrev pub HasEnded : PreparedMatchesValue → Type 0
+HasEnded m = (m.end ≡ m.span.end) × (m.pattern ≡ slice_index m.numbers 3)
+
+-- an end and an identifier do not come before others: the end is greater, or the same and the identifier no smaller
+abbrev pub IsNotBefore : ℕ → ℕ → ℕ → ℕ → Type 0
+IsNotBefore end pattern other_end other_pattern = (other_end < end) ⊎ ((other_end ≡ end) × (other_pattern ≤ pattern))

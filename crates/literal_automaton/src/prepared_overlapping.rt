@@ -1,15 +1,15 @@
 //! A search for everything that occurs as numbers in an array that its caller lends. It does not trust the array,
 //! either.
-ghost use Rattle.std.specs.Prelude.{◌≡◌, ◌+◌, ◌-◌, ◌<◌, ◌≤◌, ◌^◌, ◌↔◌, length, List, ℕ};
-ghost use Rattle.std.specs.Prelude.{IfOk, IfSome, IsTrue, MatchOption, MatchResult};
+ghost use Rattle.std.specs.Prelude.{◌≡◌, ◌+◌, ◌-◌, ◌<◌, ◌≤◌, ◌^◌, ◌↔◌, length, slice_index, List, ℕ};
+ghost use Rattle.std.specs.Prelude.{IfOk, IfSome, IsTrue, MatchOption, MatchResult, None, ⊤};
 ghost use Rattle.std.specs.Result.{IsOkAnd};
 ghost use Rattle.literal_base.specs.MatchValue.{MatchValue};
 ghost use Rattle.literal_base.specs.Occurs.{IsValidSpan};
 ghost use Rattle.literal_automaton.specs.Overlapping.{OverlappingValue};
 ghost use Rattle.literal_automaton.specs.OverlappingMatchesValue.{GivesOverlapping, IsToCome};
 ghost use Rattle.literal_automaton.specs.Prepared.{LiesIn};
-ghost use Rattle.literal_automaton.specs.PreparedOverlapping.{ForOverlapping, HasLists, IsWholeOverlapping};
-ghost use Rattle.literal_automaton.specs.PreparedOverlapping.{matches_for};
+ghost use Rattle.literal_automaton.specs.PreparedOverlapping.{ForOverlapping, HasEnded, HasLists, IsNotBefore};
+ghost use Rattle.literal_automaton.specs.PreparedOverlapping.{IsWholeOverlapping, matches_for};
 ghost use Rattle.literal_automaton.specs.Inside.LentTables.{AreFor, AreLent, EndsAt, IsNextBy, IsNextEnd, LiesAt};
 ghost use Rattle.literal_automaton.specs.Inside.LentTables.{StandsBy, tables_by};
 ghost use Rattle.literal_automaton.specs.Inside.Standing.{IsStanding, longest_at, standing_at, standing_value};
@@ -90,7 +90,8 @@ impl<'p> PreparedOverlapping<'p> {
 
     /// Every occurrence in a span of the haystack, for which the same holds as for
     /// [`Overlapping::find_overlapping_in`](crate::Overlapping::find_overlapping_in). With numbers that were changed it
-    /// may give others, or [`Damaged`]; but each lies in the span, and is not empty.
+    /// may give others, or [`Damaged`]; but each lies in the span, is not empty, and names one of the patterns, and the
+    /// ends ascend, and at one end the identifiers.
     pub fn find_overlapping_in<'s, 'h>(
         &'s self,
         haystack: &'h [u8],
@@ -134,8 +135,10 @@ impl<'p> LentTables<'p> {
 
     /// Where a search stands behind all that occurs in the span.
     fn behind_all(&self, haystack: &[u8], span: Span) -> Standing
-        requires { IsValidSpan haystack.now span }
+        requires lent { AreLent self.now }
+        requires valid { IsValidSpan haystack.now span }
         ensures at { result.at ≡ span.end }
+        ensures last { result.pattern ≡ slice_index self.now.front.numbers.now 3 }
         ensures pattern { (search : OverlappingValue) → AreFor search self.now
             → result.pattern ≡ length search.patterns }
         ensures lies { LiesAt span result }
@@ -191,7 +194,9 @@ impl<'p> LentTables<'p> {
         ensures prepared { (search : OverlappingValue) → AreFor search self.now
             → IsStanding (tables_by search self.now) haystack.now span standing
             → IsOkAnd result (IsNextEnd (tables_by search self.now) haystack.now span standing) }
-        ensures inside { IfOk result (λ next. IfSome next (λ here. (standing.at ≤ here.at) × LiesAt span here)) }
+        ensures inside { IfOk result (λ next. IfSome next (LiesAt span)) }
+        ensures ordered { IfOk result (λ next. IfSome next (λ here.
+            IsNotBefore here.at here.pattern standing.at standing.pattern)) }
         ensures others { tally.new ≡ record tally.old { scanned = tally.new.scanned } }
         ensures once { tally.new.scanned + standing.at ≤ tally.old.scanned + span.end }
         ensures near { IfOk result (λ next. IfSome next (λ here.
@@ -228,9 +233,14 @@ impl<'p> LentTables<'p> {
             → IsStanding (tables_by search self.now) haystack.now span here → here.next < here.end
             → IsOkAnd result (λ r. IsNextBy (tables_by search self.now) haystack.now span here r.0 r.1) }
         ensures inside { IfOk result (λ r. EndsAt span r.0 r.1 × (r.0.end ≡ here.at)) }
+        ensures pattern { IfOk result (λ r. r.0.pattern < length self.now.front.lengths.now) }
+        ensures ordered { IfOk result (λ r. (here.pattern ≤ r.0.pattern) × (r.1.pattern ≡ r.0.pattern + 1)) }
     {
         prove!(span.end <= haystack.len());
         let pattern = *self.ends.get(here.next).ok_or(Damaged)? as usize;
+        if pattern < here.pattern {
+            return Err(Damaged);
+        }
         let len = *self.front.lengths.get(pattern).ok_or(Damaged)? as usize;
         if len == 0 || len > here.at - span.start {
             return Err(Damaged);
@@ -262,8 +272,12 @@ impl<'p> LentTables<'p> {
             → IsOkAnd result (λ answer. MatchOption answer ((found : MatchValue)
             → ¬ IsToCome (standing_value (tables_by search self.now) haystack.now span standing) found)
             (λ r. IsNextBy (tables_by search self.now) haystack.now span standing r.0 r.1)) }
-        ensures inside { IfOk result (λ answer. IfSome answer
-            (λ r. EndsAt span r.0 r.1 × (standing.at ≤ r.0.end))) }
+        ensures inside { IfOk result (λ answer. IfSome answer (λ r. EndsAt span r.0 r.1)) }
+        ensures pattern { IfOk result (λ answer. IfSome answer
+            (λ r. r.0.pattern < length self.now.front.lengths.now)) }
+        ensures ordered { IfOk result (λ answer. IfSome answer
+            (λ r. IsNotBefore r.0.end r.0.pattern standing.at standing.pattern
+            × (r.1.pattern ≡ r.0.pattern + 1))) }
         ensures others { tally.new ≡ record tally.old { scanned = tally.new.scanned } }
         ensures once { tally.new.scanned + standing.at ≤ tally.old.scanned + span.end }
         ensures near { IfOk result (λ answer. IfSome answer (λ r.
@@ -278,7 +292,7 @@ impl<'p> LentTables<'p> {
 
 /// What [`PreparedOverlapping::find_overlapping_in`] goes over. Contracts see the array, the haystack, the span, and
 /// from which end and, at that one, from which identifier on occurrences are still to come. After [`Damaged`], or its
-/// first `None`, it stands at the end of the span.
+/// first `None`, it stands at the end of the span, behind the last identifier, and has ended.
 #[derive(Drop)]
 pub struct PreparedMatches<'s, 'p, 'h> {
     lent: &'s LentTables<'p>,
@@ -308,12 +322,20 @@ impl<'s, 'p, 'h> Model for PreparedMatches<'s, 'p, 'h> {
 
 impl<'s, 'p, 'h> PreparedMatches<'s, 'p, 'h> {
     /// The next occurrence, as [`OverlappingMatches`](crate::OverlappingMatches) gives them, and `None` behind the
-    /// last.
+    /// last. With numbers that were changed each still ends behind the one before it, or there and has a greater
+    /// identifier; after `None` or [`Damaged`] there is only `None`.
     pub fn next_match(&mut self) -> Result<Option<Match>, Damaged>
         ensures prepared { ForOverlapping self.old.numbers (λ search. IsOkAnd result (λ answer.
             GivesOverlapping (matches_for search self.old) answer (matches_for search self.new))) }
-        ensures inside { IfOk result (λ answer. IfSome answer (λ found. LiesIn self.old.span found
-            × (self.old.end ≤ found.end) × (self.new.end ≡ found.end))) }
+        ensures inside { IfOk result (λ answer. IfSome answer (LiesIn self.old.span)) }
+        ensures pattern { IfOk result (λ answer. IfSome answer
+            (λ found. found.pattern < slice_index self.old.numbers 3)) }
+        ensures ordered { IfOk result (λ answer. IfSome answer
+            (λ found. IsNotBefore found.end found.pattern self.old.end self.old.pattern
+            × (self.new.end ≡ found.end) × (self.new.pattern ≡ found.pattern + 1))) }
+        ensures over { MatchResult result (λ answer. MatchOption answer (HasEnded self.new) (λ _. ⊤))
+            (λ _. HasEnded self.new) }
+        ensures ended { HasEnded self.old → IsOkAnd result (λ answer. answer ≡ None) }
         ensures same { self.new ≡ record self.old { end = self.new.end; pattern = self.new.pattern } }
     {
         self.next_counted(&mut Tally::new())
@@ -325,13 +347,23 @@ impl<'s, 'p, 'h> PreparedMatches<'s, 'p, 'h> {
     pub fn next_counted(&mut self, tally: &mut Tally) -> Result<Option<Match>, Damaged>
         ensures prepared { ForOverlapping self.old.numbers (λ search. IsOkAnd result (λ answer.
             GivesOverlapping (matches_for search self.old) answer (matches_for search self.new))) }
-        ensures inside { IfOk result (λ answer. IfSome answer (λ found. LiesIn self.old.span found
-            × (self.old.end ≤ found.end) × (self.new.end ≡ found.end))) }
+        ensures inside { IfOk result (λ answer. IfSome answer (LiesIn self.old.span)) }
+        ensures pattern { IfOk result (λ answer. IfSome answer
+            (λ found. found.pattern < slice_index self.old.numbers 3)) }
+        ensures ordered { IfOk result (λ answer. IfSome answer
+            (λ found. IsNotBefore found.end found.pattern self.old.end self.old.pattern
+            × (self.new.end ≡ found.end) × (self.new.pattern ≡ found.pattern + 1))) }
+        ensures over { MatchResult result (λ answer. MatchOption answer (HasEnded self.new) (λ _. ⊤))
+            (λ _. HasEnded self.new) }
+        ensures ended { HasEnded self.old → IsOkAnd result (λ answer. answer ≡ None) }
         ensures same { self.new ≡ record self.old { end = self.new.end; pattern = self.new.pattern } }
         ensures others { tally.new ≡ record tally.old { scanned = tally.new.scanned } }
         ensures once { tally.new.scanned + self.old.end ≤ tally.old.scanned + self.new.end }
         ensures within { self.new.end ≤ self.old.span.end }
     {
+        if self.has_ended() {
+            return Ok(None);
+        }
         let answer = self
             .lent
             .next_from(self.haystack, self.span, self.standing, tally);
@@ -342,5 +374,13 @@ impl<'s, 'p, 'h> PreparedMatches<'s, 'p, 'h> {
         self.standing = self.lent.behind_all(self.haystack, self.span);
         answer?;
         Ok(None)
+    }
+
+    /// Whether it stands behind all that occurs.
+    fn has_ended(&self) -> bool
+        ensures { IsTrue result ↔ HasEnded self.now }
+    {
+        let lent = self.lent;
+        self.standing.at == self.span.end && self.standing.pattern == lent.front.lengths.len()
     }
 }

@@ -99,3 +99,21 @@ fn finds_what_overlaps_by_an_array(rt: HostRuntime) -> Result<(), Fail> {
     assert!(rt; PreparedOverlapping::new(&array).is_err());
     Ok(())
 }
+
+/// A damaged list has a pattern that there is none of.
+#[test]
+fn damaged_iteration_has_ended(rt: HostRuntime) -> Result<(), Fail> {
+    let mut array = filled_for_all(rt.alloc())?;
+    let first_listed = array.len() - array.len().min(4);
+    if let Some(number) = array.get_mut(first_listed) {
+        *number = 9;
+    }
+    let prepared = PreparedOverlapping::new(&array)?;
+    let mut matches = prepared.find_overlapping_in(b"an APPEND", Span { start: 3, end: 9 });
+    let app = Match::must(1, Span { start: 3, end: 6 });
+    assert_gives(&rt, &mut matches, false, Some(app))?;
+    assert!(rt; matches.next_match().is_err());
+    assert_gives(&rt, &mut matches, false, None)?;
+    assert_gives(&rt, &mut matches, true, None)?;
+    Ok(())
+}

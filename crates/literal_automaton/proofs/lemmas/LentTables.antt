@@ -93,6 +93,10 @@ parts_end {version} f numbers same front =
     subst (λ (n : List ℕ). (262 + length f.lengths.now + length f.rows.now ≡ prepared_len n)
     × (length f.lengths.now ≡ get_or n 3 0)) same (omega (arith, lengths, rows), omega (arith, lengths))
 
+-- there are as many lengths as the fourth number says
+pub lengths_many : {p : LentTables} → AreLent p → length p.front.lengths.now ≡ get_or p.front.numbers.now 3 0
+lengths_many {p} lent = (parts_end p.front p.front.numbers.now refl lent.front).1
+
 -- there is the length of each pattern
 pub lengths_for : {search : OverlappingValue} {p : LentTables} → AreFor search p
     → length p.front.lengths.now ≡ length search.patterns
