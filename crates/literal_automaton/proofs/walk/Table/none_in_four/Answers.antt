@@ -48,13 +48,16 @@ loop-step-preserved c =
           (omega (arith, c.if-largest-limit.false, c.largest.ensures.one, c.requires.limit));
       second = λ are table. more are table (at + block) step (at + step + block) (omega arith) (omega arith)
           (byte (at + step + block)) c.loop-step.second c.next_at-two.result (so_far.second are table)
-          c.next_at-two.ensures.number (omega (arith, c.if-largest-limit.false, c.largest.ensures.two, c.requires.limit));
+          c.next_at-two.ensures.number
+          (omega (arith, c.if-largest-limit.false, c.largest.ensures.two, c.requires.limit));
       third = λ are table. more are table (at + 2 * block) step (at + step + 2 * block) (omega arith) (omega arith)
           (byte (at + step + 2 * block)) c.loop-step.third c.next_at-three.result (so_far.third are table)
-          c.next_at-three.ensures.number (omega (arith, c.if-largest-limit.false, c.largest.ensures.three, c.requires.limit));
+          c.next_at-three.ensures.number
+          (omega (arith, c.if-largest-limit.false, c.largest.ensures.three, c.requires.limit));
       fourth = λ are table. more are table (at + 3 * block) step (at + step + 3 * block) (omega arith) (omega arith)
           (byte (at + step + 3 * block)) c.loop-step.fourth c.next_at-four.result (so_far.fourth are table)
-          c.next_at-four.ensures.number (omega (arith, c.if-largest-limit.false, c.largest.ensures.four, c.requires.limit));
+          c.next_at-four.ensures.number
+          (omega (arith, c.if-largest-limit.false, c.largest.ensures.four, c.requires.limit));
       counted = c.next_at-four.ensures.ticks
           ∙ (one_more _ _ (c.next_at-three.ensures.ticks
           ∙ one_more _ _ (c.next_at-two.ensures.ticks
