@@ -51,6 +51,7 @@ READS = ("tick_compared", "tick_scanned")
 REVIEWED = {
     "Patterns::matches_at": "726bd5dd96cb", "Rolling::push": "ebc0e88b6d30", "Rolling::roll": "5b80638e8bc9",
     "BucketEntries::entry": "95314473946b", "ByteTable::find": "9327f693401c",
+    "Table::class_at": "7a13f63110dc", "Table::next_at": "8ae2e543904c",
 }
 
 # What parameters are called that hold bytes of patterns, one or all, and how bytes are typed.
