@@ -122,6 +122,7 @@ int32_t literal_can_search(const uint8_t *patterns, size_t patterns_len, const s
  * LITERAL_NONE           no pattern occurs there
  * LITERAL_NO_SEARCHER    the patterns can't be searched for
  * LITERAL_OUT_OF_MEMORY  there is not enough memory for the search
+ * LITERAL_TOO_LARGE      only where the table of the search would have 2^31 places or more
  * LITERAL_BAD_ARGUMENTS  the ends fall or pass the buffer; start is above end, or end above haystack_len; or the kind
  *                        is none of the two */
 int32_t literal_find(uint32_t kind, bool ignore_case, const uint8_t *patterns, size_t patterns_len,
@@ -141,6 +142,7 @@ int32_t literal_find(uint32_t kind, bool ignore_case, const uint8_t *patterns, s
  * LITERAL_OK             found and page are written, also where no pattern occurs (then page->written is 0)
  * LITERAL_NO_SEARCHER    the patterns can't be searched for
  * LITERAL_OUT_OF_MEMORY  there is not enough memory for the search
+ * LITERAL_TOO_LARGE      only where the table of the search would have 2^31 places or more
  * LITERAL_BAD_ARGUMENTS  the ends fall or pass the buffer, from is above haystack_len, or the kind is none of the two
  */
 int32_t literal_find_all(uint32_t kind, bool ignore_case, const uint8_t *patterns, size_t patterns_len,
@@ -156,6 +158,7 @@ int32_t literal_find_all(uint32_t kind, bool ignore_case, const uint8_t *pattern
  * LITERAL_OK             found and page are written, also where no pattern occurs (then page->written is 0)
  * LITERAL_NO_SEARCHER    the patterns can't be searched for
  * LITERAL_OUT_OF_MEMORY  there is not enough memory for the search
+ * LITERAL_TOO_LARGE      only where the table of the search would have 2^31 places or more
  * LITERAL_BAD_ARGUMENTS  the ends fall or pass the buffer; or start is above end, or end above haystack_len */
 int32_t literal_find_overlapping(bool ignore_case, const uint8_t *patterns, size_t patterns_len, const size_t *ends,
                                  size_t ends_len, const uint8_t *haystack, size_t haystack_len, size_t start,
@@ -167,6 +170,7 @@ int32_t literal_find_overlapping(bool ignore_case, const uint8_t *patterns, size
  * LITERAL_OK             every answer is written
  * LITERAL_NO_SEARCHER    the patterns can't be searched for
  * LITERAL_OUT_OF_MEMORY  there is not enough memory for the search
+ * LITERAL_TOO_LARGE      only where the table of the search would have 2^31 places or more
  * LITERAL_BAD_ARGUMENTS  the ends of the patterns or of the haystacks fall or pass their buffer, there are not as many
  *                        answers as haystacks, or the kind is none of the two */
 int32_t literal_find_each(uint32_t kind, bool ignore_case, const uint8_t *patterns, size_t patterns_len,
@@ -182,7 +186,8 @@ int32_t literal_find_each(uint32_t kind, bool ignore_case, const uint8_t *patter
  * LITERAL_TOO_SHORT      the array has fewer than *needed places, and stays as it was
  * LITERAL_NO_SEARCHER    the patterns can't be searched for
  * LITERAL_OUT_OF_MEMORY  there is not enough memory for building the search
- * LITERAL_TOO_LARGE      the table of the search would have 2^31 places or more, or a pattern 2^32 bytes or more
+ * LITERAL_TOO_LARGE      only where the table of the search would have 2^31 places or more, or a pattern has 2^32 bytes
+ *                        or more; there LITERAL_OUT_OF_MEMORY may come first
  * LITERAL_BAD_ARGUMENTS  the ends fall or pass the buffer, or the kind is none of the two */
 int32_t literal_prepare(uint32_t kind, bool ignore_case, const uint8_t *patterns, size_t patterns_len,
                         const size_t *ends, size_t ends_len, uint32_t *prepared, size_t prepared_len, size_t *needed);
@@ -194,7 +199,7 @@ int32_t literal_prepare(uint32_t kind, bool ignore_case, const uint8_t *patterns
  * LITERAL_TOO_SHORT      the array has fewer than *needed places, and stays as it was
  * LITERAL_NO_SEARCHER    the patterns can't be searched for
  * LITERAL_OUT_OF_MEMORY  there is not enough memory for building the search
- * LITERAL_TOO_LARGE      as from literal_prepare; or 2^32 times or more a pattern is an end of another
+ * LITERAL_TOO_LARGE      as from literal_prepare; or only where 2^32 times or more a pattern is an end of another
  * LITERAL_BAD_ARGUMENTS  the ends fall or pass the buffer */
 int32_t literal_prepare_overlapping(bool ignore_case, const uint8_t *patterns, size_t patterns_len, const size_t *ends,
                                     size_t ends_len, uint32_t *prepared, size_t prepared_len, size_t *needed);
@@ -210,10 +215,14 @@ int32_t literal_check_prepared(const uint32_t *prepared, size_t prepared_len);
 int32_t literal_check_overlapping(const uint32_t *prepared, size_t prepared_len);
 
 /* The functions that follow search by an array that literal_prepare wrote, and literal_find_overlapping_in by one of
- * literal_prepare_overlapping. They look at its version and its lengths, and not at all of it. Of an array with other
- * words each of them still returns, and writes to the lent places alone; what it finds lies in the bytes that were
- * searched. But the answer need not be right, whether that is LITERAL_DAMAGED or not, and with LITERAL_DAMAGED some
- * places for matches or answers may be written. */
+ * literal_prepare_overlapping. They look at its version and its lengths, and not at all of it: an array that has not
+ * those of such a search, as one that is too short or of the other kind, is always LITERAL_DAMAGED, if the other
+ * arguments are right. Of an array with other words each of them still returns, and writes to the lent places alone;
+ * what it finds lies in the bytes that were searched, and its pattern is below prepared[3], where the array says how
+ * many patterns there are. A page is the last, or fills the room for matches, and of literal_find_all_in page->next is
+ * at least as many bytes behind start as the page has matches: with room for one, a loop over pages ends. But the
+ * answer need not be right, whether that is LITERAL_DAMAGED or not, and with LITERAL_DAMAGED some places for matches or
+ * answers may be written. */
 
 /* As literal_find.
  *

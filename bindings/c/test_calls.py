@@ -189,6 +189,29 @@ class Arrays(unittest.TestCase):
                 array[at] ^= 1
             self.assertEqual(check(array, length), OK)
 
+    def test_an_array_without_parts_is_damaged(self):
+        (array, length), (for_all, longer) = prepared(WORDS), prepared_for_all(WORDS)
+        found, page, number = (Match * 2)(), Page(), ctypes.c_size_t()
+        answers, lines = (Answer * 1)(), (ctypes.c_size_t * 1)(len(TEXT))
+        for lent, given in (None, 0), (for_all, longer), (array, 1), (array, length - 1):
+            asked = (lent, given, TEXT, len(TEXT))
+            statuses = (
+                CALLS.literal_find_in(*asked, 0, len(TEXT), found[0]),
+                CALLS.literal_find_all_in(*asked, 0, len(TEXT), found, 2, page),
+                CALLS.literal_find_each_in(*asked, lines, 1, answers, 1),
+                CALLS.literal_count_in(*asked, 0, len(TEXT), number),
+            )
+            self.assertEqual(statuses, (DAMAGED,) * 4)
+        for lent, given in (None, 0), (array, length), (for_all, 1), (for_all, longer - 1):
+            asked = (lent, given, TEXT, len(TEXT))
+            self.assertEqual(CALLS.literal_find_overlapping_in(*asked, 0, len(TEXT), found, 2, page), DAMAGED)
+
+    def assert_page(self, copy, start, room, page):
+        """What a page of four matches by any array is like."""
+        self.assertTrue(all(it.pattern < copy[3] for it in room[: page.written]))
+        self.assertTrue(page.is_last == 1 or (page.is_last, page.written) == (0, 4))
+        self.assertLessEqual(start, page.next)
+
     def test_a_damaged_array_writes_to_lent_places_alone(self):
         chance, (array, length) = random.Random(3), prepared(WORDS)
         for _ in range(5000):
@@ -197,15 +220,20 @@ class Arrays(unittest.TestCase):
                 word = chance.choice((0, 1, 2, 255, 2**31, 2**32 - 1, chance.randrange(2**32)))
                 copy[chance.randrange(length)] = word
             room, page, number = (Match * 5)(*[Match(*BEFORE)] * 5), Page(), ctypes.c_size_t()
-            answers, lines = (Answer * 2)(), (ctypes.c_size_t * 1)(len(TEXT))
+            answers, lines, one = (Answer * 2)(), (ctypes.c_size_t * 1)(len(TEXT)), Match()
             given = (copy, length, TEXT, len(TEXT))
             statuses = (
-                CALLS.literal_find_in(*given, 0, len(TEXT), room[0]),
+                CALLS.literal_find_in(*given, 0, len(TEXT), one),
                 CALLS.literal_find_all_in(*given, 0, len(TEXT), room, 4, page),
                 CALLS.literal_find_each_in(*given, lines, 1, answers, 1),
                 CALLS.literal_count_in(*given, 0, len(TEXT), number),
             )
             self.assertLessEqual(set(statuses), {OK, NONE, DAMAGED})
+            self.assertTrue(statuses[0] != OK or one.pattern < copy[3])
+            if statuses[1] == OK:
+                self.assert_page(copy, page.written, room, page)
+            if statuses[2] == OK and answers[0].status == OK:
+                self.assertLess(answers[0].found.pattern, copy[3])
             self.assertEqual((fields(room[4]), bytes(answers[1])), (BEFORE, bytes(ctypes.sizeof(Answer))))
 
     def test_what_a_damaged_array_for_all_finds_lies_inside(self):
@@ -223,6 +251,7 @@ class Arrays(unittest.TestCase):
             if status == OK:
                 found = [fields(it) for it in room[: page.written]]
                 self.assertTrue(all(9 <= start < end <= 50 for _, start, end in found), found)
+                self.assert_page(copy, 9, room, page)
         self.assertEqual(seen, {OK, DAMAGED})
 
 

@@ -1,5 +1,5 @@
 -- What a call writes to the memory that C lends it.
-use Rattle.std.specs.Prelude.{◌≡◌, ◌⊎◌, ℕ, ◌≤◌, Bool, List, [], ◌∷◌, length, map, take, drop, Option, Some, None}
+use Rattle.std.specs.Prelude.{◌≡◌, ◌⊎◌, ℕ, ◌<◌, ◌≤◌, Bool, List, [], ◌∷◌, length, map, take, drop, Option, Some, None}
 use Rattle.std.specs.Prelude.{IfSome}
 use Rattle.std.specs.List.{All}
 use Rattle.literal_base.specs.Leftmost.{IsLeftmost, IsLeftmostMatch}
@@ -41,12 +41,19 @@ pub record IsPage (query : Query) (ignore_case : Bool) (haystack : List ℕ) (sp
       ⊎ ((page.is_last ≡ 0) × (page.written ≡ length new)
       × ¬ NothingOccurs query.patterns ignore_case haystack (between page.next span.end))
 
--- the matches of a page lie in the span, and so does the place from which the next goes on
-pub record LieIn (span : Span) (new : List LiteralMatch) (page : LiteralPage) : Type 0 where
+-- a match lies in the span, is not empty, and names one of so many patterns
+pub record MayBeFound (span : Span) (patterns : ℕ) (found : MatchValue) : Type 0 where
+  pub lies : LiesIn span found
+  pub pattern : found.pattern < patterns
+
+-- what is known of a page by any array: its matches lie in the span and name one of so many patterns, the place from
+-- which the next page goes on lies in the span too, and either it is the last page, or the array is full
+pub record MayBePage (span : Span) (patterns : ℕ) (new : List LiteralMatch) (page : LiteralPage) : Type 0 where
   pub fits : page.written ≤ length new
-  pub matches : All (λ found. LiesIn span (match_of found)) (take page.written new)
+  pub matches : All (λ found. MayBeFound span patterns (match_of found)) (take page.written new)
   pub start : span.start ≤ page.next
   pub end : page.next ≤ span.end
+  pub rest : (page.is_last ≡ 1) ⊎ ((page.is_last ≡ 0) × (page.written ≡ length new))
 
 -- how many matches there are in a span, none of which overlaps another: the first is its leftmost match, each further
 -- one that of the bytes behind the one before, and nothing occurs behind the last
@@ -66,7 +73,7 @@ IsAnswer query ignore_case haystack answer =
     (found : Option MatchValue) × IsLeftmost query ignore_case haystack (whole_of haystack) found
     × (answer ≡ answer_for_c found)
 
--- the answer is a match that lies in the haystack, or that nothing is found
-abbrev pub LiesInside : List ℕ → LiteralAnswer → Type 0
-LiesInside haystack answer =
-    (found : Option MatchValue) × IfSome found (LiesIn (whole_of haystack)) × (answer ≡ answer_for_c found)
+-- the answer is a match that lies in the haystack and names one of so many patterns, or that nothing is found
+abbrev pub MayBeAnswer : ℕ → List ℕ → LiteralAnswer → Type 0
+MayBeAnswer patterns haystack answer =
+    (found : Option MatchValue) × IfSome found (MayBeFound (whole_of haystack) patterns) × (answer ≡ answer_for_c found)

@@ -5,8 +5,9 @@ use Rattle.literal_base.specs.declared.packed.MatchKind.TheVariants.{LeftmostFir
 use Rattle.literal_base.specs.Query.{Query}
 use Rattle.literal_base.specs.Kinds.{root_kind_of}
 use Rattle.literal_automaton.specs.DfaValue.{CanBeKept, NeedTooManyStates}
-use Rattle.literal_automaton.specs.Prepared.{ForPrepared}
-use Rattle.literal_automaton.specs.PreparedOverlapping.{ForOverlapping}
+use Rattle.literal_automaton.specs.Prepared.{ForPrepared, HasParts}
+use Rattle.literal_automaton.specs.PreparedOverlapping.{ForOverlapping, HasLists}
+use Rattle.literal_automaton.specs.declared.prepared.TheConstants.{PREPARED_VERSION}
 use Rattle.literal_c.specs.declared.TheConstants.{LITERAL_BAD_ARGUMENTS, LITERAL_LEFTMOST_FIRST}
 use Rattle.literal_c.specs.declared.TheConstants.{LITERAL_LEFTMOST_LONGEST}
 use Rattle.literal_c.specs.declared.TheConstants.{LITERAL_NONE, LITERAL_NO_SEARCHER, LITERAL_OK}
@@ -48,17 +49,19 @@ pub record IsStatus (agree : Type 0) (patterns : List (List ℕ)) (are_too_large
   pub too_large : status ≡ LITERAL_TOO_LARGE → are_too_large
 
 -- what the status says of a call that searches by an array: it is `LITERAL_BAD_ARGUMENTS` exactly if the other
--- arguments do not agree; else the search is done, or it is `LITERAL_DAMAGED`, but not if the array is prepared
-pub record IsStatusOf (IfPrepared : Type 0 → Type 0) (agree : Type 0) (IsDone : ℤ → Type 0) (status : ℤ)
-    : Type 0 where
+-- arguments do not agree; else the search is done, or it is `LITERAL_DAMAGED`: always if the array has not the parts of
+-- a search, and never if it is prepared
+pub record IsStatusOf (has_parts : Type 0) (IfPrepared : Type 0 → Type 0) (agree : Type 0) (IsDone : ℤ → Type 0)
+    (status : ℤ) : Type 0 where
   pub bad_arguments : (status ≡ LITERAL_BAD_ARGUMENTS) ↔ ¬ agree
   pub searched : agree → IsDone status ⊎ (status ≡ LITERAL_DAMAGED)
+  pub damaged : agree → ¬ has_parts → status ≡ LITERAL_DAMAGED
   pub prepared : IfPrepared (¬ (status ≡ LITERAL_DAMAGED))
 
--- the same of an array that is prepared if it is for any leftmost matches
+-- the same of an array by which leftmost matches are searched for
 abbrev pub IsStatusBy : List ℕ → Type 0 → (ℤ → Type 0) → ℤ → Type 0
-IsStatusBy array = IsStatusOf (λ P. ForPrepared array (λ _ _. P))
+IsStatusBy array = IsStatusOf (HasParts PREPARED_VERSION array) (λ P. ForPrepared array (λ _ _. P))
 
--- and of one that is prepared if it is for everything that occurs of any patterns
+-- and of one by which everything that occurs is
 abbrev pub IsOverlappingStatusBy : List ℕ → Type 0 → (ℤ → Type 0) → ℤ → Type 0
-IsOverlappingStatusBy array = IsStatusOf (λ P. ForOverlapping array (λ _. P))
+IsOverlappingStatusBy array = IsStatusOf (HasLists array) (λ P. ForOverlapping array (λ _. P))

@@ -1,11 +1,11 @@
 //! What is written for C.
-ghost use Rattle.std.specs.Prelude.{◌≡◌, ◌-◌, ◌≤◌, Bool, IfOk, OnOk, length};
+ghost use Rattle.std.specs.Prelude.{◌≡◌, ◌+◌, ◌-◌, ◌≤◌, Bool, IfOk, OnOk, length};
 ghost use Rattle.std.specs.List.{AllZip};
 ghost use Rattle.std.specs.Result.{IsOkAnd};
 ghost use Rattle.literal_base.specs.Occurs.{IsValidSpan};
 ghost use Rattle.literal_base.specs.Query.{Query};
 ghost use Rattle.literal_automaton.specs.Prepared.{ForPrepared};
-ghost use Rattle.literal_c.specs.Answers.{IsAnswer, IsCount, IsPage, LieIn, LiesInside};
+ghost use Rattle.literal_c.specs.Answers.{IsAnswer, IsCount, IsPage, MayBeAnswer, MayBePage};
 ghost use Rattle.literal_c.specs.Answers.{answer_for_c as answer_value, match_for_c as match_value};
 ghost use Rattle.literal_automaton.specs.OverlappingMatchesValue.{OverlappingMatchesValue};
 ghost use Rattle.literal_c.specs.Inside.Given.{AreGiven};
@@ -57,7 +57,8 @@ pub fn write_page<F: Finder>(
     requires { IsValidSpan haystack.now span }
     ensures page { (query : Query) (ignore_case : Bool) → F.is_for search.now query ignore_case
         → IsOkAnd result (IsPage query ignore_case haystack.now span found.old found.new) }
-    ensures inside { IfOk result (LieIn span found.new) }
+    ensures inside { IfOk result (MayBePage span (F.patterns search.now) found.new) }
+    ensures goes_on { IfOk result (λ page. span.start + page.written ≤ page.next) }
 {
     let Span { start, end } = span;
     let mut next = start;
@@ -130,7 +131,7 @@ pub fn answer_each<F: Finder>(
     requires { length haystacks ≡ length answers.old }
     ensures answers { (query : Query) (ignore_case : Bool) → F.is_for search.now query ignore_case
         → IsOkAnd result (λ _. AllZip (IsAnswer query ignore_case) haystacks.entry answers.new) }
-    ensures inside { OnOk result (AllZip LiesInside haystacks.entry answers.new) }
+    ensures inside { OnOk result (AllZip (MayBeAnswer (F.patterns search.now)) haystacks.entry answers.new) }
 {
     let mut i = 0;
     for haystack in haystacks {

@@ -10,21 +10,29 @@ pub trait Finder {
     ghost use Rattle.literal_base.specs.Leftmost.{IsLeftmost};
     ghost use Rattle.literal_base.specs.Occurs.{IsValidSpan};
     ghost use Rattle.literal_base.specs.Query.{Query};
-    ghost use Rattle.literal_automaton.specs.Prepared.{LiesIn};
+    ghost use Rattle.literal_c.specs.Answers.{MayBeFound};
+    ghost use Rattle.std.specs.Prelude.{ℕ};
 
     /// What it searches for, if it is whole.
     ghost is_for: { Self → Query → Bool → Type 0 };
+
+    /// How many patterns it has, whatever the numbers are.
+    ghost patterns: { Self → ℕ };
 
     /// The leftmost match in a span of the haystack.
     fn find_in(&self, haystack: &[u8], span: Span) -> Result<Option<Match>, Damaged>
         requires { IsValidSpan haystack.now span }
         ensures found { (query : Query) (ignore_case : Bool) → is_for self.now query ignore_case
             → IsOkAnd result (IsLeftmost query ignore_case haystack.now span) }
-        ensures inside { IfOk result (λ answer. IfSome answer (LiesIn span)) };
+        ensures inside { IfOk result (λ answer. IfSome answer (MayBeFound span (patterns self.now))) };
 }
 
 impl Finder for Search {
+    ghost use Rattle.std.specs.Prelude.{length};
+
     ghost is_for = { λ search query ignore_case. (query ≡ search.query) × (ignore_case ≡ search.ignore_case) };
+
+    ghost patterns = { λ search. length search.query.patterns };
 
     fn find_in(&self, haystack: &[u8], span: Span) -> Result<Option<Match>, Damaged> {
         Ok(Search::find_in(self, haystack, span))
@@ -32,9 +40,12 @@ impl Finder for Search {
 }
 
 impl Finder for Prepared<'_> {
+    ghost use Rattle.std.specs.Prelude.{slice_index};
     ghost use Rattle.literal_automaton.specs.Prepared.{IsPrepared};
 
     ghost is_for = { λ numbers query ignore_case. IsPrepared query ignore_case numbers };
+
+    ghost patterns = { λ numbers. slice_index numbers 3 };
 
     fn find_in(&self, haystack: &[u8], span: Span) -> Result<Option<Match>, Damaged> {
         Prepared::find_in(self, haystack, span)
@@ -76,13 +87,14 @@ impl Occurrences for OverlappingMatches<'_, '_> {
 }
 
 impl Occurrences for PreparedMatches<'_, '_, '_> {
-    ghost use Rattle.literal_automaton.specs.Prepared.{LiesIn};
+    ghost use Rattle.std.specs.Prelude.{slice_index};
+    ghost use Rattle.literal_c.specs.Answers.{MayBeFound};
     ghost use Rattle.literal_automaton.specs.PreparedOverlapping.{IsPreparedOverlapping, matches_for};
 
     ghost stands_at = { λ matches m. IsPreparedOverlapping m.search matches.numbers
         × (m ≡ matches_for m.search matches) };
 
-    ghost may_give = { λ matches found. LiesIn matches.span found };
+    ghost may_give = { λ matches found. MayBeFound matches.span (slice_index matches.numbers 3) found };
 
     fn next_match(&mut self) -> Result<Option<Match>, Damaged> {
         PreparedMatches::next_match(self)

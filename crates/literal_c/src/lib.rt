@@ -6,18 +6,19 @@
 //! `_in`, which search by an array that [`literal_prepare`] filled, or [`literal_prepare_overlapping`].
 #![tactic(auto)]
 
-ghost use Rattle.std.specs.Prelude.{◌≡◌, ◌⊎◌, ◌↔◌, ◌-◌, ◌≤◌, length};
+ghost use Rattle.std.specs.Prelude.{◌≡◌, ◌⊎◌, ◌↔◌, ◌+◌, ◌-◌, ◌≤◌, length, slice_index};
 ghost use Rattle.std.specs.List.{AllZip};
 ghost use Rattle.literal_base.specs.Leftmost.{IsLeftmostMatch};
 ghost use Rattle.literal_base.specs.Occurs.{IsValidSpan, NothingOccurs, between, rest_from};
 ghost use Rattle.literal_base.specs.declared.search.MatchKind.TheVariants.{Standard};
 ghost use Rattle.literal_automaton.specs.DfaValue.{CanBeKept, NeedTooManyStates};
-ghost use Rattle.literal_automaton.specs.Prepared.{AreShort, ForPrepared, IsWhole, LiesIn, RefusesToPrepare};
+ghost use Rattle.literal_automaton.specs.Prepared.{AreShort, ForPrepared, IsWhole, RefusesToPrepare};
 ghost use Rattle.literal_automaton.specs.Prepared.{WritesPrepared};
 ghost use Rattle.literal_automaton.specs.PreparedOverlapping.{ForOverlapping, HasLongLists, RefusesOverlapping};
 ghost use Rattle.literal_automaton.specs.PreparedOverlapping.{IsWholeOverlapping, WritesOverlapping};
 ghost use Rattle.literal_automaton.specs.declared.prepared.PrepareError.TheVariants.{ArrayTooShort};
-ghost use Rattle.literal_c.specs.Answers.{IsAnswer, IsCount, IsPage, LieIn, LiesInside, match_of};
+ghost use Rattle.literal_c.specs.Answers.{IsAnswer, IsCount, IsPage, MayBeFound, MayBeAnswer, MayBePage};
+ghost use Rattle.literal_c.specs.Answers.{match_of};
 ghost use Rattle.literal_c.specs.Arguments.{Agree, IsOverlappingStatusBy, IsStatus, IsStatusBy, NeedTooMany};
 ghost use Rattle.literal_c.specs.Arguments.{argument_query};
 ghost use Rattle.literal_c.specs.Overlapping.{IsOverlappingPage, all_that_occurs, overlapping_for};
@@ -109,9 +110,10 @@ pub extern "C" fn literal_can_search(patterns: &[u8], ends: &[usize]) -> i32
 
 /// The leftmost match in the bytes of the haystack from `start` up to and not including `end`: with [`LITERAL_OK`] it
 /// is in `found`, and [`LITERAL_NONE`] says that no pattern occurs there. A match lies whole in these bytes, and its
-/// offsets are in the whole haystack. [`LITERAL_BAD_ARGUMENTS`] comes where the kind is none, the ends fall or pass
-/// the buffer, `start` is above `end`, or `end` above the haystack's length; else [`LITERAL_NO_SEARCHER`] where the
-/// patterns can't be searched for. After any status but [`LITERAL_OK`] what was lent is as it was.
+/// offsets are in the whole haystack. [`LITERAL_BAD_ARGUMENTS`] comes where the kind is none, the ends fall or pass the
+/// buffer, `start` is above `end`, or `end` above the haystack's length; else [`LITERAL_NO_SEARCHER`] where the
+/// patterns can't be searched for. [`LITERAL_OUT_OF_MEMORY`] and [`LITERAL_TOO_LARGE`] come only where they can be.
+/// After any status but [`LITERAL_OK`] what was lent is as it was.
 ///
 /// ```rust
 /// let status = literal_find(alloc, kind, false, WORDS, &ENDS, TEXT, 14, 51, &mut found);
@@ -277,8 +279,8 @@ pub extern "C" fn literal_find_each(
 /// search as often as they are asked to. `needed` says how many places these are: for each byte of the patterns at most
 /// two more than they have different bytes, one for each pattern, and some hundreds. With [`LITERAL_TOO_SHORT`] it says
 /// so too, and the array is too short. The other statuses come as from [`literal_find`], and [`LITERAL_TOO_LARGE`] also
-/// where a pattern has 2^32 bytes or more. After any status but [`LITERAL_OK`] the array is as it was, and `needed`
-/// too, except after [`LITERAL_TOO_SHORT`].
+/// only where a pattern has 2^32 bytes or more; there [`LITERAL_OUT_OF_MEMORY`] may come first. After any status but
+/// [`LITERAL_OK`] the array is as it was, and `needed` too, except after [`LITERAL_TOO_SHORT`].
 #[unsafe(no_mangle)]
 pub extern "C" fn literal_prepare(
     alloc: Global,
@@ -390,9 +392,10 @@ pub extern "C" fn literal_check_overlapping(prepared: &[u32]) -> i32
 }
 
 /// Answers as [`literal_find`], by a search that [`literal_prepare`] wrote. [`LITERAL_BAD_ARGUMENTS`] comes where
-/// `start` is above `end`, or `end` above the haystack's length. Of an array that was changed it may say
-/// [`LITERAL_DAMAGED`], or find another match or none; a match lies in the bytes that were searched, whatever the array
-/// holds. After any status but [`LITERAL_OK`] what was lent is as it was.
+/// `start` is above `end`, or `end` above the haystack's length, else [`LITERAL_DAMAGED`] where the array has not the
+/// parts of a search. Of an array that was changed otherwise it may say [`LITERAL_DAMAGED`], or find another match or
+/// none; a match lies in the bytes that were searched, and names one of the patterns, of which the array's fourth
+/// number says how many there are. After any status but [`LITERAL_OK`] what was lent is as it was.
 #[unsafe(no_mangle)]
 pub extern "C" fn literal_find_in(
     prepared: &[u32],
@@ -407,7 +410,8 @@ pub extern "C" fn literal_find_in(
         → IsLeftmostMatch query ignore_case haystack.now (between start end) (match_of found.new)) }
     ensures none { ForPrepared prepared.now (λ query ignore_case. result ≡ LITERAL_NONE
         → NothingOccurs query.patterns ignore_case haystack.now (between start end)) }
-    ensures inside { result ≡ LITERAL_OK → LiesIn (between start end) (match_of found.new) }
+    ensures inside { result ≡ LITERAL_OK
+        → MayBeFound (between start end) (slice_index prepared.now 3) (match_of found.new) }
     ensures as_before { (result ≡ LITERAL_OK) ⊎ (found.new ≡ found.old) }
 {
     if start > end || end > haystack.len() {
@@ -429,7 +433,8 @@ pub extern "C" fn literal_find_in(
 /// Answers as [`literal_find_all`], by a search that [`literal_prepare`] wrote, of the bytes of the haystack from
 /// `start` up to and not including `end`. [`LITERAL_BAD_ARGUMENTS`] and [`LITERAL_DAMAGED`] come as from
 /// [`literal_find_in`]. After any status but [`LITERAL_OK`] the page is as it was, and after [`LITERAL_BAD_ARGUMENTS`]
-/// the array of matches too; of a damaged search it may hold some matches.
+/// the array of matches too; of a damaged search it may hold some matches. Whatever the array holds, a page is the last
+/// or full, and the next goes on at least one byte further for each match.
 #[unsafe(no_mangle)]
 pub extern "C" fn literal_find_all_in(
     prepared: &[u32],
@@ -443,7 +448,9 @@ pub extern "C" fn literal_find_all_in(
         (λ status. status ≡ LITERAL_OK) result }
     ensures page { ForPrepared prepared.now (λ query ignore_case. result ≡ LITERAL_OK
         → IsPage query ignore_case haystack.now (between start end) found.old found.new page.new) }
-    ensures inside { result ≡ LITERAL_OK → LieIn (between start end) found.new page.new }
+    ensures inside { result ≡ LITERAL_OK
+        → MayBePage (between start end) (slice_index prepared.now 3) found.new page.new }
+    ensures goes_on { result ≡ LITERAL_OK → start + page.new.written ≤ page.new.next }
     ensures as_before { (result ≡ LITERAL_OK) ⊎ (page.new ≡ page.old) }
     ensures refused { result ≡ LITERAL_BAD_ARGUMENTS → found.new ≡ found.old }
 {
@@ -476,7 +483,8 @@ pub extern "C" fn literal_find_each_in(
         × (length answers.old ≡ length haystack_ends.now)) (λ status. status ≡ LITERAL_OK) result }
     ensures answers { ForPrepared prepared.now (λ query ignore_case. result ≡ LITERAL_OK
         → AllZip (IsAnswer query ignore_case) (pieces haystacks.now 0 haystack_ends.now) answers.new) }
-    ensures inside { result ≡ LITERAL_OK → AllZip LiesInside (pieces haystacks.now 0 haystack_ends.now) answers.new }
+    ensures inside { result ≡ LITERAL_OK → AllZip (MayBeAnswer (slice_index prepared.now 3))
+        (pieces haystacks.now 0 haystack_ends.now) answers.new }
     ensures refused { result ≡ LITERAL_BAD_ARGUMENTS → answers.new ≡ answers.old }
 {
     if answers.len() != haystack_ends.len() || !are_ends(haystacks.len(), haystack_ends) {
@@ -539,7 +547,8 @@ pub extern "C" fn literal_find_overlapping_in(
         (λ status. status ≡ LITERAL_OK) result }
     ensures page { ForOverlapping prepared.now (λ search. result ≡ LITERAL_OK → IsOverlappingPage
         (all_that_occurs search haystack.now (between start end)) found.old found.new page.new) }
-    ensures inside { result ≡ LITERAL_OK → LieIn (between start end) found.new page.new }
+    ensures inside { result ≡ LITERAL_OK
+        → MayBePage (between start end) (slice_index prepared.now 3) found.new page.new }
     ensures as_before { (result ≡ LITERAL_OK) ⊎ (page.new ≡ page.old) }
     ensures refused { result ≡ LITERAL_BAD_ARGUMENTS → found.new ≡ found.old }
 {

@@ -14,8 +14,7 @@ use Rattle.literal_base.specs.MatchValue.{MatchValue}
 use Rattle.literal_base.specs.Occurs.{NothingOccurs, between, rest_from}
 use Rattle.literal_base.specs.Query.{Query}
 use Rattle.literal_automaton.specs.OverlappingMatchesValue.{GivesOverlapping, OverlappingMatchesValue}
-use Rattle.literal_automaton.specs.Prepared.{LiesIn}
-use Rattle.literal_c.specs.Answers.{AreNext, match_of}
+use Rattle.literal_c.specs.Answers.{AreNext, MayBeFound, match_of}
 use Rattle.literal_c.specs.declared.LiteralMatch.{LiteralMatch}
 
 module _ (query : Query) (ignore_case : Bool) (haystack : List ℕ) where
@@ -48,13 +47,16 @@ module _ (query : Query) (ignore_case : Bool) (haystack : List ℕ) where
       subst (λ all. AreNext query ignore_case haystack end at all found.end) (sym list)
       (joined end at next found.end (map match_of (take i written)) (match_of found ∷ []) before (here, refl))
 
--- a match that lies in the rest of a span lies in the span
-pub lies_in_all : (start next end : ℕ) (found : MatchValue) → start ≤ next → LiesIn (between next end) found
-    → LiesIn (between start end) found
-lies_in_all start next end found after lies = record {
-  start = omega (arith, after, lies.start);
-  some = lies.some;
-  end = lies.end;
+-- a match that may be in the rest of a span may be in the span
+pub may_be_in_all : (start next end patterns : ℕ) (found : MatchValue) → start ≤ next
+    → MayBeFound (between next end) patterns found → MayBeFound (between start end) patterns found
+may_be_in_all start next end patterns found after may = record {
+  lies = record {
+    start = omega (arith, after, may.lies.start);
+    some = may.lies.some;
+    end = may.lies.end;
+  };
+  pattern = may.pattern;
 }
 
 -- what holds of all that is written, and of one more

@@ -9,7 +9,7 @@ use Rattle.literal_c.proofs.literal_find_in.Goals as goal
 
 pub returns-in-Err-clause-status : goal.returns-in-Err-clause-status
 returns-in-Err-clause-status c =
-    damaged (λ P. ForPrepared c.args.prepared.now (λ _ _. P)) _ _
+    damaged _ (λ P. ForPrepared c.args.prepared.now (λ _ _. P)) _ _
     (record { ordered = c.if-start-end.false; in_haystack = c.if-end-haystack.false })
     (λ query ignore_case is _. c.in-Err.ensures.prepared query ignore_case
     (subst (IsPrepared query ignore_case) (sym c.in-Ok.ensures.0) is))

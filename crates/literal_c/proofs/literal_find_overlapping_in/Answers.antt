@@ -8,7 +8,7 @@ use Rattle.literal_c.proofs.literal_find_overlapping_in.Goals as goal
 
 pub returns-in-Err-clause-status : goal.returns-in-Err-clause-status
 returns-in-Err-clause-status c =
-    damaged (λ P. ForOverlapping c.args.prepared.now (λ _. P)) _ _
+    damaged _ (λ P. ForOverlapping c.args.prepared.now (λ _. P)) _ _
     (record { ordered = c.if-start-end.false; in_haystack = c.if-end-haystack.false })
     (λ search is _. c.in-Err.ensures.page
     (all_that_occurs search c.args.haystack.now (between c.args.start c.args.end)) (

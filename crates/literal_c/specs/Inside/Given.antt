@@ -10,9 +10,10 @@ use Rattle.literal_c.specs.declared.LiteralPage.{LiteralPage}
 abbrev pub IsReached : (MatchValue → Type 0) → ℕ → ℕ → Type 0
 IsReached MayGive start next = (next ≡ start) ⊎ ((found : MatchValue) × MayGive found × (next ≡ found.end))
 
--- the matches of a page may be given, and the page ends where they do
+-- the matches of a page may be given, the page ends where they do, and it is the last page, or the array is full
 pub record AreGiven (MayGive : MatchValue → Type 0) (start : ℕ) (new : List LiteralMatch) (page : LiteralPage)
     : Type 0 where
   pub fits : page.written ≤ length new
   pub matches : All (λ found. MayGive (match_of found)) (take page.written new)
   pub reached : IsReached MayGive start page.next
+  pub rest : (page.is_last ≡ 1) ⊎ ((page.is_last ≡ 0) × (page.written ≡ length new))

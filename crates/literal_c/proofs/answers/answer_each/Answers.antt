@@ -3,7 +3,7 @@ use Rattle.std.proofs.Common.{◌+◌}
 use Rattle.std.proofs.Math.ListN.{set}
 use Rattle.std.proofs.lemmas.List.{length-append}
 use Rattle.std.specs.List.{AllZip}
-use Rattle.literal_c.specs.Answers.{IsAnswer, LiesInside}
+use Rattle.literal_c.specs.Answers.{IsAnswer, MayBeAnswer}
 use Rattle.literal_c.proofs.lemmas.Pieces.{map_more, one_more_answer, split_more, taken_more}
 use Rattle.literal_c.proofs.answers.answer_each.Goals as goal
 
@@ -20,6 +20,7 @@ loop-haystack-preserved g c =
     let i = c.loop-haystack.i in
     let answers = c.loop-haystack.answers in
     let new = c.answer_for_c.result in
+    let MayBeHere = MayBeAnswer (g.F.Finder.patterns c.args.search.now) in
     record {
       split = split;
       count = omega arith;
@@ -28,7 +29,7 @@ loop-haystack-preserved g c =
           (one_more_answer (IsAnswer query ignore_case) _ i answers item.now new lt
           (so_far.answered query ignore_case is)
           (c.in_ok-find_in.field-0, c.in_ok-find_in.ensures.found query ignore_case is, c.answer_for_c.ensures));
-      inside = subst (λ done. AllZip LiesInside done (take (i + 1) (set answers i new))) (sym (map_more taken item))
-          (one_more_answer LiesInside _ i answers item.now new lt so_far.inside
+      inside = subst (λ done. AllZip MayBeHere done (take (i + 1) (set answers i new))) (sym (map_more taken item))
+          (one_more_answer MayBeHere _ i answers item.now new lt so_far.inside
           (c.in_ok-find_in.field-0, c.in_ok-find_in.ensures.inside, c.answer_for_c.ensures));
     }

@@ -3,9 +3,8 @@ use Rattle.std.proofs.lemmas.List.{drop-drop, drop-set-lt}
 use Rattle.literal_base.specs.Leftmost.{IsLeftmost, IsLeftmostMatch}
 use Rattle.literal_base.specs.MatchValue.{MatchValue}
 use Rattle.literal_base.specs.Occurs.{between}
-use Rattle.literal_automaton.specs.Prepared.{LiesIn}
-use Rattle.literal_c.specs.Answers.{AreNext, match_of}
-use Rattle.literal_c.proofs.lemmas.Pages.{all_more, lies_in_all, one_more}
+use Rattle.literal_c.specs.Answers.{AreNext, MayBeFound, match_of}
+use Rattle.literal_c.proofs.lemmas.Pages.{all_more, may_be_in_all, one_more}
 use Rattle.literal_c.proofs.answers.write_page.Goals as goal
 
 pub loop-place-preserved : goal.loop-place-preserved
@@ -20,8 +19,11 @@ loop-place-preserved g c =
     let new = c.match_for_c.result in
     let so_far = c.loop-place.invariant in
     let lt : i < length found = omega arith in
-    let lies : LiesIn (between next stop) it =
-    subst (λ (o : Option MatchValue). IfSome o (LiesIn (between next stop))) c.in-Some.is c.in_ok-it.ensures.inside in
+    let patterns = g.F.Finder.patterns c.args.search.now in
+    let may : MayBeFound (between next stop) patterns it =
+    subst (λ (o : Option MatchValue). IfSome o (MayBeFound (between next stop) patterns)) c.in-Some.is
+    c.in_ok-it.ensures.inside in
+    let lies = may.lies in
     let is_new = sym c.match_for_c.ensures in
     let end : new.end ≡ c.end-next.result = ap (λ m. m.end) c.match_for_c.ensures ∙ sym c.end-next.ensures.end in
     record {
@@ -37,9 +39,9 @@ loop-place-preserved g c =
           subst (AreNext query ignore_case haystack stop start _) end
           (one_more query ignore_case haystack stop start next i found new lt
           (so_far.matches query ignore_case is) here);
-      inside = all_more (λ m. LiesIn (between start stop) (match_of m)) i found new lt so_far.inside
-          (subst (λ m. LiesIn (between start stop) (match_of m)) is_new
-          (lies_in_all start next stop it so_far.after lies));
+      inside = all_more (λ m. MayBeFound (between start stop) patterns (match_of m)) i found new lt so_far.inside
+          (subst (λ m. MayBeFound (between start stop) patterns (match_of m)) is_new
+          (may_be_in_all start next stop patterns it (omega (arith, so_far.after)) may));
       others = drop-set-lt (i + 1) found i new (omega arith)
           ∙ (sym (drop-drop 1 i found) ∙ (ap (drop 1) so_far.others ∙ drop-drop 1 i c.args.found.now));
     }
