@@ -20,7 +20,7 @@ TEST_CRATES = (
 )
 
 # Crates whose code may have a haystack in hand.
-SEARCH_CRATES = ("literal_packed", "literal_prefilters", "literal_automaton")
+SEARCH_CRATES = ("literal_packed", "literal_fingerprints", "literal_prefilters", "literal_search")
 
 HERE = " (checks/search_rules.py)"
 
@@ -32,8 +32,9 @@ CONFIRMING = "crates/literal_prefilters/src/prefilter/confirming.rt"
 # The functions that may make a tally: for the hashes of patterns, or for a search that is given none.
 MAKERS = (
     "Builder::build", "Searcher::find_in", "Searcher::find_iter", "Prefilter::find_in", "ConfirmingSearch::find_in",
-    "Dfa::find_in", "Dfa::find_all", "Dfa::earliest_end", "OverlappingMatchesIterator::next", "Prepared::find_in",
-    "PreparedMatches::next_match",
+    "Search::find_in", "Search::match_at", "Search::find_all", "Search::earliest_end", "MatchesIterator::next",
+    "OverlappingMatchesIterator::next", "Prepared::find_in", "PreparedOverlappingMatches::next_match",
+    "Linear::find_all_in", "LinearMatchesIterator::next",
 )
 
 # Where each step ticks, once in each function. The functions that compare or scan read bytes of a haystack.
@@ -41,16 +42,17 @@ TICKS = {
     "crates/literal_packed/src/pattern.rt": {"Patterns::matches_at": "tick_compared"},
     RABIN_KARP: {"Rolling::push": "tick_hashed", "Rolling::roll": "tick_hashed"},
     ENTRIES: {"BucketEntries::entry": "tick_entries"},
+    "crates/literal_fingerprints/src/lanes.rt": {"lanes::load": "tick_scanned"},
     "crates/literal_prefilters/src/prefilter/byte_table.rt": {"ByteTable::find": "tick_scanned"},
     CONFIRMING: {"confirming::confirm": "tick_tried", "confirming::confirm_by_table": "tick_tried"},
-    "crates/literal_automaton/src/walk.rt": {"Table::class_at": "tick_scanned", "Table::next_at": "tick_scanned"},
+    "crates/literal_search/src/walk.rt": {"Table::class_at": "tick_scanned", "Table::next_at": "tick_scanned"},
 }
 READS = ("tick_compared", "tick_scanned")
 
 # Whose bodies stand as they were reviewed: a sum of their words.
 REVIEWED = {
     "Patterns::matches_at": "726bd5dd96cb", "Rolling::push": "ebc0e88b6d30", "Rolling::roll": "5b80638e8bc9",
-    "BucketEntries::entry": "95314473946b", "ByteTable::find": "9327f693401c",
+    "BucketEntries::entry": "95314473946b", "ByteTable::find": "9327f693401c", "lanes::load": "81399e5b4db7",
     "Table::class_at": "7a13f63110dc", "Table::next_at": "8ae2e543904c",
 }
 
@@ -60,7 +62,8 @@ BYTES = re.compile(r"\b([a-z]\w*)\s*:[^,):]*(?:\[u8\]|\bVec<u8>|\bstr\b)")
 
 # The types that may keep a slice of bytes: a haystack, patterns, or what C hands over of either.
 KEEPERS = (
-    "FindIter", "Matches", "OverlappingMatches", "PreparedMatches", "Input", "Pattern", "SearchRequest", "Pieces",
+    "FindIter", "Matches", "LinearMatches", "OverlappingMatches", "PreparedOverlappingMatches", "Input", "Pattern",
+    "SearchRequest", "Pieces", "AnySearch",
 )
 
 # The fields of `BucketEntries` that tell nothing of an entry, and the functions that may name the others: the one that

@@ -1,6 +1,6 @@
 /* Calls each function of the header, with lists of length 0 by NULL too, and ends with 1 where an answer is wrong, as
  * it then says. With the word `stack` it does so on a thread with a stack of 16 KiB. */
-#include "literal_prefilters.h"
+#include "literal_search.h"
 
 #include <pthread.h>
 #include <stdio.h>

@@ -4,7 +4,7 @@ import re
 from pathlib import Path
 
 BINDINGS = Path(__file__).resolve().parent.parent
-HEADER = re.sub(r"/\*.*?\*/", "", (BINDINGS / "c/literal_prefilters.h").read_text("utf-8"), flags=re.S)
+HEADER = re.sub(r"/\*.*?\*/", "", (BINDINGS / "c/literal_search.h").read_text("utf-8"), flags=re.S)
 TYPES = {
     "uint32_t": ctypes.c_uint32,
     "int32_t": ctypes.c_int32,
@@ -38,7 +38,7 @@ Match, Page, Answer = (TYPES[f"literal_{name}"] for name in ("match", "page", "a
 
 def load():
     """The shared library in bindings/out."""
-    library = ctypes.CDLL(str(BINDINGS / "out/libliteral_prefilters.so"))
+    library = ctypes.CDLL(str(BINDINGS / "out/libliteral_search.so"))
     for name, (result, parameters) in FUNCTIONS.items():
         function = getattr(library, name)
         function.argtypes, function.restype = [type_of(it) for it, _ in parameters], type_of(result)

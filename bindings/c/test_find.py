@@ -10,10 +10,10 @@ import unittest
 from pathlib import Path
 
 HERE = Path(__file__).resolve().parent
-LIBRARY = HERE.parent / "out" / "libliteral_prefilters.a"
+LIBRARY = HERE.parent / "out" / "libliteral_search.a"
 WARNINGS = ["-Wall", "-Wextra", "-Wpedantic", "-Wconversion", "-Werror", f"-I{HERE}"]
 SANITIZED = ["-g", "-fsanitize=address,undefined", "-fno-sanitize-recover=all"]
-ALONE = ["-fsyntax-only", "-include", "literal_prefilters.h", "/dev/null"]
+ALONE = ["-fsyntax-only", "-include", "literal_search.h", "/dev/null"]
 TEXT = "Nobody likes maple in their apple flavored Snapple.\n"
 WORDS, FOUND = ["apple", "maple", "Snapple"], "1 13 18\n0 28 33\n2 43 50\n"
 MOST_REQUESTS = 100
@@ -79,7 +79,7 @@ class Find(unittest.TestCase):
         self.assertGreater(told, 2)
 
     def test_only_the_header_s_names_are_shown(self):
-        names = set(run("sed", "-n", r"s/^int32_t \(literal_\w*\)(.*/\1/p", f"{HERE}/literal_prefilters.h")[1].split())
+        names = set(run("sed", "-n", r"s/^int32_t \(literal_\w*\)(.*/\1/p", f"{HERE}/literal_search.h")[1].split())
         self.assertGreater(len(names), 9)
         for words in (("-g", LIBRARY), ("-D", LIBRARY.with_suffix(".so"))):
             listed = run("nm", "--defined-only", *map(str, words))[1].splitlines()
@@ -91,11 +91,11 @@ class Find(unittest.TestCase):
         prefix, find = f"{self.room.name}/a folder", f"{self.room.name}/find shared"
         self.assertEqual(run(str(HERE.parent / "install"), prefix)[0], 0)
         given = {**PLAIN, "PKG_CONFIG_PATH": f"{prefix}/lib/pkgconfig"}
-        flags = shlex.split(run("pkg-config", "--cflags", "--libs", "literal_prefilters", env=given)[1])
+        flags = shlex.split(run("pkg-config", "--cflags", "--libs", "literal_search", env=given)[1])
         linked = ["cc", str(HERE / "find.c"), *flags, f"-Wl,-rpath,{prefix}/lib", "-o", find]
         self.assertEqual(run(*linked), (0, ""))
         self.assertEqual(run(find, *WORDS, text=TEXT, cwd="/"), (0, FOUND))
-        self.assertIn(f"{prefix}/lib/libliteral_prefilters.so.0", run("ldd", find)[1])
+        self.assertIn(f"{prefix}/lib/libliteral_search.so.0", run("ldd", find)[1])
 
 
 class Build(unittest.TestCase):
@@ -111,7 +111,7 @@ class Build(unittest.TestCase):
         for licence in ("LICENSE-MIT", "UNLICENSE"):
             shutil.copy(HERE.parents[1] / licence, self.room)
         build = [sys.executable, str(self.room / "bindings/build"), "--no-proof", str(LIBRARY)]
-        uses = "import literal_prefilters as it; print(it.Searcher([b'b']).find(b'ab').start)"
+        uses = "import literal_search as it; print(it.Search([b'b']).find(b'ab').start)"
         given, nodes = {**PLAIN, "CC": "gcc -O2", "PYTHONPATH": str(self.room / "bindings/python")}, []
         (self.room / "kept").mkdir()
         for turn in range(2):
@@ -139,7 +139,7 @@ class Build(unittest.TestCase):
         (self.room / "python").mkdir(parents=True)
         shutil.copy(HERE.parent / "python/setup.py", self.room / "python")
         status, said = run(sys.executable, "setup.py", "build", cwd=self.room / "python")
-        why = f"{self.room}/out/libliteral_prefilters.a is not there: run bindings/build first\n"
+        why = f"{self.room}/out/libliteral_search.a is not there: run bindings/build first\n"
         self.assertEqual((status, said), (1, why))
 
 

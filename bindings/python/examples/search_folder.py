@@ -9,7 +9,7 @@ import os
 import sys
 from concurrent.futures import ThreadPoolExecutor
 
-from literal_prefilters import Kind, Searcher
+from literal_search import Kind, Search
 
 
 def paths_in(folder):
@@ -41,7 +41,7 @@ def main():
     options = parser.parse_args()
     words = [os.fsencode(word) for word in options.words]
     try:
-        searcher = Searcher(words, Kind.LEFTMOST_LONGEST, options.ignore_case)
+        searcher = Search(words, Kind.LEFTMOST_LONGEST, options.ignore_case)
     except ValueError as why:
         parser.error(str(why))
     if not os.path.isdir(options.folder):

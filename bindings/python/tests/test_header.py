@@ -4,7 +4,7 @@ import sys
 import unittest
 from pathlib import Path
 
-from literal_prefilters import Kind, __version__
+from literal_search import Kind, __version__
 
 TOP = Path(__file__).resolve().parents[3]
 sys.path.append(str(TOP / "bindings/c"))

@@ -1,29 +1,43 @@
 """How texts are held, who runs meanwhile, and how a search ends by a signal."""
 import array
 import ctypes
+import functools
 import gc
 import mmap
+import re
 import signal
 import tempfile
 import threading
 import time
 import tracemalloc
 import unittest
+import weakref
+from collections import deque
 from concurrent.futures import ThreadPoolExecutor
 from contextlib import contextmanager, suppress
+from itertools import islice
 
-from literal_prefilters import Match, Searcher
+from literal_search import Match, Search
 
 TEXT = b"Nobody likes maple in their apple flavored Snapple."
 WORDS = [b"apple", b"maple", b"Snapple"]
-LONG, WAIT = 1 << 32, 0.5
+LONG, WAIT, LIMIT = 1 << 32, 0.2, 0.15
+
+
+class Text(str):
+    """A str that can hold something."""
+
+
+class Block(bytearray):
+    """Bytes that can hold something."""
 
 
 def calls_of(searcher):
     """Each call that takes one text."""
     yield from (searcher.find, searcher.is_match, searcher.findall, searcher.count, searcher.split)
-    yield searcher.find_overlapping
+    yield from (searcher.find_overlapping, searcher.count_overlapping, searcher.find_earliest)
     yield lambda text: list(searcher.finditer(text))
+    yield lambda text: list(searcher.finditer_overlapping(text))
     yield lambda text: searcher.sub(b"-", text)
     yield lambda text: searcher.find_each([text])
     yield lambda text: searcher.findall_each([text])
@@ -36,10 +50,16 @@ def zeros(size):
         yield mapped
 
 
+def kibibytes_read(name):
+    """How much of a file was read that is mapped here."""
+    with open("/proc/self/smaps", encoding="utf-8") as file:
+        return int(re.search(re.escape(name) + r"\n(?:.*\n)*?Rss: +([0-9]+) kB", file.read())[1])
+
+
 class Buffers(unittest.TestCase):
     def test_kinds_of_buffers(self):
         """Offsets count bytes, whatever the items are."""
-        searcher, text = Searcher(WORDS), TEXT + b"....."
+        searcher, text = Search(WORDS), TEXT + b"....."
         wanted = [call(text) for call in calls_of(searcher)]
         square = memoryview(text).cast("B", (8, 7))
         with tempfile.TemporaryFile() as file:
@@ -52,43 +72,63 @@ class Buffers(unittest.TestCase):
                    array.array("d", text), (ctypes.c_uint16 * 28).from_buffer_copy(text), memoryview(text).cast("I")):
             self.assertEqual([call(it) for call in calls_of(searcher)], wanted, it)
 
+    def test_a_field_named_as_objects_are(self):
+        class Pair(ctypes.Structure):
+            _fields_ = [("O", ctypes.c_uint16), ("other", ctypes.c_uint16)]
+
+        text = (Pair * 2).from_buffer_copy(b"xxabcdyy")
+        self.assertEqual(Search([b"abcd", Pair.from_buffer_copy(b"cdyy")]).findall(text), [(0, 2, 6)])
+        self.assertEqual(Search([Pair.from_buffer_copy(b"cdyy")]).findall(text), [(0, 4, 8)])
+
     def test_no_bytes(self):
         for text in (b"", bytearray(), memoryview(b""), array.array("q")):
-            self.assertIsNone(Searcher([b"a"]).find(text))
-            self.assertEqual(Searcher([b"a"]).findall(text), [])
+            self.assertIsNone(Search([b"a"]).find(text))
+            self.assertEqual(Search([b"a"]).findall(text), [])
 
     def test_what_is_no_text(self):
         columns = memoryview(bytes(16)).cast("B", (4, 4))
         for it in (memoryview(b"abcabc")[::2], memoryview(b"abc")[::-1], columns[::2], (ctypes.py_object * 2)(1, 2),
                    memoryview((ctypes.py_object * 2)(1, 2))):
-            for call in calls_of(Searcher([b"a"])):
+            for call in calls_of(Search([b"a"])):
                 with self.assertRaisesRegex(BufferError, "plain bytes, one after another"):
                     call(it)
 
     def test_given_back_by_each_call(self):
         text = bytearray(TEXT)
-        for call in (*calls_of(Searcher(WORDS)), *calls_of(Searcher([b"zebra"]))):
+        for call in (*calls_of(Search(WORDS)), *calls_of(Search([b"zebra"]))):
             call(text)
             text += b"."
         for given in ((text, "1"), (text, 1, 2, 3), (text, 0, 1.5)):
-            for call in (Searcher(WORDS).find, Searcher(WORDS).findall, Searcher(WORDS).finditer):
+            for call in (Search(WORDS).find, Search(WORDS).findall, Search(WORDS).finditer):
                 self.assertRaises(TypeError, call, *given)
                 text += b"."
 
     def test_a_function_that_fails(self):
         text = bytearray(b"aa")
         try:
-            Searcher([b"a"]).sub(lambda it: 1 // 0, text)
+            Search([b"a"]).sub(lambda it: 1 // 0, text)
         except ZeroDivisionError:
             text.clear()  # (while the error holds the frame of `sub`)
         self.assertEqual(text, b"")
 
 
 class Leaks(unittest.TestCase):
+    def test_what_two_threads_prepare_at_once(self):
+        """One of the arrays is kept, and the other is not."""
+        tracemalloc.start()
+        self.addCleanup(tracemalloc.stop)
+        searcher = Search([b"ab" * (1 << 18)])
+        before, start = tracemalloc.get_traced_memory()[0], threading.Barrier(4)
+        with ThreadPoolExecutor(4) as pool:
+            found = pool.map(lambda _: (start.wait(), searcher.find_overlapping(b"ab"))[1], range(4))
+            self.assertEqual(list(found), [[]] * 4)
+        more = tracemalloc.get_traced_memory()[0] - before
+        self.assertLess(more, 1.5 * len(searcher._for_all))
+
     def test_no_call_keeps_memory(self):
         """Neither one that answers, nor one that refuses what it is given."""
-        calls = [*calls_of(Searcher(WORDS)), *calls_of(Searcher(["apple", "ä"]))]
-        calls.append(lambda it: Searcher([it, b"b"]).find_overlapping(b"ab"))
+        calls = [*calls_of(Search(WORDS)), *calls_of(Search(["apple", "ä"]))]
+        calls.append(lambda it: Search([it, b"b"]).find_overlapping(b"ab"))
         texts = [TEXT, bytearray(TEXT * 3), TEXT.decode(), "ä" + TEXT.decode() + "äppleä"]
         texts += [memoryview(TEXT)[::2], "\ud800", 5]
 
@@ -111,7 +151,7 @@ class Leaks(unittest.TestCase):
 class Iterators(unittest.TestCase):
     def test_held_from_the_call_to_the_last_match(self):
         text = bytearray(b"a" * 100)
-        matches = Searcher([b"a"]).finditer(text)
+        matches = Search([b"a"]).finditer(text)
         with self.assertRaises(BufferError):
             text.clear()  # (before the first match)
         next(matches)
@@ -121,15 +161,31 @@ class Iterators(unittest.TestCase):
         text.clear()
         self.assertEqual(list(matches), [])
 
+    def test_how_far_ahead_matches_are_found(self):
+        """Some thousands; with a long pattern a few, since the search may look as far ahead behind each."""
+        for longest, most in ((1 << 22, 1), (1 << 18, 15)):
+            text = bytearray(b"a" * 100)
+            matches = Search([b"a" * longest + b"b", b"a"]).finditer(text)
+            next(matches)
+            text[1:99] = b"x" * 98
+            self.assertEqual([it.start for it in matches], [*range(1, most), 99])
+        searcher = Search([b"a"])
+        for call, most in ((searcher.finditer, 1 << 12), (searcher.finditer_overlapping, 1 << 15)):
+            text = bytearray(b"a" * (3 * most))
+            matches = call(text)
+            deque(islice(matches, most + most // 2), 0)
+            text[:] = bytes(len(text))
+            self.assertLess(sum(1 for _ in matches), most)
+
     def test_given_back_when_it_is_gone(self):
         text = bytearray(b"a" * 100)
-        matches = Searcher([b"a"]).finditer(text)
+        matches = Search([b"a"]).finditer(text)
         next(matches)
         del matches
         text.clear()
 
     def test_given_back_by_the_collector(self):
-        class Held(Searcher):
+        class Held(Search):
             """It can hold its own iterator."""
 
         text, searcher = bytearray(b"a" * 100), Held([b"a"])
@@ -138,9 +194,26 @@ class Iterators(unittest.TestCase):
         gc.collect()
         text.clear()
 
+    def test_cycles_are_collected(self):
+        """Through a text, or a pattern, that holds what holds it."""
+        for kind, given in ((Text, "a"), (Block, b"a")):
+            text, word = kind(given), kind(given)
+            text.holds = Search([given]).finditer(text)
+            other = kind(given)
+            other.holds = Search([given]).find(other)
+            values = {given: kind(given)}
+            searcher = values[given].holds = Search(values)
+            gone = [weakref.ref(it) for it in (text, other, searcher)]
+            if kind is Text:
+                word.holds = Search([word])
+                gone.append(weakref.ref(word.holds))
+            del text, other, word, values, searcher
+            gc.collect()
+            self.assertEqual([it() for it in gone], [None] * len(gone))
+
     def test_side_by_side(self):
         """Threads may share an iterator: each match is given once."""
-        matches, found = Searcher([b"\0"]).finditer(bytes(300000)), []
+        matches, found = Search([b"\0"]).finditer(bytes(300000)), []
 
         def take():
             while True:
@@ -161,15 +234,15 @@ class Iterators(unittest.TestCase):
 
 class Threads(unittest.TestCase):
     def test_side_by_side(self):
-        searcher = Searcher(WORDS)
+        searcher = Search(WORDS)
         texts = [TEXT * (i + 1) for i in range(40)]
         with ThreadPoolExecutor(4) as pool:
             counts = list(pool.map(lambda it: len(searcher.findall(it)), texts))
         self.assertEqual(counts, [3 * (i + 1) for i in range(40)])
 
-    def test_others_run_during_a_search(self):
-        """Another thread runs in the middle of each search, and not only before it and after."""
-        searcher, ticks, done = Searcher([b"needle"]), [], threading.Event()
+    def assert_others_run(self, call):
+        """Another thread runs in the middle of a call, and not only before it and after."""
+        ticks, done = [], threading.Event()
 
         def tick():
             while not done.wait(0.001):
@@ -177,35 +250,53 @@ class Threads(unittest.TestCase):
 
         other = threading.Thread(target=tick)
         other.start()
-        self.addCleanup(other.join)
-        self.addCleanup(done.set)
+        try:
+            started = time.perf_counter()
+            call()
+            quarter = (time.perf_counter() - started) / 4
+        finally:
+            done.set()
+            other.join()
+        self.assertGreater(sum(started + quarter < it < started + 3 * quarter for it in ticks), 2)
+
+    def test_others_run_during_a_search(self):
+        searcher = Search([b"needle"])
         with zeros(LONG >> 3) as text:
             for call in (searcher.find, searcher.findall, searcher.count, searcher.find_overlapping,
                          lambda it: next(searcher.finditer(it), None)):
-                started = time.perf_counter()
-                call(text)
-                quarter = (time.perf_counter() - started) / 4
-                during = [it for it in ticks if started + quarter < it < started + 3 * quarter]
-                self.assertGreater(len(during), 2)
+                self.assert_others_run(lambda: call(text))
+
+
+    def test_others_run_while_a_search_is_prepared(self):
+        self.assert_others_run(lambda: Search([b"ab" * (1 << 21)]))
 
 
 class Interrupted(Exception):
     """What the handler of a signal raises."""
 
 
-class Signals(unittest.TestCase):
-    def interrupted(self, call, text):
-        """Sends a signal in the middle of a search that takes far longer, and answers after how long it ended, both by
-        the time of this process, since other work on the machine can hold the search up."""
+class Raising:
+    """An offset of 0, for which a signal is raised that Python sees later: no code of Python runs when it is asked for."""
 
+    __index__ = staticmethod(functools.partial(ctypes.CDLL(None)["raise"], signal.SIGINT))
+
+
+class Signals(unittest.TestCase):
+    def setUp(self):
         def handle(*_):
             raise Interrupted
 
-        before, over, started = signal.signal(signal.SIGINT, handle), threading.Event(), time.process_time()
+        self.addCleanup(signal.signal, signal.SIGINT, signal.signal(signal.SIGINT, handle))
+
+    def interrupted(self, call, text):
+        """Sends a signal in the middle of a search that takes far longer, and answers after how long it ended, by the
+        time of this process, since other work on the machine can hold the search up."""
+        over, started, sent = threading.Event(), time.process_time(), []
 
         def send():
             while not over.wait(0.01):
                 if time.process_time() > started + WAIT:
+                    sent.append(time.process_time())
                     signal.raise_signal(signal.SIGINT)
                     return
 
@@ -215,26 +306,37 @@ class Signals(unittest.TestCase):
             with self.assertRaises(Interrupted):
                 call(text)
                 self.fail("the search took too little time")
-            return time.process_time() - started - WAIT
+            return time.process_time() - sent[0]
         finally:
             over.set()
             timer.join()
-            signal.signal(signal.SIGINT, before)
+
+    def test_how_far_a_search_goes(self):
+        """With a signal that is there when it begins, it reads one piece, and what may be the rest of a match."""
+        searcher = Search([b"needle"])
+        searcher.find_overlapping(b"")
+        for call in (searcher.find, searcher.findall, searcher.find_overlapping, searcher.find_earliest):
+            with tempfile.NamedTemporaryFile() as file:
+                file.truncate(1 << 26)
+                with mmap.mmap(file.fileno(), 0, access=mmap.ACCESS_READ) as text:
+                    with self.assertRaises(Interrupted):
+                        call(text, Raising())
+                    self.assertLess(kibibytes_read(file.name), 2048)
 
     def test_a_long_text(self):
-        searcher = Searcher([b"needle"])
+        searcher = Search([b"needle"])
         for call in (searcher.find, searcher.findall, searcher.count, searcher.find_overlapping,
                      lambda it: next(searcher.finditer(it))):
             with zeros(LONG) as text:
-                self.assertLess(self.interrupted(call, text), 2)
+                self.assertLess(self.interrupted(call, text), LIMIT)
             # (the block ends by closing the text, which can be done since no call holds it)
 
     def test_much_is_looked_at_twice(self):
         """Behind each match the search looks as far ahead as a pattern is long."""
         for longest in (1000, 1 << 20):
-            searcher, text = Searcher([b"a" * longest + b"b", b"a"]), bytearray(b"a" * (1 << 26))
+            searcher, text = Search([b"a" * longest + b"b", b"a"]), bytearray(b"a" * (1 << 26))
             for call in (searcher.findall, searcher.count, lambda it: sum(1 for _ in searcher.finditer(it))):
-                self.assertLess(self.interrupted(call, text), 2)
+                self.assertLess(self.interrupted(call, text), LIMIT)
                 text += b"a"  # (it is given back)
             self.assertEqual(searcher.find(text), Match(1, 0, 1))
 

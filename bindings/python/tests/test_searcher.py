@@ -1,18 +1,24 @@
 """What the module answers: rows worked by hand, random cases against a plain search, and its ways to refuse."""
+import array
 import copy
 import ctypes
 import doctest
+import json
 import os
 import pickle
 import random
 import re
+import resource
 import tempfile
+import time
 import unittest
 import weakref
 from pathlib import Path
+from types import SimpleNamespace
+from unittest import mock
 
-import literal_prefilters
-from literal_prefilters import Kind, Match, Searcher, _types
+import literal_search
+from literal_search import Kind, Match, Search
 
 import plain
 
@@ -23,12 +29,11 @@ FIRST, LONGEST = Kind.LEFTMOST_FIRST, Kind.LEFTMOST_LONGEST
 
 def load_tests(loader, tests, pattern):
     """Adds the examples of the documentation."""
-    for module in (literal_prefilters, _types):
-        tests.addTests(doctest.DocTestSuite(module))
+    tests.addTests(doctest.DocTestSuite(literal_search))
     return tests
 
 
-class Named(Searcher):
+class Named(Search):
     """A subclass with an __init__ and an attribute of its own, for the tests of copies."""
 
     def __init__(self, name, *words):
@@ -36,9 +41,41 @@ class Named(Searcher):
         self.name = name
 
 
+class Slotted(Search):
+    """A subclass without a dictionary."""
+
+    __slots__ = ("name", "__hidden", "unset")
+
+    def __init__(self, name, hidden):
+        super().__init__([b"a"])
+        self.name, self.__hidden = name, hidden
+
+    def values(self):
+        return self.name, self.__hidden, hasattr(self, "unset")
+
+
+class Both(Slotted):
+    """One with slots and a dictionary."""
+
+
+class Loud(str):
+    """One whose methods aren't those of a str."""
+
+    def encode(self, *_):
+        raise AssertionError("nobody calls this")
+
+    __getitem__ = join = __iter__ = __add__ = __str__ = encode
+
+
+class LoudBytes(bytes):
+    """One whose methods aren't those of bytes."""
+
+    __getitem__ = join = __iter__ = __add__ = __bytes__ = Loud.encode
+
+
 class Rows(unittest.TestCase):
     def test_all_matches(self):
-        found = Searcher(WORDS).findall(TEXT)
+        found = Search(WORDS).findall(TEXT)
         self.assertEqual(found, [(1, 13, 18), (0, 28, 33), (2, 43, 50)])
         self.assertEqual(found[0].span(), (13, 18))
         self.assertEqual((found[0].pattern, found[0].start, found[0].end), (1, 13, 18))
@@ -46,24 +83,24 @@ class Rows(unittest.TestCase):
         self.assertEqual(pickle.loads(pickle.dumps(found)), found)
 
     def test_kinds(self):
-        self.assertEqual(Searcher([b"ab", b"abc"]).find(b"xabc"), Match(0, 1, 3))
-        self.assertEqual(Searcher([b"ab", b"abc"], LONGEST).find(b"xabc"), Match(1, 1, 4))
-        self.assertEqual(Searcher([b"ab", b"ab"], LONGEST).find(b"ab"), Match(0, 0, 2))
+        self.assertEqual(Search([b"ab", b"abc"]).find(b"xabc"), Match(0, 1, 3))
+        self.assertEqual(Search([b"ab", b"abc"], LONGEST).find(b"xabc"), Match(1, 1, 4))
+        self.assertEqual(Search([b"ab", b"ab"], LONGEST).find(b"ab"), Match(0, 0, 2))
 
     def test_a_word_in_the_beginning_of_another(self):
-        self.assertEqual(Searcher(["a", "baa"], LONGEST).findall("ba"), [Match(0, 1, 2)])
-        self.assertEqual(Searcher([b"abcd", b"bc"], LONGEST).findall(b"abcabcd"), [Match(1, 1, 3), Match(0, 3, 7)])
+        self.assertEqual(Search(["a", "baa"], LONGEST).findall("ba"), [Match(0, 1, 2)])
+        self.assertEqual(Search([b"abcd", b"bc"], LONGEST).findall(b"abcabcd"), [Match(1, 1, 3), Match(0, 3, 7)])
 
     def test_case(self):
-        self.assertIsNone(Searcher([b"AB"]).find(b"ab"))
-        self.assertEqual(Searcher([b"AB"], ignore_case=True).find(b"xaB"), Match(0, 1, 3))
-        self.assertIsNone(Searcher([b"\xc4"], ignore_case=True).find(b"\xe4"))  # (no letters of ASCII)
-        self.assertIsNone(Searcher(["Ä"], ignore_case=True).find("ä"))
-        self.assertEqual(Searcher(["ÄA"], ignore_case=True).find("äaÄa"), Match(0, 2, 4))
+        self.assertIsNone(Search([b"AB"]).find(b"ab"))
+        self.assertEqual(Search([b"AB"], ignore_case=True).find(b"xaB"), Match(0, 1, 3))
+        self.assertIsNone(Search([b"\xc4"], ignore_case=True).find(b"\xe4"))  # (no letters of ASCII)
+        self.assertIsNone(Search(["Ä"], ignore_case=True).find("ä"))
+        self.assertEqual(Search(["ÄA"], ignore_case=True).find("äaÄa"), Match(0, 2, 4))
 
     def test_bounds_are_those_of_a_slice(self):
         for text in (b"abxabab", "abxabab", "äöxäöäö", "🐍öx🐍ö🐍ö"):
-            searcher = Searcher([text[:2]])
+            searcher = Search([text[:2]])
             for start in (None, 0, 1, 2, 5, 7, 9, -1, -3, -99, 2**70, -(2**70)):
                 for end in (None, 0, 2, 6, 7, 99, -1, -5, -99, 2**70, -(2**70)):
                     low, high, _ = slice(start, end).indices(7)
@@ -74,10 +111,13 @@ class Rows(unittest.TestCase):
                     self.assertIs(searcher.is_match(text, start, end), bool(wanted))
                     self.assertEqual(searcher.count(text, start, end), len(wanted))
                     self.assertEqual(searcher.find_overlapping(text, start, end=end), wanted)
+                    self.assertEqual(list(searcher.finditer_overlapping(text, start, end=end)), wanted)
+                    self.assertEqual(searcher.count_overlapping(text, start, end=end), len(wanted))
+                    self.assertEqual(searcher.find_earliest(text, start, end=end), (*wanted, None)[0])
 
     def test_many_pages(self):
         for text in (b"ab" * 30000, "äb" * 30000):
-            searcher = Searcher([text[1:2]])
+            searcher = Search([text[1:2]])
             wanted = list(range(1, 60000, 2))
             self.assertEqual([it.start for it in searcher.finditer(text)], wanted)
             self.assertEqual([it.start for it in searcher.findall(text)], wanted)
@@ -85,22 +125,23 @@ class Rows(unittest.TestCase):
 
     def test_each(self):
         lines = [b"an apple", b"", b"none", b"Snapple, maple"]
-        self.assertEqual(Searcher(WORDS).find_each(lines), [(0, 3, 8), None, None, (2, 0, 7)])
-        self.assertEqual(Searcher(WORDS).find_each(iter([])), [])
-        self.assertEqual(Searcher(WORDS).findall_each(lines), [[(0, 3, 8)], [], [], [(2, 0, 7), (1, 9, 14)]])
-        self.assertEqual(Searcher(["ö"]).find_each(["äö", "o"]), [(0, 1, 2), None])
+        self.assertEqual(Search(WORDS).find_each(lines), [(0, 3, 8), None, None, (2, 0, 7)])
+        self.assertEqual(Search(WORDS).find_each(iter([])), [])
+        self.assertEqual(Search(WORDS).findall_each(lines), [[(0, 3, 8)], [], [], [(2, 0, 7), (1, 9, 14)]])
+        self.assertEqual(Search(["ö"]).find_each(["äö", "o"]), [(0, 1, 2), None])
 
     def test_split(self):
-        searcher = Searcher([b", ", b","])
+        searcher = Search([b", ", b","])
         self.assertEqual(searcher.split(b"a, b,c,"), [b"a", b"b", b"c", b""])
         self.assertEqual(searcher.split(bytearray(b"a, b,c,"), 2), [b"a", b"b", b"c,"])
         self.assertEqual(searcher.split(b""), [b""])
-        self.assertEqual(Searcher(["ö"]).split("äöüö"), ["ä", "ü", ""])
+        self.assertEqual(searcher.split(maxsplit=1, text=b"a,b,c"), [b"a", b"b,c"])
+        self.assertEqual(Search(["ö"]).split("äöüö"), ["ä", "ü", ""])
 
     def test_no_patterns(self):
         for kind in Kind:
             for ignore_case in (False, True):
-                searcher = Searcher([], kind, ignore_case)
+                searcher = Search([], kind, ignore_case)
                 for text in (b"abc", "äbc", bytearray(b"abc")):
                     self.assertIsNone(searcher.find(text))
                     self.assertEqual((searcher.findall(text), searcher.count(text)), ([], 0))
@@ -111,31 +152,114 @@ class Rows(unittest.TestCase):
             for ignore_case in (False, True):
                 for count in (1, 128, 129, 2000, 20000):
                     words = [b"%05d" % i for i in range(count)]
-                    found = Searcher(words, kind, ignore_case).find(b"x%05d" % (count - 1))
+                    found = Search(words, kind, ignore_case).find(b"x%05d" % (count - 1))
                     self.assertEqual(found, Match(count - 1, 1, 6))
 
     def test_a_large_table(self):
         """Its length turns out when it is written."""
         pattern = bytes(range(100)) * 2000
-        searcher = Searcher([pattern, b"b"])
+        searcher = Search([pattern, b"b"])
         self.assertGreater(len(searcher._prepared), 1 << 26)
         self.assertEqual(searcher.findall(b"b" + pattern), [(1, 0, 1), (0, 1, 1 + len(pattern))])
 
     def test_all_bytes(self):
         every = bytes(range(256))
         for byte in range(256):
-            self.assertEqual(Searcher([bytes([byte])]).find(every), Match(0, byte, byte + 1))
-        self.assertEqual(len(Searcher([b"\0", b"\xff"]).findall(every * 2)), 4)
+            self.assertEqual(Search([bytes([byte])]).find(every), Match(0, byte, byte + 1))
+        self.assertEqual(len(Search([b"\0", b"\xff"]).findall(every * 2)), 4)
+
+
+class Matches(unittest.TestCase):
+    """What a match knows."""
+
+    def test_what_was_matched(self):
+        for text in ("xÄpple, äPPLE🐍apple", "x Apple, apple"):
+            searcher = Search(["äpple", "apple"], ignore_case=True)
+            found = searcher.findall(text)
+            self.assertEqual([it.group() for it in found], re.findall("(?i:a)(?i:pple)|ä(?i:pple)", text))
+            self.assertEqual([it.value for it in found], [searcher.patterns[it.pattern] for it in found])
+        shorts = array.array("H", b"xxabcd..")
+        for text in (b"xxabcd", bytearray(b"xxabcd"), memoryview(b"-xxabcd")[1:], shorts, memoryview(shorts)):
+            match = Search([b"abc"]).find(text)
+            self.assertEqual((match.group(), type(match.group()), match.value), (b"abc", bytes, b"abc"))
+
+    def test_of_a_text_that_changes(self):
+        text = bytearray(b"xxabc")
+        match = Search([b"abc"]).find(text)
+        text[2:3] = b"z"
+        self.assertEqual(match.group(), b"zbc")
+        text.pop()
+        with self.assertRaisesRegex(ValueError, "too short"):
+            match.group()
+
+    def test_of_a_mapping(self):
+        values = {"apple": 1, "maple": None, "äpp": ["x"]}
+        searcher = Search(values)
+        self.assertEqual(searcher.patterns, tuple(values))
+        text = "maple äpp apple"
+        found = [searcher.findall(text), list(searcher.finditer(text)), searcher.find_overlapping(text)]
+        for all_found in (*found, searcher.findall_each([text])[0], [searcher.find(text)] + found[0][1:]):
+            self.assertEqual([it.value for it in all_found], [None, ["x"], 1])
+        self.assertIs(searcher.find_earliest("äpp").value, values["äpp"])
+        self.assertEqual(searcher.sub(lambda it: f"<{it.value}>", text), "<None> <['x']> <1>")
+        self.assertEqual(Search({}).findall("a"), [])
+
+    def test_of_a_mapping_that_changes(self):
+        class Changing(dict):
+            def values(self):
+                return []
+
+            def items(self):
+                return [*super().items()]
+
+        self.assertEqual(Search(Changing(a=1)).find("xa").value, 1)
+        for values in ((), (1, 2), [1]):
+            with self.assertRaises(ValueError):
+                Search.__new__(Search)._prepare(("a",), (b"a",), 0, False, None, values)
+
+    def test_searchers_of_mappings(self):
+        searcher = Search({b"a": 1, b"b": [2]}, LONGEST, True)
+        self.assertEqual(repr(searcher), "Search({b'a': 1, b'b': [2]}, Kind.LEFTMOST_LONGEST, ignore_case=True)")
+        for other in (eval(repr(searcher)), pickle.loads(pickle.dumps(searcher)), copy.copy(searcher)):
+            self.assertEqual((other, hash(other)), (searcher, hash(searcher)))
+            self.assertEqual(other.find(b"B").value, [2])
+        self.assertNotEqual(searcher, Search({b"a": 1, b"b": [3]}, LONGEST, True))
+        self.assertNotEqual(searcher, Search([b"a", b"b"], LONGEST, True))
+        with self.assertRaisesRegex(TypeError, "mapping is not saved"):
+            searcher.save("/nowhere/words")
+
+    def test_as_a_tuple(self):
+        match = Search(["b"]).find("ab")
+        pattern, *span = match
+        self.assertEqual((pattern, *span, len(match), match[1], match[-1]), (0, 1, 2, 3, 1, 2))
+        self.assertEqual((match, hash(match)), ((0, 1, 2), hash((0, 1, 2))))
+        self.assertTrue(isinstance(match, tuple) and match < Match(0, 1, 3) and match == Match(0, end=2, start=1))
+        self.assertEqual(("%d %d %d" % match, json.dumps([match])), ("0 1 2", "[[0, 1, 2]]"))
+        self.assertEqual((match._fields, Match.__match_args__), (("pattern", "start", "end"),) * 2)
+        for given in ((), (1, 2), ("a", 1, 2), (1, 2, 3, 4, 5, 6)):
+            with self.assertRaises(TypeError):
+                Match(*given)
+        with self.assertRaises(TypeError):
+            type("Own", (Match,), {})
+
+    def test_copies(self):
+        """They have what was matched, and neither the whole text nor the searcher."""
+        match = Search({"ä": 5}).find("xä" + "-" * 100)
+        for it in (copy.copy(match), copy.deepcopy(match), *(pickle.loads(pickle.dumps(match, i)) for i in range(5))):
+            self.assertEqual((it, it.group(), it.value, it.span()), ((0, 1, 2), "ä", 5, (1, 2)))
+        self.assertLess(len(pickle.dumps(match)), 90)
+        self.assertEqual((Match(1, 2, 3).group(), Match(1, 2, 3).value), (None, None))
+        self.assertEqual((Match(1, 2, 3, "x", 7).group(), Match(1, 2, 3, value=8).value), ("x", 8))
 
 
 class Overlapping(unittest.TestCase):
     def test_rows(self):
-        searcher = Searcher([b"aa", b"a", b"baa", b"a"])
+        searcher = Search([b"aa", b"a", b"baa", b"a"])
         wanted = [(1, 1, 2), (3, 1, 2), (0, 1, 3), (1, 2, 3), (2, 0, 3), (3, 2, 3)]
         self.assertEqual(searcher.find_overlapping(b"baa"), wanted)
-        self.assertEqual(Searcher(["ö🐍", "🐍", "ö"]).find_overlapping("äö🐍"), [(2, 1, 2), (0, 1, 3), (1, 2, 3)])
-        self.assertEqual(Searcher([b"aA"], ignore_case=True).find_overlapping(b"AAa"), [(0, 0, 2), (0, 1, 3)])
-        self.assertEqual(Searcher([]).find_overlapping("abc"), [])
+        self.assertEqual(Search(["ö🐍", "🐍", "ö"]).find_overlapping("äö🐍"), [(2, 1, 2), (0, 1, 3), (1, 2, 3)])
+        self.assertEqual(Search([b"aA"], ignore_case=True).find_overlapping(b"AAa"), [(0, 0, 2), (0, 1, 3)])
+        self.assertEqual(Search([]).find_overlapping("abc"), [])
 
     def test_words_at_the_cuts(self):
         piece, words = 2**20, [b"abcd", b"bc", b"abcdefgh", b"d", b"xbcd"]
@@ -144,18 +268,58 @@ class Overlapping(unittest.TestCase):
             text[piece + at : piece + at + 9] = b"abcdefghd"
             text[2 * piece + at : 2 * piece + at + 4] = b"xbcd"
             wanted = [(i, it.start(), it.end()) for i, word in enumerate(words) for it in re.finditer(word, text)]
-            self.assertEqual(Searcher(words).find_overlapping(text), sorted(wanted, key=lambda it: (it[2], it[0])))
+            wanted.sort(key=lambda it: (it[2], it[0]))
+            self.assertEqual(Search(words).find_overlapping(text), wanted)
+            self.assertEqual(Search(words).count_overlapping(text), len(wanted))
+            self.assertEqual(Search(words).find_earliest(text), wanted[0])
 
     def test_more_than_there_is_room_for(self):
         words = [b"a" * (i + 1) for i in range(300)] + [b"a"] * 300
         for size in (1, 2, 299, 300, 301, 1000):
-            found = Searcher(words).find_overlapping(b"a" * size)
+            found = Search(words).find_overlapping(b"a" * size)
             fitting = [(i, at - len(word), at) for at in range(1, size + 1) for i, word in enumerate(words)]
             self.assertEqual(found, [it for it in fitting if it[1] >= 0])
-        self.assertEqual(len(Searcher([b"a", b"a" * 5000]).find_overlapping(b"a" * 300000)), 300000 + 295001)
+            self.assertEqual(list(Search(words).finditer_overlapping(b"a" * size)), found)
+            self.assertEqual(Search(words).count_overlapping(b"a" * size), len(found))
+        self.assertEqual(len(Search([b"a", b"a" * 5000]).find_overlapping(b"a" * 300000)), 300000 + 295001)
+
+    def test_the_earliest(self):
+        """The first pieces are short: here their cuts are."""
+        for longest, cuts in ((8, (4096, 12288, 28672)), (5000, (5000, 15000))):
+            searcher = Search([b"abcdefgh", b"fgh", b"z" * longest])
+            for cut in cuts:
+                for at in range(-9, 2):
+                    text = bytearray(cut + 10000)
+                    text[cut + at : cut + at + 8] = b"abcdefgh"
+                    end = cut + at + 8
+                    self.assertEqual(searcher.find_earliest(text), (0, end - 8, end))
+                    self.assertEqual(searcher.find_earliest(text, cut + at + 1), (1, end - 3, end))
+                    self.assertIsNone(searcher.find_earliest(text, 0, end - 1))
+
+    def test_a_long_pattern(self):
+        """A page lists again what lies in as many bytes as the longest pattern has, and must not do so for a few more."""
+        size = 1 << 18
+        for pattern in (b"b" * 131000, b"a" * 130999 + b"b"):
+            searcher = Search([b"a", pattern])
+            searcher.find_overlapping(b"")
+            started = time.process_time()
+            self.assertEqual(searcher.count_overlapping(b"a" * size), size)
+            self.assertLess(time.process_time() - started, 0.4)
+
+    def test_a_long_pattern_at_a_cut(self):
+        """What stands in front of the cut tells how far back it may begin."""
+        cut, pattern = 1 << 20, random.Random(3).randbytes(20000)
+        for ignore_case, words in ((False, [pattern, pattern[5000:5600]]), (True, [pattern]), (False, [pattern, b"ab"])):
+            searcher = Search(words, ignore_case=ignore_case)
+            for before in (1, 510, 511, 512, 513, 5511, 5512, 19999, 20000):
+                text = bytearray(cut + 30000)
+                text[cut - before : cut - before + len(pattern)] = pattern
+                found = [(it.pattern, it.start) for it in searcher.find_overlapping(text) if it.pattern == 0]
+                self.assertEqual(found, [(0, cut - before)])
+                self.assertEqual(searcher.count_overlapping(text), sum(text.count(it) for it in words))
 
     def test_is_prepared_once(self):
-        searcher = Searcher([b"ab", b"b", b"b"], ignore_case=True)
+        searcher = Search([b"ab", b"b", b"b"], ignore_case=True)
         self.assertIsNone(searcher._for_all)
         self.assertEqual(searcher.find_overlapping(b"AB"), [(0, 0, 2), (1, 1, 2), (2, 1, 2)])
         kept = searcher._for_all
@@ -166,18 +330,30 @@ class Overlapping(unittest.TestCase):
 
 class Replacing(unittest.TestCase):
     def test_one(self):
-        self.assertEqual(Searcher(WORDS).sub(b"-", TEXT), b"Nobody likes - in their - flavored -.")
-        self.assertEqual(Searcher(WORDS).sub(bytearray(b"-"), bytearray(TEXT), 1), TEXT.replace(b"maple", b"-"))
-        self.assertEqual(Searcher([b"a"]).sub(b"b", b""), b"")
-        self.assertEqual(Searcher(["ö", "🐍"]).subn("-", "äöü🐍ö", 2), ("ä-ü-ö", 2))
-        self.assertEqual(Searcher([b"a"]).subn(b"", b"banana"), (b"bnn", 3))
+        self.assertEqual(Search(WORDS).sub(b"-", TEXT), b"Nobody likes - in their - flavored -.")
+        self.assertEqual(Search(WORDS).sub(bytearray(b"-"), bytearray(TEXT), 1), TEXT.replace(b"maple", b"-"))
+        self.assertEqual(Search([b"a"]).sub(b"b", b""), b"")
+        self.assertEqual(Search(["ö", "🐍"]).subn("-", "äöü🐍ö", 2), ("ä-ü-ö", 2))
+        self.assertEqual(Search([b"a"]).subn(b"", b"banana"), (b"bnn", 3))
+        self.assertEqual(Search([b"a"]).sub(text=b"banana", replacement=b"o", count=1), b"bonana")
+
+    def test_long_texts(self):
+        for text, word in ("xä🐍a" * 20000, "🐍"), (b"xab" * 20000, b"a"), ("xab" * 20000, "ab"):
+            for new in (word[:0], word[:1] * 5):
+                self.assertEqual(Search([word]).sub(new, text), text.replace(word, new))
+            self.assertEqual(Search([word]).split(text), text.split(word))
+
+    def test_lone_surrogates_in_a_replacement(self):
+        self.assertEqual(Search(["a"]).sub("\ud83d\udc0d", "xaä"), "x\ud83d\udc0dä")
+        self.assertEqual(Search(["a"]).sub(lambda it: "\udfff", "aa", 1), "\udfffa")
 
     def test_by_a_function(self):
-        self.assertEqual(Searcher([b"a"]).sub(lambda it: b"%d" % it.start, b"abca"), b"0bc3")
-        self.assertEqual(Searcher(["ö"]).sub(lambda it: str(it.start), "äöö"), "ä12")
+        self.assertEqual(Search([b"a"]).sub(lambda it: b"%d" % it.start, b"abca"), b"0bc3")
+        self.assertEqual(Search(["ö"]).sub(lambda it: str(it.start), "äöö"), "ä12")
+        self.assertEqual(Search(["b", "Ä"]).sub(lambda it: it.group() * 2, "aÄb"), "aÄÄbb")
 
     def test_by_the_pattern(self):
-        searcher = Searcher(["cat", "dog"])
+        searcher = Search(["cat", "dog"])
         self.assertEqual(searcher.sub(["dog", "cat"], "dogcat"), "catdog")
         self.assertEqual(searcher.sub(("x", "y"), "dogcat", count=1), "ycat")
         for replacements in ([], ["a"], ["a"] * 3):
@@ -186,15 +362,26 @@ class Replacing(unittest.TestCase):
 
     def test_of_the_other_type(self):
         for text, replacement in ((b"a", "b"), ("a", b"b"), ("a", 5), (b"a", 5), ("a", None)):
-            searcher = Searcher([text])
+            searcher = Search([text])
             for given in (replacement, [replacement], lambda it: replacement):
-                with self.assertRaisesRegex(TypeError, "replacement|number|bytes-like"):
+                with self.assertRaisesRegex(TypeError, "^a replacement is "):
                     searcher.sub(given, text)
             with self.assertRaises(TypeError):
                 searcher.sub(replacement, text[:0])
 
+    def test_subclasses(self):
+        """Of their methods none is called, and no answer is of a subclass."""
+        for kind, text, words in ((str, Loud("bana"), (Loud("a"), "o", "x")),
+                                  (bytes, LoudBytes(b"bana"), (LoudBytes(b"a"), b"o", b"x"))):
+            pattern, other, nowhere = words
+            searcher, nothing = Search([pattern]), Search([nowhere])
+            answers = searcher.split(text), [searcher.sub(other, text)], nothing.split(text), [nothing.sub(other, text)]
+            wanted = (["b", "n", ""], ["bono"], ["bana"], ["bana"])
+            self.assertEqual([[it if kind is str else it.decode() for it in answer] for answer in answers], [*wanted])
+            self.assertEqual({type(it) for answer in answers for it in answer}, {kind})
+
     def test_counts(self):
-        for call in (lambda it: Searcher([b"a"]).sub(b"", b"a", it), lambda it: Searcher([b"a"]).split(b"a", it)):
+        for call in (lambda it: Search([b"a"]).sub(b"", b"a", it), lambda it: Search([b"a"]).split(b"a", it)):
             with self.assertRaises(TypeError):
                 call(1.5)
             with self.assertRaisesRegex(ValueError, "negative"):
@@ -207,7 +394,7 @@ class Replacing(unittest.TestCase):
             text[match.end :] = b"zz"
             return b"-"
 
-        self.assertEqual(Searcher([b"a"]).sub(change, text), b"-1-2-3" * 100)
+        self.assertEqual(Search([b"a"]).sub(change, text), b"-1-2-3" * 100)
         self.assertTrue(text.startswith(b"azz"))
 
 
@@ -215,11 +402,12 @@ class Copies(unittest.TestCase):
     def test_by_pickle(self):
         for words in ([b"AB"], ["ÄB"], []):
             for protocol in range(pickle.HIGHEST_PROTOCOL + 1):
-                searcher = Searcher(words, LONGEST, True)
+                searcher = Search(words, LONGEST, True)
                 copied = pickle.loads(pickle.dumps(searcher, protocol))
                 self.assertEqual((copied.patterns, copied.kind, copied.ignore_case), (tuple(words), LONGEST, True))
                 self.assertEqual({copied}, {searcher})
-                self.assertEqual(copied.count(words[0].lower() if words else b""), len(words) and words[0] == b"AB")
+                text = words[0].lower() if words else ""
+                self.assertEqual(copied.findall(text), searcher.findall(text))
 
     def test_of_a_subclass(self):
         named = Named("x", b"ab", b"AC")
@@ -229,16 +417,26 @@ class Copies(unittest.TestCase):
         self.assertEqual(repr(named), "Named([b'ab', b'AC'], Kind.LEFTMOST_LONGEST, ignore_case=True)")
         self.assertIs(weakref.ref(named)(), named)
 
+    def test_of_a_subclass_with_slots(self):
+        for kind in (Slotted, Both):
+            slotted = kind("x", 5)
+            for copied in (copy.copy(slotted), copy.deepcopy(slotted), pickle.loads(pickle.dumps(slotted))):
+                self.assertEqual((type(copied), copied.values()), (kind, ("x", 5, False)))
+        slotted.other = 1
+        for it in (slotted, Slotted("y", 6), Named("x", b"a"), Search([])):
+            own = getattr(it, "__getstate__", lambda: literal_search._state(it))()
+            self.assertEqual(literal_search._state(it), own)  # (what Python 3.11 answers, for 3.10)
+
     def test_comparing(self):
-        searcher = Searcher([b"a"])
+        searcher = Search([b"a"])
         self.assertEqual(eval(repr(searcher)), searcher)
         for given in (([b"b"],), (["a"],), ([b"a"], LONGEST), ([b"a"], FIRST, True)):
-            self.assertNotEqual(searcher, Searcher(*given))
-        self.assertIs(Searcher.__eq__(searcher, 5), NotImplemented)
-        self.assertEqual(hash(searcher), hash(Searcher([bytearray(b"a")])))
+            self.assertNotEqual(searcher, Search(*given))
+        self.assertIs(Search.__eq__(searcher, 5), NotImplemented)
+        self.assertEqual(hash(searcher), hash(Search([bytearray(b"a")])))
 
     def test_a_searcher_never_changes(self):
-        searcher = Searcher([b"a"])
+        searcher = Search([b"a"])
         for name in ("patterns", "kind", "ignore_case"):
             with self.assertRaises(AttributeError):
                 setattr(searcher, name, getattr(searcher, name))
@@ -247,7 +445,7 @@ class Copies(unittest.TestCase):
         self.assertTrue(searcher.is_match(b"a"))
 
     def test_without_init(self):
-        empty = Searcher.__new__(Searcher)
+        empty = Search.__new__(Search)
         for call in (empty.find, empty.findall, empty.finditer, empty.count, empty.split, empty.find_overlapping):
             with self.assertRaisesRegex(RuntimeError, "__init__"):
                 call(b"a")
@@ -263,48 +461,110 @@ class Files(unittest.TestCase):
         for words in (WORDS, ["äpple", "ma\ud7ffple"], []):
             for kind in Kind:
                 for ignore_case in (False, True):
-                    searcher = Searcher(words, kind, ignore_case)
+                    searcher = Search(words, kind, ignore_case)
                     searcher.save(self.path)
-                    loaded = Searcher.load(str(self.path))
+                    loaded = Search.load(str(self.path))
                     self.assertEqual(loaded, searcher)
                     text = words[0] if words else ""
                     self.assertEqual(loaded.findall(text + text.upper()), searcher.findall(text + text.upper()))
         self.assertEqual([it.name for it in self.path.parent.iterdir()], [self.path.name])
 
     def test_each_damaged_byte_is_noticed(self):
-        Searcher([b"ab"]).save(self.path)
+        Search([b"ab"]).save(self.path)
         whole = self.path.read_bytes()
         for at in range(len(whole)):
             self.path.write_bytes(whole[:at] + bytes([whole[at] ^ 1]) + whole[at + 1 :])
             with self.assertRaisesRegex(ValueError, "a file"):
-                Searcher.load(self.path)
+                Search.load(self.path)
         for end in (0, 1, 60, len(whole) - 1):
             self.path.write_bytes(whole[:end])
             with self.assertRaisesRegex(ValueError, "damaged"):
-                Searcher.load(self.path)
+                Search.load(self.path)
 
     def test_a_damaged_search_in_a_sound_file(self):
-        """The sum of the file is right, and the library finds what is wrong."""
-        searcher = Searcher([b"ab"])
-        whole = literal_prefilters._written(searcher)
-        for at in (len(whole) - 1, len(whole) - len(searcher._prepared)):
-            damaged = whole[:at] + bytes([whole[at] ^ 1]) + whole[at + 1 :]
-            self.path.write_bytes(damaged + literal_prefilters._SUM.pack(literal_prefilters.zlib.crc32(damaged)))
+        """The sum of the file is right, and the library finds what is wrong; or the search is for other patterns."""
+        searcher, other = Search([b"ab"]), Search([b"ab", b"cd"])
+        whole = literal_search._written(searcher)
+        places = len(whole) - 1, len(whole) - len(searcher._prepared)
+        files = [whole[:at] + bytes([whole[at] ^ 1]) + whole[at + 1 :] for at in places]
+        mixed = SimpleNamespace(patterns=(b"ab",), _prepared=other._prepared, kind=FIRST, ignore_case=False)
+        for damaged in (*files, literal_search._written(mixed)):
+            self.path.write_bytes(damaged + literal_search._SUM.pack(literal_search.zlib.crc32(damaged)))
             with self.assertRaisesRegex(ValueError, "damaged"):
-                Searcher.load(self.path)
+                Search.load(self.path)
+
+    def test_another_head_in_a_sound_file(self):
+        whole, head = literal_search._written(Search([b"ab"])), literal_search._HEAD
+        magic, *numbers = head.unpack_from(whole)
+        heads = [(b"LITERAL0", *numbers)]
+        heads.append((magic, 1 << 40, *numbers[1:]))  # (no kind)
+        for at in (3, 4, 5):  # (how many patterns there are, and how many bytes follow)
+            for more in (-1, 1, 1 << 40):
+                heads.append((magic, *numbers[:at], numbers[at] + more, *numbers[at + 1 :]))
+        for it in heads:
+            other = head.pack(*it) + whole[head.size :]
+            self.path.write_bytes(other + literal_search._SUM.pack(literal_search.zlib.crc32(other)))
+            with self.assertRaisesRegex(ValueError, "is not a file that Search.save wrote"):
+                Search.load(self.path)
 
     def test_what_cannot_be_written(self):
         self.path.mkdir()
         with self.assertRaises(OSError):
-            Searcher([b"a"]).save(self.path)
+            Search([b"a"]).save(self.path)
+        with mock.patch("os.replace", side_effect=OSError), self.assertRaises(OSError):
+            Search([b"a"]).save(self.path.with_name("other"))
         self.assertEqual([it.name for it in self.path.parent.iterdir()], [self.path.name])
         with self.assertRaises(FileNotFoundError):
-            Searcher.load(self.path / "none")
+            Search.load(self.path / "none")
+
+    def test_the_mode_stays(self):
+        for mode in (0o600, 0o640, 0o755):
+            self.path.touch()
+            self.path.chmod(mode)
+            Search([b"a"]).save(self.path)
+            self.assertEqual(self.path.stat().st_mode & 0o777, mode)
+        before = os.umask(0o027)
+        self.addCleanup(os.umask, before)
+        new = self.path.with_name("new")
+        Search([b"a"]).save(new)
+        self.assertEqual(new.stat().st_mode & 0o777, 0o640)
+
+    def test_a_link_is_followed(self):
+        link = self.path.with_name("link")
+        link.symlink_to(self.path.name)
+        for word in (b"a", b"b"):  # (first to a file that is not there yet)
+            Search([word]).save(link)
+            self.assertTrue(link.is_symlink())
+            self.assertEqual(Search.load(self.path).patterns, (word,))
+        link.unlink()
+        link.symlink_to(link.name)
+        with self.assertRaises(OSError):
+            Search([b"a"]).save(link)
+        self.assertTrue(link.is_symlink())
+
+    def test_a_fifo_is_written_into(self):
+        file = self.path.with_name("file")
+        os.mkfifo(self.path)
+        reader = os.open(self.path, os.O_RDONLY | os.O_NONBLOCK)
+        self.addCleanup(os.close, reader)
+        for path in (self.path, file):
+            Search(WORDS).save(path)
+        self.assertEqual(os.read(reader, 1 << 16), file.read_bytes())
+        self.assertTrue(self.path.is_fifo())
+
+    def test_long_names(self):
+        for size in (1, 246, 247, 255):
+            path = self.path.with_name("x" * size)
+            Search([b"a"]).save(path)
+            self.assertEqual(Search.load(path).patterns, (b"a",))
+        with self.assertRaises(OSError):
+            Search([b"a"]).save(self.path.with_name("x" * 256))
 
     def test_a_subclass(self):
         named = Named("x", b"ab")
         named.save(self.path)
         self.assertIs(type(Named.load(self.path)), Named)
+        self.assertIs(type(Search[bytes].load(self.path)), Search)
 
 
 class Refusals(unittest.TestCase):
@@ -313,17 +573,17 @@ class Refusals(unittest.TestCase):
             for kind in Kind:
                 for ignore_case in (False, True):
                     with self.assertRaisesRegex(ValueError, "one of them is empty"):
-                        Searcher(patterns, kind, ignore_case)
+                        Search(patterns, kind, ignore_case)
 
     def test_patterns_of_two_types(self):
         with self.assertRaisesRegex(TypeError, "partly"):
-            Searcher(["a", b"b"])
+            Search(["a", b"b"])
 
     def test_texts_of_the_other_type(self):
-        for pattern, text, word in ((b"a", "a", "encode"), ("a", b"a", "decode"), ("a", bytearray(b"a"), "decode")):
-            it = Searcher([pattern])
+        for pattern, text, word in ((b"a", "a", "encode"), ("a", b"a", "decode"), ("a", bytearray(b"a"), "array: ")):
+            it = Search([pattern])
             for call in (it.find, it.findall, it.finditer, it.count, it.is_match, it.find_overlapping, it.split,
-                         lambda text: it.sub("", text)):
+                         it.find_earliest, it.finditer_overlapping, it.count_overlapping, lambda text: it.sub("", text)):
                 with self.assertRaisesRegex(TypeError, word):
                     call(text)
             with self.assertRaisesRegex(TypeError, word):
@@ -331,35 +591,50 @@ class Refusals(unittest.TestCase):
 
     def test_lone_surrogates(self):
         with self.assertRaisesRegex(ValueError, "lone surrogate"):
-            Searcher(["a\ud800"])
-        for call in (Searcher(["a"]).find, Searcher(["a"]).findall, Searcher(["a"]).split, Searcher([]).count):
+            Search(["a\ud800"])
+        for call in (Search(["a"]).find, Search(["a"]).findall, Search(["a"]).split, Search([]).count):
             with self.assertRaisesRegex(ValueError, "lone surrogate"):
                 call("a\udfff")
 
+    def test_an_array_of_objects_is_a_list(self):
+        searcher, words = Search((ctypes.py_object * 2)("a", "b")), (ctypes.py_object * 2)("xb", "x")
+        self.assertEqual(searcher.patterns, ("a", "b"))
+        self.assertEqual(searcher.find_each(words), [(1, 1, 2), None])
+
     def test_one_text_for_a_list(self):
         for text in ("ab", "", b"ab", b"", bytearray(b"ab"), memoryview(b"ab")):
-            for call in (Searcher, Searcher([b"a"]).find_each, Searcher([b"a"]).findall_each):
+            for call in (Search, Search([b"a"]).find_each, Search([b"a"]).findall_each):
                 with self.assertRaisesRegex(TypeError, "not one text"):
                     call(text)
 
     def test_kinds(self):
         with self.assertRaisesRegex(TypeError, "bool"):
-            Searcher([b"a"], True)
+            Search([b"a"], True)
         with self.assertRaises(ValueError):
-            Searcher([b"a"], kind=2)
+            Search([b"a"], kind=2)
 
     def test_arguments(self):
-        searcher = Searcher([b"a"])
+        searcher = Search([b"a"])
+        for given, named in (((b"",), {}), ((b"", b"", 0, 1), {}), ((b"",), {"replacement": b""}), ((b"", 5), {}),
+                             ((), {"text": b""}), ((b"", b""), {"maxsplit": 1}), ((b"", b"", None), {})):
+            for call in (searcher.sub, searcher.subn):
+                with self.assertRaises(TypeError):
+                    call(*given, **named)
+        for given, named in (((), {}), ((b"", 1, 2), {}), ((b"",), {"count": 1}), ((b"", b""), {}), ((5,), {})):
+            with self.assertRaises(TypeError):
+                searcher.split(*given, **named)
         for call in (searcher.find, searcher.findall, searcher.finditer, searcher.count, searcher.is_match,
-                     searcher.find_overlapping):
+                     searcher.find_overlapping, searcher.find_earliest, searcher.finditer_overlapping,
+                     searcher.count_overlapping):
             for given, named in (((), {}), ((b"", 0, 1, 2), {}), ((b"",), {"text": b""}), ((b"",), {"pos": 1}),
                                  ((5,), {}), ((None,), {}), ((b"", 1.5), {}), ((b"",), {"end": "1"}), (([b"a"],), {})):
                 with self.assertRaises(TypeError):
                     call(*given, **named)
+        for it in (5, None, [], (ctypes.py_object * 2)("a", "b")):
+            with self.assertRaisesRegex(TypeError, "^a pattern is a str or lends plain bytes, and "):
+                Search([it])
         with self.assertRaises(TypeError):
-            Searcher([5])
-        with self.assertRaises(TypeError):
-            Searcher(5)
+            Search(5)
 
 
 class Random(unittest.TestCase):
@@ -376,12 +651,13 @@ class Random(unittest.TestCase):
             longest, ignore_case = chance.random() < 0.5, chance.random() < 0.5
             haystack = text(3 if case % 2 else 24)
             start, end = sorted((chance.randint(0, len(haystack)), chance.randint(0, len(haystack))))
-            searcher = Searcher(patterns, Kind(longest), ignore_case)
+            searcher = Search(patterns, Kind(longest), ignore_case)
             asked = (patterns, longest, ignore_case, haystack, start, end)
             self.assertEqual(searcher.find(haystack, start, end), plain.find(*asked), asked)
             self.assertEqual(searcher.findall(haystack, start, end), plain.find_all(*asked), asked)
             wanted = plain.find_overlapping(patterns, *asked[2:])
             self.assertEqual(searcher.find_overlapping(haystack, start, end), wanted, asked)
+            self.assertEqual(searcher.find_earliest(haystack, start, end), (*wanted, None)[0], asked)
             if case % 16 == 0:
                 texts = [haystack, haystack[:0], haystack[start:]]
                 wanted = [plain.find(*asked[:3], it, 0, len(it)) for it in texts]
@@ -404,7 +680,7 @@ class Pieces(unittest.TestCase):
         ordered = sorted(words, key=lambda it: -len(it)) if kind == LONGEST else words
         either = "|".join(ordered) if isinstance(text, str) else b"|".join(ordered)
         wanted = [(words.index(it[0]), *it.span()) for it in re.finditer(either, text)]
-        searcher = Searcher(words, kind)
+        searcher = Search(words, kind)
         self.assertEqual(searcher.findall(text), wanted)
         self.assertEqual(searcher.count(text), len(wanted))
         self.assertEqual(searcher.find(text), (*wanted, None)[0])
@@ -434,20 +710,28 @@ class Pieces(unittest.TestCase):
     def test_a_pattern_longer_than_a_piece(self):
         pattern = b"x" * (self.PIECE + self.PIECE // 2)
         text = b"a" + b"x" * 100 + b"y" + b"\0" * self.PIECE + pattern + b"b"
-        searcher = Searcher([pattern, b"b", b"x" * 101])
+        searcher = Search([pattern, b"b", b"x" * 101])
         start = len(text) - len(pattern) - 1
         self.assertEqual(searcher.findall(text), [(0, start, len(text) - 1), (1, len(text) - 1, len(text))])
         self.assertEqual(searcher.find(text, start), (0, start, len(text) - 1))
         self.assertEqual(searcher.find(text, start + 1), (2, start + 1, start + 102))
 
 
-@unittest.skipUnless("refuse.so" in os.environ.get("LD_PRELOAD", ""), "run by bindings/test")
 class RefusedMemory(unittest.TestCase):
-    """With an allocator before the C library's that refuses all requests while the environment says so."""
+    def test_what_the_library_asks_for(self):
+        """There is room for what the module asks for, and not for the table."""
+        used = int(Path("/proc/self/statm").read_text().split()[0]) * resource.getpagesize()
+        most, hard = resource.getrlimit(resource.RLIMIT_AS)
+        resource.setrlimit(resource.RLIMIT_AS, (used + (96 << 20), hard))
+        self.addCleanup(resource.setrlimit, resource.RLIMIT_AS, (most, hard))
+        with self.assertRaisesRegex(MemoryError, "no memory for a search"):
+            Search([bytes(range(100)) * 10000])
 
+    @unittest.skipUnless("refuse.so" in os.environ.get("LD_PRELOAD", ""), "run by bindings/test")
     def test_all_requests_refused(self):
-        process, searcher, text = ctypes.CDLL(None), Searcher(WORDS), b"apple" * 10000
-        for call in (lambda: Searcher([b"%d" % it for it in range(2000)]), lambda: searcher.count(text)):
+        """By an allocator before the C library's, which refuses while the environment says so."""
+        process, searcher, text = ctypes.CDLL(None), Search(WORDS), b"apple" * 10000
+        for call in (lambda: Search([b"%d" % it for it in range(2000)]), lambda: searcher.count(text)):
             with self.assertRaises(MemoryError):
                 process.setenv(b"REFUSED_REQUEST", b"0", 1)
                 try:

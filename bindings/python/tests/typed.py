@@ -4,33 +4,45 @@ from array import array
 from pathlib import Path
 from typing import Iterator, List, Optional, Tuple
 
-from literal_prefilters import Kind, Match, Searcher
+from literal_search import Kind, Match, Search
 
-of_str = Searcher(["a", "b"], Kind.LEFTMOST_LONGEST, ignore_case=True)
-of_bytes = Searcher([b"a", bytearray(b"b")])
+of_str = Search(["a", "b"], Kind.LEFTMOST_LONGEST, ignore_case=True)
+of_bytes = Search([b"a", bytearray(b"b")])
 
-one: Optional[Match] = of_str.find("text", 1, None)
-iterator: Iterator[Match] = of_bytes.finditer(memoryview(b"text"), end=-1)
-many: List[List[Match]] = of_bytes.findall_each([b"text", array("B")])
-every: List[Match] = of_str.find_overlapping("text")
-number: int = of_bytes.count(bytearray(b"text"))
+one: Optional[Match[str]] = of_str.find("text", 1, None)
+iterator: Iterator[Match[bytes]] = of_bytes.finditer(memoryview(b"text"), end=-1)
+many: List[List[Match[bytes]]] = of_bytes.findall_each([b"text", array("B")])
+every: List[Match[str]] = of_str.find_overlapping("text")
+each: Iterator[Match[bytes]] = of_bytes.finditer_overlapping(b"text")
+earliest: Optional[Match[str]] = of_str.find_earliest("text", 1)
+matched: str = every[0].group()
+pattern, start, end = every[0]
+of_a_mapping: "Search[str]" = Search({"a": 1})
+value: int = of_a_mapping.findall("text")[0].value
+number: int = of_bytes.count(bytearray(b"text")) + of_str.count_overlapping("text")
 parts: List[str] = of_str.split("text")
-text: str = of_str.sub(lambda match: str(match.start), "text")
+text: str = of_str.sub(lambda match: match.group() + str(match.start), "text")
 bytes_and_number: Tuple[bytes, int] = of_bytes.subn([b"x", b"y"], b"text", count=1)
 patterns: Tuple[str, ...] = of_str.patterns
 of_str.save(Path("file"))
-loaded: "Searcher[str]" = Searcher.load("file")
+loaded: "Search[str]" = Search.load("file")
+loaded_of_bytes: "Search[bytes]" = Search.load("file")
+found: Optional[Match[bytes]] = Search[bytes].load("file").find(b"text")
+without_patterns: "Search[bytes]" = Search([])
 
+of_str = Search[bytes].load("file")  # type: ignore
 of_str.find(b"text")  # type: ignore
 of_bytes.find("text")  # type: ignore
 of_str.findall(5)  # type: ignore
+of_bytes.finditer("text")  # type: ignore
+bytes_matched: bytes = every[0].group()  # type: ignore
 of_bytes.find_overlapping("text")  # type: ignore
 of_str.count("text", "0")  # type: ignore
 of_bytes.sub("x", b"text")  # type: ignore
 of_str.sub(lambda match: match.start, "text")  # type: ignore
 of_bytes.split("text")  # type: ignore
 of_bytes.find_each(["text"])  # type: ignore
-Searcher([1])  # type: ignore
-Searcher(b"ab")  # type: ignore
-Searcher(["a"], 0)  # type: ignore
-Searcher(["a"]).nothing()  # type: ignore
+Search([1])  # type: ignore
+Search(b"ab")  # type: ignore
+Search(["a"], 0)  # type: ignore
+Search(["a"]).nothing()  # type: ignore

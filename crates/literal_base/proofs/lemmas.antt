@@ -2,6 +2,7 @@
 pub mod Callers
 pub mod ClassIterations
 pub mod Exists
+pub mod GreedyLists
 pub mod LentParts
 pub mod Marks
 pub mod Met

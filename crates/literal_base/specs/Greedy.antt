@@ -1,5 +1,6 @@
 -- All matches of a haystack that do not overlap, taken from the left.
 use Rattle.std.specs.Prelude.{ℕ, ◌<◌, ◌&&◌, Bool, List, [], ◌∷◌, ◌++◌, length, nat_le, nat_lt}
+use Rattle.std.specs.Prelude.{Option, Some, None}
 use Rattle.std.specs.List.{list_any}
 use Rattle.literal_base.specs.MatchValue.{MatchValue}
 use Rattle.literal_base.specs.Query.{Query}
@@ -14,6 +15,11 @@ IsGreedy query ignore_case haystack at [] =
 IsGreedy query ignore_case haystack at (found ∷ more) =
     IsLeftmostMatch query ignore_case haystack (rest_from haystack at) found
     × IsGreedy query ignore_case haystack found.end more
+
+-- where the search goes on: at the end of the match, or at the end of the haystack if there is none
+abbrev pub place_after : List ℕ → Option MatchValue → ℕ
+place_after haystack None = length haystack
+place_after haystack (Some found) = found.end
 
 -- memory was refused for the list of all matches: the last match that was found had no room. This is what was counted
 -- for the matches so far

@@ -2,6 +2,7 @@ pub mod Apart
 pub mod Bytes
 pub mod Classes
 pub mod Counts
+pub mod Given
 pub mod Greedy
 pub mod InputValue
 pub mod Inside

@@ -19,6 +19,7 @@ ghost use Rattle.literal_ids.specs.Iteration.{GivesEachThenNone};
 ghost use Rattle.literal_base.specs.MatchValue.{MatchValue};
 ghost use Rattle.literal_base.specs.Leftmost.{IsLeftmost, IsLeftmostMatch};
 ghost use Rattle.literal_base.specs.Occurs.{NoneIsEmpty, Occurs, one_occurs, pattern_at, whole_of};
+ghost use Rattle.literal_base.specs.Apart.{LieApart};
 ghost use Rattle.literal_base.specs.Greedy.{IsGreedy, lies_in_one};
 ghost use Rattle.literal_base.specs.Query.{Query};
 
@@ -56,6 +57,15 @@ pub fn greedy_is_unique()
         → IsGreedy query ignore_case haystack at a
         → IsGreedy query ignore_case haystack at b
         → a ≡ b }
+{}
+
+/// The matches of a greedy list are non-empty, in order, and don't overlap, and no pattern occurs
+/// whole before the first, between two neighbours, or after the last, with case kept or ignored.
+pub fn greedy_lists_lie_apart()
+    ensures { (query : Query) (ignore_case : Bool) (haystack : List ℕ) (at : ℕ) (all : List MatchValue)
+        → at ≤ length haystack
+        → IsGreedy query ignore_case haystack at all
+        → LieApart query.patterns ignore_case haystack at all }
 {}
 
 /// Whatever occurs in a haystack has a place in a match of the greedy list, and no match ends behind the haystack.

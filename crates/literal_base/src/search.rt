@@ -6,7 +6,7 @@ ghost use Rattle.std.specs.Borrow.{Array, Lends, sem, u8};
 ghost use Rattle.std.specs.Fmt.{decimal};
 ghost use Rattle.std.specs.Ptr.{as_mut_ptr, ptr_add};
 
-use crate::packed;
+use crate::packed::MatchKind as PackedMatchKind;
 use literal_ids::PatternID;
 use std::alloc::AllocError;
 use std::fmt;
@@ -552,6 +552,20 @@ impl Default for MatchKind {
     }
 }
 
+/// The match kind of a packed search is the one of the same name.
+impl From<PackedMatchKind> for MatchKind {
+    ghost use Rattle.literal_base.specs.Kinds.{root_kind_of};
+
+    ghost from_gives = { λ kind root. root ≡ root_kind_of kind };
+
+    fn from(kind: PackedMatchKind) -> MatchKind {
+        match kind {
+            PackedMatchKind::LeftmostFirst => MatchKind::LeftmostFirst,
+            PackedMatchKind::LeftmostLongest => MatchKind::LeftmostLongest,
+        }
+    }
+}
+
 impl MatchKind {
     ghost use Rattle.literal_base.specs.Kinds.{packed_kind_of};
 
@@ -578,13 +592,13 @@ impl MatchKind {
 
     /// The match kind of a packed search that means the same. A packed search has none that means
     /// [`MatchKind::Standard`].
-    pub fn as_packed(&self) -> Option<packed::MatchKind>
+    pub fn as_packed(&self) -> Option<PackedMatchKind>
         ensures { result ≡ packed_kind_of self.now }
     {
         match *self {
             MatchKind::Standard => None,
-            MatchKind::LeftmostFirst => Some(packed::MatchKind::LeftmostFirst),
-            MatchKind::LeftmostLongest => Some(packed::MatchKind::LeftmostLongest),
+            MatchKind::LeftmostFirst => Some(PackedMatchKind::LeftmostFirst),
+            MatchKind::LeftmostLongest => Some(PackedMatchKind::LeftmostLongest),
         }
     }
 }

@@ -7,7 +7,7 @@ use Rattle.literal_base.specs.MatchValue.{MatchValue}
 use Rattle.literal_base.specs.Occurs.{NothingOccurs, between, whole_of}
 use Rattle.literal_base.specs.Query.{Query}
 use Rattle.literal_base.specs.declared.search.Span.{Span}
-use Rattle.literal_automaton.specs.Prepared.{LiesIn}
+use Rattle.literal_search.specs.Prepared.{LiesIn}
 use Rattle.literal_c.specs.declared.LiteralAnswer.{LiteralAnswer}
 use Rattle.literal_c.specs.declared.LiteralMatch.{LiteralMatch}
 use Rattle.literal_c.specs.declared.LiteralPage.{LiteralPage}

@@ -4,10 +4,10 @@ use Rattle.literal_base.specs.declared.packed.MatchKind.{MatchKind}
 use Rattle.literal_base.specs.declared.packed.MatchKind.TheVariants.{LeftmostFirst, LeftmostLongest}
 use Rattle.literal_base.specs.Query.{Query}
 use Rattle.literal_base.specs.Kinds.{root_kind_of}
-use Rattle.literal_automaton.specs.DfaValue.{CanBeKept, NeedTooManyStates}
-use Rattle.literal_automaton.specs.Prepared.{ForPrepared, HasParts}
-use Rattle.literal_automaton.specs.PreparedOverlapping.{ForOverlapping, HasLists}
-use Rattle.literal_automaton.specs.declared.prepared.TheConstants.{PREPARED_VERSION}
+use Rattle.literal_search.specs.SearchValue.{CanBeKept, NeedTooManyStates}
+use Rattle.literal_search.specs.Prepared.{ForPrepared, HasParts}
+use Rattle.literal_search.specs.PreparedOverlapping.{ForOverlapping, HasLists}
+use Rattle.literal_search.specs.declared.prepared.TheConstants.{PREPARED_VERSION}
 use Rattle.literal_c.specs.declared.TheConstants.{LITERAL_BAD_ARGUMENTS, LITERAL_LEFTMOST_FIRST}
 use Rattle.literal_c.specs.declared.TheConstants.{LITERAL_LEFTMOST_LONGEST}
 use Rattle.literal_c.specs.declared.TheConstants.{LITERAL_NONE, LITERAL_NO_SEARCHER, LITERAL_OK}

@@ -3,8 +3,8 @@ use Rattle.std.specs.Prelude.{◌≡◌, ◌⊎◌, ℕ, ◌≤◌, Bool, List, 
 use Rattle.std.specs.Iterator.{Yields}
 use Rattle.literal_base.specs.MatchValue.{MatchValue}
 use Rattle.literal_base.specs.declared.search.Span.{Span}
-use Rattle.literal_automaton.specs.Overlapping.{OverlappingValue}
-use Rattle.literal_automaton.specs.OverlappingMatchesValue.{GivesOverlapping, IsToCome, OverlappingMatchesValue}
+use Rattle.literal_search.specs.Overlapping.{OverlappingValue}
+use Rattle.literal_search.specs.OverlappingMatchesValue.{GivesOverlapping, IsToCome, OverlappingMatchesValue}
 use Rattle.literal_c.specs.Answers.{match_of}
 use Rattle.literal_c.specs.declared.LiteralMatch.{LiteralMatch}
 use Rattle.literal_c.specs.declared.LiteralPage.{LiteralPage}

@@ -4,10 +4,10 @@ ghost use Rattle.std.specs.List.{AllZip};
 ghost use Rattle.std.specs.Result.{IsOkAnd};
 ghost use Rattle.literal_base.specs.Occurs.{IsValidSpan};
 ghost use Rattle.literal_base.specs.Query.{Query};
-ghost use Rattle.literal_automaton.specs.Prepared.{ForPrepared};
+ghost use Rattle.literal_search.specs.Prepared.{ForPrepared};
 ghost use Rattle.literal_c.specs.Answers.{IsAnswer, IsCount, IsPage, MayBeAnswer, MayBePage};
 ghost use Rattle.literal_c.specs.Answers.{answer_for_c as answer_value, match_for_c as match_value};
-ghost use Rattle.literal_automaton.specs.OverlappingMatchesValue.{OverlappingMatchesValue};
+ghost use Rattle.literal_search.specs.OverlappingMatchesValue.{OverlappingMatchesValue};
 ghost use Rattle.literal_c.specs.Inside.Given.{AreGiven};
 ghost use Rattle.literal_c.specs.Overlapping.{IsOverlappingPage};
 

@@ -1,7 +1,7 @@
 //! What C asks for: a kind of match by its number, and patterns.
 ghost use Rattle.std.specs.Prelude.{◌≡◌, ◌↔◌, IsTrue, MatchOption, MatchResult, length};
 ghost use Rattle.literal_base.specs.declared.search.MatchKind.TheVariants.{Standard};
-ghost use Rattle.literal_automaton.specs.DfaValue.{CanBeKept, NeedTooManyStates, dfa_for};
+ghost use Rattle.literal_search.specs.SearchValue.{CanBeKept, NeedTooManyStates, search_by};
 ghost use Rattle.literal_c.specs.Arguments.{Agree, IsKind, NeedTooMany, kind_of};
 ghost use Rattle.literal_c.specs.Inside.Refusal.{IsRefused, status_of};
 ghost use Rattle.literal_c.specs.Overlapping.{overlapping_for};
@@ -24,7 +24,7 @@ pub enum Refusal {
     NoSearcher,
     /// A request for memory was refused.
     OutOfMemory,
-    /// The patterns need more states than there are identifiers.
+    /// The table of the search would be too large.
     TooLarge,
 }
 
@@ -63,7 +63,7 @@ pub fn search_for(
 ) -> Result<Search, Refusal>
     ensures { MatchResult result
         (λ search. Agree kind patterns.now ends.now × CanBeKept (pieces patterns.now 0 ends.now)
-        × (search ≡ dfa_for (kind_of kind) ignore_case (pieces patterns.now 0 ends.now)))
+        × (search ≡ search_by (kind_of kind) ignore_case (pieces patterns.now 0 ends.now)))
         (IsRefused (Agree kind patterns.now ends.now) (pieces patterns.now 0 ends.now)
         (NeedTooMany kind ignore_case patterns.now ends.now)) }
 {

@@ -1,7 +1,9 @@
 //! What the calls for C search by: a search of their own, or numbers that C lends.
 ghost use Rattle.std.specs.Prelude.{◌≡◌};
 
-use literal_search::{Damaged, Match, OverlappingMatches, Prepared, PreparedMatches, Search, Span};
+use literal_search::{
+    Damaged, Match, OverlappingMatches, Prepared, PreparedOverlappingMatches, Search, Span,
+};
 
 /// A search, which may be by damaged numbers.
 pub trait Finder {
@@ -41,7 +43,7 @@ impl Finder for Search {
 
 impl Finder for Prepared<'_> {
     ghost use Rattle.std.specs.Prelude.{slice_index};
-    ghost use Rattle.literal_automaton.specs.Prepared.{IsPrepared};
+    ghost use Rattle.literal_search.specs.Prepared.{IsPrepared};
 
     ghost is_for = { λ numbers query ignore_case. IsPrepared query ignore_case numbers };
 
@@ -57,8 +59,8 @@ pub trait Occurrences {
     ghost use Rattle.std.specs.Prelude.{IfOk, IfSome};
     ghost use Rattle.std.specs.Result.{IsOkAnd};
     ghost use Rattle.literal_base.specs.MatchValue.{MatchValue};
-    ghost use Rattle.literal_automaton.specs.OverlappingMatchesValue.{GivesOverlapping, OverlappingMatchesValue};
-    ghost use Rattle.literal_automaton.specs.OverlappingMatchesValue.{gone_on};
+    ghost use Rattle.literal_search.specs.OverlappingMatchesValue.{GivesOverlapping, OverlappingMatchesValue};
+    ghost use Rattle.literal_search.specs.OverlappingMatchesValue.{gone_on};
 
     /// Where it stands, if it is whole.
     ghost stands_at: { Self → OverlappingMatchesValue → Type 0 };
@@ -86,10 +88,10 @@ impl Occurrences for OverlappingMatches<'_, '_> {
     }
 }
 
-impl Occurrences for PreparedMatches<'_, '_, '_> {
+impl Occurrences for PreparedOverlappingMatches<'_, '_, '_> {
     ghost use Rattle.std.specs.Prelude.{slice_index};
     ghost use Rattle.literal_c.specs.Answers.{MayBeFound};
-    ghost use Rattle.literal_automaton.specs.PreparedOverlapping.{IsPreparedOverlapping, matches_for};
+    ghost use Rattle.literal_search.specs.PreparedOverlapping.{IsPreparedOverlapping, matches_for};
 
     ghost stands_at = { λ matches m. IsPreparedOverlapping m.search matches.numbers
         × (m ≡ matches_for m.search matches) };
@@ -97,6 +99,6 @@ impl Occurrences for PreparedMatches<'_, '_, '_> {
     ghost may_give = { λ matches found. MayBeFound matches.span (slice_index matches.numbers 3) found };
 
     fn next_match(&mut self) -> Result<Option<Match>, Damaged> {
-        PreparedMatches::next_match(self)
+        PreparedOverlappingMatches::next_match(self)
     }
 }

@@ -5,7 +5,7 @@ ghost use Rattle.literal_base.specs.MatchValue.{MatchValue};
 ghost use Rattle.literal_base.specs.Occurs.{NothingOccurs, rest_from};
 ghost use Rattle.literal_base.specs.Query.{Query};
 ghost use Rattle.literal_base.specs.declared.search.Span.{Span};
-ghost use Rattle.literal_automaton.specs.Overlapping.{IsOverlapping, OverlappingValue};
+ghost use Rattle.literal_search.specs.Overlapping.{IsOverlapping, OverlappingValue};
 ghost use Rattle.literal_c.specs.Answers.{AreNext, match_of};
 ghost use Rattle.literal_c.specs.Overlapping.{IsOverlappingPage, all_that_occurs};
 ghost use Rattle.literal_c.specs.declared.LiteralMatch.{LiteralMatch};

@@ -1,4 +1,4 @@
-//! Searches for several literals at once, for callers in C. The header for C is `bindings/c/literal_prefilters.h`.
+//! Searches for several literals at once, for callers in C. The header for C is `bindings/c/literal_search.h`.
 //!
 //! Bytes cross as a pointer and a length. A list of byte strings crosses as one buffer and where each of its pieces
 //! ends: piece i is the bytes from `ends[i - 1]`, for the first from 0, up to and not including `ends[i]`. Each call
@@ -11,12 +11,12 @@ ghost use Rattle.std.specs.List.{AllZip};
 ghost use Rattle.literal_base.specs.Leftmost.{IsLeftmostMatch};
 ghost use Rattle.literal_base.specs.Occurs.{IsValidSpan, NothingOccurs, between, rest_from};
 ghost use Rattle.literal_base.specs.declared.search.MatchKind.TheVariants.{Standard};
-ghost use Rattle.literal_automaton.specs.DfaValue.{CanBeKept, NeedTooManyStates};
-ghost use Rattle.literal_automaton.specs.Prepared.{AreShort, ForPrepared, IsWhole, RefusesToPrepare};
-ghost use Rattle.literal_automaton.specs.Prepared.{WritesPrepared};
-ghost use Rattle.literal_automaton.specs.PreparedOverlapping.{ForOverlapping, HasLongLists, RefusesOverlapping};
-ghost use Rattle.literal_automaton.specs.PreparedOverlapping.{IsWholeOverlapping, WritesOverlapping};
-ghost use Rattle.literal_automaton.specs.declared.prepared.PrepareError.TheVariants.{ArrayTooShort};
+ghost use Rattle.literal_search.specs.SearchValue.{CanBeKept, NeedTooManyStates};
+ghost use Rattle.literal_search.specs.Prepared.{AreShort, ForPrepared, IsWhole, RefusesToPrepare};
+ghost use Rattle.literal_search.specs.Prepared.{WritesPrepared};
+ghost use Rattle.literal_search.specs.PreparedOverlapping.{ForOverlapping, HasLongLists, RefusesOverlapping};
+ghost use Rattle.literal_search.specs.PreparedOverlapping.{IsWholeOverlapping, WritesOverlapping};
+ghost use Rattle.literal_search.specs.declared.prepared.PrepareError.TheVariants.{ArrayTooShort};
 ghost use Rattle.literal_c.specs.Answers.{IsAnswer, IsCount, IsPage, MayBeFound, MayBeAnswer, MayBePage};
 ghost use Rattle.literal_c.specs.Answers.{match_of};
 ghost use Rattle.literal_c.specs.Arguments.{Agree, IsOverlappingStatusBy, IsStatus, IsStatusBy, NeedTooMany};

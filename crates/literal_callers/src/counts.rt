@@ -1,7 +1,14 @@
 //! Callers of counts that rely on contracts alone.
-ghost use Rattle.std.specs.Prelude.{◌≡◌, ◌+◌};
+ghost use Rattle.std.specs.Prelude.{◌≡◌, ◌+◌, ◌≤◌, List, length, IfOk};
+ghost use Rattle.literal_base.specs.Greedy.{IsGreedy};
+ghost use Rattle.literal_base.specs.MatchValue.{MatchValue};
+ghost use Rattle.literal_search.specs.SearchValue.{ScansListAtMost};
 
 use literal_base::count::Tally;
+use literal_search::laws::{iterations_scan_at_most, streams_are_greedy};
+use literal_search::{Match, Search};
+use std::alloc::Global;
+use std::io;
 
 /// A tick of each kind.
 pub fn tick_each(tally: &mut Tally)
@@ -27,4 +34,32 @@ pub fn ticked() -> Tally
     let mut tally = Tally::new();
     tick_each(&mut tally);
     tally
+}
+
+/// How many matches there are in a text, and what it takes to count them one after another.
+pub fn count_scanned(search: &Search, text: &[u8], tally: &mut Tally) -> usize
+    ensures count { (all : List MatchValue) × IsGreedy search.now.query search.now.ignore_case text.now 0 all
+        × (result ≡ length all) }
+    ensures least { tally.old.scanned + length text.now ≤ tally.new.scanned }
+    ensures bounded { ScansListAtMost search.now.query.patterns (length text.now) result tally.old tally.new }
+{
+    iterations_scan_at_most();
+    let mut matches = search.find_iter(text);
+    let mut count = 0;
+    while let Some(_) = matches.next_counted(tally) {
+        count += 1;
+    }
+    count
+}
+
+/// All matches in what is read of a text.
+pub fn list_streamed(alloc: Global, search: &Search, text: &[u8]) -> io::Result<Vec<Match>>
+    ensures all { IfOk result (λ all. IsGreedy search.now.query search.now.ignore_case text.now 0 all.items) }
+{
+    streams_are_greedy();
+    let mut all = Vec::new(alloc);
+    for found in search.find_stream(alloc, text)? {
+        all.push(found?)?;
+    }
+    Ok(all)
 }

@@ -4,7 +4,8 @@ ghost use Rattle.literal_base.specs.MatchValue.{MatchValue};
 ghost use Rattle.literal_base.specs.Greedy.{IsGreedy};
 ghost use Rattle.literal_packed.specs.BuilderValue.{BuilderValue, builder_of, searcher_of, with_added, BuildsSearcher};
 ghost use Rattle.literal_packed.specs.ConfigValue.{default_config};
-ghost use Rattle.literal_packed.specs.Lending.{CanBeTaken, HoldsAll};
+ghost use Rattle.literal_base.specs.Given.{CanBeTaken};
+ghost use Rattle.literal_packed.specs.Lending.{HoldsAll};
 
 use literal_prefilters::packed::pattern::{Pattern, PatternIter, Patterns};
 use literal_prefilters::packed::{Builder, Config, MatchKind, Searcher};

@@ -2,7 +2,7 @@
 //! all that occur there.
 ghost use Rattle.std.specs.Prelude.{◌≡◌, IfOk, false, map, string_bytes, true};
 ghost use Rattle.literal_base.specs.Occurs.{one_occurs, whole_of};
-ghost use Rattle.literal_automaton.specs.Overlapping.{IsOverlapping};
+ghost use Rattle.literal_search.specs.Overlapping.{IsOverlapping};
 
 use literal_search::laws::iterations_give_each_occurrence_once;
 use literal_search::{BuildError, Match, MatchKind, Overlapping, Search};

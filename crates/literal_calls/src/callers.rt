@@ -1,4 +1,5 @@
 //! The callers of `literal_callers`, each run once, and laws that make a call.
+mod any_list;
 mod classes;
 mod copies;
 mod counts;

@@ -7,6 +7,8 @@ mod builders;
 #[cfg(test)]
 mod callers;
 #[cfg(test)]
+mod fingerprints;
+#[cfg(test)]
 mod identifiers;
 #[cfg(test)]
 mod paths;
@@ -22,3 +24,5 @@ mod rabin_karp;
 mod searches;
 #[cfg(test)]
 mod spans;
+#[cfg(test)]
+mod streams;

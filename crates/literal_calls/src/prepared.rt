@@ -1,8 +1,8 @@
 //! `Prepared` and `PreparedOverlapping`, searches by an array that is lent.
 use literal_base::count::Tally;
 use literal_search::{
-    Match, MatchKind, Overlapping, PrepareError, Prepared, PreparedMatches, PreparedOverlapping,
-    Search, Span,
+    Match, MatchKind, Overlapping, PrepareError, Prepared, PreparedOverlapping,
+    PreparedOverlappingMatches, Search, Span,
 };
 use std::alloc::Global;
 use std::process::Abort;
@@ -66,7 +66,7 @@ fn filled_for_all(alloc: Global) -> Result<Vec<u32>, Fail> {
 /// What an iteration gives next, by each of its calls.
 fn assert_gives(
     rt: &impl Abort,
-    matches: &mut PreparedMatches<'_, '_, '_>,
+    matches: &mut PreparedOverlappingMatches<'_, '_, '_>,
     counted: bool,
     wanted: Option<Match>,
 ) -> Result<(), Fail> {

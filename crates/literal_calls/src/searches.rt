@@ -1,6 +1,6 @@
-//! `Search` and `Overlapping`.
+//! `Search`, `Linear` and `Overlapping`.
 use literal_base::count::Tally;
-use literal_search::{BuildError, Match, MatchKind, Overlapping, Search, Span};
+use literal_search::{BuildError, Linear, Match, MatchKind, Overlapping, Search, Span};
 use std::alloc::{AllocError, Global};
 use std::process::Abort;
 use std::test::Fail;
@@ -22,7 +22,7 @@ fn assert_searches(rt: &impl Abort, search: &Search, haystack: &[u8]) {
     assert!(rt; search.find(haystack) == Some(Match::must(1, first)));
     let mut matches = search.find_iter(haystack);
     assert!(rt; matches.next() == Some(Match::must(1, first)));
-    assert!(rt; matches.next() == Some(Match::must(1, second)));
+    assert!(rt; matches.next_counted(&mut Tally::new()) == Some(Match::must(1, second)));
     assert!(rt; matches.next().is_none() && matches.next().is_none());
 }
 
@@ -46,6 +46,50 @@ fn finds_all_matches(rt: HostRuntime) -> Result<(), Fail> {
     assert!(rt; search.earliest_end(haystack, whole) == Some(8));
     assert!(rt; search.earliest_end_counted(haystack, whole, tally) == Some(8));
     assert!(rt; search.earliest_end_once(haystack, whole, tally) == Some(8));
+    Ok(())
+}
+
+#[test]
+fn finds_at_one_place(rt: HostRuntime) -> Result<(), Fail> {
+    let words = [b"ab".as_slice(), b"abc"];
+    let search = Search::new(rt.alloc(), MatchKind::LeftmostLongest, false, words)?;
+    assert!(rt; search.match_kind() == MatchKind::LeftmostLongest && !search.ignores_case());
+    let found = Match::must(1, Span { start: 1, end: 4 });
+    assert!(rt; search.match_at(b"xabcab", 1) == Some(found));
+    assert!(rt;
+        search
+            .match_at_counted(b"xabcab", 0, &mut Tally::new())
+            .is_none()
+    );
+    let mut matches = search.find_iter_in(b"xabcab", Span { start: 0, end: 5 });
+    assert!(rt; matches.next() == Some(found) && matches.next().is_none());
+    Ok(())
+}
+
+#[test]
+fn example_of_linear(rt: HostRuntime) -> Result<(), Fail> {
+    let alloc = rt.alloc();
+    let words = [b"aaaab".as_slice(), b"a"];
+    let search = Linear::new(alloc, MatchKind::LeftmostLongest, false, words)?;
+    let all = search.find_all(b"aaaaaab")?;
+    assert!(rt; all.len() == 3 && all[2].pattern().as_usize() == 0 && all[2].range() == (2..7));
+    Ok(())
+}
+
+#[test]
+fn finds_all_in_linear_time(rt: HostRuntime) -> Result<(), Fail> {
+    let words = [b"password".as_slice(), b"secret"];
+    let search = Linear::new(rt.alloc(), MatchKind::LeftmostFirst, true, words)?;
+    let haystack = b"A SECRET, a Secret";
+    assert!(rt; search.patterns_len() == 2 && search.find_all(haystack)?.len() == 2);
+    let rest = Span { start: 3, end: 18 };
+    let second = Match::must(1, Span { start: 12, end: 18 });
+    assert!(rt; search.find_all_in(haystack, rest)?.as_slice() == [second].as_slice());
+    let counted = search.find_all_in_counted(haystack, rest, &mut Tally::new())?;
+    assert!(rt; counted.as_slice() == [second].as_slice());
+    let mut matches = search.find_iter_in(haystack, rest)?;
+    assert!(rt; matches.next() == Some(second));
+    assert!(rt; matches.next_counted(&mut Tally::new()).is_none() && matches.next().is_none());
     Ok(())
 }
 

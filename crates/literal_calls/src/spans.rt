@@ -79,6 +79,8 @@ fn kinds_tell_what_they_are(rt: HostRuntime) {
     assert!(rt; !longest.is_leftmost_first() && standard.as_packed().is_none());
     assert!(rt; first.as_packed() == Some(packed::MatchKind::LeftmostFirst));
     assert!(rt; longest.as_packed() == Some(packed::MatchKind::LeftmostLongest));
+    assert!(rt; MatchKind::from(packed::MatchKind::LeftmostFirst) == first);
+    assert!(rt; MatchKind::from(packed::MatchKind::LeftmostLongest) == longest);
     assert!(rt; MatchKind::default() == standard && StartKind::default() == StartKind::Unanchored);
     assert!(rt; StartKind::Both != StartKind::Anchored);
     assert!(rt; packed::MatchKind::default() == packed::MatchKind::LeftmostFirst);

@@ -5,7 +5,7 @@ use crate::asserted::{assert_holds, assert_same};
 use crate::made::{Place, SPANS, place};
 use crate::plain::leftmost_plainly;
 use MatchKind::{LeftmostFirst, LeftmostLongest};
-use literal_search::{Match, MatchKind, Search, Span};
+use literal_search::{Linear, Match, MatchKind, Search, Span};
 use std::alloc::Global;
 use std::process::Abort;
 use std::test::Fail;
@@ -95,7 +95,7 @@ fn compare_all(
 /// Compares on all these haystacks, and returns how many there are.
 fn compare(
     rt: &impl Abort,
-    search: &Search,
+    (search, linear): (&Search, &Linear),
     of: (&[&[u8]], MatchKind, bool),
     digits: &[u8; 5],
 ) -> Result<u32, Fail> {
@@ -104,6 +104,8 @@ fn compare(
         let haystack = bytes_of(digits, number);
         compare_in(rt, search, of, &haystack);
         let all = search.find_all(&haystack)?;
+        compare_all(rt, of, &haystack, all.as_slice());
+        let all = linear.find_all(&haystack)?;
         compare_all(rt, of, &haystack, all.as_slice());
         haystacks = haystacks.wrapping_add(1);
     }
@@ -117,8 +119,9 @@ fn assert_list(
     (list, kind, ignore_case): (&[&[u8]], MatchKind, bool),
 ) -> Result<(), Fail> {
     let search = Search::new(alloc, kind, ignore_case, list.iter().copied())?;
+    let linear = Linear::new(alloc, kind, ignore_case, list.iter().copied())?;
     for digits in [b"aA@[`", b"aA{\x80\xFF"] {
-        let haystacks = compare(rt, &search, (list, kind, ignore_case), digits)?;
+        let haystacks = compare(rt, (&search, &linear), (list, kind, ignore_case), digits)?;
         assert_same(rt, haystacks, 625, format_args!("{list:?}"));
     }
     Ok(())

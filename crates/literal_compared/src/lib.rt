@@ -17,6 +17,8 @@ mod confirming;
 #[cfg(test)]
 mod exact;
 #[cfg(test)]
+mod fingerprints;
+#[cfg(test)]
 mod large;
 #[cfg(test)]
 mod made;

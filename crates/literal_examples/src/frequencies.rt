@@ -1,28 +1,28 @@
 //! How often each pattern is a match.
-ghost use Rattle.std.specs.Prelude.{◌≡◌, ◌==◌, ◌<◌, ◌≤◌, ℕ, List, IfOk, OnErr, false, count_by, length};
+ghost use Rattle.std.specs.Prelude.{◌≡◌, ◌==◌, ◌<◌, ◌≤◌, ℕ, List, IfOk, OnErr, count_by, length};
 ghost use Rattle.std.specs.Prelude.{replicate, slice_index};
 ghost use Rattle.literal_base.specs.Greedy.{IsGreedy};
 ghost use Rattle.literal_base.specs.MatchValue.{MatchValue};
 
-use literal_prefilters::packed::Searcher;
+use literal_search::Search;
 use std::alloc::{AllocError, Global};
 
-/// How often each of the first so many patterns is a match, of those from the left that do not overlap.
-/// The searcher has no more patterns. Memory is asked for only where there is a pattern to count.
+/// How often each pattern is a match, of those from the left that do not overlap. Memory is asked for only where there
+/// is a pattern.
 pub fn frequencies(
     alloc: Global,
-    searcher: &Searcher,
-    patterns: usize,
+    search: &Search,
     haystack: &[u8],
 ) -> Result<Vec<usize>, AllocError>
-    requires { length searcher.now.patterns ≤ patterns }
-    ensures counted { IfOk result (λ counts. (all : List MatchValue) × IsGreedy searcher.now false haystack.now 0 all
-        × (length counts.items ≡ patterns)
-        × ((i : ℕ) → i < patterns → slice_index counts.items i ≡ count_by (λ m. m.pattern == i) all)) }
-    ensures no_memory { OnErr result (0 < patterns) }
+    ensures counted { IfOk result (λ counts. (all : List MatchValue)
+        × IsGreedy search.now.query search.now.ignore_case haystack.now 0 all
+        × (length counts.items ≡ length search.now.query.patterns)
+        × ((i : ℕ) → i < length search.now.query.patterns
+        → slice_index counts.items i ≡ count_by (λ m. m.pattern == i) all)) }
+    ensures no_memory { OnErr result (0 < length search.now.query.patterns) }
 {
-    let mut counts = zeroes(alloc, patterns)?;
-    for found in searcher.find_iter(haystack) {
+    let mut counts = zeroes(alloc, search.patterns_len())?;
+    for found in search.find_iter(haystack) {
         let _ = found.end(); // (a `usize`, which no count passes)
         counts[found.pattern().as_usize()] += 1;
     }

@@ -1,10 +1,9 @@
 //! A text cut into matches and what lies between them.
-ghost use Rattle.std.specs.Prelude.{◌≡◌, ◌<◌, ◌≤◌, ◌++◌, IfOk, OnErr, OnOk, false, length};
+ghost use Rattle.std.specs.Prelude.{◌≡◌, ◌<◌, ◌≤◌, ◌++◌, IfOk, OnErr, OnOk, length};
 ghost use Rattle.literal_base.specs.Greedy.{IsGreedy};
 ghost use Rattle.literal_examples.specs.Tokens.{GapsAreWhole, Tiles, gap, matched};
 
-use literal_prefilters::packed::Searcher;
-use literal_prefilters::{PatternID, Span};
+use literal_search::{PatternID, Search, Span};
 use std::alloc::{AllocError, Global};
 
 /// A part of a text: the match of a pattern, or what lies between two matches.
@@ -19,15 +18,16 @@ pub struct Token {
 /// The tokens of a text: the matches from the left that do not overlap, and what lies between them,
 /// before them and behind them, each gap as one token. No token is empty, and one after another they
 /// are the whole text. Memory is asked for only where the text is not empty.
-pub fn tokens(alloc: Global, searcher: &Searcher, haystack: &[u8]) -> Result<Vec<Token>, AllocError>
+pub fn tokens(alloc: Global, search: &Search, haystack: &[u8]) -> Result<Vec<Token>, AllocError>
     ensures tiles { IfOk result (λ all. Tiles 0 (length haystack.now) all.items) }
-    ensures matched { IfOk result (λ all. IsGreedy searcher.now false haystack.now 0 (matched all.items)) }
+    ensures matched { IfOk result (λ all. IsGreedy search.now.query search.now.ignore_case haystack.now 0
+        (matched all.items)) }
     ensures whole { IfOk result (λ all. GapsAreWhole all.items) }
     ensures no_memory { OnErr result (0 < length haystack.now) }
 {
     let mut all = Vec::new(alloc);
     let mut at = 0;
-    for found in searcher.find_iter(haystack) {
+    for found in search.find_iter(haystack) {
         push_gap(&mut all, at, found.start())?;
         all.push(Token {
             span: found.span(),

@@ -1,31 +1,26 @@
 //! Each part does what its reader expects.
-ghost use Rattle.std.specs.Prelude.{◌≤◌, IfOk, length};
-
 use literal_examples::frequencies::frequencies;
 use literal_examples::keywords::{find_from, is_clean};
 use literal_examples::replace::replace_all;
 use literal_examples::tokens::{Token, tokens};
-use literal_prefilters::packed::{Builder, Searcher};
-use literal_prefilters::{PatternID, Span};
+use literal_prefilters::packed::Searcher;
+use literal_search::{MatchKind, PatternID, Search, Span};
 use std::alloc::Global;
 use std::test::Fail;
 
-#[tactic(auto, using(literal_packed::proofs::lemmas::Callers::added_two))]
-fn searcher(alloc: Global, a: &[u8], b: &[u8]) -> Result<Searcher, Fail>
-    ensures { IfOk result (λ s. length s.patterns ≤ 2) }
-{
-    let built = Builder::new(alloc).add(a)?.add(b)?.build()?;
-    Ok(built.ok_or("nothing is built")?)
+/// A search for two words, with ASCII case ignored.
+fn search(alloc: Global, a: &[u8], b: &[u8]) -> Result<Search, Fail> {
+    Ok(Search::new(alloc, MatchKind::LeftmostFirst, true, [a, b])?)
 }
 
 const SENTENCE: &[u8] = b"Nobody likes maple in their apple flavored Snapple.";
 
 #[test]
 fn filters_lines_and_finds_from_an_offset(rt: HostRuntime) -> Result<(), Fail> {
-    let keywords = searcher(rt.alloc(), b"error", b"warning")?;
+    let keywords = search(rt.alloc(), b"error", b"warning")?;
     assert!(rt; is_clean(&keywords, b"all is well"));
-    assert!(rt; !is_clean(&keywords, b"a warning: too late"));
-    let fruits = searcher(rt.alloc(), b"apple", b"maple")?;
+    assert!(rt; !is_clean(&keywords, b"A Warning: too late"));
+    let fruits = search(rt.alloc(), b"apple", b"maple")?;
     let found = find_from(&fruits, SENTENCE, 14).map(|it| it.span());
     assert!(rt; found == Some(Span { start: 28, end: 33 }));
     assert!(rt; find_from(&fruits, SENTENCE, 46).is_none());
@@ -34,8 +29,9 @@ fn filters_lines_and_finds_from_an_offset(rt: HostRuntime) -> Result<(), Fail> {
 
 #[test]
 fn replaces_words(rt: HostRuntime) -> Result<(), Fail> {
-    let words = searcher(rt.alloc(), b"apple", b"maple")?;
+    let words = search(rt.alloc(), b"apple", b"maple")?;
     let replacements: [&[u8]; 2] = [b"pear", b"oak"];
+    assert!(rt; words.patterns_len() == replacements.len());
     let text = replace_all(rt.alloc(), &words, SENTENCE, &replacements)?;
     assert!(rt; text.as_slice() == b"Nobody likes oak in their pear flavored Snpear.".as_slice());
     Ok(())
@@ -43,7 +39,7 @@ fn replaces_words(rt: HostRuntime) -> Result<(), Fail> {
 
 #[test]
 fn cuts_into_tokens(rt: HostRuntime) -> Result<(), Fail> {
-    let signs = searcher(rt.alloc(), b"==", b"=")?;
+    let signs = search(rt.alloc(), b"==", b"=")?;
     let all = tokens(rt.alloc(), &signs, b"a==b")?;
     let (first, second, third) = (
         Span { start: 0, end: 1 },
@@ -70,8 +66,8 @@ fn cuts_into_tokens(rt: HostRuntime) -> Result<(), Fail> {
 
 #[test]
 fn counts_words(rt: HostRuntime) -> Result<(), Fail> {
-    let words = searcher(rt.alloc(), b"to", b"be")?;
-    let counts = frequencies(rt.alloc(), &words, 2, b"to be, or not to be")?;
+    let words = search(rt.alloc(), b"to", b"be")?;
+    let counts = frequencies(rt.alloc(), &words, b"To be, or not to be")?;
     assert!(rt; counts.as_slice() == [2, 2].as_slice());
     Ok(())
 }

@@ -2,9 +2,9 @@
 pub mod Additions
 pub mod Buckets
 pub mod Callers
+pub mod CountedLists
 pub mod CutHaystack
 pub mod Entries
-pub mod GreedyLists
 pub mod IteratedPatterns
 pub mod Iterations
 pub mod LaidOut

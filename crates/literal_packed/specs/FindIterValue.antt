@@ -1,8 +1,9 @@
 -- A search for all matches, one after another: `FindIter`, as contracts see it.
-use Rattle.std.specs.Prelude.{◌≡◌, ℕ, ◌-◌, ◌<◌, false, List, length, Option, Some, None, IfSome}
+use Rattle.std.specs.Prelude.{◌≡◌, ℕ, ◌-◌, ◌<◌, false, List, length, Option, IfSome}
 use Rattle.std.specs.Iterator.{Count, at_most}
 use Rattle.literal_base.specs.Counts.{Counts}
 use Rattle.literal_base.specs.MatchValue.{MatchValue}
+use Rattle.literal_base.specs.Greedy.{place_after}
 use Rattle.literal_base.specs.Occurs.{rest_from}
 use Rattle.literal_base.specs.Leftmost.{IsLeftmost}
 use Rattle.literal_base.specs.Query.{Query}
@@ -14,11 +15,6 @@ pub record FindIterValue : Type 0 where
   pub haystack : List ℕ
   pub at : ℕ
   pub counts : Counts
-
--- where the search goes on: at the end of the match, or at the end of the haystack if there is none
-abbrev pub place_after : List ℕ → Option MatchValue → ℕ
-place_after haystack None = length haystack
-place_after haystack (Some found) = found.end
 
 -- the search after an answer was given, which counts as one search of the rest
 abbrev pub after_answer : FindIterValue → Option MatchValue → FindIterValue

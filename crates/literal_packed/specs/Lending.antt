@@ -1,17 +1,12 @@
 -- What holds of a builder that is lent to a call, which lends it back where it succeeds.
 use Rattle.std.specs.Prelude.{ℕ, ◌⊎◌, List, [], Option, Some, Result}
 use Rattle.std.specs.Borrow.{Bor, MutBor, Fml, RestsIfErr}
-use Rattle.std.specs.Iterator.{Count, Drains, IsFinite, Yields}
+use Rattle.std.specs.Iterator.{Drains, Yields}
 use Rattle.literal_packed.specs.BuilderValue.{AddsAll, BuilderValue, IsBuildable, builder_of}
 use Rattle.literal_packed.specs.ConfigValue.{default_config}
 use Rattle.literal_packed.specs.State.{WouldKeep}
 use Rattle.literal_packed.specs.declared.api.LentBuilder.{LentBuilder}
 use Rattle.literal_packed.specs.contracts.api.Builder.{the_row}
-
--- the patterns can be taken to their end: whatever iterator they become, it may be asked, and it ends
-abbrev pub CanBeTaken : {U T : Type 0} → (U → T → Type 0) → (T → Type 0) → (T → Count) → U → Type 0
-CanBeTaken {U} {T} becomes can_next remaining patterns =
-    (it : T) → becomes patterns it → can_next it × IsFinite (remaining it)
 
 -- if the call that was lent the builder b does not hand it back in its answer, P holds of the builder (`RestsIfErr`)
 abbrev pub HoldsAfterErr : {E : Type 0} → (BuilderValue → Type 0) → MutBor BuilderValue → Result (MutBor BuilderValue) E

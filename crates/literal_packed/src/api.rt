@@ -14,8 +14,8 @@ ghost use Rattle.literal_packed.specs.State.{IsState, WouldKeep, kept_of};
 ghost use Rattle.literal_packed.specs.Pairs.{counts_after};
 ghost use Rattle.literal_packed.specs.FindIterValue.{FindsNext, bytes_left};
 ghost use Rattle.literal_packed.specs.Spending.{SpendsWithin, counts_after_all, counts_after_matches};
-ghost use Rattle.literal_packed.specs.Lending.{CanBeTaken, HoldsAfterErr, LentHoldsAfterErr, HoldsTaken, HoldsAll};
-ghost use Rattle.literal_packed.specs.Lending.{RefusesSearcher};
+ghost use Rattle.literal_base.specs.Given.{CanBeTaken};
+ghost use Rattle.literal_packed.specs.Lending.{HoldsAfterErr, LentHoldsAfterErr, HoldsTaken, HoldsAll, RefusesSearcher};
 
 use crate::pattern::Patterns;
 use crate::rabinkarp::RabinKarp;

@@ -77,15 +77,6 @@ pub fn better_is_tested()
         → (is_better kind patterns i j ≡ true) ↔ IsBetter kind patterns i j }
 {}
 
-/// The matches of a greedy list are non-empty, in order, and don't overlap, and no pattern occurs
-/// whole before the first, between two neighbours, or after the last, with case kept or ignored.
-pub fn greedy_lists_lie_apart()
-    ensures { (query : Query) (ignore_case : Bool) (haystack : List ℕ) (at : ℕ) (all : List MatchValue)
-        → at ≤ length haystack
-        → IsGreedy query ignore_case haystack at all
-        → LieApart query.patterns ignore_case haystack at all }
-{}
-
 /// An iteration over patterns gives each of what is left in turn, then nothing for ever.
 pub fn iterations_over_patterns_end()
     ensures { GivesEachThenNone (λ pair. pair) ⟦<PatternIter<'static> as Iterator>⟧.next_gives }

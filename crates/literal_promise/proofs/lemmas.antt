@@ -1,3 +1,4 @@
 -- Lemmas that several proofs share, by topic.
 pub mod Lists
+pub mod Refused
 pub mod Runs

@@ -1,1 +1,2 @@
+pub mod AnyList
 pub mod Together

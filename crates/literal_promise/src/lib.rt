@@ -22,6 +22,7 @@ ghost use Rattle.literal_prefilters.specs.PrefilterValue.{IsAnswer};
 ghost use Rattle.literal_prefilters.specs.Sound.{Sound};
 ghost use Rattle.literal_promise.specs.Together.{IsIteration, asked_builder, asked_query};
 
+pub mod any_list;
 pub mod covered;
 
 use covered::{confirm_covered, covered_patterns};

@@ -149,7 +149,7 @@ fn searcher(alloc: Global, words: &[String]) -> Result<ModeSearcher, Fault>
 }
 
 /// A line for each match, all of which are searched for. It stays out of line, by which the loop of the
-/// search comes to lie in the program where no jump of it crosses 32 bytes (docs/DECISIONS.md). An edit
+/// search comes to lie in the program where no jump of it crosses 32 bytes (docs/MEASURED.md). An edit
 /// of what lies before that loop may move it, and then a search with few patterns takes 25 to 40 percent
 /// more time, as `checks/speed` shows.
 #[inline(never)]

@@ -7,9 +7,9 @@ use Rattle.std.specs.declared.io.ErrorKind.TheVariants as kind
 use Rattle.literal_base.specs.Occurs.{NoneIsEmpty, pattern_at}
 use Rattle.literal_base.specs.declared.search.MatchKind.TheVariants.{LeftmostLongest}
 use Rattle.literal_ids.specs.declared.primitives.pattern_id.TheConstants.PatternID
-use Rattle.literal_automaton.specs.DfaValue.{NeedTooManyStates}
-use Rattle.literal_automaton.specs.declared.BuildError.{BuildError}
-use Rattle.literal_automaton.specs.declared.BuildError.TheVariants as build
+use Rattle.literal_search.specs.SearchValue.{NeedTooManyStates}
+use Rattle.literal_search.specs.declared.BuildError.{BuildError}
+use Rattle.literal_search.specs.declared.BuildError.TheVariants as build
 use Rattle.litscan.specs.declared.fault.Fault.{Fault}
 use Rattle.litscan.specs.declared.fault.Fault.TheVariants.{EmptyWord, NoFile, NoText, OutOfMemory, ReadFailed}
 use Rattle.litscan.specs.declared.fault.Fault.TheVariants.{TooManyWords, Unread, Usage, WriteFailed}

@@ -1,7 +1,7 @@
 //! What follows from the definitions.
 ghost use Rattle.std.specs.Prelude.{◌≡◌, ◌+◌, ◌++◌, ◌∷◌, ℕ, List, length};
 ghost use Rattle.std.specs.List.{flat_map};
-ghost use Rattle.literal_automaton.specs.DfaValue.{DfaValue};
+ghost use Rattle.literal_search.specs.SearchValue.{SearchValue};
 ghost use Rattle.litscan.specs.Lines.{AreLinesOf, lines_of, with_feed};
 ghost use Rattle.litscan.specs.Printed.{PrintsLine, PrintsLines, counts};
 ghost use Rattle.litscan.specs.declared.request.Options.{Options};
@@ -16,7 +16,7 @@ pub fn lines_make_the_text()
 /// What is printed of a line stands behind what is printed of the lines in front of it, with a number that is one more
 /// than these are, and at an offset that is the length of these with their line feeds.
 pub fn lines_are_printed_in_turn()
-    ensures { (search : DfaValue) (options : Options) (front more : List (List ℕ)) (line out : List ℕ)
+    ensures { (search : SearchValue) (options : Options) (front more : List (List ℕ)) (line out : List ℕ)
         → PrintsLines search options 1 0 (front ++ line ∷ more) out
         → (before part after : List ℕ) × (out ≡ before ++ (part ++ after))
         × PrintsLines search options 1 0 front before

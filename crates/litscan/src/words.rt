@@ -1,7 +1,7 @@
 //! The words, and the search for them.
 ghost use Rattle.std.specs.Prelude.{◌≡◌, ◌⊎◌, ◌++◌, ℕ, List, IfErr, IfOk, map, string_bytes};
 ghost use Rattle.literal_base.specs.declared.packed.MatchKind.TheVariants.{LeftmostLongest};
-ghost use Rattle.literal_automaton.specs.DfaValue.{dfa_for};
+ghost use Rattle.literal_search.specs.SearchValue.{search_by};
 ghost use Rattle.litscan.specs.Fault.{IsReadFault, RefusesWords};
 ghost use Rattle.litscan.specs.Lines.{lines_of};
 ghost use Rattle.litscan.specs.Printed.{ReadsAll};
@@ -28,7 +28,7 @@ pub fn bytes_of(alloc: Global, words: &[String]) -> Result<Vec<Vec<u8>>, AllocEr
 /// The search for these words.
 pub fn search_for(alloc: Global, ignore_case: bool, words: &[Vec<u8>]) -> Result<Search, Fault>
     ensures built { IfOk result (λ search. search
-        ≡ dfa_for LeftmostLongest ignore_case (map (λ word. word.items) words.now)) }
+        ≡ search_by LeftmostLongest ignore_case (map (λ word. word.items) words.now)) }
     ensures error { IfErr result (RefusesWords ignore_case (map (λ word. word.items) words.now)) }
 {
     let words = words.iter().map(|word| word.as_slice());
@@ -47,7 +47,7 @@ pub fn search_with_lines<R: BufRead>(
 ) -> Result<Search, Fault>
     ensures built { IfOk result (λ search. (text : List ℕ)
         × ReadsAll (R.remaining reader.old.inner) (R.remaining reader.new.inner) text
-        × (search ≡ dfa_for LeftmostLongest ignore_case (map string_bytes words.now ++ lines_of text))) }
+        × (search ≡ search_by LeftmostLongest ignore_case (map string_bytes words.now ++ lines_of text))) }
     ensures error { IfErr result (λ fault. IsReadFault reader.new.failure fault ⊎ (fault ≡ OutOfMemory)
         ⊎ ((text : List ℕ) × ReadsAll (R.remaining reader.old.inner) (R.remaining reader.new.inner) text
         × RefusesWords ignore_case (map string_bytes words.now ++ lines_of text) fault)) }

@@ -6,9 +6,9 @@ use std::io;
 fn main(rt: HostRuntime) -> io::Result<()> {
     let words = [b"apple".as_slice(), b"maple", b"Snapple"];
     let text = b"Nobody likes maple in their apple flavored Snapple.";
-    // There is no search where a pattern is empty, or memory is refused.
-    let Ok(search) = Search::new(rt.alloc(), MatchKind::LeftmostFirst, false, words) else {
-        return Ok(());
+    let search = match Search::new(rt.alloc(), MatchKind::LeftmostFirst, false, words) {
+        Ok(search) => search,
+        Err(error) => return eprintln!(rt; "no search: {error}"),
     };
     for found in search.find_iter(text) {
         let (word, span) = (found.pattern().as_usize(), found.span());

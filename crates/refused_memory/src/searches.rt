@@ -1,7 +1,7 @@
-//! Calls of `Search` and `Overlapping`.
+//! Calls of `Search`, `Linear` and `Overlapping`.
 use crate::made::{assert_place, words_with_a_table, words_without_a_table};
 use literal_base::count::Tally;
-use literal_search::{BuildError, MatchKind, Overlapping, Search, Span};
+use literal_search::{BuildError, Linear, Match, MatchKind, Overlapping, Search, Span};
 use std::alloc::{AllocError, Global};
 use std::process::Abort;
 use std::test::Fail;
@@ -67,6 +67,91 @@ fn new_of_overlapping(rt: HostRuntime) {
     assert_overlaps(&rt, &search);
 }
 
+/// A search for all matches of patterns, of which one is a front of another.
+fn build_linear(alloc: Global) -> Result<Linear, BuildError> {
+    let words = [b"ab".as_slice(), b"a", b"b"];
+    Linear::new(alloc, MatchKind::LeftmostFirst, true, words)
+}
+
+/// It finds nothing, for which it takes no memory.
+fn assert_finds_nothing(rt: &impl Abort, search: &Linear) {
+    let none = search.find_all(b"qq").expect(rt, "it takes no memory");
+    assert!(rt; none.is_empty() && search.patterns_len() == 3);
+}
+
+#[test]
+fn new_of_linear(rt: HostRuntime) {
+    let search = match build_linear(rt.alloc()) {
+        Ok(search) => search,
+        Err(error) => {
+            assert!(rt; error == BuildError::OutOfMemory);
+            build_linear(rt.alloc()).expect(&rt, "it was refused again")
+        }
+    };
+    assert_finds_nothing(&rt, &search);
+}
+
+#[test]
+fn find_all_of_linear(rt: HostRuntime) -> Result<(), AllocError> {
+    let built = build_linear(rt.alloc()).or(Err(AllocError));
+    let (search, haystack) = (built?, b"qqABqb");
+    let all = match search.find_all(haystack) {
+        Ok(all) => all,
+        Err(_) => {
+            assert_finds_nothing(&rt, &search);
+            let again = search.find_all(haystack);
+            again.expect(&rt, "it was refused again")
+        }
+    };
+    assert_place(&rt, all.first().copied(), 0, (2, 4));
+    assert!(rt; all.len() == 2);
+    Ok(())
+}
+
+/// The matches of four bytes, one after another.
+fn iterate(alloc: Global, search: &Linear) -> Result<Vec<Match>, AllocError> {
+    let matches = search.find_iter_in(b"ABqb", Span { start: 0, end: 4 })?;
+    matches.collect(alloc)
+}
+
+#[test]
+fn find_iter_of_linear(rt: HostRuntime) -> Result<(), AllocError> {
+    let built = build_linear(rt.alloc()).or(Err(AllocError));
+    let search = built?;
+    let all = match iterate(rt.alloc(), &search) {
+        Ok(all) => all,
+        Err(_) => {
+            assert_finds_nothing(&rt, &search);
+            iterate(rt.alloc(), &search).expect(&rt, "it was refused again")
+        }
+    };
+    assert_place(&rt, all.first().copied(), 0, (0, 2));
+    assert!(rt; all.len() == 2);
+    Ok(())
+}
+
+/// How many matches there are in what a reader gives.
+fn count_read(rt: &impl Abort, alloc: Global, search: &Search) -> Result<usize, AllocError> {
+    let mut count: usize = 0;
+    for found in search.find_stream(alloc, b"qaxaxeq".as_slice())? {
+        assert!(rt; found.is_ok());
+        count = count.saturating_add(1);
+    }
+    Ok(count)
+}
+
+#[test]
+fn find_stream_of_a_search(rt: HostRuntime) -> Result<(), AllocError> {
+    let built = build(rt.alloc(), false, false).or(Err(AllocError));
+    let search = built?;
+    let count = match count_read(&rt, rt.alloc(), &search) {
+        Ok(count) => count,
+        Err(_) => count_read(&rt, rt.alloc(), &search).expect(&rt, "it was refused again"),
+    };
+    assert!(rt; count == 2);
+    Ok(())
+}
+
 #[test]
 fn new_of_no_pattern_takes_no_memory(rt: HostRuntime) {
     let (none, said): ([&[u8]; 0], &str) = ([], "it takes no memory");
@@ -74,6 +159,8 @@ fn new_of_no_pattern_takes_no_memory(rt: HostRuntime) {
     assert!(rt; search.find(b"qq").is_none());
     let all = Overlapping::new(rt.alloc(), true, none).expect(&rt, said);
     assert!(rt; all.find_overlapping_iter(b"qq").next().is_none());
+    let linear = Linear::new(rt.alloc(), MatchKind::LeftmostFirst, true, none).expect(&rt, said);
+    assert!(rt; linear.find_all(b"qq").expect(&rt, said).is_empty());
 }
 
 /// Two matches, by the call that counts, which can be refused too.

@@ -3,8 +3,8 @@ use crate::case::Case;
 use crate::refusal::Refusal;
 use crate::told::push_also;
 use crate::{
-    classes, identifiers, numbers, overlapping, packed_search, pattern_lists, prefilters, searches,
-    spans, tables,
+    classes, identifiers, linear, numbers, overlapping, packed_search, pattern_lists, prefilters,
+    searches, spans, tables,
 };
 use std::alloc::{AllocError, Global};
 
@@ -59,6 +59,8 @@ fn answer(text: &mut String, alloc: Global, case: &Case<'_>) -> Result<(), Refus
         "search" => searches::search(text, alloc, case),
         "search_in" => searches::search_in(text, alloc, case),
         "earliest_end" => searches::earliest_end(text, alloc, case),
+        "linear" => linear::linear(text, alloc, case),
+        "linear_in" => linear::linear_in(text, alloc, case),
         "overlapping" => overlapping::overlapping(text, alloc, case),
         "overlapping_in" => overlapping::overlapping_in(text, alloc, case),
         "confirm" => searches::confirm(text, alloc, case),

@@ -27,6 +27,7 @@ mod bytes;
 mod case;
 mod classes;
 mod identifiers;
+mod linear;
 mod numbers;
 mod overlapping;
 mod packed_search;

@@ -1,14 +1,29 @@
--- What is known of lists with a value for each byte, of marks and classes, and of each byte that a `for` takes of a
--- class.
+-- What is known of lists with a value for each byte, of marks and classes, of each byte that a `for` takes of a class,
+-- and of what was given as a slice, an array or a vector.
 -- For callers: their proofs cite this file, and no other of this crate's proofs.
 use Rattle.std.proofs.Common.{◌≡◌, ◌==◌, ℕ, ◌+◌, ◌<◌, ◌≤◌, ◌||◌, ◌↔◌, Bool, true, false, List, [], ◌∷◌, ◌++◌}
 use Rattle.std.proofs.Common.{length, get_or, slice_index, take, zero, suc, cond, sym, refl, ap, subst, ⊎_elim, ◌∙◌}
 use Rattle.std.proofs.Common.{arith}
+use Rattle.std.proofs.Common.{◌^◌, Option}
+use Rattle.std.specs.Array.Iter.{array_into_iter_items, array_steps, array_steps_back}
+use Rattle.std.specs.declared.array.IntoIter.{IntoIter}
+use Rattle.std.specs.declared.iter.Copied.{Copied}
+use Rattle.std.specs.declared.slice.Iter.{Iter}
+use Rattle.std.specs.declared.vec.IntoIter.{IntoIter as VecIntoIter}
+use Rattle.std.specs.declared.vec.Vec.{Vec}
+use Rattle.std.specs.Iterator.{Drains}
+use Rattle.std.specs.Iterator.Adapters.{copied_source, copied_steps}
+use Rattle.std.specs.Iterator.Runs.{EveryRun, ItemsAre, ItemsAreReversed}
 use Rattle.std.specs.List.{All, list_any}
+use Rattle.std.specs.Slice.Iter.{iter_rest, iter_steps}
+use Rattle.std.specs.Vec.Iter.{into_iter_items, into_iter_len, into_iter_steps}
 use Rattle.std.specs.Prelude.{count_by, replicate}
 use Rattle.std.proofs.lemmas.Bool.{cases_Bool, cases_lt, both_ways, eqb-true}
 use Rattle.std.proofs.lemmas.Bool.Decides.{nat_tests}
-use Rattle.std.proofs.lemmas.List.{get_or-replicate, length-replicate, get_or_past, length-append}
+use Rattle.std.proofs.lemmas.Iterator.{YieldsList, YieldsList-from_slice, items_from_drains}
+use Rattle.std.proofs.lemmas.Iterator.Adapters.{YieldsList-from_vec}
+use Rattle.std.proofs.lemmas.Iterator.Consumers.{YieldsList-from_copied, YieldsList-from_shown}
+use Rattle.std.proofs.lemmas.List.{get_or-replicate, length-replicate, get_or_past, length-append, map-id}
 use Rattle.std.proofs.lemmas.List.Elements.{filter_passes}
 use Rattle.std.proofs.lemmas.List.Folds.{list_any-append, list_any_at, list_any_none}
 use Rattle.std.proofs.lemmas.List.FromFn.{length-map-range_with_len, get_or-map-range_with_len, fill_by_all}
@@ -155,3 +170,49 @@ element_has_class classes class taken rest byte left split next =
     eqb-true (slice_index classes byte) class
     (subst (λ b. (slice_index classes b == class) ≡ true) here
     (filter_passes (λ b. slice_index classes b == class) all_bytes (length taken) 0 within))
+
+-- whichever iterator the given value becomes, that gives this list and ends
+pub record GivesList {U T A : Type 0} (becomes : U → T → Type 0) (steps : T → Option A → T → Type 0) (given : U)
+    (list : List A) : Type 0 where
+  pub each : (it : T) → becomes given it → YieldsList steps (λ x. x) it list
+
+-- `list.iter().copied()` gives the slice's list: what `copied` and `iter` ensure says of which list it is
+pub slice_gives : {A : Type 0} {given : Copied (Iter A)} (list : List A) → iter_rest (copied_source given) ≡ list
+    → GivesList (λ s r. r ≡ s) (copied_steps (iter_steps {A = A})) given list
+slice_gives list is = record {
+  each = λ it same.
+      YieldsList-from_copied {s = it} (YieldsList-from_slice {s = copied_source it} list
+      (ap (λ i. iter_rest (copied_source i)) same ∙ is));
+}
+
+-- an array by value gives its list
+pub array_gives : {A : Type 0} {n : ℕ} (list : List A)
+    → GivesList
+    (λ (xs : List A) (r : IntoIter A n). (array_into_iter_items r ≡ xs) × (length (array_into_iter_items r) ≡ n)
+    × EveryRun (array_steps {A = A} {n = n}) (λ p. ItemsAre p (array_into_iter_items p.from))
+    × EveryRun (array_steps_back {A = A} {n = n}) (λ p. ItemsAreReversed p (array_into_iter_items p.from)))
+    (array_steps {A = A} {n = n}) list list
+array_gives {A} {n} list = record {
+  each = λ it becomes.
+      subst (YieldsList (array_steps {A = A} {n = n}) (λ x. x) it) becomes.0
+      (YieldsList-from_shown (array_steps {A = A} {n = n}) (λ x. x) array_into_iter_items (λ s t h. h.0)
+      (λ s x t h. h) it);
+}
+
+-- a vector by value gives its list
+pub vec_gives : {A Z : Type 0} (vec : Vec A Z)
+    → GivesList
+    (λ (v : Vec A Z) (r : VecIntoIter A Z). (into_iter_items r ≡ v.items) × (into_iter_len r ≡ v.len)
+    × (into_iter_len r < 2 ^ 64)
+    × EveryRun (into_iter_steps {X = A} {Z = Z}) (λ p. ItemsAre p (into_iter_items p.from)))
+    (into_iter_steps {X = A} {Z = Z}) vec vec.items
+vec_gives vec = record { each = λ it becomes. YieldsList-from_vec vec.items becomes.0 (becomes.1 ∙ vec.ok.0) }
+
+-- What a call says of all items of an iterator it says of the list that is given, as by `array_gives`.
+module _ {U T A : Type 0} {becomes : U → T → Type 0} {steps : T → Option A → T → Type 0} {given : U} {list : List A}
+    (gives : GivesList becomes steps given list) where
+  -- the items are the list
+  pub items_are : (it : T) (items : List A) → becomes given it → Drains steps it items → items ≡ list
+  items_are it items is_iterator drains =
+      sym (map-id items)
+      ∙ items_from_drains items (drains.1.0, drains.1.1, λ _. (drains.0, drains.1.2)) (gives.each it is_iterator)

@@ -13,7 +13,7 @@ use Rattle.literal_base.specs.Leftmost.{IsLeftmostMatch}
 use Rattle.literal_base.specs.MatchValue.{MatchValue}
 use Rattle.literal_base.specs.Occurs.{NothingOccurs, between, rest_from}
 use Rattle.literal_base.specs.Query.{Query}
-use Rattle.literal_automaton.specs.OverlappingMatchesValue.{GivesOverlapping, OverlappingMatchesValue}
+use Rattle.literal_search.specs.OverlappingMatchesValue.{GivesOverlapping, OverlappingMatchesValue}
 use Rattle.literal_c.specs.Answers.{AreNext, MayBeFound, match_of}
 use Rattle.literal_c.specs.declared.LiteralMatch.{LiteralMatch}
 

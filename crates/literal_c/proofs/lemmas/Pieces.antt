@@ -11,12 +11,12 @@ use Rattle.std.specs.Iterator.{Drains, Yields, YieldsFirstRef}
 use Rattle.std.specs.List.{AllZip}
 use Rattle.literal_base.specs.declared.packed.MatchKind.{MatchKind}
 use Rattle.literal_base.specs.Occurs.{NoneIsEmpty}
-use Rattle.literal_automaton.specs.Overlapping.{BuildsOverlapping, OverlappingValue}
+use Rattle.literal_search.specs.Overlapping.{BuildsOverlapping, OverlappingValue}
 use Rattle.literal_c.specs.Overlapping.{overlapping_for}
-use Rattle.literal_automaton.specs.DfaValue.{BuildsDfa, DfaValue, GivesNext, RefusesDfa, dfa_for}
-use Rattle.literal_automaton.specs.declared.BuildError.{BuildError}
-use Rattle.literal_automaton.specs.declared.BuildError.TheVariants.{EmptyPattern, OutOfMemory, TooManyPatterns}
-use Rattle.literal_automaton.specs.declared.BuildError.TheVariants.{TooManyStates}
+use Rattle.literal_search.specs.SearchValue.{BuildsSearch, SearchValue, GivesNext, RefusesSearch, search_by}
+use Rattle.literal_search.specs.declared.BuildError.{BuildError}
+use Rattle.literal_search.specs.declared.BuildError.TheVariants.{EmptyPattern, OutOfMemory, TooManyPatterns}
+use Rattle.literal_search.specs.declared.BuildError.TheVariants.{TooManyStates}
 use Rattle.literal_c.specs.declared.LiteralAnswer.{LiteralAnswer}
 use Rattle.literal_c.specs.Pieces.{AreEnds, pieces}
 
@@ -49,11 +49,11 @@ drained left (item ∷ more) run =
     ap (λ ps. item.now ∷ ps) rest ∙ sym run.1.1.1
 
 -- what is built for pieces that are handed over one after another
-pub built_for : (kind : MatchKind) (ignore_case : Bool) (left : List (List ℕ)) (built : DfaValue)
-    → BuildsDfa (λ (patterns it : List (List ℕ)). it ≡ patterns) (YieldsFirstRef (λ (s : List (List ℕ)). s)) left kind
-    ignore_case built → built ≡ dfa_for kind ignore_case left
+pub built_for : (kind : MatchKind) (ignore_case : Bool) (left : List (List ℕ)) (built : SearchValue)
+    → BuildsSearch (λ (patterns it : List (List ℕ)). it ≡ patterns) (YieldsFirstRef (λ (s : List (List ℕ)). s)) left
+    kind ignore_case built → built ≡ search_by kind ignore_case left
 built_for kind ignore_case left built (patterns, (it, items, is_iterator, drains, are, can), is) =
-    is ∙ ap (dfa_for kind ignore_case) (are ∙ (drained it items drains ∙ is_iterator))
+    is ∙ ap (search_by kind ignore_case) (are ∙ (drained it items drains ∙ is_iterator))
 
 pub all_built_for : (ignore_case : Bool) (left : List (List ℕ)) (built : OverlappingValue)
     → BuildsOverlapping (λ (patterns it : List (List ℕ)). it ≡ patterns) (YieldsFirstRef (λ (s : List (List ℕ)). s))
@@ -63,7 +63,7 @@ all_built_for ignore_case left built (patterns, (it, items, is_iterator, drains,
 
 -- where there is no search for pieces that are handed over, since they need too many states, they do need them
 pub too_many_for : (P : List (List ℕ) → Type 0) (left : List (List ℕ)) (error : BuildError)
-    → RefusesDfa (λ (patterns it : List (List ℕ)). it ≡ patterns) (YieldsFirstRef (λ (s : List (List ℕ)). s)) left P
+    → RefusesSearch (λ (patterns it : List (List ℕ)). it ≡ patterns) (YieldsFirstRef (λ (s : List (List ℕ)). s)) left P
     error → error ≡ TooManyStates → P left
 too_many_for P left TooManyStates (patterns, (it, items, is_iterator, drains, are, can), too_many) is =
     subst P (are ∙ (drained it items drains ∙ is_iterator)) too_many
@@ -89,7 +89,7 @@ given_next left patterns next one =
 
 -- where there is no search for pieces, there is one of them, if none do not need too many states
 pub some_for : (P : List (List ℕ) → Type 0) (left : List (List ℕ)) (error : BuildError)
-    → RefusesDfa (λ (patterns it : List (List ℕ)). it ≡ patterns) (YieldsFirstRef (λ (s : List (List ℕ)). s)) left P
+    → RefusesSearch (λ (patterns it : List (List ℕ)). it ≡ patterns) (YieldsFirstRef (λ (s : List (List ℕ)). s)) left P
     error → ¬ P [] → 0 < length left
 some_for P left TooManyStates refused few = by left (too_many_for P left TooManyStates refused refl)
   where

@@ -1,5 +1,5 @@
 use Rattle.std.proofs.Common.{subst, sym}
-use Rattle.literal_automaton.specs.Prepared.{ForPrepared, IsPrepared}
+use Rattle.literal_search.specs.Prepared.{ForPrepared, IsPrepared}
 use Rattle.literal_c.proofs.lemmas.Statuses.{damaged}
 use Rattle.literal_c.proofs.literal_count_in.Goals as goal
 

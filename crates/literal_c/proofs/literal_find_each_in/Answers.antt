@@ -1,5 +1,5 @@
 use Rattle.std.proofs.Common.{length, ap, arith, subst, sym}
-use Rattle.literal_automaton.specs.Prepared.{ForPrepared, IsPrepared}
+use Rattle.literal_search.specs.Prepared.{ForPrepared, IsPrepared}
 use Rattle.literal_c.proofs.lemmas.Pieces.{pieces_are_as_many}
 use Rattle.literal_c.proofs.lemmas.Statuses.{damaged}
 use Rattle.literal_c.proofs.literal_find_each_in.Goals as goal

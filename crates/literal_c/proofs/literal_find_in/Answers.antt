@@ -2,7 +2,7 @@ use Rattle.std.proofs.Common.{Option, subst, sym}
 use Rattle.literal_base.specs.Leftmost.{IsLeftmost, IsLeftmostMatch}
 use Rattle.literal_base.specs.MatchValue.{MatchValue}
 use Rattle.literal_base.specs.Occurs.{between}
-use Rattle.literal_automaton.specs.Prepared.{ForPrepared, IsPrepared}
+use Rattle.literal_search.specs.Prepared.{ForPrepared, IsPrepared}
 use Rattle.literal_c.specs.Answers.{match_of}
 use Rattle.literal_c.proofs.lemmas.Statuses.{damaged}
 use Rattle.literal_c.proofs.literal_find_in.Goals as goal

@@ -1,5 +1,5 @@
 use Rattle.std.proofs.Common.{ap, refl}
-use Rattle.literal_automaton.specs.OverlappingMatchesValue.{OverlappingMatchesValue}
+use Rattle.literal_search.specs.OverlappingMatchesValue.{OverlappingMatchesValue}
 use Rattle.literal_c.proofs.literal_find_overlapping.Goals as goal
 
 pub returns-in-Err-write_overlapping-clause-status : goal.returns-in-Err-write_overlapping-clause-status

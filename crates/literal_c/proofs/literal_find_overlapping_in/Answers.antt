@@ -1,7 +1,7 @@
 use Rattle.std.proofs.Common.{◌∙◌, ap, refl, subst, sym}
 use Rattle.literal_base.specs.Occurs.{between}
-use Rattle.literal_automaton.specs.PreparedOverlapping.{ForOverlapping, IsPreparedOverlapping, PreparedMatchesValue}
-use Rattle.literal_automaton.specs.PreparedOverlapping.{matches_for}
+use Rattle.literal_search.specs.PreparedOverlapping.{ForOverlapping, IsPreparedOverlapping}
+use Rattle.literal_search.specs.PreparedOverlapping.{PreparedOverlappingMatchesValue, matches_for}
 use Rattle.literal_c.specs.Overlapping.{all_that_occurs}
 use Rattle.literal_c.proofs.lemmas.Statuses.{damaged}
 use Rattle.literal_c.proofs.literal_find_overlapping_in.Goals as goal
@@ -13,7 +13,8 @@ returns-in-Err-clause-status c =
     (λ search is _. c.in-Err.ensures.page
     (all_that_occurs search c.args.haystack.now (between c.args.start c.args.end)) (
       subst (IsPreparedOverlapping search)
-          (sym (ap (λ (v : PreparedMatchesValue). v.numbers) c.find_overlapping_in-matches.ensures ∙ c.in-Ok.ensures.0))
+          (sym (ap (λ (v : PreparedOverlappingMatchesValue). v.numbers) c.find_overlapping_in-matches.ensures
+          ∙ c.in-Ok.ensures.0))
           is,
       sym (ap (matches_for search) c.find_overlapping_in-matches.ensures),
     )

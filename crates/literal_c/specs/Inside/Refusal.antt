@@ -1,6 +1,6 @@
 -- Why there is no search.
 use Rattle.std.specs.Prelude.{ℕ, ℤ, ◌<◌, List, length}
-use Rattle.literal_automaton.specs.DfaValue.{CanBeKept}
+use Rattle.literal_search.specs.SearchValue.{CanBeKept}
 use Rattle.literal_c.specs.declared.TheConstants.{LITERAL_BAD_ARGUMENTS, LITERAL_NO_SEARCHER, LITERAL_OUT_OF_MEMORY}
 use Rattle.literal_c.specs.declared.TheConstants.{LITERAL_TOO_LARGE}
 use Rattle.literal_c.specs.declared.arguments.Refusal.{Refusal}

@@ -1,31 +1,18 @@
--- What callers take from this crate beside its contracts and laws: patterns that were given as a slice, an array or a
--- vector, builders to which patterns are added in turn, iterations over patterns, and iterations over matches.
+-- What callers take from this crate beside its contracts and laws: builders to which patterns are added, all at once or
+-- in turn, iterations over patterns, and iterations over matches.
 -- For callers.
-use Rattle.std.proofs.Common.{◌≡◌, ◌<◌, ◌^◌, ℕ, Bool, true, false, cond, nat_lt, List, [], ◌∷◌, length, map}
+use Rattle.std.proofs.Common.{◌≡◌, ◌<◌, ℕ, Bool, true, false, cond, nat_lt, List, [], ◌∷◌, length, map}
 use Rattle.std.proofs.Common.{Option, Some, None, IfSome, refl, sym, ap, ◌∙◌, subst, ⊎_elim, ◌++◌, ltb, arith}
 use Rattle.std.proofs.Common.{Result, Ok, Err, IsOk, OnErr, ◌⊎◌, inl, inr}
 use Rattle.std.proofs.Common.{◌&&◌, append_assoc, append-nil, get_or, is_some, nat_le, suc, take, zero}
-use Rattle.std.specs.Array.Iter.{array_into_iter_items, array_steps, array_steps_back}
 use Rattle.std.specs.Borrow.{Bor}
-use Rattle.std.specs.declared.array.IntoIter.{IntoIter}
-use Rattle.std.specs.declared.iter.Copied.{Copied}
-use Rattle.std.specs.declared.slice.Iter.{Iter}
-use Rattle.std.specs.declared.vec.IntoIter.{IntoIter as VecIntoIter}
-use Rattle.std.specs.declared.vec.Vec.{Vec}
-use Rattle.std.specs.Iterator.Adapters.{copied_source, copied_steps}
-use Rattle.std.specs.Iterator.Runs.{EveryRun, ItemsAre, ItemsAreReversed}
-use Rattle.std.specs.Slice.Iter.{iter_rest, iter_steps}
-use Rattle.std.specs.Vec.Iter.{into_iter_items, into_iter_len, into_iter_steps}
 use Rattle.std.proofs.lemmas.Bool.{cases_Bool, cond-true, cond-false, ltb-true}
-use Rattle.std.proofs.lemmas.Iterator.{YieldsList, YieldsList-from_slice, items_from_drains}
-use Rattle.std.proofs.lemmas.Iterator.Adapters.{YieldsList-from_vec}
-use Rattle.std.proofs.lemmas.Iterator.Consumers.{YieldsList-from_copied, YieldsList-from_shown}
 use Rattle.std.proofs.lemmas.Bool.Decides.{nat_tests}
-use Rattle.std.proofs.lemmas.List.{length-append, length-map, map-id}
+use Rattle.std.proofs.lemmas.List.{length-append, length-map}
 use Rattle.std.proofs.lemmas.List.Folds.{list_all-append}
 use Rattle.std.proofs.lemmas.List.FromFn.{length-range_with_len}
 use Rattle.std.proofs.lemmas.List.Sorted.{length_permutation}
-use Rattle.std.specs.Iterator.{Drains, Yields}
+use Rattle.std.specs.Iterator.{Yields}
 use Rattle.std.specs.List.{list_all, range_with_len}
 use Rattle.literal_base.specs.Counts.{none_yet}
 use Rattle.literal_base.specs.MatchValue.{MatchValue}
@@ -39,44 +26,8 @@ use Rattle.literal_packed.specs.FindIterValue.{FindIterValue, FindsNext}
 use Rattle.literal_packed.specs.Lending.{HoldsAll}
 use Rattle.literal_packed.specs.PatternsValue.{PatternsValue, IsWellFormed, in_order}
 use Rattle.literal_packed.specs.State.{WouldKeep, kept_of, may_keep, state_after, state_of}
-use Rattle.literal_packed.proofs.lemmas.GreedyLists.{found_occurs}
-
--- whichever iterator the given value becomes, that gives this list and ends
-pub record GivesList {U T A : Type 0} (becomes : U → T → Type 0) (steps : T → Option A → T → Type 0) (given : U)
-    (list : List A) : Type 0 where
-  pub each : (it : T) → becomes given it → YieldsList steps (λ x. x) it list
-
--- `list.iter().copied()` gives the slice's list: what `copied` and `iter` ensure says of which list it is
-pub slice_gives : {A : Type 0} {given : Copied (Iter A)} (list : List A) → iter_rest (copied_source given) ≡ list
-    → GivesList (λ s r. r ≡ s) (copied_steps (iter_steps {A = A})) given list
-slice_gives list is = record {
-  each = λ it same.
-      YieldsList-from_copied {s = it} (YieldsList-from_slice {s = copied_source it} list
-      (ap (λ i. iter_rest (copied_source i)) same ∙ is));
-}
-
--- an array by value gives its list
-pub array_gives : {A : Type 0} {n : ℕ} (list : List A)
-    → GivesList
-    (λ (xs : List A) (r : IntoIter A n). (array_into_iter_items r ≡ xs) × (length (array_into_iter_items r) ≡ n)
-    × EveryRun (array_steps {A = A} {n = n}) (λ p. ItemsAre p (array_into_iter_items p.from))
-    × EveryRun (array_steps_back {A = A} {n = n}) (λ p. ItemsAreReversed p (array_into_iter_items p.from)))
-    (array_steps {A = A} {n = n}) list list
-array_gives {A} {n} list = record {
-  each = λ it becomes.
-      subst (YieldsList (array_steps {A = A} {n = n}) (λ x. x) it) becomes.0
-      (YieldsList-from_shown (array_steps {A = A} {n = n}) (λ x. x) array_into_iter_items (λ s t h. h.0)
-      (λ s x t h. h) it);
-}
-
--- a vector by value gives its list
-pub vec_gives : {A Z : Type 0} (vec : Vec A Z)
-    → GivesList
-    (λ (v : Vec A Z) (r : VecIntoIter A Z). (into_iter_items r ≡ v.items) × (into_iter_len r ≡ v.len)
-    × (into_iter_len r < 2 ^ 64)
-    × EveryRun (into_iter_steps {X = A} {Z = Z}) (λ p. ItemsAre p (into_iter_items p.from)))
-    (into_iter_steps {X = A} {Z = Z}) vec vec.items
-vec_gives vec = record { each = λ it becomes. YieldsList-from_vec vec.items becomes.0 (becomes.1 ∙ vec.ok.0) }
+use Rattle.literal_base.proofs.lemmas.Callers.{GivesList, items_are}
+use Rattle.literal_base.proofs.lemmas.GreedyLists.{found_occurs}
 
 -- a searcher that is built is for the patterns that were added, and for the builder's kind
 module _ (config : ConfigValue) (added : List (List ℕ)) where
@@ -99,15 +50,6 @@ module _ (config : ConfigValue) (added : List (List ℕ)) where
       (some_searcher (nat_lt 0 (length added))))
       (λ refused. subst IsForState (sym (cond-false may (Some added) None refused)) tt)
       (cases_Bool may))
-
--- What a call says of all items of an iterator it says of the list that is given, as by `array_gives`.
-module _ {U T A : Type 0} {becomes : U → T → Type 0} {steps : T → Option A → T → Type 0} {given : U} {list : List A}
-    (gives : GivesList becomes steps given list) where
-  -- the items are the list
-  pub items_are : (it : T) (items : List A) → becomes given it → Drains steps it items → items ≡ list
-  items_are it items is_iterator drains =
-      sym (map-id items)
-      ∙ items_from_drains items (drains.1.0, drains.1.1, λ _. (drains.0, drains.1.2)) (gives.each it is_iterator)
 
 module _ {U T : Type 0} {becomes : U → T → Type 0} {steps : T → Option (Bor (List ℕ)) → T → Type 0} {given : U}
     {list : List (Bor (List ℕ))} (gives : GivesList becomes steps given list) where

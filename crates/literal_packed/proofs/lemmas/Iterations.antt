@@ -7,12 +7,12 @@ use Rattle.literal_base.specs.Counts.{none_yet}
 use Rattle.literal_base.specs.MatchValue.{MatchValue}
 use Rattle.literal_base.specs.Query.{Query}
 use Rattle.literal_base.specs.Leftmost.{IsLeftmost}
-use Rattle.literal_packed.specs.FindIterValue.{FindIterValue, FindsNext, StandsAtEnd, after_answer, place_after}
+use Rattle.literal_packed.specs.FindIterValue.{FindIterValue, FindsNext, StandsAtEnd, after_answer}
+use Rattle.literal_base.specs.Greedy.{place_after, IsGreedy}
 use Rattle.literal_base.specs.Occurs.{rest_from}
 use Rattle.literal_packed.specs.Pairs.{counts_after}
 use Rattle.literal_packed.specs.Spending.{SpendsAtMost, SpendsWithin, counts_after_all}
-use Rattle.literal_base.specs.Greedy.{IsGreedy}
-use Rattle.literal_packed.proofs.lemmas.GreedyLists.{IsGreedyBefore, greedy_all}
+use Rattle.literal_base.proofs.lemmas.GreedyLists.{IsGreedyBefore, greedy_all}
 use Rattle.literal_packed.proofs.lemmas.Spending.{next_spends, spends_both, spends_within}
 
 -- a search that began at the start of the haystack, with no counts

@@ -19,7 +19,7 @@ use Rattle.literal_packed.specs.Spending.{SpendsAtMost, SpendsWithin}
 use Rattle.literal_packed.proofs.lemmas.Ties.{is_up_to}
 use Rattle.literal_packed.proofs.lemmas.Lists.{range-append}
 use Rattle.literal_packed.proofs.lemmas.MinimumLen.{minimum_len_of-le, minimum_len_of_some}
-use Rattle.literal_packed.proofs.lemmas.Windows.{none_empty}
+use Rattle.literal_base.proofs.lemmas.GreedyLists.{none_empty, rest_is}
 use Rattle.literal_packed.proofs.lemmas.PlaceCounts.{pairs_between-more, pairs_between-none}
 
 pairs_between-split : (test : ℕ → ℕ → Bool) (n a b c : ℕ) → a ≤ b → b ≤ c
@@ -214,12 +214,6 @@ spends_within query haystack to old new s = record {
   compared = omega (arith, s.compared);
   counts_on = s.counts_on;
 }
-
--- a search of the rest, by a span that ends where the haystack does
-pub rest_is : (haystack : List ℕ) (span : Span) → span.end ≡ length haystack → span ≡ rest_from haystack span.start
-rest_is haystack span ends =
-    let to : ℕ → Span = λ e. record { start = span.start; end = e } in
-    ap to ends
 
 pub spends_found : (query : Query) (haystack : List ℕ) (span : Span) (old mid new : Counts) (found : MatchValue)
     → span.end ≡ length haystack → span.start ≤ length haystack → found.start < found.end

@@ -1,13 +1,12 @@
 -- The windows of a haystack, one after another, and where no pattern occurs.
 -- For `RabinKarp::walk`.
-use Rattle.std.proofs.Common.{◌≡◌, ℕ, suc, inl, inr, ◌+◌, ◌-◌, ◌<◌, ◌≤◌, Bool, false, List, [], ◌∷◌, ◌++◌, length, take}
+use Rattle.std.proofs.Common.{◌≡◌, ℕ, suc, inl, inr, ◌+◌, ◌-◌, ◌<◌, ◌≤◌, false, List, [], ◌∷◌, ◌++◌, length, take}
 use Rattle.std.proofs.Common.{drop, get_or, sym, ap, subst, ◌∙◌, arith}
 use Rattle.std.specs.List.{slice_range}
-use Rattle.std.proofs.lemmas.List.{drop_more, get_or_default, nil_from_length}
+use Rattle.std.proofs.lemmas.List.{drop_more}
 use Rattle.std.proofs.lemmas.Bool.{cases_lt}
 use Rattle.std.proofs.lemmas.List.Edits.{between_more, length-between}
-use Rattle.literal_base.specs.Occurs.{NoneIsEmpty, case_folded, pattern_at, StandsAt, Occurs, NothingOccurs}
-use Rattle.literal_base.specs.Occurs.{rest_from}
+use Rattle.literal_base.specs.Occurs.{pattern_at, StandsAt, Occurs, NothingOccurs, rest_from}
 use Rattle.literal_packed.specs.Inside.Place.{NoneStandsAt}
 use Rattle.literal_packed.specs.PatternsValue.{minimum_len_of}
 use Rattle.literal_packed.specs.Sum.{sum_of}
@@ -72,26 +71,6 @@ nothing_after patterns h at last is none i s occurs =
     let fits = occurs.before_end in
     let room : s < last + 1 = omega (arith, minimum_len_of-le patterns i occurs.is_pattern) in
     none s occurs.after_start room i occurs.is_pattern (occurs_stands patterns h at i s occurs)
-
--- where nothing occurs in a rest, no pattern is empty: an empty one would occur at its beginning
-pub none_empty : (patterns : List (List ℕ)) (ignore_case : Bool) (h : List ℕ) (at : ℕ) → at ≤ length h
-    → NothingOccurs patterns ignore_case h (rest_from h at) → NoneIsEmpty patterns
-none_empty patterns ignore_case h at within nothing i d is_pattern =
-    elim (cases_lt 0 (length (pattern_at patterns i))) [
-      | inl some ↦ subst (λ (bytes : List ℕ). 0 < length bytes) (get_or_default patterns i [] d is_pattern) some
-      | inr none ↦
-          let empty : pattern_at patterns i ≡ [] = nil_from_length (pattern_at patterns i) (omega arith) in
-          let zero : at + 0 - at ≡ 0 = omega arith in
-          let same : slice_range h at (at + length (pattern_at patterns i)) ≡ pattern_at patterns i =
-          subst (λ (bytes : List ℕ). slice_range h at (at + length bytes) ≡ bytes) (sym empty)
-          (ap (λ k. take k (drop at h)) zero) in
-          absurd (nothing i at (record {
-            is_pattern = is_pattern;
-            after_start = omega arith;
-            before_end = omega arith;
-            same = ap (case_folded ignore_case) same;
-          }))
-    ]
 
 -- one place more
 pub passed_more : (patterns : List (List ℕ)) (h : List ℕ) (at place : ℕ)

@@ -17,11 +17,11 @@ use Rattle.literal_base.specs.Bytes.{AreBytes}
 use Rattle.literal_base.specs.Kinds.{root_kind_of}
 use Rattle.literal_base.specs.Occurs.{IsValidSpan, pattern_at}
 use Rattle.literal_packed.specs.State.{WouldKeep, kept_of, may_keep, state_of}
-use Rattle.literal_packed.proofs.lemmas.Callers.{GivesList, first_if_keeps, first_if_some, items_are}
+use Rattle.literal_base.proofs.lemmas.Callers.{GivesList, items_are}
+use Rattle.literal_packed.proofs.lemmas.Callers.{first_if_keeps, first_if_some}
 use Rattle.literal_prefilters.specs.Choice.{pick}
 use Rattle.literal_prefilters.specs.ConfirmingValue.{BuildsConfirming, ConfirmingValue, confirming_of}
-use Rattle.literal_prefilters.specs.ConfirmingValue.{RefusesConfirming}
-use Rattle.literal_prefilters.specs.ConfirmingValue.{prefilter_builder}
+use Rattle.literal_prefilters.specs.ConfirmingValue.{RefusesConfirming, prefilter_builder}
 use Rattle.literal_prefilters.specs.PrefilterBuilderValue.{PrefilterBuilderValue, prefilter_limit}
 use Rattle.literal_prefilters.specs.PrefilterValue.{PrefilterValue}
 use Rattle.literal_prefilters.specs.Table.{IsFirst, is_in, first_place, proposed_place, step_back}

@@ -10,8 +10,7 @@ use Rattle.literal_base.specs.Greedy.{RefusesList}
 use Rattle.literal_base.specs.Leftmost.{IsLeftmostMatch}
 use Rattle.literal_base.specs.MatchValue.{MatchValue}
 use Rattle.literal_base.specs.Occurs.{NoneIsEmpty, NothingOccurs, pattern_at}
-use Rattle.literal_packed.proofs.lemmas.GreedyLists.{IsGreedyBefore, greedy_more, refuses_last}
-use Rattle.literal_packed.proofs.lemmas.Spending.{rest_is}
+use Rattle.literal_base.proofs.lemmas.GreedyLists.{IsGreedyBefore, greedy_more, refuses_last, rest_is}
 use Rattle.literal_prefilters.specs.Confirming.{SpendsConfirming, answers_of, counts_after_answers}
 use Rattle.literal_prefilters.specs.Confirming.{counts_after_confirming}
 use Rattle.literal_prefilters.specs.ConfirmingValue.{ConfirmingValue}

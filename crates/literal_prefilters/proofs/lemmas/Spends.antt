@@ -11,7 +11,8 @@ use Rattle.literal_base.specs.MatchValue.{MatchValue}
 use Rattle.literal_base.specs.Occurs.{IsValidSpan, NothingOccurs, Occurs, between, rest_from}
 use Rattle.literal_base.specs.Query.{Query}
 use Rattle.literal_packed.specs.Spending.{SpendsAtMost}
-use Rattle.literal_packed.proofs.lemmas.Spending.{rest_is, spends_found, spends_last, spends_within}
+use Rattle.literal_base.proofs.lemmas.GreedyLists.{rest_is}
+use Rattle.literal_packed.proofs.lemmas.Spending.{spends_found, spends_last, spends_within}
 use Rattle.literal_prefilters.specs.Confirming.{SpendsConfirming, SpendsTries, compared_by_tries, scanned_once}
 use Rattle.literal_prefilters.specs.Confirming.{counts_after_confirming, counts_after_tries, tried_count}
 use Rattle.literal_prefilters.specs.Exact.{CoversPattern, query_of_one}

@@ -11,7 +11,7 @@ ghost use Rattle.literal_prefilters.specs.Confirming.{SpendsConfirming, answer_e
 ghost use Rattle.literal_prefilters.specs.Confirming.{answers_of, counts_after_answers};
 ghost use Rattle.literal_prefilters.specs.Confirming.{counts_after_confirming, counts_after_tries};
 ghost use Rattle.literal_prefilters.specs.PrefilterValue.{CoveredBy, by_table, prefilter_table};
-ghost use Rattle.literal_packed.specs.Lending.{CanBeTaken};
+ghost use Rattle.literal_base.specs.Given.{CanBeTaken};
 ghost use Rattle.literal_prefilters.specs.Choice.{IsBuiltFor, pick};
 ghost use Rattle.literal_base.specs.Kinds.{root_kind_of};
 ghost use Rattle.literal_prefilters.specs.ConfirmingValue.{BuildsConfirming, RefusesConfirming};
@@ -296,7 +296,7 @@ impl ConfirmingSearch {
         ensures no_memory { OnErr result
             (RefusesConfirming I.into_iter_gives I.IntoIter.next_gives kind ignore_case patterns) }
     {
-        let mut builder = Builder::new(alloc, root_kind(kind)).ascii_case_insensitive(ignore_case);
+        let mut builder = Builder::new(alloc, kind.into()).ascii_case_insensitive(ignore_case);
         for bytes in patterns {
             builder.add(bytes)?;
         }
@@ -392,15 +392,5 @@ impl ConfirmingSearch {
         ensures not_empty { NoneIsEmpty self.now.query.patterns }
     {
         let _ = &self.strategy; // (a read, after which the proof has what the fields keep)
-    }
-}
-
-/// The match kind of the same name.
-fn root_kind(kind: packed::MatchKind) -> MatchKind
-    ensures { result ≡ root_kind_of kind }
-{
-    match kind {
-        packed::MatchKind::LeftmostFirst => MatchKind::LeftmostFirst,
-        packed::MatchKind::LeftmostLongest => MatchKind::LeftmostLongest,
     }
 }

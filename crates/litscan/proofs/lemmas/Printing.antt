@@ -11,7 +11,7 @@ use Rattle.literal_base.specs.Greedy.{IsGreedy}
 use Rattle.literal_base.specs.MatchValue.{MatchValue}
 use Rattle.literal_base.specs.Occurs.{one_occurs}
 use Rattle.literal_base.proofs.lemmas.Met.{is_some_where_one_occurs, one_occurs_if}
-use Rattle.literal_automaton.specs.DfaValue.{DfaValue}
+use Rattle.literal_search.specs.SearchValue.{SearchValue}
 use Rattle.litscan.specs.Lines.{lines_of, with_feed}
 use Rattle.litscan.specs.Printed.{Prints, PrintsFound, PrintsLine, PrintsLines, PrintsUnlessCounted, counts}
 use Rattle.litscan.specs.Printed.{printed_matches, printed_part}
@@ -47,7 +47,7 @@ length-feeds line more =
     length-append (with_feed line) (flat_map with_feed more)
     ∙ ap (λ n. n + length (flat_map with_feed more)) (length-append line (10 ∷ []))
 
-module _ (search : DfaValue) (options : Options) where
+module _ (search : SearchValue) (options : Options) where
   -- one list of lines behind another
   prints-append : (number offset at behind : ℕ) (seen more : List (List ℕ)) (front out : List ℕ)
       → at ≡ length seen + number → behind ≡ length (flat_map with_feed seen) + offset

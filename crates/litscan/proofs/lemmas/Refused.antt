@@ -7,11 +7,11 @@ use Rattle.std.proofs.lemmas.Iterator.Consumers.{YieldsList-so_far, YieldsList-t
 use Rattle.std.proofs.lemmas.List.{get_or_default, length-map}
 use Rattle.literal_base.specs.Occurs.{NoneIsEmpty, pattern_at}
 use Rattle.literal_base.specs.declared.search.MatchKind.TheVariants.{LeftmostLongest}
-use Rattle.literal_automaton.specs.DfaValue.{GivesAll, GivesNext, NeedTooManyStates, RefusesDfa}
-use Rattle.literal_automaton.specs.declared.BuildError.{BuildError}
-use Rattle.literal_automaton.specs.declared.BuildError.TheVariants.{EmptyPattern, OutOfMemory, TooManyPatterns}
-use Rattle.literal_automaton.specs.declared.BuildError.TheVariants.{TooManyStates}
-use Rattle.literal_automaton.proofs.lemmas.Callers.{GivesBytes}
+use Rattle.literal_search.specs.SearchValue.{GivesAll, GivesNext, NeedTooManyStates, RefusesSearch}
+use Rattle.literal_search.specs.declared.BuildError.{BuildError}
+use Rattle.literal_search.specs.declared.BuildError.TheVariants.{EmptyPattern, OutOfMemory, TooManyPatterns}
+use Rattle.literal_search.specs.declared.BuildError.TheVariants.{TooManyStates}
+use Rattle.literal_search.proofs.lemmas.Callers.{GivesBytes}
 use Rattle.litscan.specs.Fault.{RefusesWords, build_fault}
 
 -- a list goes on behind its first items with one item
@@ -44,7 +44,7 @@ module _ {U T : Type 0} {becomes : U → T → Type 0} {steps : T → Option (Bo
 
   -- an error of an automaton that is built of the list
   pub refuses_words : (ignore_case : Bool) (error : BuildError)
-      → RefusesDfa becomes steps given (NeedTooManyStates LeftmostLongest ignore_case) error
+      → RefusesSearch becomes steps given (NeedTooManyStates LeftmostLongest ignore_case) error
       → RefusesWords ignore_case list (build_fault error)
   refuses_words ignore_case (EmptyPattern number) (patterns, next, one, empty, is) =
       let on = next_given one in

@@ -3,7 +3,7 @@ use Rattle.std.proofs.lemmas.List.{length-append}
 use Rattle.literal_base.specs.Leftmost.{IsLeftmost}
 use Rattle.literal_base.specs.MatchValue.{MatchValue}
 use Rattle.literal_base.specs.Occurs.{between}
-use Rattle.literal_automaton.specs.Prepared.{LiesIn}
+use Rattle.literal_search.specs.Prepared.{LiesIn}
 use Rattle.literal_c.specs.Answers.{AreNext}
 use Rattle.literal_c.proofs.lemmas.Pages.{joined}
 use Rattle.literal_c.proofs.answers.count_matches.Goals as goal

@@ -1,6 +1,6 @@
 use Rattle.std.proofs.Common.{◌≡◌, ◌≤◌, ◌-◌, ◌+◌, List, length}
 use Rattle.literal_base.specs.MatchValue.{MatchValue}
-use Rattle.literal_automaton.specs.Prepared.{ForPrepared}
+use Rattle.literal_search.specs.Prepared.{ForPrepared}
 use Rattle.literal_c.specs.Answers.{AreNext}
 use Rattle.literal_c.proofs.answers.count_matches.Given as goal
 

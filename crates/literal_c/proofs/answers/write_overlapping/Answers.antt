@@ -1,7 +1,7 @@
 use Rattle.std.proofs.Common.{◌<◌, ◌+◌, IfSome, Option, Some, inr, length, drop, sym, ap, ◌∙◌, subst, arith}
 use Rattle.std.proofs.lemmas.List.{drop-drop, drop-set-lt}
 use Rattle.literal_base.specs.MatchValue.{MatchValue}
-use Rattle.literal_automaton.specs.OverlappingMatchesValue.{GivesOverlapping, gone_on}
+use Rattle.literal_search.specs.OverlappingMatchesValue.{GivesOverlapping, gone_on}
 use Rattle.literal_c.specs.Answers.{match_of}
 use Rattle.literal_c.proofs.lemmas.Pages.{all_more, given_more}
 use Rattle.literal_c.proofs.answers.write_overlapping.Goals as goal

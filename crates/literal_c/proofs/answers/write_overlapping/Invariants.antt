@@ -2,7 +2,7 @@ use Rattle.std.proofs.Common.{◌≡◌, map, take, drop}
 use Rattle.std.specs.Iterator.{Yields}
 use Rattle.std.specs.List.{All}
 use Rattle.literal_base.specs.MatchValue.{MatchValue}
-use Rattle.literal_automaton.specs.OverlappingMatchesValue.{GivesOverlapping, OverlappingMatchesValue}
+use Rattle.literal_search.specs.OverlappingMatchesValue.{GivesOverlapping, OverlappingMatchesValue}
 use Rattle.literal_c.specs.Answers.{match_of}
 use Rattle.literal_c.specs.Inside.Given.{IsReached}
 use Rattle.literal_c.proofs.answers.write_overlapping.Given as goal

@@ -1,7 +1,7 @@
 use Rattle.std.proofs.Common.{ap, ◌<◌, ◌∙◌, ℕ, List, length, subst}
 use Rattle.literal_base.specs.Kinds.{root_kind_of}
-use Rattle.literal_automaton.specs.DfaValue.{NeedTooManyStates, dfa_for}
-use Rattle.literal_automaton.proofs.lemmas.Callers.{none_need_few}
+use Rattle.literal_search.specs.SearchValue.{NeedTooManyStates, search_by}
+use Rattle.literal_search.proofs.lemmas.Callers.{none_need_few}
 use Rattle.literal_c.specs.Arguments.{kind_of}
 use Rattle.literal_c.specs.Pieces.{pieces}
 use Rattle.literal_c.proofs.lemmas.Pieces.{built_for, some_for, too_many_for}
@@ -13,8 +13,8 @@ returns-in-Ok c =
     let list = pieces c.args.patterns.now 0 c.args.ends.now in (
       record { is_kind = c.in-Some.ensures.0; are_ends = c.are_ends.ensures.0 c.if-not-are_ends.false },
       c.can_be_searched.ensures.0 c.if-not-can_be_searched.false,
-      built_for _ _ _ _ c.in-Ok.ensures.ok ∙ (ap (λ k. dfa_for k c.args.ignore_case c.new.result) c.in-Some.ensures.1
-          ∙ ap (dfa_for kind c.args.ignore_case) c.new.ensures),
+      built_for _ _ _ _ c.in-Ok.ensures.ok ∙ (ap (λ k. search_by k c.args.ignore_case c.new.result) c.in-Some.ensures.1
+          ∙ ap (search_by kind c.args.ignore_case) c.new.ensures),
     )
 
 pub returns-in-Err-TooManyStates : goal.returns-in-Err-TooManyStates

@@ -1,7 +1,7 @@
 use Rattle.std.proofs.Common.{ap, ◌<◌, ◌∙◌, ℕ, List, length, subst}
 use Rattle.literal_base.specs.declared.search.MatchKind.TheVariants.{Standard}
-use Rattle.literal_automaton.specs.DfaValue.{NeedTooManyStates}
-use Rattle.literal_automaton.proofs.lemmas.Callers.{none_need_few}
+use Rattle.literal_search.specs.SearchValue.{NeedTooManyStates}
+use Rattle.literal_search.proofs.lemmas.Callers.{none_need_few}
 use Rattle.literal_c.specs.Overlapping.{overlapping_for}
 use Rattle.literal_c.proofs.lemmas.Pieces.{all_built_for, some_for, too_many_for}
 use Rattle.literal_c.proofs.arguments.search_for_all.Goals as goal

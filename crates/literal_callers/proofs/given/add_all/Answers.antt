@@ -1,5 +1,6 @@
 use Rattle.std.proofs.Common.{rules}
-use Rattle.literal_packed.proofs.lemmas.Callers.{adds_all, slice_gives}
+use Rattle.literal_packed.proofs.lemmas.Callers.{adds_all}
+use Rattle.literal_base.proofs.lemmas.Callers.{slice_gives}
 use Rattle.literal_callers.proofs.given.add_all.Goals as goal
 
 pub returns : goal.returns

@@ -1,5 +1,5 @@
 use Rattle.std.proofs.Common.{is_some, map, sym, ap, ◌∙◌}
-use Rattle.literal_packed.proofs.lemmas.Callers.{slice_gives}
+use Rattle.literal_base.proofs.lemmas.Callers.{slice_gives}
 use Rattle.literal_prefilters.specs.ConfirmingValue.{prefilter_builder}
 use Rattle.literal_prefilters.proofs.lemmas.Callers.{confirming_built_of, confirming_searches_for}
 use Rattle.literal_prefilters.proofs.lemmas.Callers.{confirms_where_picked}

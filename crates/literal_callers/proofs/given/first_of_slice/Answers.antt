@@ -1,5 +1,6 @@
 use Rattle.std.proofs.Common.{is_some, sym, ap, ◌∙◌}
-use Rattle.literal_packed.proofs.lemmas.Callers.{slice_gives, built_of, searches_for}
+use Rattle.literal_base.proofs.lemmas.Callers.{slice_gives}
+use Rattle.literal_packed.proofs.lemmas.Callers.{built_of, searches_for}
 use Rattle.literal_callers.proofs.given.first_of_slice.Goals as goal
 
 pub returns-in_default-clause-built : goal.returns-in_default-clause-built

@@ -1,6 +1,6 @@
 use Rattle.std.proofs.Common.{false}
-use Rattle.literal_packed.proofs.lemmas.Callers.{slice_gives}
-use Rattle.literal_automaton.proofs.lemmas.Callers.{overlapping_is_for}
+use Rattle.literal_base.proofs.lemmas.Callers.{slice_gives}
+use Rattle.literal_search.proofs.lemmas.Callers.{overlapping_is_for}
 use Rattle.literal_callers.proofs.words.all_that_occurs.Goals as goal
 
 pub returns : goal.returns

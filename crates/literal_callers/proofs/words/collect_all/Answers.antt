@@ -1,7 +1,7 @@
 use Rattle.std.proofs.Common.{List, subst, sym}
 use Rattle.literal_base.specs.MatchValue.{MatchValue}
 use Rattle.literal_base.specs.Occurs.{whole_of}
-use Rattle.literal_automaton.specs.Overlapping.{IsOverlapping}
+use Rattle.literal_search.specs.Overlapping.{IsOverlapping}
 use Rattle.literal_callers.proofs.words.collect_all.Goals as goal
 
 pub returns : goal.returns

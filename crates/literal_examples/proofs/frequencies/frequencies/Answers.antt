@@ -1,9 +1,9 @@
-use Rattle.literal_base.specs.Query.{Query}
+use Rattle.literal_search.specs.SearchValue.{SearchValue}
 use Rattle.std.proofs.Common.{ap, ◌∙◌, ◌≡◌, ◌==◌, ◌<◌, length, slice_index, arith}
 use Rattle.std.proofs.lemmas.List.{get_or_default}
 use Rattle.std.proofs.lemmas.List.Sums.{count_by-le-length}
 use Rattle.literal_base.specs.MatchValue.{MatchValue}
-use Rattle.literal_packed.proofs.lemmas.Callers.{greedy_from_run}
+use Rattle.literal_search.proofs.lemmas.Callers.{greedy_from_matches}
 use Rattle.literal_examples.proofs.frequencies.frequencies.Goals as goal
 
 pub overflow_add-index_mut : goal.overflow_add-index_mut
@@ -12,8 +12,8 @@ overflow_add-index_mut c =
     let finds = c.in-Some.ensures.steps in
     let most = count_by-le-length (λ (m : MatchValue). m.pattern == found.pattern) c.loop-found.yielded in
     let is_pattern = finds.leftmost.occurs.is_pattern in
-    let same = ap (λ (q : Query). length q.patterns) c.loop-found.invariant.query_is in
-    let within : found.pattern < c.args.patterns = omega (arith, c.requires) in
+    let same = ap (λ (s : SearchValue). length s.query.patterns) c.loop-found.invariant.search_is in
+    let within : found.pattern < length c.args.search.now.query.patterns = omega (arith, is_pattern, same) in
     let count = c.loop-found.invariant.counted found.pattern within in
     let now = c.index_mut.ensures.value in
     let index_is : c.as_usize.result ≡ found.pattern = c.as_usize.ensures.value ∙ c.pattern.ensures in
@@ -36,7 +36,8 @@ overflow_add-index_mut c =
 pub returns-clause-counted : goal.returns-clause-counted
 returns-clause-counted c = (
   c.loop-found.yielded,
-  greedy_from_run c.args.searcher.now c.args.haystack.now _ _ _ _ (cc) c.loop-found.yielded_by c.in-None.ensures.steps,
+  greedy_from_matches c.args.search.now c.args.haystack.now _ _ _ _ (cc) c.loop-found.yielded_by
+      c.in-None.ensures.steps,
   c.loop-found.invariant.len,
   c.loop-found.invariant.counted,
 )

@@ -4,11 +4,11 @@ use Rattle.literal_examples.proofs.frequencies.frequencies.Given as goal
 
 abbrev pub invariant-loop-found : goal.invariant-loop-found
 invariant-loop-found l = record {
-  query_is : l.found-iterator.query ≡ l.searcher;
+  search_is : l.found-iterator.search ≡ l.search;
   haystack_is : l.found-iterator.haystack ≡ l.haystack;
   within : l.found-iterator.at ≤ length l.haystack;
   few : length l.yielded ≤ l.found-iterator.at;
-  len : length l.counts.items ≡ l.patterns;
-  counted : (i : ℕ) → i < l.patterns
+  len : length l.counts.items ≡ length l.search.query.patterns;
+  counted : (i : ℕ) → i < length l.search.query.patterns
       → slice_index l.counts.items i ≡ count_by (λ (m : MatchValue). m.pattern == i) l.yielded;
 }

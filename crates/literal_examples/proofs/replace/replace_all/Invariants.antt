@@ -9,7 +9,7 @@ abbrev pub invariant-loop-found : goal.invariant-loop-found
 invariant-loop-found l =
     let with_ = map (λ (r : Bor (List ℕ)). r.now) l.replacements in
     record {
-      query_is : l.found-iterator.query ≡ l.searcher;
+      search_is : l.found-iterator.search ≡ l.search;
       haystack_is : l.found-iterator.haystack ≡ l.haystack;
       at_is : l.found-iterator.at ≡ l.at;
       within : l.at ≤ length l.haystack;

@@ -1,9 +1,8 @@
 use Rattle.literal_base.specs.declared.search.Span.{Span}
-use Rattle.std.proofs.Common.{rules, refl, Some, ◌<◌, ◌≤◌, ◌≡◌, ◌++◌, ◌∷◌, [], false, length, List, sym, ap, subst}
+use Rattle.std.proofs.Common.{rules, refl, Some, ◌<◌, ◌≤◌, ◌≡◌, ◌++◌, ◌∷◌, [], length, List, sym, ap, subst}
 use Rattle.std.proofs.Common.{◌∙◌, arith}
 use Rattle.literal_base.specs.Greedy.{IsGreedy}
-use Rattle.literal_base.specs.MatchValue.{MatchValue}
-use Rattle.literal_packed.proofs.lemmas.Callers.{greedy_from_run}
+use Rattle.literal_search.proofs.lemmas.Callers.{greedy_from_matches}
 use Rattle.literal_examples.specs.Tokens.{GapsAreWhole, Tiles, gap, match_of, matched}
 use Rattle.literal_examples.specs.declared.tokens.Token.{Token}
 use Rattle.literal_examples.proofs.lemmas.Tokens.{tiles_push, tiles_gap, matched-append, matched-gap, whole_gap}
@@ -31,7 +30,7 @@ loop-found-preserved c =
     let is_found : match_of c.span.result (Some c.pattern.result) ≡ found ∷ [] =
     rw (c.pattern.ensures, span_is) refl in
     record {
-      query_is = search rules;
+      search_is = search rules;
       haystack_is = search rules;
       at_is = search rules;
       within = omega (
@@ -59,8 +58,8 @@ pub returns-clause-matched : goal.returns-clause-matched
 returns-clause-matched c =
     let matched_are = ap matched c.in_ok-push_gap-2.ensures.ok
     ∙ (matched-gap c.loop-found.at _ c.loop-found.all.items ∙ c.loop-found.invariant.matched_are) in
-    subst (λ (ms : List MatchValue). IsGreedy c.args.searcher.now false c.args.haystack.now 0 ms) (sym matched_are)
-    (greedy_from_run c.args.searcher.now c.args.haystack.now _ _ _ _ (cc) c.loop-found.yielded_by
+    subst (IsGreedy c.args.search.now.query c.args.search.now.ignore_case c.args.haystack.now 0) (sym matched_are)
+    (greedy_from_matches c.args.search.now c.args.haystack.now _ _ _ _ (cc) c.loop-found.yielded_by
     c.in-None.ensures.steps)
 
 pub returns-clause-whole : goal.returns-clause-whole

@@ -5,7 +5,7 @@ use Rattle.literal_examples.proofs.tokens.tokens.Given as goal
 
 abbrev pub invariant-loop-found : goal.invariant-loop-found
 invariant-loop-found l = record {
-  query_is : l.found-iterator.query ≡ l.searcher;
+  search_is : l.found-iterator.search ≡ l.search;
   haystack_is : l.found-iterator.haystack ≡ l.haystack;
   at_is : l.found-iterator.at ≡ l.at;
   within : l.at ≤ length l.haystack;

@@ -1,5 +1,5 @@
 use Rattle.std.proofs.Common.{false, arith}
-use Rattle.literal_packed.proofs.lemmas.GreedyLists.{greedy_apart, apart_few}
+use Rattle.literal_base.proofs.lemmas.GreedyLists.{greedy_apart, apart_few}
 use Rattle.literal_packed.proofs.lemmas.Iterations.{gathers_all}
 use Rattle.literal_packed.proofs.laws.iteration_is_greedy.Goals as goal
 

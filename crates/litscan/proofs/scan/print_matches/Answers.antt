@@ -1,4 +1,4 @@
-use Rattle.literal_automaton.proofs.lemmas.Callers.{greedy_from_matches}
+use Rattle.literal_search.proofs.lemmas.Callers.{greedy_from_matches}
 use Rattle.litscan.proofs.scan.print_matches.Goals as goal
 
 pub returns-clause-printed : goal.returns-clause-printed

@@ -2,11 +2,10 @@ use Rattle.std.proofs.Common.{◌≡◌, ◌++◌, ◌∷◌, [], sym, subst, fa
 use Rattle.literal_base.specs.declared.search.Span.{Span}
 use Rattle.literal_base.specs.MatchValue.{MatchValue}
 use Rattle.literal_base.specs.Occurs.{NothingOccurs}
-use Rattle.literal_packed.specs.Spending.{SpendsAtMost}
-use Rattle.literal_packed.proofs.lemmas.Spending.{spends_found, spends_last, spends_within, ends_within, rest_is}
-use Rattle.literal_packed.specs.Spending.{counts_after_matches}
-use Rattle.literal_packed.proofs.lemmas.GreedyLists.{FoundBefore, found_more, greedy_all, counts_all, counts_found}
-use Rattle.literal_packed.proofs.lemmas.GreedyLists.{refuses_last}
+use Rattle.literal_packed.specs.Spending.{SpendsAtMost, counts_after_matches}
+use Rattle.literal_packed.proofs.lemmas.Spending.{spends_found, spends_last, spends_within, ends_within}
+use Rattle.literal_base.proofs.lemmas.GreedyLists.{rest_is, greedy_all, refuses_last}
+use Rattle.literal_packed.proofs.lemmas.CountedLists.{FoundBefore, found_more, counts_all, counts_found}
 use Rattle.literal_packed.proofs.api.Searcher.find_all.Goals as goal
 
 pub returns-in_err-push-clause-bounded : goal.returns-in_err-push-clause-bounded

@@ -1,6 +1,6 @@
 use Rattle.std.proofs.Common.{◌≡◌, ◌≤◌, ◌-◌, length}
 use Rattle.literal_packed.specs.Spending.{SpendsAtMost}
-use Rattle.literal_packed.proofs.lemmas.GreedyLists.{FoundBefore}
+use Rattle.literal_packed.proofs.lemmas.CountedLists.{FoundBefore}
 use Rattle.literal_packed.proofs.api.Searcher.find_all.Given as goal
 
 abbrev pub invariant-loop-found : goal.invariant-loop-found

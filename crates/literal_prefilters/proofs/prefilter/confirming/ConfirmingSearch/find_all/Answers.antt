@@ -2,8 +2,7 @@ use Rattle.std.proofs.Common.{◌++◌, ◌∷◌, [], sym, subst, List, arith}
 use Rattle.literal_base.specs.declared.search.Span.{Span}
 use Rattle.literal_base.specs.MatchValue.{MatchValue}
 use Rattle.literal_base.specs.Occurs.{NothingOccurs}
-use Rattle.literal_packed.proofs.lemmas.GreedyLists.{greedy_all}
-use Rattle.literal_packed.proofs.lemmas.Spending.{rest_is}
+use Rattle.literal_base.proofs.lemmas.GreedyLists.{greedy_all, rest_is}
 use Rattle.literal_prefilters.proofs.lemmas.MatchesSoFar.{SoFar, counted_all, one_more, refused, spent_all}
 use Rattle.literal_prefilters.proofs.lemmas.MatchesSoFar.{spent_before}
 use Rattle.literal_prefilters.proofs.lemmas.Callers.{are_bytes}

@@ -1,0 +1,292 @@
+"""Search for several literals at once, in str and in bytes, by a library whose every function is proved.
+
+>>> searcher = Search(["apple", "maple", "Snapple"])
+>>> searcher.find("Nobody likes maple in their apple flavored Snapple.")
+Match(pattern=1, start=13, end=18)
+>>> searcher.sub("***", "maple and apple")
+'*** and ***'
+
+A searcher whose patterns are str takes texts of type str, and every offset counts characters. One whose patterns are
+bytes takes what Python lends as bytes, without a copy, as bytes, bytearray, memoryview, mmap and array; every offset
+counts bytes, whatever the items are.
+"""
+import copyreg
+import os
+import secrets
+import stat
+import struct
+import zlib
+from contextlib import suppress
+from itertools import accumulate
+from typing import TYPE_CHECKING, Any, AnyStr, Callable, Iterable, List, Mapping, Optional, Tuple, Type, TypeVar, Union
+from typing import cast, overload
+
+from . import _native
+from ._native import __version__
+from ._types import Kind, Match
+
+if TYPE_CHECKING:
+    from _typeshed import ReadableBuffer, StrPath
+
+__all__ = ["Kind", "Match", "Search", "__version__"]
+
+_Any = TypeVar("_Any", bound="Search[Any]")
+
+# A file of a searcher: these words first, the kind, whether case is ignored, whether the patterns are str, how many
+# they are, and how many bytes they and the prepared search have; then the ends of the patterns, the patterns, and the
+# prepared search; and at the end a sum of all that.
+_HEAD, _MAGIC, _SUM = struct.Struct("=8s6Q"), b"LITERAL1", struct.Struct("=L")
+
+
+class Search(_native.Prepared[AnyStr]):
+    """Searches for any number of patterns, none of them empty. Without a pattern it finds nothing, in any text. Of a
+    mapping, it searches for the keys, and `value` of each match is what the mapping gives for its pattern.
+
+    With `ignore_case` A to Z are the same as a to z, in a str too; all other characters are themselves. A searcher
+    never changes, so threads may share one. In a long text, the other threads of Python run while the library searches,
+    and signals are looked for. Until a call returns its text can be neither resized nor closed, and no other thread may
+    write into it.
+
+    Raises ValueError if a pattern is empty or has a lone surrogate, MemoryError, and OverflowError if the table of the
+    search would have 2^31 places. Each call raises TypeError for what is no text, or one of the other type, BufferError
+    for a view with gaps or an array of objects, and ValueError for a str with a lone surrogate.
+
+    >>> Search([b"ab", b"abcd"], Kind.LEFTMOST_LONGEST).find(b"xabcd")
+    Match(pattern=1, start=1, end=5)
+    >>> Search(["secret"], ignore_case=True).is_match("My Secret.")
+    True
+    >>> [it.span() for it in Search(["ab", "ba"]).finditer("äbabaab")]
+    [(1, 3), (3, 5), (5, 7)]
+    >>> Search([b"a"]).count(bytearray(b"banana"), 2, -1)
+    1
+    >>> [(it.group(), it.value) for it in Search({"apple": 1, "fig": 5}, ignore_case=True).finditer("Fig, apple")]
+    [('Fig', 5), ('apple', 1)]
+    >>> Search(["aa", "a"]).find_overlapping("aa")
+    [Match(pattern=1, start=0, end=1), Match(pattern=0, start=0, end=2), Match(pattern=1, start=1, end=2)]
+    >>> Search(["abcd", "bc"]).find_earliest("abcd")
+    Match(pattern=1, start=1, end=3)
+    >>> Search(["cat", "dog"]).sub(["dog", "cat"], "dog and cat")
+    'cat and dog'
+    >>> Search([b"cat", b"dog"]).sub(lambda it: b"<%d>" % it.pattern, b"dog and cat")
+    b'<1> and <0>'
+    >>> Search(["a"]).subn("o", "banana", 2)
+    ('bonona', 2)
+    >>> Search([", ", ";"]).split("a, b;c")
+    ['a', 'b', 'c']
+    >>> Search([""])
+    Traceback (most recent call last):
+    ...
+    ValueError: no search for these patterns: one of them is empty
+    """
+
+    __slots__ = ("__weakref__",)
+
+    @overload
+    def __init__(
+        self, patterns: Iterable[AnyStr], kind: Kind = Kind.LEFTMOST_FIRST, ignore_case: bool = False
+    ) -> None: ...
+
+    @overload
+    def __init__(
+        self: "Search[bytes]",
+        patterns: "Iterable[ReadableBuffer]",
+        kind: Kind = Kind.LEFTMOST_FIRST,
+        ignore_case: bool = False,
+    ) -> None: ...
+
+    def __init__(
+        self, patterns: Iterable[Any], kind: Kind = Kind.LEFTMOST_FIRST, ignore_case: bool = False
+    ) -> None:
+        if isinstance(kind, bool):  # (else it would be taken for the number of a kind)
+            raise TypeError("the kind is a Kind, not a bool")
+        values: Optional[Tuple[Any, ...]] = None
+        if isinstance(patterns, Mapping):  # (asked once, since it may change meanwhile)
+            items = list(patterns.items())
+            patterns, values = [key for key, _ in items], tuple(value for _, value in items)
+        given: Tuple[Any, ...] = tuple(
+            it if isinstance(it, str) else _native.plain_bytes(it, "a pattern") for it in _many(patterns)
+        )
+        if len({isinstance(it, str) for it in given}) > 1:
+            raise TypeError("the patterns are partly str and partly bytes")
+        self._prepare(given, tuple(map(_encoded, given)), int(Kind(kind)), bool(ignore_case), None, values)
+
+    @property
+    def kind(self) -> Kind:
+        """Which of the patterns that match at one place is taken."""
+        return Kind(self._kind)
+
+    @overload
+    def find_each(self: "Search[str]", texts: Iterable[str]) -> List[Optional[Match[str]]]: ...
+
+    @overload
+    def find_each(self: "Search[bytes]", texts: "Iterable[ReadableBuffer]") -> List[Optional[Match[bytes]]]: ...
+
+    def find_each(self, texts: Iterable[Any]) -> List[Optional[Match[Any]]]:
+        """The leftmost match of each text, or None. Offsets are in the text of the match.
+
+        >>> Search(["ERROR", "WARN"]).find_each(["a WARN", "fine", "ERROR"])
+        [Match(pattern=1, start=2, end=6), None, Match(pattern=0, start=0, end=5)]
+        """
+        find: Callable[[Any], Optional[Match[Any]]] = self.find
+        return [find(it) for it in _many(texts)]
+
+    @overload
+    def findall_each(self: "Search[str]", texts: Iterable[str]) -> List[List[Match[str]]]: ...
+
+    @overload
+    def findall_each(self: "Search[bytes]", texts: "Iterable[ReadableBuffer]") -> List[List[Match[bytes]]]: ...
+
+    def findall_each(self, texts: Iterable[Any]) -> List[List[Match[Any]]]:
+        """All matches of each text, as `findall` lists them.
+
+        >>> Search(["a"]).findall_each(["b", "ab"])
+        [[], [Match(pattern=0, start=0, end=1)]]
+        """
+        findall: Callable[[Any], List[Match[Any]]] = self.findall
+        return [findall(it) for it in _many(texts)]
+
+    def save(self, path: "StrPath") -> None:
+        """Writes the searcher into a file, ready to search. A link is followed. A file that is there already is
+        replaced when all is written, and its mode stays. What is no regular file, as a FIFO, is written into.
+
+        Raises TypeError for a searcher of a mapping: its values can be anything, and pickle knows how to keep them.
+        """
+        if self._values is not None:
+            raise TypeError("a searcher of a mapping is not saved: pickle it, or save one of its patterns alone")
+        whole, name = _written(self), os.fsdecode(path)
+        whole += _SUM.pack(zlib.crc32(whole))
+        try:
+            mode = os.stat(name).st_mode
+        except FileNotFoundError:
+            mode = None
+        if mode is None or stat.S_ISREG(mode):
+            _replace(os.path.realpath(name) if os.path.islink(name) else name, whole, mode)
+        else:
+            with open(name, "wb") as file:
+                file.write(whole)
+
+    @classmethod
+    def load(cls: Type[_Any], path: "StrPath") -> _Any:
+        """The searcher that `save` wrote into a file, without building its search again. What happens to a file by
+        accident is noticed; one that somebody forged may answer wrongly, and does nothing worse.
+
+        Raises ValueError if the file is damaged, or was written by another version or machine.
+        """
+        with open(path, "rb") as file:
+            read = _read(file.read())
+        if read is None:
+            raise ValueError(f"{os.fspath(path)!r} is not a file that Search.save wrote, or it is damaged")
+        made = cls.__new__(cls)
+        made._prepare(*read)
+        return made
+
+    def __eq__(self, other: object) -> bool:
+        if not isinstance(other, Search):
+            return NotImplemented
+        same = _are_str(self) == _are_str(other) and self._key() == other._key()
+        return bool(same and self._values == other._values)
+
+    def __hash__(self) -> int:
+        return hash(self._key())
+
+    def _key(self) -> Tuple[Tuple[AnyStr, ...], Kind, bool]:
+        return self.patterns, self.kind, self.ignore_case
+
+    def _given(self) -> Any:
+        """The patterns as they were given, as a list or a mapping."""
+        return list(self.patterns) if self._values is None else dict(zip(self.patterns, self._values))
+
+    def __repr__(self) -> str:
+        name = type(self).__qualname__
+        return f"{name}({self._given()!r}, Kind.{self.kind.name}, ignore_case={self.ignore_case})"
+
+    def __reduce__(self) -> Tuple[Any, ...]:
+        # (the __init__ of a subclass may take something else)
+        state = getattr(self, "__getstate__", lambda: _state(self))  # (Python 3.10 has no such method)
+        return _made, (type(self), self._given(), self.kind, self.ignore_case), state()
+
+
+def _made(cls: Type[_Any], patterns: Iterable[Any], kind: Kind, ignore_case: bool) -> _Any:
+    """A searcher of a class, whose own __init__ is not called: for pickle and copy."""
+    made = cls.__new__(cls)
+    Search.__init__(made, patterns, kind, ignore_case)
+    return made
+
+
+def _are_str(searcher: "Search[Any]") -> bool:
+    """Whether the patterns are str: they are all of one type."""
+    return isinstance(next(iter(searcher.patterns), None), str)
+
+
+def _state(searcher: "Search[Any]") -> Any:
+    """What a subclass keeps in a searcher, in the form of object.__getstate__."""
+    names = cast(Any, copyreg)._slotnames(type(searcher))
+    values = {name: getattr(searcher, name) for name in names if hasattr(searcher, name)}
+    kept = getattr(searcher, "__dict__", None)
+    return (kept, values) if values else kept
+
+
+def _written(searcher: "Search[Any]") -> bytes:
+    """The file of a searcher, but for its sum."""
+    pieces = [_encoded(it) for it in searcher.patterns]
+    ends, kept = list(accumulate(map(len, pieces))), searcher._prepared
+    lens = len(pieces), sum(map(len, pieces)), len(kept)
+    head = _HEAD.pack(_MAGIC, searcher.kind, searcher.ignore_case, _are_str(searcher), *lens)
+    return b"".join([head, struct.pack(f"={len(ends)}Q", *ends), *pieces, kept])
+
+
+def _replace(name: str, whole: bytes, mode: Optional[int]) -> None:
+    """Writes a file, which takes the place of one that has this mode, if there is one, and the mode too."""
+    part = os.path.join(os.path.dirname(name), f".{secrets.token_hex(8)}")  # (short: the name may be as long as can be)
+    made = os.open(part, os.O_WRONLY | os.O_CREAT | os.O_EXCL, 0o666 if mode is None else 0o600)
+    try:
+        with open(made, "wb") as file:
+            if mode is not None:
+                os.fchmod(made, stat.S_IMODE(mode))
+            file.write(whole)
+        os.replace(part, name)
+    except BaseException:
+        with suppress(FileNotFoundError):
+            os.unlink(part)
+        raise
+
+
+def _read(whole: bytes) -> Optional[Tuple[Tuple[Any, ...], Tuple[bytes, ...], int, bool, bytes, None]]:
+    """What `_prepare` takes, of the file that holds it."""
+    if len(whole) < _HEAD.size + _SUM.size or _SUM.pack(zlib.crc32(whole[: -_SUM.size])) != whole[-_SUM.size :]:
+        return None
+    magic, kind, ignore_case, is_str, count, size, prepared = _HEAD.unpack_from(whole)
+    behind_ends = _HEAD.size + 8 * count
+    if magic != _MAGIC or len(whole) != behind_ends + size + prepared + _SUM.size:
+        return None
+    if kind not in {int(it) for it in Kind}:
+        return None
+    ends = struct.unpack_from(f"={count}Q", whole, _HEAD.size)
+    buffer = whole[behind_ends : behind_ends + size]
+    pieces = tuple(buffer[start:end] for start, end in zip((0, *ends), ends))
+    patterns = tuple(it.decode() for it in pieces) if is_str else pieces
+    return patterns, pieces, kind, bool(ignore_case), whole[behind_ends + size : -_SUM.size], None
+
+
+def _has_objects(view: memoryview) -> bool:
+    """Whether its items are objects, or have fields of them: the names of fields stand between colons."""
+    return "O" in "".join(view.format.split(":")[::2])
+
+
+def _encoded(pattern: Union[str, bytes]) -> bytes:
+    """The bytes by which a pattern is searched for."""
+    try:
+        return str.encode(pattern) if isinstance(pattern, str) else pattern  # (not by a method of a subclass)
+    except UnicodeEncodeError:
+        raise ValueError(f"the pattern {pattern!r} has a lone surrogate, which is no character") from None
+
+
+def _many(of: Iterable[Any]) -> Iterable[Any]:
+    """Patterns or texts, also an array of objects. One text is refused: it would be taken for its characters."""
+    try:
+        if _has_objects(memoryview(cast(Any, of))):
+            return of
+    except TypeError:
+        if not isinstance(of, str):
+            return of
+    raise TypeError(f"a list of texts is wanted, not one text of type {type(of).__name__}")

@@ -1,0 +1,188 @@
+/* What is found: a tuple with names, which knows the text it was found in. Included once, by _native.c.
+ *
+ * A Match shows three items, its pattern, start and end. Behind them lie two that no tuple shows: the text, and what
+ * the searcher gives for each pattern. One that was made by hand, or from a pickle, has no text: then the last item is
+ * the pair of what was matched and its value. */
+#ifndef LITERAL_SEARCH_MATCH_H
+#define LITERAL_SEARCH_MATCH_H
+
+#define PY_SSIZE_T_CLEAN
+#include <Python.h>
+
+#include "_text.h"
+
+enum { PATTERN, START, END, SHOWN, WHOLE_TEXT = SHOWN, VALUES, ITEMS };
+
+static PyTypeObject match_type;
+
+static PyObject **items_of(PyObject *match) {
+    return ((PyTupleObject *)match)->ob_item;
+}
+
+/* A match without its items. */
+static PyObject *empty_match(void) {
+    PyObject *match = (PyObject *)PyObject_GC_NewVar(PyTupleObject, &match_type, ITEMS);
+    if (!match)
+        return NULL;
+    memset(items_of(match), 0, ITEMS * sizeof(PyObject *));
+    Py_SET_SIZE(match, SHOWN);
+#if PY_VERSION_HEX >= 0x030E0000
+    ((PyTupleObject *)match)->ob_hash = -1;
+#endif
+    return match;
+}
+
+/* The Match of what was found. The collector need not visit millions of them if what they hold leads nowhere. */
+static PyObject *new_match(const size_t shown[SHOWN], PyObject *text, PyObject *values, bool leads_on) {
+    PyObject *match = empty_match();
+    for (int i = 0; match && i < SHOWN; i++) {
+        items_of(match)[i] = PyLong_FromSize_t(shown[i]);
+        if (!items_of(match)[i])
+            Py_CLEAR(match);
+    }
+    if (!match)
+        return NULL;
+    items_of(match)[WHOLE_TEXT] = Py_NewRef(text);
+    items_of(match)[VALUES] = Py_NewRef(values);
+    if (leads_on)
+        PyObject_GC_Track(match);
+    return match;
+}
+
+static PyObject *match_new(PyTypeObject *type, PyObject *given, PyObject *named) {
+    static char *names[] = {"pattern", "start", "end", "group", "value", NULL};
+    PyObject *shown[SHOWN], *group = Py_None, *value = Py_None;
+    if (!PyArg_ParseTupleAndKeywords(given, named, "OOO|OO:Match", names, &shown[0], &shown[1], &shown[2], &group,
+                                     &value))
+        return NULL;
+    PyObject *match = empty_match();
+    for (int i = 0; match && i < SHOWN; i++) {
+        items_of(match)[i] = PyNumber_Index(shown[i]);
+        if (!items_of(match)[i])
+            Py_CLEAR(match);
+    }
+    if (match && !(items_of(match)[VALUES] = PyTuple_Pack(2, group, value)))
+        Py_CLEAR(match);
+    if (match)
+        PyObject_GC_Track(match);
+    (void)type; /* (it has no subclasses) */
+    return match;
+}
+
+/* It lets go what it leads to, so nothing is cleared here. */
+static int match_traverse(PyObject *of, visitproc visit, void *arg) {
+    Py_VISIT(items_of(of)[WHOLE_TEXT]);
+    Py_VISIT(items_of(of)[VALUES]);
+    return 0;
+}
+
+static void match_dealloc(PyObject *of) {
+    PyObject_GC_UnTrack(of);
+    for (int i = 0; i < ITEMS; i++)
+        Py_XDECREF(items_of(of)[i]);
+    PyObject_GC_Del(of);
+}
+
+static PyObject *match_repr(PyObject *of) {
+    PyObject **items = items_of(of);
+    return PyUnicode_FromFormat("Match(pattern=%R, start=%R, end=%R)", items[PATTERN], items[START], items[END]);
+}
+
+static PyObject *match_shown(PyObject *of, void *at) {
+    return Py_NewRef(items_of(of)[(uintptr_t)at]);
+}
+
+static PyObject *match_value(PyObject *of, void *unused) {
+    PyObject **items = items_of(of);
+    (void)unused;
+    if (!items[WHOLE_TEXT])
+        return Py_NewRef(PyTuple_GET_ITEM(items[VALUES], 1));
+    return Py_NewRef(PyTuple_GET_ITEM(items[VALUES], PyLong_AsSsize_t(items[PATTERN])));
+}
+
+PyDoc_STRVAR(span_doc, "span($self, /)\n--\n\nBoth offsets.");
+
+static PyObject *match_span(PyObject *of, PyObject *unused) {
+    (void)unused;
+    return PyTuple_Pack(2, items_of(of)[START], items_of(of)[END]);
+}
+
+PyDoc_STRVAR(group_doc, "group($self, /)\n--\n\n"
+"What was matched, as str or bytes. Of a text that can be changed it reads the bytes as they are now.");
+
+static PyObject *match_group(PyObject *of, PyObject *unused) {
+    PyObject **items = items_of(of), *text = items[WHOLE_TEXT], *group = NULL;
+    Text held;
+    (void)unused;
+    if (!text)
+        return Py_NewRef(PyTuple_GET_ITEM(items[VALUES], 0));
+    Py_ssize_t start = PyLong_AsSsize_t(items[START]), end = PyLong_AsSsize_t(items[END]);
+    if (PyUnicode_Check(text))
+        return PyUnicode_Substring(text, start, end);
+    if (hold(&held, TAKES_BYTES, text))
+        return NULL;
+    if ((size_t)end <= held.len)
+        group = PyBytes_FromStringAndSize((const char *)held.bytes + start, end - start);
+    else
+        PyErr_SetString(PyExc_ValueError, "the text has become too short for this match");
+    give_back(&held);
+    return group;
+}
+
+/* A copy has what was matched, and not the whole text. */
+static PyObject *match_reduce(PyObject *of, PyObject *unused) {
+    PyObject **items = items_of(of), *group = match_group(of, unused), *value = match_value(of, NULL), *reduced = NULL;
+    if (group && value)
+        reduced = Py_BuildValue("O(OOOOO)", &match_type, items[PATTERN], items[START], items[END], group, value);
+    Py_XDECREF(group);
+    Py_XDECREF(value);
+    return reduced;
+}
+
+static PyMethodDef match_methods[] = {
+    {"span", match_span, METH_NOARGS, span_doc},
+    {"group", match_group, METH_NOARGS, group_doc},
+    {"__reduce__", match_reduce, METH_NOARGS, NULL},
+    {"__class_getitem__", Py_GenericAlias, METH_O | METH_CLASS, "Match[str] and Match[bytes], for annotations."},
+    {0},
+};
+
+static PyGetSetDef match_members[] = {
+    {"pattern", match_shown, NULL, "The number of its pattern.", (void *)PATTERN},
+    {"start", match_shown, NULL, "The offset at which it begins.", (void *)START},
+    {"end", match_shown, NULL, "The offset behind its end.", (void *)END},
+    {"value", match_value, NULL, "What a mapping gives for its pattern, and without a mapping the pattern.", NULL},
+    {0},
+};
+
+PyDoc_STRVAR(match_doc, "Match(pattern, start, end, group=None, value=None)\n--\n\n"
+"A match: the number of its pattern, the offset at which it begins, and the one behind its end. In a str offsets\n"
+"count characters, in any other text bytes. It equals the tuple of the three, and holds the text it was found in.");
+
+static PyTypeObject match_type = {
+    PyVarObject_HEAD_INIT(NULL, 0)
+    .tp_name = "literal_search.Match",
+    .tp_doc = match_doc,
+    .tp_base = &PyTuple_Type,
+    .tp_flags = Py_TPFLAGS_DEFAULT | Py_TPFLAGS_HAVE_GC,
+    .tp_new = match_new,
+    .tp_dealloc = match_dealloc,
+    .tp_traverse = match_traverse,
+    .tp_repr = match_repr,
+    .tp_methods = match_methods,
+    .tp_getset = match_members,
+};
+
+/* Makes the type ready, with the names of its items for `match` and for whoever asks a tuple with names. */
+static int match_ready(void) {
+    if (PyType_Ready(&match_type))
+        return -1;
+    PyObject *names = Py_BuildValue("(sss)", "pattern", "start", "end");
+    int status = !names || PyDict_SetItemString(match_type.tp_dict, "_fields", names) ||
+                 PyDict_SetItemString(match_type.tp_dict, "__match_args__", names) ? -1 : 0;
+    Py_XDECREF(names);
+    PyType_Modified(&match_type);
+    return status;
+}
+
+#endif

@@ -1,0 +1,485 @@
+/* The searches of literal_search.h, for Python: the calls of a searcher, and its iterator. The files that it includes have
+ * texts and how they are held, matches, who runs meanwhile, and what replaces matches.
+ *
+ * What is searched lies in a buffer that Python lends, or in a str as UTF-8. It is held from the beginning of a call,
+ * or of an iteration, to its end. A long text is searched in pieces: while the library is at work on one, Python's
+ * other threads run, and behind each piece signals are looked for.
+ *
+ * Nothing here is proved. The library is; it is handed what the header asks for. */
+#define PY_SSIZE_T_CLEAN
+#include <Python.h>
+#include <structmember.h>
+
+#include "_match.h"
+#include "_prepared.h"
+#include "_replace.h"
+#include "_text.h"
+#include "_walk.h"
+#include "literal_search.h"
+
+typedef struct {
+    PyObject_HEAD
+    Walk walk;
+    bool is_running;
+} Matches;
+
+/* ---- Methods ---- */
+
+static const char *const OF_SEARCH[3] = {"text", "start", "end"};
+static const char *const OF_SPLIT[3] = {"text", "maxsplit"};
+static const char *const OF_SUB[3] = {"replacement", "text", "count"};
+
+/* The argument of a call that has a name, or -1 with an error. */
+static int named(const char *const names[3], PyObject *const found[3], PyObject *name) {
+    for (int i = 0; i < 3 && names[i]; i++) {
+        if (PyUnicode_CompareWithASCIIString(name, names[i]) == 0) {
+            if (!found[i])
+                return i;
+            PyErr_Format(PyExc_TypeError, "the argument %R is given twice", name);
+            return -1;
+        }
+    }
+    PyErr_Format(PyExc_TypeError, "there is no argument %R", name);
+    return -1;
+}
+
+/* The arguments of a call, by place or by name, of which the first ones are needed. */
+static int arguments(const char *const names[3], int needed, PyObject *const *given, Py_ssize_t count, PyObject *kwnames,
+                     PyObject *found[3]) {
+    Py_ssize_t by_name = kwnames ? PyTuple_GET_SIZE(kwnames) : 0, most = names[2] ? 3 : 2;
+    if (count > most) {
+        PyErr_Format(PyExc_TypeError, "at most %zd arguments are taken, and %zd are given", most, count);
+        return -1;
+    }
+    memset(found, 0, 3 * sizeof *found);
+    memcpy(found, given, (size_t)count * sizeof *found);
+    for (Py_ssize_t k = 0; k < by_name; k++) {
+        int i = named(names, found, PyTuple_GET_ITEM(kwnames, k));
+        if (i < 0)
+            return -1;
+        found[i] = given[count + k];
+    }
+    for (int i = 0; i < needed; i++) {
+        if (!found[i]) {
+            PyErr_Format(PyExc_TypeError, "the argument '%s' is missing", names[i]);
+            return -1;
+        }
+    }
+    return 0;
+}
+
+/* What a call answers that looks for one match. */
+typedef enum { A_MATCH, WHETHER, THE_EARLIEST } Wanted;
+
+/* The first match of a call, or None; or whether there is one. */
+static PyObject *first_of(Prepared *self, PyObject *const *given, Py_ssize_t count, PyObject *names, Wanted wanted) {
+    PyObject *asked[3], *answer = NULL;
+    Text text;
+    Place place;
+    size_t end;
+    literal_match found;
+    if (arguments(OF_SEARCH, 1, given, count, names, asked) || hold(&text, self->takes, asked[0]))
+        return NULL;
+    if (!(wanted == THE_EARLIEST && prepare_for_all(self)) && !bounds(&text, asked[1], asked[2], &place, &end)) {
+        int is_found = wanted == THE_EARLIEST ? find_earliest(self, &text, place.byte, end, &found)
+                                              : find_first(self, &text, place.byte, end, &found);
+        if (is_found >= 0 && wanted == WHETHER)
+            answer = PyBool_FromLong(is_found);
+        else if (is_found == 1)
+            answer = match_at(self, &text, &place, &found);
+        else if (is_found == 0)
+            answer = Py_NewRef(Py_None);
+    }
+    give_back(&text);
+    return answer;
+}
+
+PyDoc_STRVAR(find_doc, "find($self, /, text, start=0, end=None)\n--\n\n"
+"The leftmost match in text[start:end], or None. Its offsets are in the whole text.");
+
+static PyObject *search_find(PyObject *self, PyObject *const *given, Py_ssize_t count, PyObject *names) {
+    return first_of((Prepared *)self, given, count, names, A_MATCH);
+}
+
+PyDoc_STRVAR(is_match_doc, "is_match($self, /, text, start=0, end=None)\n--\n\n"
+"Whether a pattern occurs in text[start:end].");
+
+static PyObject *search_is_match(PyObject *self, PyObject *const *given, Py_ssize_t count, PyObject *names) {
+    return first_of((Prepared *)self, given, count, names, WHETHER);
+}
+
+PyDoc_STRVAR(find_earliest_doc, "find_earliest($self, /, text, start=0, end=None)\n--\n\n"
+"Of everything that occurs in text[start:end] what ends first, and of several patterns that end there the one that\n"
+"stands first in the list; or None. The kind plays no part. The first call prepares a search, as `find_overlapping`\n"
+"does.");
+
+static PyObject *search_find_earliest(PyObject *self, PyObject *const *given, Py_ssize_t count, PyObject *names) {
+    return first_of((Prepared *)self, given, count, names, THE_EARLIEST);
+}
+
+/* The list of all that a walk finds. */
+static PyObject *all_of(Prepared *self, PyObject *const *given, Py_ssize_t count, PyObject *names, bool for_all) {
+    PyObject *asked[3], *all;
+    Walk walk;
+    const literal_match *found;
+    if (arguments(OF_SEARCH, 1, given, count, names, asked) || walk_begin(&walk, self, for_all, asked))
+        return NULL;
+    all = PyList_New(0);
+    while (all && (found = walk_next(&walk))) {
+        PyObject *match = walk_match(&walk, found);
+        if (!match || PyList_Append(all, match))
+            Py_CLEAR(all);
+        Py_XDECREF(match);
+    }
+    if (PyErr_Occurred())
+        Py_CLEAR(all);
+    walk_end(&walk);
+    return all;
+}
+
+PyDoc_STRVAR(findall_doc, "findall($self, /, text, start=0, end=None)\n--\n\n"
+"The list of all matches in text[start:end], from the left, none of which overlaps another.");
+
+static PyObject *search_findall(PyObject *self, PyObject *const *given, Py_ssize_t count, PyObject *names) {
+    return all_of((Prepared *)self, given, count, names, false);
+}
+
+PyDoc_STRVAR(find_overlapping_doc, "find_overlapping($self, /, text, start=0, end=None)\n--\n\n"
+"The list of every occurrence of every pattern in text[start:end], those that overlap others too, in the order of\n"
+"their ends and, at one end, of their patterns. The kind plays no part. The first call prepares a search for it, which\n"
+"the searcher keeps.");
+
+static PyObject *search_find_overlapping(PyObject *self, PyObject *const *given, Py_ssize_t count, PyObject *names) {
+    return all_of((Prepared *)self, given, count, names, true);
+}
+
+/* How many matches a walk finds. */
+static PyObject *count_of(Prepared *self, PyObject *const *given, Py_ssize_t count, PyObject *names, bool for_all) {
+    PyObject *asked[3];
+    Walk walk;
+    size_t matches = 0;
+    if (arguments(OF_SEARCH, 1, given, count, names, asked) || walk_begin(&walk, self, for_all, asked))
+        return NULL;
+    while (walk_next(&walk)) {
+        matches += 1 + walk.written - walk.given;
+        walk.given = walk.written;
+    }
+    walk_end(&walk);
+    return PyErr_Occurred() ? NULL : PyLong_FromSize_t(matches);
+}
+
+PyDoc_STRVAR(count_doc, "count($self, /, text, start=0, end=None)\n--\n\n"
+"How many matches `findall` gives, without a list of them.");
+
+static PyObject *search_count(PyObject *self, PyObject *const *given, Py_ssize_t count, PyObject *names) {
+    return count_of((Prepared *)self, given, count, names, false);
+}
+
+PyDoc_STRVAR(count_overlapping_doc, "count_overlapping($self, /, text, start=0, end=None)\n--\n\n"
+"How many occurrences `find_overlapping` gives, without a list of them.");
+
+static PyObject *search_count_overlapping(PyObject *self, PyObject *const *given, Py_ssize_t count, PyObject *names) {
+    return count_of((Prepared *)self, given, count, names, true);
+}
+
+static PyTypeObject matches_type;
+
+/* An iterator over all that a walk finds. */
+static PyObject *iterator_of(Prepared *self, PyObject *const *given, Py_ssize_t count, PyObject *names, bool for_all) {
+    PyObject *asked[3];
+    if (arguments(OF_SEARCH, 1, given, count, names, asked))
+        return NULL;
+    Matches *matches = PyObject_GC_New(Matches, &matches_type);
+    if (!matches)
+        return NULL;
+    matches->is_running = false;
+    if (walk_begin(&matches->walk, self, for_all, asked)) {
+        PyObject_GC_Del(matches);
+        return NULL;
+    }
+    PyObject_GC_Track(matches);
+    return (PyObject *)matches;
+}
+
+PyDoc_STRVAR(finditer_doc, "finditer($self, /, text, start=0, end=None)\n--\n\n"
+"Gives what `findall` lists, one match after another. From this call on, before the first match is asked for, and\n"
+"until the iterator is at its end or gone, the text is held: it can be neither resized nor closed. Some thousands of\n"
+"matches are found ahead: do not write into the text in the meantime.");
+
+static PyObject *search_finditer(PyObject *self, PyObject *const *given, Py_ssize_t count, PyObject *names) {
+    return iterator_of((Prepared *)self, given, count, names, false);
+}
+
+PyDoc_STRVAR(finditer_overlapping_doc, "finditer_overlapping($self, /, text, start=0, end=None)\n--\n\n"
+"Gives what `find_overlapping` lists, one occurrence after another, and holds the text as `finditer` does.");
+
+static PyObject *search_finditer_overlapping(PyObject *self, PyObject *const *given, Py_ssize_t count, PyObject *names) {
+    return iterator_of((Prepared *)self, given, count, names, true);
+}
+
+/* The text with matches replaced, and how many they are. What a function could change is copied first. */
+static PyObject *text_replaced(Prepared *self, PyObject *const *given, Py_ssize_t count, PyObject *names, size_t *done) {
+    PyObject *asked[3], *by, *answer = NULL, *copy = NULL;
+    size_t most;
+    Walk walk;
+    if (arguments(OF_SUB, 2, given, count, names, asked) || most_of(asked[2], "count", &most) ||
+        walk_begin(&walk, self, false, (PyObject *const[3]){asked[1]}))
+        return NULL;
+    if (PyCallable_Check(asked[0]) && !walk.text.is_str && !PyBytes_CheckExact(walk.text.of)) {
+        copy = whole_of(&walk.text);
+        walk_end(&walk);
+        if (!copy || walk_begin(&walk, self, false, (PyObject *const[3]){copy})) {
+            Py_XDECREF(copy);
+            return NULL;
+        }
+    }
+    by = replacements(self, asked[0], walk.text.is_str);
+    if (by)
+        answer = replaced(&walk, by, most, done);
+    Py_XDECREF(by);
+    walk_end(&walk);
+    Py_XDECREF(copy);
+    return answer;
+}
+
+PyDoc_STRVAR(sub_doc, "sub($self, /, replacement, text, count=0)\n--\n\n"
+"The text with each match replaced: by the replacement, by the one of a list that has the pattern's number, or by what\n"
+"a function answers that is given the match. If `count` is not 0, at most so many matches are replaced, from the left.\n"
+"What a function does to the text meanwhile changes nothing in the answer.");
+
+static PyObject *search_sub(PyObject *self, PyObject *const *given, Py_ssize_t count, PyObject *names) {
+    size_t done;
+    return text_replaced((Prepared *)self, given, count, names, &done);
+}
+
+PyDoc_STRVAR(subn_doc, "subn($self, /, replacement, text, count=0)\n--\n\n"
+"What `sub` answers, and how many matches were replaced.");
+
+static PyObject *search_subn(PyObject *self, PyObject *const *given, Py_ssize_t count, PyObject *names) {
+    size_t done;
+    PyObject *answer = text_replaced((Prepared *)self, given, count, names, &done);
+    return answer ? Py_BuildValue("(Nn)", answer, (Py_ssize_t)done) : NULL;
+}
+
+PyDoc_STRVAR(split_doc, "split($self, /, text, maxsplit=0)\n--\n\n"
+"What stands before, between and behind the matches. If `maxsplit` is not 0, the text is split at so many matches at\n"
+"most, from the left.");
+
+static PyObject *search_split(PyObject *self, PyObject *const *given, Py_ssize_t count, PyObject *names) {
+    PyObject *asked[3], *parts;
+    size_t most;
+    Walk walk;
+    if (arguments(OF_SPLIT, 1, given, count, names, asked) || most_of(asked[1], "maxsplit", &most) ||
+        walk_begin(&walk, (Prepared *)self, false, (PyObject *const[3]){asked[0]}))
+        return NULL;
+    parts = split_up(&walk, most);
+    walk_end(&walk);
+    return parts;
+}
+
+/* ---- The iterator ---- */
+
+static PyObject *matches_next(PyObject *self) {
+    Matches *matches = (Matches *)self;
+    Walk *walk = &matches->walk;
+    const literal_match *found;
+    PyObject *match = NULL;
+    if (matches->is_running) {
+        PyErr_SetString(PyExc_ValueError, "another thread is at work on this iterator");
+        return NULL;
+    }
+    matches->is_running = true;
+    found = walk_next(walk);
+    if (found)
+        match = walk_match(walk, found);
+    matches->is_running = false;
+    if (!match)
+        walk_end(walk);
+    return match;
+}
+
+static int matches_traverse(PyObject *self, visitproc visit, void *arg) {
+    Walk *walk = &((Matches *)self)->walk;
+    Py_VISIT(walk->search);
+    Py_VISIT(walk->text.of);
+    Py_VISIT(walk->text.buffer.obj);
+    return 0;
+}
+
+static int matches_clear(PyObject *self) {
+    walk_end(&((Matches *)self)->walk);
+    return 0;
+}
+
+static void matches_dealloc(PyObject *self) {
+    PyObject_GC_UnTrack(self);
+    walk_end(&((Matches *)self)->walk);
+    PyObject_GC_Del(self);
+}
+
+static PyTypeObject matches_type = {
+    PyVarObject_HEAD_INIT(NULL, 0)
+    .tp_name = "literal_search._native.Matches",
+    .tp_doc = "What finditer and finditer_overlapping give.",
+    .tp_basicsize = sizeof(Matches),
+    .tp_flags = Py_TPFLAGS_DEFAULT | Py_TPFLAGS_HAVE_GC,
+    .tp_dealloc = matches_dealloc,
+    .tp_traverse = matches_traverse,
+    .tp_clear = matches_clear,
+    .tp_iter = PyObject_SelfIter,
+    .tp_iternext = matches_next,
+};
+
+/* ---- How a searcher begins ---- */
+
+/* An array that was kept, if it is whole, and for as many patterns. */
+static PyObject *checked(PyObject *kept, size_t count) {
+    size_t len;
+    const uint32_t *words = words_of(kept, &len);
+    bool is_cut = PyBytes_GET_SIZE(kept) % sizeof(uint32_t) != 0;
+    int32_t status = is_cut ? LITERAL_DAMAGED : literal_check_prepared(words, len);
+    if (status != LITERAL_OK || words[3] != count) {
+        refuse(LITERAL_DAMAGED);
+        return NULL;
+    }
+    return Py_NewRef(kept);
+}
+
+/* Whether this is a tuple of so many. */
+static bool has_one_each(PyObject *of, size_t count) {
+    return PyTuple_Check(of) && (size_t)PyTuple_GET_SIZE(of) == count;
+}
+
+PyDoc_STRVAR(prepare_doc, "_prepare($self, patterns, pieces, kind, ignore_case, kept, values, /)\n--\n\n"
+"Sets the patterns, whose bytes are the pieces. Kept is what `_prepared` was of a searcher for the same, or None. The\n"
+"values are what a mapping gives for each, or None.");
+
+static PyObject *search_prepare(PyObject *of, PyObject *given) {
+    Prepared *self = (Prepared *)of, new = {.takes = TAKES_EITHER};
+    PyObject *pieces_of, *kept, *values;
+    int ignore_case;
+    if (!PyArg_ParseTuple(given, "O!O!ipOO:_prepare", &PyTuple_Type, &new.patterns, &PyTuple_Type, &pieces_of, &new.kind,
+                          &ignore_case, &kept, &values) || join_pieces(&new.pieces, pieces_of))
+        return NULL;
+    if (!has_one_each(new.patterns, new.pieces.count) || (values != Py_None && !has_one_each(values, new.pieces.count))) {
+        free_pieces(&new.pieces);
+        PyErr_SetString(PyExc_ValueError, "there is not one of each for each pattern");
+        return NULL;
+    }
+    new.ignore_case = (char)ignore_case;
+    if (PyTuple_GET_SIZE(new.patterns) > 0)
+        new.takes = PyUnicode_Check(PyTuple_GET_ITEM(new.patterns, 0)) ? TAKES_STR : TAKES_BYTES;
+    new.prepared = kept == Py_None ? prepared_for(&new, &new.pieces, false) : checked(kept, new.pieces.count);
+    if (new.prepared && self->takes != NOT_PREPARED) {
+        Py_CLEAR(new.prepared);
+        PyErr_SetString(PyExc_RuntimeError, "a searcher never changes: make another one");
+    }
+    if (!new.prepared) {
+        free_pieces(&new.pieces);
+        return NULL;
+    }
+    self->patterns = Py_NewRef(new.patterns);
+    self->values = values == Py_None ? NULL : Py_NewRef(values);
+    self->leads_on = self->values || !all_are_exact(new.patterns);
+    self->pieces = new.pieces;
+    self->prepared = new.prepared;
+    self->kind = new.kind;
+    self->ignore_case = new.ignore_case;
+    self->takes = new.takes;
+    Py_RETURN_NONE;
+}
+
+PyDoc_STRVAR(plain_bytes_doc, "plain_bytes(of, name, /)\n--\n\n"
+"The bytes of what is called a pattern or a replacement.");
+
+static PyObject *module_plain_bytes(PyObject *unused, PyObject *given) {
+    PyObject *of;
+    const char *name;
+    (void)unused;
+    return PyArg_ParseTuple(given, "Os:plain_bytes", &of, &name) ? plain_bytes(of, name) : NULL;
+}
+
+/* A pattern of a subclass of str can lead to its searcher, and so can a value. They let go what they lead to, so nothing
+ * is cleared here. */
+static int search_traverse(PyObject *of, visitproc visit, void *arg) {
+    Py_VISIT(((Prepared *)of)->patterns);
+    Py_VISIT(((Prepared *)of)->values);
+    return 0;
+}
+
+static void search_dealloc(PyObject *of) {
+    Prepared *self = (Prepared *)of;
+    PyObject_GC_UnTrack(of);
+    Py_XDECREF(self->patterns);
+    Py_XDECREF(self->values);
+    Py_XDECREF(self->prepared);
+    Py_XDECREF(self->for_all);
+    free_pieces(&self->pieces);
+    Py_TYPE(of)->tp_free(of);
+}
+
+#define CALL(NAME) {#NAME, (PyCFunction)(void (*)(void))search_##NAME, METH_FASTCALL | METH_KEYWORDS, NAME##_doc}
+
+static PyMethodDef search_methods[] = {
+    CALL(find),
+    CALL(is_match),
+    CALL(find_earliest),
+    CALL(findall),
+    CALL(find_overlapping),
+    CALL(finditer),
+    CALL(finditer_overlapping),
+    CALL(count),
+    CALL(count_overlapping),
+    CALL(sub),
+    CALL(subn),
+    CALL(split),
+    {"_prepare", search_prepare, METH_VARARGS, prepare_doc},
+    {"__class_getitem__", Py_GenericAlias, METH_O | METH_CLASS, "Search[str] and Search[bytes], for annotations."},
+    {0},
+};
+
+static PyMemberDef search_members[] = {
+    {"patterns", T_OBJECT_EX, offsetof(Prepared, patterns), READONLY, "The patterns, as str or as bytes."},
+    {"ignore_case", T_BOOL, offsetof(Prepared, ignore_case), READONLY, "Whether A to Z are the same as a to z."},
+    {"_values", T_OBJECT, offsetof(Prepared, values), READONLY, NULL},
+    {"_kind", T_INT, offsetof(Prepared, kind), READONLY, NULL},
+    {"_prepared", T_OBJECT_EX, offsetof(Prepared, prepared), READONLY, NULL},
+    {"_for_all", T_OBJECT, offsetof(Prepared, for_all), READONLY, NULL},
+    {0},
+};
+
+static PyTypeObject search_type = {
+    PyVarObject_HEAD_INIT(NULL, 0)
+    .tp_name = "literal_search._native.Prepared",
+    .tp_doc = "What a Search finds.",
+    .tp_basicsize = sizeof(Prepared),
+    .tp_flags = Py_TPFLAGS_DEFAULT | Py_TPFLAGS_BASETYPE | Py_TPFLAGS_HAVE_GC,
+    .tp_new = PyType_GenericNew,
+    .tp_dealloc = search_dealloc,
+    .tp_traverse = search_traverse,
+    .tp_methods = search_methods,
+    .tp_members = search_members,
+};
+
+static PyMethodDef module_methods[] = {
+    {"plain_bytes", module_plain_bytes, METH_VARARGS, plain_bytes_doc},
+    {0},
+};
+
+static struct PyModuleDef module = {
+    PyModuleDef_HEAD_INIT,
+    .m_name = "literal_search._native",
+    .m_doc = "The searches of literal_search.h, for Python.",
+    .m_size = -1,
+    .m_methods = module_methods,
+};
+
+PyMODINIT_FUNC PyInit__native(void) {
+    PyObject *made = PyModule_Create(&module);
+    if (!made || match_ready() || PyType_Ready(&matches_type) || PyModule_AddType(made, &match_type) ||
+        PyModule_AddType(made, &search_type) || PyModule_AddStringConstant(made, "__version__", LITERAL_VERSION)) {
+        Py_XDECREF(made);
+        return NULL;
+    }
+    return made;
+}

@@ -1,0 +1,168 @@
+/* What a searcher holds, how its searches are prepared, and who runs meanwhile. Included once, by _native.c. */
+#ifndef LITERAL_SEARCH_PREPARED_H
+#define LITERAL_SEARCH_PREPARED_H
+
+#define PY_SSIZE_T_CLEAN
+#include <Python.h>
+
+#include "_text.h"
+#include "literal_search.h"
+
+enum {
+    SHORT = 1 << 12,  /* bytes whose search takes less time than it takes to let another thread run */
+    SCRATCH = 1 << 24 /* numbers, at most, for a search whose length is not known yet */
+};
+
+/* The patterns as they cross to C: one buffer, and where each ends. */
+typedef struct {
+    uint8_t *bytes;
+    size_t *ends;
+    size_t len, count, longest; /* (the longest pattern) */
+} Pieces;
+
+typedef struct {
+    PyObject_HEAD
+    PyObject *patterns; /* a tuple */
+    PyObject *values;   /* what a mapping gives for each, as a tuple, or NULL without a mapping */
+    Pieces pieces;      /* the patterns */
+    PyObject *prepared; /* the array of the library, as bytes */
+    PyObject *for_all;  /* the one for all that occurs, once it was asked for */
+    int kind;
+    char ignore_case;
+    bool leads_on; /* whether a pattern or a value may lead back to what holds it */
+    Takes takes;
+} Prepared;
+
+/* Raises what a status other than success stands for. */
+static int refuse(int32_t status) {
+    switch (status) {
+    case LITERAL_NO_SEARCHER:
+        PyErr_SetString(PyExc_ValueError, "no search for these patterns: one of them is empty");
+        break;
+    case LITERAL_OUT_OF_MEMORY:
+        PyErr_SetString(PyExc_MemoryError, "no memory for a search");
+        break;
+    case LITERAL_TOO_LARGE:
+        PyErr_SetString(PyExc_OverflowError, "the table of a search for these patterns would be too large");
+        break;
+    case LITERAL_DAMAGED:
+        PyErr_SetString(PyExc_ValueError, "the prepared search is damaged");
+        break;
+    default:
+        PyErr_Format(PyExc_SystemError, "the library answers the status %d", (int)status);
+    }
+    return -1;
+}
+
+/* Lets other threads run during a search of so many bytes, if it is long. */
+static PyThreadState *let_others_run(size_t len) {
+    return len > SHORT ? PyEval_SaveThread() : NULL;
+}
+
+static void come_back(PyThreadState *state) {
+    if (state)
+        PyEval_RestoreThread(state);
+}
+
+static void free_pieces(Pieces *pieces) {
+    PyMem_Free(pieces->bytes);
+    PyMem_Free(pieces->ends);
+}
+
+static int join_pieces(Pieces *pieces, PyObject *of) {
+    size_t count = (size_t)PyTuple_GET_SIZE(of), len = 0, at = 0;
+    for (size_t i = 0; i < count; i++)
+        len += (size_t)PyBytes_GET_SIZE(PyTuple_GET_ITEM(of, i));
+    *pieces = (Pieces){PyMem_Malloc(len), PyMem_New(size_t, count), len, count, 0};
+    if (!pieces->bytes || !pieces->ends) {
+        free_pieces(pieces);
+        PyErr_NoMemory();
+        return -1;
+    }
+    for (size_t i = 0; i < count; i++) {
+        PyObject *piece = PyTuple_GET_ITEM(of, i);
+        size_t piece_len = (size_t)PyBytes_GET_SIZE(piece);
+        memcpy(pieces->bytes + at, PyBytes_AS_STRING(piece), piece_len);
+        pieces->ends[i] = at += piece_len;
+        if (piece_len > pieces->longest)
+            pieces->longest = piece_len;
+    }
+    return 0;
+}
+
+static int32_t prepare(const Prepared *self, const Pieces *pieces, bool for_all, void *words, size_t len,
+                       size_t *needed) {
+    int32_t status;
+    PyThreadState *state = PyEval_SaveThread();
+    if (for_all)
+        status = literal_prepare_overlapping(self->ignore_case, pieces->bytes, pieces->len, pieces->ends, pieces->count,
+                                             words, len, needed);
+    else
+        status = literal_prepare((uint32_t)self->kind, self->ignore_case, pieces->bytes, pieces->len, pieces->ends,
+                                 pieces->count, words, len, needed);
+    come_back(state);
+    return status;
+}
+
+/* How many numbers the array of a search for some pieces will have, more or less: one row for each of their bytes, with
+ * a number for each different one; and for each piece its length, and in a search for all that occurs two more. */
+static size_t likely_len(const Pieces *pieces) {
+    bool seen[256] = {false};
+    size_t different = 0;
+    for (size_t i = 0; i < pieces->len; i++) {
+        different += !seen[pieces->bytes[i]];
+        seen[pieces->bytes[i]] = true;
+    }
+    size_t len = (pieces->len + 1) * (different + 2) + 3 * pieces->count + 512;
+    return len < SCRATCH ? len : SCRATCH;
+}
+
+/* The array of a search for some pieces. How long it is turns out when it is written, so it is written where there is
+ * likely room, and once more where that was too little. */
+static PyObject *prepared_for(const Prepared *self, const Pieces *pieces, bool for_all) {
+    size_t needed = likely_len(pieces);
+    PyObject *prepared = NULL;
+    int32_t status;
+    do {
+        size_t room = needed;
+        Py_XDECREF(prepared);
+        prepared = PyBytes_FromStringAndSize(NULL, (Py_ssize_t)(room * sizeof(uint32_t)));
+        if (!prepared)
+            return NULL;
+        status = prepare(self, pieces, for_all, PyBytes_AS_STRING(prepared), room, &needed);
+    } while (status == LITERAL_TOO_SHORT);
+    if (status == LITERAL_OK) {
+        _PyBytes_Resize(&prepared, (Py_ssize_t)(needed * sizeof(uint32_t)));
+    } else {
+        Py_CLEAR(prepared);
+        refuse(status);
+    }
+    return prepared;
+}
+
+/* Makes the array for all that occurs, unless there is one: another thread may have made it in the meantime. */
+static int prepare_for_all(Prepared *self) {
+    PyObject *made = self->for_all ? NULL : prepared_for(self, &self->pieces, true);
+    if (made && self->for_all)
+        Py_DECREF(made);
+    else if (made)
+        self->for_all = made;
+    return self->for_all ? 0 : -1;
+}
+
+static const uint32_t *words_of(PyObject *prepared, size_t *len) {
+    *len = (size_t)PyBytes_GET_SIZE(prepared) / sizeof(uint32_t);
+    return (const uint32_t *)(const void *)PyBytes_AS_STRING(prepared);
+}
+
+/* Whether no pattern can lead on: all are str or bytes, and of no subclass. */
+static bool all_are_exact(PyObject *patterns) {
+    for (Py_ssize_t i = 0; i < PyTuple_GET_SIZE(patterns); i++) {
+        PyObject *it = PyTuple_GET_ITEM(patterns, i);
+        if (!PyUnicode_CheckExact(it) && !PyBytes_CheckExact(it))
+            return false;
+    }
+    return true;
+}
+
+#endif

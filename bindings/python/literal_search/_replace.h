@@ -1,0 +1,209 @@
+/* Texts in which matches are replaced, or at which they are split. Included once, by _native.c. */
+#ifndef LITERAL_SEARCH_REPLACE_H
+#define LITERAL_SEARCH_REPLACE_H
+
+#define PY_SSIZE_T_CLEAN
+#include <Python.h>
+
+#include "_text.h"
+#include "_walk.h"
+
+/* Bytes that are written one after another. */
+typedef struct {
+    uint8_t *bytes, first[512];
+    size_t len, room;
+} Out;
+
+static void out_begin(Out *out) {
+    out->bytes = out->first;
+    out->len = 0;
+    out->room = sizeof out->first;
+}
+
+static void out_end(Out *out) {
+    if (out->bytes != out->first)
+        PyMem_Free(out->bytes);
+}
+
+static int out_add(Out *out, const void *bytes, size_t len) {
+    if (len > out->room - out->len) {
+        size_t room = 2 * (out->len + len);
+        uint8_t *wider = PyMem_Realloc(out->bytes == out->first ? NULL : out->bytes, room);
+        if (!wider) {
+            PyErr_NoMemory();
+            return -1;
+        }
+        if (out->bytes == out->first)
+            memcpy(wider, out->first, out->len);
+        out->bytes = wider;
+        out->room = room;
+    }
+    memcpy(out->bytes + out->len, bytes, len);
+    out->len += len;
+    return 0;
+}
+
+/* Adds a str, as UTF-8. A lone surrogate is taken along: a replacement may have one. */
+static int out_add_str(Out *out, PyObject *str) {
+    Py_ssize_t len;
+    const char *bytes = PyUnicode_AsUTF8AndSize(str, &len);
+    if (bytes)
+        return out_add(out, bytes, (size_t)len);
+    if (!PyErr_ExceptionMatches(PyExc_UnicodeEncodeError))
+        return -1;
+    PyErr_Clear();
+    PyObject *encoded = PyUnicode_AsEncodedString(str, "utf-8", "surrogatepass");
+    int status = encoded ? out_add(out, PyBytes_AS_STRING(encoded), (size_t)PyBytes_GET_SIZE(encoded)) : -1;
+    Py_XDECREF(encoded);
+    return status;
+}
+
+/* The bytes of a pattern or a replacement, as bytes of no subclass. */
+static PyObject *plain_bytes(PyObject *of, const char *name) {
+    Py_buffer buffer;
+    if (PyBytes_CheckExact(of))
+        return Py_NewRef(of);
+    if (PyObject_CheckBuffer(of)) {
+        if (PyObject_GetBuffer(of, &buffer, PyBUF_FULL_RO))
+            return NULL;
+        PyObject *bytes = has_objects(buffer.format) ? NULL : PyBytes_FromStringAndSize(NULL, buffer.len);
+        if (bytes && PyBuffer_ToContiguous(PyBytes_AS_STRING(bytes), &buffer, buffer.len, 'C'))
+            Py_CLEAR(bytes);
+        PyBuffer_Release(&buffer);
+        if (bytes || PyErr_Occurred())
+            return bytes;
+    }
+    PyErr_Format(PyExc_TypeError, "%s is a str or lends plain bytes, and %.200s does neither", name,
+                 Py_TYPE(of)->tp_name);
+    return NULL;
+}
+
+/* A replacement, if it has the type of the text. */
+static PyObject *of_type(PyObject *replacement, bool is_str) {
+    if (PyUnicode_Check(replacement) == is_str)
+        return is_str ? Py_NewRef(replacement) : plain_bytes(replacement, "a replacement");
+    PyErr_Format(PyExc_TypeError, "a replacement is %s as the text is, not %.200s", is_str ? "str" : "bytes",
+                 Py_TYPE(replacement)->tp_name);
+    return NULL;
+}
+
+/* What replaces matches: a function, a tuple of as many replacements as there are patterns, or one replacement. */
+static PyObject *replacements(const Prepared *self, PyObject *given, bool is_str) {
+    if (PyCallable_Check(given))
+        return Py_NewRef(given);
+    if (!PyList_Check(given) && !PyTuple_Check(given))
+        return of_type(given, is_str);
+    PyObject *many = PySequence_Tuple(given);
+    Py_ssize_t count = many ? PyTuple_GET_SIZE(many) : 0, patterns = PyTuple_GET_SIZE(self->patterns);
+    PyObject *taken = many ? PyTuple_New(count) : NULL;
+    if (taken && count != patterns) {
+        PyErr_Format(PyExc_ValueError, "there are %zd replacements for %zd patterns", count, patterns);
+        Py_CLEAR(taken);
+    }
+    for (Py_ssize_t i = 0; taken && i < count; i++) {
+        PyObject *one = of_type(PyTuple_GET_ITEM(many, i), is_str);
+        if (one)
+            PyTuple_SET_ITEM(taken, i, one);
+        else
+            Py_CLEAR(taken);
+    }
+    Py_XDECREF(many);
+    return taken;
+}
+
+/* The replacement of a match. */
+static PyObject *replacement_of(Walk *walk, PyObject *by, const literal_match *found) {
+    if (!PyCallable_Check(by))
+        return Py_NewRef(PyTuple_CheckExact(by) ? PyTuple_GET_ITEM(by, (Py_ssize_t)found->pattern) : by);
+    PyObject *match = walk_match(walk, found), *said = match ? PyObject_CallOneArg(by, match) : NULL;
+    PyObject *replacement = said ? of_type(said, walk->text.is_str) : NULL;
+    Py_XDECREF(match);
+    Py_XDECREF(said);
+    return replacement;
+}
+
+/* Writes the text from a byte up to a match, and what replaces it. */
+static int replace_one(Out *out, Walk *walk, PyObject *by, size_t at, const literal_match *found) {
+    if (out_add(out, walk->text.bytes + at, found->start - at))
+        return -1;
+    PyObject *one = replacement_of(walk, by, found);
+    if (!one)
+        return -1;
+    int status = walk->text.is_str ? out_add_str(out, one)
+                                   : out_add(out, PyBytes_AS_STRING(one), (size_t)PyBytes_GET_SIZE(one));
+    Py_DECREF(one);
+    return status;
+}
+
+/* The whole text, of no subclass, and no copy where nobody can change it. */
+static PyObject *whole_of(const Text *text) {
+    Place end = {text->len, text->is_str ? (size_t)PyUnicode_GET_LENGTH(text->of) : text->len};
+    return part_of(text, (Place){0, 0}, end);
+}
+
+/* The text of a walk with at most so many matches replaced, from the left. */
+static PyObject *replaced(Walk *walk, PyObject *by, size_t most, size_t *done) {
+    Out out;
+    size_t at = 0;
+    const literal_match *found = NULL;
+    PyObject *answer = NULL;
+    out_begin(&out);
+    for (*done = 0; *done < most && (found = walk_next(walk)); (*done)++) {
+        if (replace_one(&out, walk, by, at, found))
+            break;
+        at = found->end;
+    }
+    if (!PyErr_Occurred()) {
+        if (*done == 0)
+            answer = whole_of(&walk->text);
+        else if (!out_add(&out, walk->text.bytes + at, walk->text.len - at))
+            answer = walk->text.is_str
+                         ? PyUnicode_DecodeUTF8((const char *)out.bytes, (Py_ssize_t)out.len, "surrogatepass")
+                         : PyBytes_FromStringAndSize((const char *)out.bytes, (Py_ssize_t)out.len);
+    }
+    out_end(&out);
+    return answer;
+}
+
+/* Adds a part of a text to a list. */
+static int add_part(PyObject *parts, const Text *text, Place start, Place end) {
+    PyObject *part = part_of(text, start, end);
+    int status = part ? PyList_Append(parts, part) : -1;
+    Py_XDECREF(part);
+    return status;
+}
+
+/* The parts of the text of a walk before, between and behind at most so many matches. */
+static PyObject *split_up(Walk *walk, size_t most) {
+    PyObject *parts = PyList_New(0);
+    Place at = {0, 0};
+    const literal_match *found = NULL;
+    for (size_t done = 0; parts && done < most && (found = walk_next(walk)); done++) {
+        Place start = at;
+        offset_of(&walk->text, &start, found->start);
+        if (add_part(parts, &walk->text, at, start))
+            Py_CLEAR(parts);
+        at = start;
+        offset_of(&walk->text, &at, found->end);
+    }
+    Place end = at;
+    offset_of(&walk->text, &end, walk->text.len);
+    if (parts && (PyErr_Occurred() || add_part(parts, &walk->text, at, end)))
+        Py_CLEAR(parts);
+    return parts;
+}
+
+/* How many matches are wanted at most. By 0 all are. */
+static int most_of(PyObject *given, const char *name, size_t *most) {
+    Py_ssize_t count = given ? PyNumber_AsSsize_t(given, NULL) : 0;
+    if (count == -1 && PyErr_Occurred())
+        return -1;
+    if (count < 0) {
+        PyErr_Format(PyExc_ValueError, "%s is negative", name);
+        return -1;
+    }
+    *most = count == 0 ? SIZE_MAX : (size_t)count;
+    return 0;
+}
+
+#endif

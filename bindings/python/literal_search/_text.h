@@ -1,0 +1,203 @@
+/* Texts of Python: how they are held, and how offsets in them are counted. Included once, by _native.c. */
+#ifndef LITERAL_SEARCH_TEXT_H
+#define LITERAL_SEARCH_TEXT_H
+
+#define PY_SSIZE_T_CLEAN
+#include <Python.h>
+
+#include <stdbool.h>
+#include <stdint.h>
+#include <string.h>
+
+#define ONES UINT64_C(0x0101010101010101)
+
+/* Of which type the texts of a searcher are, as its patterns are. */
+typedef enum { NOT_PREPARED, TAKES_EITHER, TAKES_BYTES, TAKES_STR } Takes;
+
+/* A text that is held, and its bytes. */
+typedef struct {
+    PyObject *of;     /* the text, or NULL once it is given back */
+    Py_buffer buffer; /* its buffer, unless it is a str */
+    const uint8_t *bytes;
+    size_t len;
+    bool is_str;
+    bool is_wide; /* whether it is a str in which a character has more than one byte */
+} Text;
+
+/* A place in a text: how many bytes, and how many of what its offsets count, stand before it. */
+typedef struct {
+    size_t byte;
+    size_t offset;
+} Place;
+
+/* Whether a buffer's items are, or hold, objects: their bytes are addresses. */
+static bool has_objects(const char *format) {
+    bool in_name = false; /* a field's name stands between colons */
+    for (; format && *format; format++) {
+        if (*format == ':')
+            in_name = !in_name;
+        else if (*format == 'O' && !in_name)
+            return true;
+    }
+    return false;
+}
+
+static int hold_buffer(Text *text, PyObject *of) {
+    if (!PyObject_CheckBuffer(of)) {
+        PyErr_Format(PyExc_TypeError, "a text is a str or lends its bytes, and %.200s does neither",
+                     Py_TYPE(of)->tp_name);
+        return -1;
+    }
+    if (PyObject_GetBuffer(of, &text->buffer, PyBUF_FULL_RO))
+        return -1;
+    if (!PyBuffer_IsContiguous(&text->buffer, 'C') || has_objects(text->buffer.format)) {
+        PyBuffer_Release(&text->buffer);
+        PyErr_SetString(PyExc_BufferError,
+                        "a text lends plain bytes, one after another: no view with gaps, and no array of objects");
+        return -1;
+    }
+    text->bytes = text->buffer.buf;
+    text->len = (size_t)text->buffer.len;
+    text->of = Py_NewRef(of);
+    return 0;
+}
+
+static int hold_str(Text *text, PyObject *of) {
+    Py_ssize_t len;
+    if (PyUnicode_IS_COMPACT_ASCII(of)) {
+        text->bytes = PyUnicode_1BYTE_DATA(of);
+        text->len = (size_t)PyUnicode_GET_LENGTH(of);
+        text->of = Py_NewRef(of);
+        return 0;
+    }
+    text->bytes = (const uint8_t *)PyUnicode_AsUTF8AndSize(of, &len);
+    if (!text->bytes) {
+        if (PyErr_ExceptionMatches(PyExc_UnicodeEncodeError)) {
+            PyErr_Clear();
+            PyErr_SetString(PyExc_ValueError, "the text has a lone surrogate, which is no character");
+        }
+        return -1;
+    }
+    text->len = (size_t)len;
+    text->is_wide = len != PyUnicode_GET_LENGTH(of);
+    text->of = Py_NewRef(of);
+    return 0;
+}
+
+/* Holds a text, of the type that is taken. */
+static int hold(Text *text, Takes takes, PyObject *of) {
+    bool is_str = PyUnicode_Check(of);
+    text->of = text->buffer.obj = NULL;
+    text->is_str = is_str;
+    text->is_wide = false;
+    if (takes == NOT_PREPARED)
+        PyErr_SetString(PyExc_RuntimeError, "this searcher has no patterns yet: its __init__ was not called");
+    else if (is_str && takes == TAKES_BYTES)
+        PyErr_SetString(PyExc_TypeError, "the patterns are bytes, and the text is str: encode it, as by text.encode()");
+    else if (!is_str && takes == TAKES_STR && PyObject_CheckBuffer(of))
+        PyErr_Format(PyExc_TypeError, "the patterns are str, and the text is %.200s: decode it, as by str(text, 'utf-8')",
+                     Py_TYPE(of)->tp_name);
+    else
+        return is_str ? hold_str(text, of) : hold_buffer(text, of);
+    return -1;
+}
+
+static void give_back(Text *text) {
+    if (text->buffer.obj)
+        PyBuffer_Release(&text->buffer);
+    Py_CLEAR(text->of);
+}
+
+/* How many characters begin in some bytes of UTF-8. */
+static size_t characters(const uint8_t *bytes, size_t len) {
+    size_t count = 0, i = 0;
+    for (; len - i >= 8; i += 8) {
+        uint64_t eight;
+        memcpy(&eight, bytes + i, 8);
+        count += 8 - (size_t)(((eight >> 7 & ~(eight >> 6) & ONES) * ONES) >> 56); /* (less those that go on) */
+    }
+    for (; i < len; i++)
+        count += (bytes[i] & 0xC0) != 0x80;
+    return count;
+}
+
+/* Moves a place on to a byte with which a character begins or the text ends. */
+static size_t offset_of(const Text *text, Place *place, size_t byte) {
+    size_t len = byte - place->byte;
+    place->offset += text->is_wide ? characters(text->bytes + place->byte, len) : len;
+    place->byte = byte;
+    return place->offset;
+}
+
+/* Moves a place on to an offset. */
+static size_t byte_of(const Text *text, Place *place, size_t offset) {
+    enum { BLOCK = 64 };
+    if (!text->is_wide)
+        return place->byte = place->offset = offset;
+    while (text->len - place->byte > BLOCK) {
+        size_t count = characters(text->bytes + place->byte, BLOCK);
+        if (count > offset - place->offset)
+            break;
+        place->offset += count;
+        place->byte += BLOCK;
+    }
+    for (; place->byte < text->len; place->byte++) {
+        bool begins = (text->bytes[place->byte] & 0xC0) != 0x80;
+        if (begins && place->offset == offset)
+            break;
+        place->offset += begins;
+    }
+    return place->byte;
+}
+
+/* An offset as it stands in a slice. */
+static int slice_offset(PyObject *given, Py_ssize_t otherwise, Py_ssize_t *offset) {
+    *offset = otherwise;
+    if (!given || given == Py_None)
+        return 0;
+    if (!PyIndex_Check(given)) {
+        PyErr_Format(PyExc_TypeError, "an offset is an int or None, not %.200s", Py_TYPE(given)->tp_name);
+        return -1;
+    }
+    *offset = PyNumber_AsSsize_t(given, NULL);
+    return *offset == -1 && PyErr_Occurred() ? -1 : 0;
+}
+
+/* Whether what holds it may lead back to what it holds: such a thing the collector has to visit. */
+static bool leads_on(const Text *text) {
+    return !PyUnicode_CheckExact(text->of) && !PyBytes_CheckExact(text->of) && !PyByteArray_CheckExact(text->of);
+}
+
+/* A copy of the text from one byte to another, of which the offsets are known too. */
+static PyObject *part_of(const Text *text, Place start, Place end) {
+    if (text->is_str)
+        return PyUnicode_Substring(text->of, (Py_ssize_t)start.offset, (Py_ssize_t)end.offset);
+    if (PyBytes_CheckExact(text->of) && end.byte - start.byte == text->len)
+        return Py_NewRef(text->of);
+    return PyBytes_FromStringAndSize((const char *)text->bytes + start.byte, (Py_ssize_t)(end.byte - start.byte));
+}
+
+/* From which to which byte text[start:end] goes, and the place of the first. */
+static int bounds(const Text *text, PyObject *start, PyObject *end, Place *first, size_t *last) {
+    if (!start && !end) {
+        *first = (Place){0, 0};
+        *last = text->len;
+        return 0;
+    }
+    Py_ssize_t len = text->is_str ? PyUnicode_GET_LENGTH(text->of) : (Py_ssize_t)text->len, low, high;
+    if (slice_offset(start, 0, &low) || slice_offset(end, PY_SSIZE_T_MAX, &high))
+        return -1;
+    PySlice_AdjustIndices(len, &low, &high, 1);
+    *first = (Place){0, 0};
+    if (low > 0)
+        byte_of(text, first, (size_t)low);
+    if (high >= len) {
+        *last = text->len;
+    } else {
+        Place place = *first;
+        *last = high > low ? byte_of(text, &place, (size_t)high) : first->byte;
+    }
+    return 0;
+}
+
+#endif

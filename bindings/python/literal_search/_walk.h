@@ -1,0 +1,292 @@
+/* Searches on their way through a text, piece by piece: how far a call of the library goes, and what it found. Included
+ * once, by _native.c. */
+#ifndef LITERAL_SEARCH_WALK_H
+#define LITERAL_SEARCH_WALK_H
+
+#define PY_SSIZE_T_CLEAN
+#include <Python.h>
+
+#include "_match.h"
+#include "_prepared.h"
+#include "_text.h"
+#include "literal_search.h"
+
+enum {
+    PIECE = 1 << 20,      /* bytes of a piece, unless the longest pattern is much longer */
+    FIRST_PAGE = 32,      /* room for so many matches at first */
+    LARGEST_PAGE = 4096,  /* and for so many later */
+    READ_AHEAD = 1 << 22, /* bytes that the matches of a page may be looked at beyond their ends, all together */
+    TAIL = 1 << 9,        /* so many bytes in front of a piece tell whether a long pattern may have begun */
+    MOST_ROOM = 1 << 15   /* room for so many occurrences, unless a page would go back further than it goes on */
+};
+
+/* A search on its way: for matches that do not overlap, or for all that occurs. What begins before `at` is found, or of
+ * all that occurs what ends there or before. */
+typedef struct {
+    Prepared *search;
+    Text text;
+    bool for_all, is_done; /* (done: nothing is left to be searched) */
+    size_t start, at, end;
+    Place place; /* how far offsets are counted */
+    literal_match *matches, first[FIRST_PAGE];
+    size_t room, wanted, written, given; /* (the next page has the wanted room) */
+} Walk;
+
+/* ---- How far a call of the library goes ---- */
+
+/* How many bytes a search goes on at once. Behind them a call reads as many as the longest pattern has, or before them
+ * in a search for all that occurs: so each byte is read at most five times over. */
+static size_t piece_len(const Prepared *search) {
+    return search->pieces.longest / 4 > PIECE ? search->pieces.longest / 4 : PIECE;
+}
+
+/* Cuts the next piece from the bytes between `at` and `end`. Every occurrence that begins before the cut ends within
+ * the piece. So the matches of the piece that begin there are right; what follows is searched again from the cut on. */
+static size_t cut_piece(const Prepared *search, size_t at, size_t end, size_t *piece_end) {
+    size_t len = piece_len(search);
+    size_t cut = end - at > len ? at + len : end;
+    *piece_end = end - cut > search->pieces.longest ? cut + search->pieces.longest : end;
+    return *piece_end == end ? end : cut;
+}
+
+/* How many matches to find at once. With a long pattern they are fewer, since behind each match the library may look as
+ * far ahead. */
+static size_t most_matches(const Prepared *search, size_t wanted) {
+    size_t most = READ_AHEAD / (search->pieces.longest + 1);
+    return most < 2 ? 1 : most < wanted ? most : wanted;
+}
+
+/* Whether matches lie one after another between two places. It is so, unless the prepared search is damaged. */
+static bool are_in_order(const literal_match *matches, size_t count, size_t at, size_t end) {
+    for (size_t i = 0; i < count; i++) {
+        if (matches[i].start < at || matches[i].end <= matches[i].start || matches[i].end > end)
+            return false;
+        at = matches[i].end;
+    }
+    return true;
+}
+
+/* ---- One match ---- */
+
+/* Finds the first match between two places: 1, or 0 if there is none, or -1 with an error. */
+static int find_first(const Prepared *search, const Text *text, size_t at, size_t end, literal_match *found) {
+    size_t words_len, piece_end, cut;
+    const uint32_t *words = words_of(search->prepared, &words_len);
+    for (;; at = cut) {
+        cut = cut_piece(search, at, end, &piece_end);
+        PyThreadState *state = let_others_run(piece_end - at);
+        int32_t status = literal_find_in(words, words_len, text->bytes, text->len, at, piece_end, found);
+        come_back(state);
+        if (status != LITERAL_OK && status != LITERAL_NONE)
+            return refuse(status);
+        if (status == LITERAL_OK && !are_in_order(found, 1, at, piece_end))
+            return refuse(LITERAL_DAMAGED);
+        if (status == LITERAL_OK && found->start < cut)
+            return 1;
+        if (cut == end)
+            return 0;
+        if (PyErr_CheckSignals())
+            return -1;
+    }
+}
+
+/* Finds, of all that occurs between two places, what ends first. The library looks further, whether more is to come; so
+ * the first pieces are short. */
+static int find_earliest(const Prepared *search, const Text *text, size_t start, size_t end, literal_match *found) {
+    size_t longest = search->pieces.longest, words_len, len = SHORT > longest ? SHORT : longest;
+    const uint32_t *words = words_of(search->for_all, &words_len);
+    literal_page page = {0, start, 0};
+    for (size_t at = start; at < end; len *= 2) {
+        size_t from = longest > 0 && at - start > longest - 1 ? at - (longest - 1) : start;
+        len = len < piece_len(search) ? len : piece_len(search);
+        at = end - at > len ? at + len : end;
+        PyThreadState *state = let_others_run(at - from);
+        int32_t status = literal_find_overlapping_in(words, words_len, text->bytes, text->len, from, at, found, 1,
+                                                     &page);
+        come_back(state);
+        if (status != LITERAL_OK)
+            return refuse(status);
+        if (page.written > 0)
+            return 1;
+        if (PyErr_CheckSignals())
+            return -1;
+    }
+    return 0;
+}
+
+/* ---- Pages of matches ---- */
+
+/* Begins a walk through text[start:end]. */
+static int walk_begin(Walk *walk, Prepared *search, bool for_all, PyObject *const asked[3]) {
+    if (hold(&walk->text, search->takes, asked[0]))
+        return -1;
+    if ((for_all && prepare_for_all(search)) ||
+        bounds(&walk->text, asked[1], asked[2], &walk->place, &walk->end)) {
+        give_back(&walk->text);
+        return -1;
+    }
+    walk->search = (Prepared *)Py_NewRef((PyObject *)search);
+    walk->for_all = for_all;
+    walk->start = walk->at = walk->place.byte;
+    walk->is_done = walk->at == walk->end;
+    walk->matches = walk->first;
+    walk->room = walk->wanted = for_all ? FIRST_PAGE : most_matches(search, FIRST_PAGE);
+    walk->written = walk->given = 0;
+    return 0;
+}
+
+static void walk_end(Walk *walk) {
+    if (walk->matches != walk->first)
+        PyMem_Free(walk->matches);
+    walk->matches = walk->first;
+    walk->is_done = true;
+    walk->written = walk->given = 0;
+    give_back(&walk->text);
+    Py_CLEAR(walk->search);
+}
+
+/* Makes the room for matches that is wanted. None of them is kept. */
+static int walk_widen(Walk *walk) {
+    literal_match *wider = PyMem_New(literal_match, walk->wanted);
+    if (!wider) {
+        PyErr_NoMemory();
+        return -1;
+    }
+    if (walk->matches != walk->first)
+        PyMem_Free(walk->matches);
+    walk->matches = wider;
+    walk->room = walk->wanted;
+    return 0;
+}
+
+/* Takes over what the library wrote of a piece, up to the cut. */
+static int take_page(Walk *walk, const literal_page *page, size_t cut, size_t piece_end) {
+    size_t count = page->written, at = walk->at;
+    if (count > walk->room || (count == 0 && !page->is_last) ||
+        !are_in_order(walk->matches, count, at, piece_end))
+        return refuse(LITERAL_DAMAGED);
+    while (count > 0 && walk->matches[count - 1].start >= cut)
+        count--;
+    if (count > 0)
+        at = walk->matches[count - 1].end;
+    if ((page->is_last || count < page->written) && at < cut)
+        at = cut;
+    walk->at = at;
+    walk->is_done = page->is_last && cut == walk->end;
+    walk->written = count;
+    walk->given = 0;
+    if (count > 0 && walk->room < LARGEST_PAGE)
+        walk->wanted = most_matches(walk->search, LARGEST_PAGE);
+    return 0;
+}
+
+/* Finds the matches of the next piece, as many as there is room for. A page of one looks no further: else each search
+ * would be made twice. */
+static int page_of_matches(Walk *walk) {
+    size_t words_len, piece_end, cut = cut_piece(walk->search, walk->at, walk->end, &piece_end);
+    const uint32_t *words = words_of(walk->search->prepared, &words_len);
+    const Text *text = &walk->text;
+    literal_page page;
+    int32_t status;
+    PyThreadState *state = let_others_run(piece_end - walk->at);
+    if (walk->room > 1) {
+        status = literal_find_all_in(words, words_len, text->bytes, text->len, walk->at, piece_end, walk->matches,
+                                     walk->room, &page);
+    } else {
+        status = literal_find_in(words, words_len, text->bytes, text->len, walk->at, piece_end, walk->matches);
+        page = (literal_page){status == LITERAL_OK, 0, status == LITERAL_NONE};
+        status = status == LITERAL_NONE ? LITERAL_OK : status;
+    }
+    come_back(state);
+    return status == LITERAL_OK ? take_page(walk, &page, cut, piece_end) : refuse(status);
+}
+
+/* Takes over what ends behind `at`, and is whole: where there was not room for all, what ends with the last that was
+ * written may not be. The next page lists again what ends there, and what lies in as many bytes before as the longest
+ * pattern has: so it gets more room, if this one did not go on a quarter as far as it went back. */
+static void take_occurrences(Walk *walk, const literal_page *page, size_t from, size_t to) {
+    size_t next = page->is_last ? to : page->next - 1;
+    walk->given = 0;
+    walk->written = page->written;
+    while (walk->given < walk->written && walk->matches[walk->given].end <= walk->at)
+        walk->given++;
+    while (walk->written > walk->given && walk->matches[walk->written - 1].end > next)
+        walk->written--;
+    bool is_slow = next <= walk->at || next - walk->at < (walk->at - from) / 4;
+    if (!page->is_last && (walk->room < MOST_ROOM || is_slow))
+        walk->wanted = walk->room < MOST_ROOM ? walk->room * 4 : walk->room * 2;
+    if (next > walk->at)
+        walk->at = next;
+    walk->is_done = walk->at == walk->end;
+}
+
+/* How many bytes in front of `at` something may begin that ends behind it: fewer than the longest pattern has. And fewer
+ * than TAIL, if what stands in so many bytes in front of `at` stands in no pattern. To look for that is worth it where a
+ * pattern is much longer, and makes up a good part of all. */
+static size_t reach_back(const Walk *walk) {
+    const Pieces *pieces = &walk->search->pieces;
+    size_t reach = pieces->longest > 0 ? pieces->longest - 1 : 0, before = walk->at - walk->start;
+    if (reach / 16 > TAIL && before >= TAIL && pieces->len / 4 <= pieces->longest && !walk->search->ignore_case &&
+        !memmem(pieces->bytes, pieces->len, walk->text.bytes + walk->at - TAIL, TAIL))
+        reach = TAIL - 1;
+    return reach < before ? reach : before;
+}
+
+/* Finds all that occurs in the next piece, from where something may begin that ends behind `at`. */
+static int page_of_occurrences(Walk *walk) {
+    size_t len = piece_len(walk->search), to = walk->end - walk->at > len ? walk->at + len : walk->end, words_len;
+    const uint32_t *words = words_of(walk->search->for_all, &words_len);
+    literal_page page;
+    PyThreadState *state = let_others_run(to - walk->at + walk->search->pieces.longest);
+    size_t from = walk->at - reach_back(walk);
+    int32_t status = literal_find_overlapping_in(words, words_len, walk->text.bytes, walk->text.len, from, to,
+                                                 walk->matches, walk->room, &page);
+    come_back(state);
+    if (status != LITERAL_OK)
+        return refuse(status);
+    take_occurrences(walk, &page, from, to);
+    return 0;
+}
+
+/* Searches on, until there are matches or the walk is done. */
+static int walk_on(Walk *walk) {
+    while (walk->given == walk->written && !walk->is_done) {
+        if (walk->room < walk->wanted && walk_widen(walk))
+            return -1;
+        if (walk->for_all ? page_of_occurrences(walk) : page_of_matches(walk))
+            return -1;
+        if (!walk->is_done && PyErr_CheckSignals())
+            return -1;
+    }
+    return 0;
+}
+
+/* The next match, or NULL: with an error, or with none where the walk is done. */
+static const literal_match *walk_next(Walk *walk) {
+    if (walk->given == walk->written && walk_on(walk))
+        return NULL;
+    return walk->given < walk->written ? &walk->matches[walk->given++] : NULL;
+}
+
+/* ---- What is answered ---- */
+
+/* The Match of what was found. The place moves on to its end. */
+static PyObject *match_at(const Prepared *search, const Text *text, Place *place, const literal_match *found) {
+    size_t shown[SHOWN] = {found->pattern};
+    bool is_ahead = found->start >= place->byte;
+    if (is_ahead)
+        shown[START] = offset_of(text, place, found->start);
+    shown[END] = offset_of(text, place, found->end);
+    if (!is_ahead) {
+        size_t len = found->end - found->start;
+        shown[START] = shown[END] - (text->is_wide ? characters(text->bytes + found->start, len) : len);
+    }
+    return new_match(shown, text->of, search->values ? search->values : search->patterns,
+                     search->leads_on || leads_on(text));
+}
+
+static PyObject *walk_match(Walk *walk, const literal_match *found) {
+    return match_at(walk->search, &walk->text, &walk->place, found);
+}
+
+#endif

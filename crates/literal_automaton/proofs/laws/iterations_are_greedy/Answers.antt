@@ -1,5 +1,0 @@
-use Rattle.literal_automaton.proofs.lemmas.Callers.{greedy_from_yields}
-use Rattle.literal_automaton.proofs.laws.iterations_are_greedy.Goals as goal
-
-pub returns : goal.returns
-returns c = λ first last ended all run nothing. greedy_from_yields first all last ended run nothing

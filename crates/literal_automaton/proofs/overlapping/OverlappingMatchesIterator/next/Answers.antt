@@ -1,8 +1,0 @@
-use Rattle.literal_automaton.proofs.lemmas.Standing.{makes_progress}
-use Rattle.literal_automaton.proofs.overlapping.OverlappingMatchesIterator.next.Goals as goal
-
-pub returns-clause-goes : goal.returns-clause-goes
-returns-clause-goes c = makes_progress _ _ _ c.next_counted.ensures.gives
-
-pub returns-clause-steps : goal.returns-clause-steps
-returns-clause-steps c = c.next_counted.ensures.gives

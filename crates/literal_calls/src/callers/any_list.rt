@@ -1,0 +1,52 @@
+//! What is promised of the searches for any list together, for worked cases.
+use literal_promise::any_list::{AnyFound, AnySearch, search_any_list};
+use literal_search::{BuildError, Match, MatchKind, Span, Tally};
+use std::alloc::Global;
+use std::test::Fail;
+
+const HAYSTACK: &[u8] = b"Nobody likes maple in their apple flavored Snapple.";
+
+const SPAN: Span = Span { start: 14, end: 51 };
+
+fn searched(alloc: Global, asked: &AnySearch<'_>) -> Result<AnyFound, BuildError> {
+    let (mut once, mut iterated, mut listed) = (Tally::new(), Tally::new(), Tally::new());
+    search_any_list(
+        alloc,
+        asked,
+        HAYSTACK,
+        SPAN,
+        &mut once,
+        &mut iterated,
+        &mut listed,
+    )
+}
+
+#[test]
+fn searches_for_any_list(rt: HostRuntime) -> Result<(), Fail> {
+    let asked = AnySearch {
+        kind: MatchKind::LeftmostLongest,
+        ignore_case: true,
+        patterns: &[b"APPLE", b"maple", b"snapple", b"app"],
+    };
+    let any = searched(rt.alloc(), &asked)?;
+    let apple = Match::must(0, Span { start: 28, end: 33 });
+    assert!(rt; any.searched.found == Some(apple) && any.searched.earliest == Some(31));
+    assert!(rt; any.searched.all.len() == 3 && any.linear.len() == 3);
+    assert!(rt; any.occurring.len() == 5);
+    Ok(())
+}
+
+#[test]
+fn refuses_a_list_with_an_empty_pattern(rt: HostRuntime) -> Result<(), Fail> {
+    let asked = AnySearch {
+        kind: MatchKind::LeftmostFirst,
+        ignore_case: false,
+        patterns: &[b"a", b"", b""],
+    };
+    if let Err(error) = searched(rt.alloc(), &asked) {
+        let empty = BuildError::EmptyPattern(1);
+        assert!(rt; error == empty || error == BuildError::OutOfMemory);
+        return Ok(());
+    }
+    Err(Fail::from("a list with an empty pattern is searched for"))
+}

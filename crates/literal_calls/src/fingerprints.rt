@@ -1,0 +1,132 @@
+//! `Fingerprints`.
+use literal_base::count::Tally;
+use literal_fingerprints::Fingerprints;
+use literal_search::Span;
+use std::alloc::{AllocError, Global};
+use std::process::Abort;
+use std::test::Fail;
+
+/// Common words.
+static WORDS: [&[u8]; 32] = [
+    b"which",
+    b"there",
+    b"about",
+    b"would",
+    b"other",
+    b"these",
+    b"first",
+    b"people",
+    b"should",
+    b"through",
+    b"between",
+    b"before",
+    b"world",
+    b"because",
+    b"while",
+    b"system",
+    b"number",
+    b"against",
+    b"little",
+    b"school",
+    b"night",
+    b"family",
+    b"country",
+    b"question",
+    b"young",
+    b"money",
+    b"business",
+    b"example",
+    b"kitchen",
+    b"forward",
+    b"velvet",
+    b"Jupiter",
+];
+
+/// The fingerprints of some words.
+fn fingerprints(
+    alloc: Global,
+    ignore_case: bool,
+    words: &[&[u8]],
+) -> Result<Option<Fingerprints>, AllocError> {
+    let mut patterns = Vec::new(alloc);
+    for word in words {
+        let mut pattern = Vec::new(alloc);
+        pattern.extend_from_slice(word)?;
+        patterns.push(pattern)?;
+    }
+    Ok(Fingerprints::new(ignore_case, &patterns))
+}
+
+#[test]
+fn scans_for_words(rt: HostRuntime) -> Result<(), Fail> {
+    let words = [b"password".as_slice(), b"secret"];
+    let scan = fingerprints(rt.alloc(), true, &words)?.ok_or("there are none")?;
+    let haystack = b"My first, my second, my Secret and the others.";
+    let whole = Span {
+        start: 0,
+        end: haystack.len(),
+    };
+    let tally = &mut Tally::new();
+    assert!(rt; scan.next(haystack, whole, tally) == 24);
+    let behind = Span {
+        start: 25,
+        end: haystack.len(),
+    };
+    assert!(rt; scan.next(haystack, behind, tally) == 38);
+    let short = Span { start: 20, end: 35 };
+    assert!(rt; scan.next(haystack, short, tally) == 20);
+    Ok(())
+}
+
+/// Some of the words have fingerprints, in either case.
+fn assert_some(rt: &impl Abort, alloc: Global, words: &[&[u8]]) -> Result<(), AllocError> {
+    for ignore_case in [false, true] {
+        let has_some = fingerprints(alloc, ignore_case, words)?.is_some();
+        assert!(rt; has_some, "{} words", words.len());
+    }
+    Ok(())
+}
+
+/// A list has no fingerprints, in either case.
+fn assert_none(rt: &impl Abort, alloc: Global, words: &[&[u8]]) -> Result<(), AllocError> {
+    for ignore_case in [false, true] {
+        let has_none = fingerprints(alloc, ignore_case, words)?.is_none();
+        assert!(rt; has_none, "{} words", words.len());
+    }
+    Ok(())
+}
+
+#[test]
+fn ordinary_lists_have_fingerprints(rt: HostRuntime) -> Result<(), Fail> {
+    let alloc = rt.alloc();
+    for count in [1, 3, 16, 32] {
+        assert_some(&rt, alloc, &WORDS[..count])?;
+    }
+    assert_some(&rt, alloc, &[b"e"])?;
+    Ok(())
+}
+
+#[test]
+fn other_lists_have_none(rt: HostRuntime) -> Result<(), Fail> {
+    let alloc = rt.alloc();
+    assert_none(&rt, alloc, &[])?;
+    assert_none(&rt, alloc, &[b""])?;
+    assert_none(&rt, alloc, &[b"word", b""])?;
+    assert_none(&rt, alloc, &[b"word".as_slice(); 65])?;
+    let letters = [
+        b"a".as_slice(),
+        b"b",
+        b"c",
+        b"d",
+        b"e",
+        b"f",
+        b"g",
+        b"h",
+        b"i",
+        b"j",
+        b"k",
+        b"l",
+    ];
+    assert_none(&rt, alloc, &letters)?;
+    Ok(())
+}

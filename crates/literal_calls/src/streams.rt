@@ -1,0 +1,104 @@
+//! Texts of which more may follow, and texts that are read piece by piece.
+use literal_search::{Match, MatchKind, Search, SoFar, Span};
+use std::alloc::Global;
+use std::io::{self, ErrorKind, Read};
+use std::process::Abort;
+use std::test::Fail;
+
+/// A reader of bytes in memory, a few a call, that fails once so many are left.
+#[derive(Drop)]
+struct Pieces<'t> {
+    rest: &'t [u8],
+    step: usize,
+    failing: Option<usize>,
+}
+
+impl Read for Pieces<'_> {
+    fn read(&mut self, buf: &mut [u8]) -> io::Result<usize> {
+        if self.failing == Some(self.rest.len()) {
+            return Err(io::Error::from(ErrorKind::Other));
+        }
+        let count = self.rest.len().min(self.step).min(buf.len());
+        let (first, behind) = self.rest.split_at(count);
+        buf[..count].copy_from_slice(first);
+        self.rest = behind;
+        Ok(count)
+    }
+}
+
+#[test]
+fn example_of_a_stream(rt: HostRuntime) -> Result<(), Fail> {
+    let alloc = rt.alloc();
+    let words = [b"password".as_slice(), b"secret"];
+    let search = Search::new(alloc, MatchKind::LeftmostFirst, true, words)?;
+    let mut matches = search.find_stream(alloc, b"My Secret.".as_slice())?;
+    let found = matches.next().ok_or("nothing is found")??;
+    assert!(rt; found.pattern().as_usize() == 1 && found.range() == (3..9));
+    Ok(())
+}
+
+#[test]
+fn tells_what_is_known_so_far(rt: HostRuntime) -> Result<(), Fail> {
+    let words = [b"ab".as_slice(), b"abcd"];
+    let search = Search::new(rt.alloc(), MatchKind::LeftmostLongest, false, words)?;
+    assert!(rt; search.max_pattern_len() == 4);
+    assert!(rt; search.find_so_far(b"xab", 0) == SoFar::NoneBefore(0));
+    assert!(rt; search.find_so_far(b"xabc", 1) == SoFar::NoneBefore(1));
+    let found = Match::must(0, Span { start: 1, end: 3 });
+    assert!(rt; search.find_so_far(b"xabcx", 0) == SoFar::Found(found));
+    Ok(())
+}
+
+/// Pieces of so many bytes give the matches that the whole text has.
+fn assert_same(rt: &impl Abort, alloc: Global, search: &Search, text: &[u8], step: usize) {
+    let pieces = Pieces {
+        rest: text,
+        step,
+        failing: None,
+    };
+    let Ok(mut matches) = search.find_stream(alloc, pieces) else {
+        return assert!(rt; false);
+    };
+    for found in search.find_iter(text) {
+        let Some(Ok(same)) = matches.next() else {
+            return assert!(rt; false);
+        };
+        assert!(rt; same == found);
+    }
+    assert!(rt; matches.next().is_none() && matches.next().is_none());
+}
+
+#[test]
+fn pieces_make_no_difference(rt: HostRuntime) -> Result<(), Fail> {
+    let words = [b"abcd".as_slice(), b"bc", b"da"];
+    let search = Search::new(rt.alloc(), MatchKind::LeftmostLongest, false, words)?;
+    let mut text = Vec::new(rt.alloc());
+    for _ in 0..20_000 {
+        text.extend_from_slice(b"xabcdabxbcda")?;
+    }
+    for step in [1, 7, 4_096, 65_536, 1_000_000] {
+        assert_same(&rt, rt.alloc(), &search, &text, step);
+    }
+    Ok(())
+}
+
+#[test]
+fn a_failed_read_ends_it(rt: HostRuntime) -> Result<(), Fail> {
+    let search = Search::new(
+        rt.alloc(),
+        MatchKind::LeftmostFirst,
+        false,
+        [b"ab".as_slice()],
+    )?;
+    let pieces = Pieces {
+        rest: b"xabxxxxxxab",
+        step: 4,
+        failing: Some(3),
+    };
+    let mut matches = search.find_stream(rt.alloc(), pieces)?;
+    let first = Match::must(0, Span { start: 1, end: 3 });
+    assert!(rt; matches.next().ok_or("nothing is found")?? == first);
+    assert!(rt; matches.next().is_some_and(|next| next.is_err()));
+    assert!(rt; matches.next().is_none());
+    Ok(())
+}

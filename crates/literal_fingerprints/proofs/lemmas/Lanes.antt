@@ -1,0 +1,116 @@
+-- What operations on vectors of 16 bytes hold in each lane.
+use Rattle.std.proofs.Common.{◌≡◌, ◌≢◌, ℕ, ◌+◌, ◌-◌, ◌*◌, ◌/◌, ◌%◌, ◌^◌, ◌<◌, ◌≤◌, ◌∙◌, ◌++◌, List, true, false, not}
+use Rattle.std.proofs.Common.{eqb, length, get_or, replicate, refl, cond, map, sym, ap, arith, take, w8, inl, inr}
+use Rattle.std.proofs.Common.{length-append}
+use Rattle.std.proofs.lemmas.Bool.{cases_lt}
+use Rattle.std.proofs.lemmas.Bool.Decides.{nat_tests}
+use Rattle.std.proofs.lemmas.List.{get_or-append_right, get_or-take, get_or_append_left}
+use Rattle.std.proofs.lemmas.List.Sums.{prefix_len-le-length, prefix_len_passes, prefix_len_stops}
+use Rattle.std.proofs.lemmas.Simd.{Each1-from_get_or, SwzOk, SwzOk-from_below, bitmask_splat, get_or-chunk}
+use Rattle.std.proofs.lemmas.Simd.{get_or-replicate, get_or-swz_l_below, get_or-zip2, leading_from_mask_l, length-chunk}
+use Rattle.std.proofs.lemmas.Simd.{length-swz_l, length-zip2, pick_l-range_with_len, swz_l, trailing_mask_l}
+use Rattle.std.specs.List.{prefix_len, range_with_len}
+use Rattle.std.specs.Simd.Lanes.{mask_l, pick_l, top, zip2}
+use lib.Count.{count_trailing_zeros}
+use Rattle.literal_fingerprints.specs.Inside.Lanes.{HasLanes}
+
+-- neighbouring lanes of two vectors
+pub lanes_of_picked : (n : ℕ) → n ≤ 16 → (a b : List ℕ) → length a ≡ 16 → length b ≡ 16 → (f : ℕ → ℕ)
+    → HasLanes a f → HasLanes b (λ k. f (16 + k)) → HasLanes (pick_l 0 (a ++ b) (range_with_len n 16)) (λ k. f (n + k))
+lanes_of_picked n few a b p q f first last =
+    let picked = pick_l-range_with_len 0 (a ++ b) n 16 (omega (arith, length-append a b)) in
+    record {
+      long = ap length picked ∙ length-chunk n 16 (a ++ b) (omega (arith, length-append a b));
+      each = λ k below.
+          ap (λ l. get_or l k 0) picked ∙ (get_or-chunk n 16 (a ++ b) k 0 below
+          ∙ elim (cases_lt (n + k) 16) [
+            | inl before ↦ get_or_append_left a b 0 (n + k) (omega arith) ∙ first.each (n + k) before
+            | inr after ↦
+                let place : 16 + (n + k - 16) ≡ n + k = omega arith in
+                get_or-append_right a b 16 (n + k) 0 p (omega arith)
+                ∙ (last.each (n + k - 16) (omega arith) ∙ ap f place)
+          ]);
+    }
+
+-- an operator on two vectors
+pub lanes_of_two : (f : ℕ → ℕ → ℕ) (a b : List ℕ) → length a ≡ 16 → length b ≡ 16
+    → HasLanes (zip2 f a b) (λ k. f (get_or a k 0) (get_or b k 0))
+lanes_of_two f a b p q = record {
+  long = length-zip2 f a b (p ∙ sym q) ∙ p;
+  each = λ k below. get_or-zip2 f a b k 0 0 0 (omega arith) (omega arith);
+}
+
+-- an operator on a vector and one byte
+pub lanes_of_splat : (f : ℕ → ℕ → ℕ) (a : List ℕ) (x : ℕ) → length a ≡ 16
+    → HasLanes (zip2 f a (replicate 16 x)) (λ k. f (get_or a k 0) x)
+lanes_of_splat f a x p =
+    let two = lanes_of_two f a (replicate 16 x) p refl in
+    record {
+      long = two.long;
+      each = λ k below. two.each k below ∙ ap (f (get_or a k 0)) (get_or-replicate 16 k x 0 below);
+    }
+
+module _ (js : List ℕ) (f : ℕ → ℕ) (lanes : HasLanes js f) (small : (k : ℕ) → k < 16 → f k < 16) where
+  -- positions in a table of 16
+  pub positions_fit : SwzOk w8 16 16 0 js
+  positions_fit =
+      let long = lanes.long in
+      SwzOk-from_below w8 16 1 16 0 js refl (omega arith)
+      (Each1-from_get_or (λ j. j < 16) js 0
+      (λ k l. let below : k < 16 = omega arith in omega (arith, lanes.each k below, small k below)))
+
+  -- the entries there
+  pub lanes_of_positions : (table : List ℕ) → HasLanes (swz_l w8 16 (take 16 table) 0 js) (λ k. get_or table (f k) 0)
+  lanes_of_positions table =
+      let long = lanes.long in
+      record {
+        long = length-swz_l w8 16 (take 16 table) 0 js ∙ long;
+        each = λ k below.
+            let is = lanes.each k below in
+            let least = small k below in
+            let place : 16 * ((0 + k) / 16) + get_or js k 0 ≡ f k = omega arith in
+            get_or-swz_l_below w8 16 (take 16 table) 0 js k (omega arith) (omega arith)
+            ∙ (ap (λ j. get_or (take 16 table) j 0) place ∙ get_or-take 16 table (f k) 0 least);
+      }
+
+unset_is : (x : ℕ) → not (not (eqb x 0)) ≡ true → x ≡ 0
+unset_is x e = grind (arith, nat_tests)
+
+set_not : (x : ℕ) → not (not (eqb x 0)) ≡ false → x ≢ 0
+set_not x e none = grind (arith, nat_tests)
+
+abbrev pub set_lanes : List ℕ → ℕ
+set_lanes lanes =
+    mask_l (map (top 7) (zip2 (λ a b. cond (not (eqb a b)) 255 0) lanes (replicate 16 0))) % 2 ^ 64
+
+module _ (lanes : List ℕ) (long : length lanes ≡ 16) where
+  set_is : set_lanes lanes ≡ mask_l (map (λ x. not (eqb x 0)) lanes)
+  set_is = bitmask_splat w8 (λ a b. not (eqb a b)) lanes 16 0 long (omega arith)
+
+  in_front : (n : ℕ) → n ≤ prefix_len (λ x. not (not (eqb x 0))) lanes → (k : ℕ) → k < n → get_or lanes k 0 ≡ 0
+  in_front n few k below =
+      unset_is _ (prefix_len_passes (λ x. not (not (eqb x 0))) lanes k 0 (omega arith))
+
+  pub none_set : set_lanes lanes ≡ 0 → (k : ℕ) → k < 16 → get_or lanes k 0 ≡ 0
+  none_set none = in_front 16 (omega (arith, leading_from_mask_l (λ x. not (eqb x 0)) lanes (sym set_is ∙ none)))
+
+  first_is : set_lanes lanes ≢ 0
+      → count_trailing_zeros 64 (set_lanes lanes) ≡ prefix_len (λ x. not (not (eqb x 0))) lanes
+  first_is some =
+      ap (count_trailing_zeros 64) set_is
+      ∙ trailing_mask_l (λ x. not (eqb x 0)) 64 lanes (omega arith) (omega (arith, set_is))
+
+  pub first_few : set_lanes lanes ≢ 0 → count_trailing_zeros 64 (set_lanes lanes) ≤ 16
+  first_few some = omega (arith, first_is some, prefix_len-le-length (λ x. not (not (eqb x 0))) lanes)
+
+  pub first_zeros : set_lanes lanes ≢ 0 → (k : ℕ) → k < count_trailing_zeros 64 (set_lanes lanes)
+      → get_or lanes k 0 ≡ 0
+  first_zeros some = in_front (count_trailing_zeros 64 (set_lanes lanes)) (omega (arith, first_is some))
+
+  pub first_stops : set_lanes lanes ≢ 0 → count_trailing_zeros 64 (set_lanes lanes) < 16
+      → get_or lanes (count_trailing_zeros 64 (set_lanes lanes)) 0 ≢ 0
+  first_stops some below none =
+      let n = prefix_len (λ x. not (not (eqb x 0))) lanes in
+      let here : get_or lanes n 0 ≡ 0 = ap (λ k. get_or lanes k 0) (sym (first_is some)) ∙ none in
+      let stops = prefix_len_stops (λ x. not (not (eqb x 0))) lanes 0 (omega (arith, first_is some)) in
+      set_not (get_or lanes n 0) stops here

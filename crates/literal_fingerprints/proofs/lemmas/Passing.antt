@@ -1,0 +1,58 @@
+-- Where a pattern that passes begins, four bytes share a bucket.
+use Rattle.std.proofs.Common.{◌≡◌, ℕ, ◌+◌, ◌-◌, ◌<◌, ◌≤◌, ◌∙◌, Bool, true, false, List, length, get_or, drop}
+use Rattle.std.proofs.Common.{sym, subst, ap, arith, inl, inr, []}
+use Rattle.std.proofs.lemmas.Bool.{cases_lt, eq-eqb}
+use Rattle.std.proofs.lemmas.List.{get_or-drop, get_or-map, get_or-take, get_or_default, length-drop, length-map}
+use Rattle.std.proofs.lemmas.List.{length-take}
+use Rattle.std.specs.Char.{to_ascii_lowercase}
+use Rattle.std.specs.Global.{Vec}
+use Rattle.std.specs.List.{slice_range}
+use Rattle.literal_base.specs.declared.search.Span.{Span}
+use Rattle.literal_base.specs.Occurs.{AreEqualBytes, IsValidSpan, Occurs, pattern_at, same_byte}
+use Rattle.literal_fingerprints.specs.FingerprintsValue.{FingerprintsValue, LetsPass, NoneBegins, shared_buckets}
+
+same_at : (c : Bool) (a b : List ℕ) → AreEqualBytes c a b → (k : ℕ) → k < length a
+    → same_byte c (get_or a k 0) (get_or b k 0) ≡ true
+same_at true a b s k below =
+    let long = ap (λ (l : List ℕ). length l) s in
+    eq-eqb _ _ (sym (get_or-map to_ascii_lowercase a k 0 0 below)
+    ∙ (ap (λ l. get_or l k 0) s ∙ get_or-map to_ascii_lowercase b k 0 0
+    (omega (arith, length-map a to_ascii_lowercase, length-map b to_ascii_lowercase))))
+same_at false a b s k below = eq-eqb _ _ (ap (λ l. get_or l k 0) s)
+
+-- the bytes where a pattern occurs are those of the pattern
+bytes_at : (patterns : List (List ℕ)) (ignore_case : Bool) (haystack : List ℕ) (span : Span)
+    → IsValidSpan haystack span → (i at : ℕ) → Occurs patterns ignore_case haystack span i at
+    → (k : ℕ) → k < length (pattern_at patterns i)
+    → same_byte ignore_case (get_or haystack (at + k) 0) (get_or (pattern_at patterns i) k 0) ≡ true
+bytes_at patterns ignore_case haystack span valid i at occurs k below =
+    let p = pattern_at patterns i in
+    let part = slice_range haystack at (at + length p) in
+    let inside = valid.in_haystack in
+    let before = occurs.before_end in
+    let long : length part ≡ length p =
+    omega (arith, length-take (at + length p - at) (drop at haystack), length-drop at haystack) in
+    let is : get_or part k 0 ≡ get_or haystack (at + k) 0 =
+    get_or-take (at + length p - at) (drop at haystack) k 0 (omega arith) ∙ get_or-drop at haystack k 0 in
+    subst (λ b. same_byte ignore_case b (get_or p k 0) ≡ true) is
+    (same_at ignore_case part p occurs.same k (omega arith))
+
+pub none_begins : (f : FingerprintsValue) (haystack : List ℕ) (span : Span) → IsValidSpan haystack span → (place : ℕ)
+    → ((at : ℕ) → span.start ≤ at → at < place → shared_buckets f (λ k. get_or haystack (at + k) 0) ≡ 0)
+    → NoneBegins f haystack span place
+none_begins f haystack span valid place none patterns ignore_case all i at before occurs =
+    (all i [] occurs.is_pattern).each (λ k. get_or haystack (at + k) 0)
+    (bytes_at patterns ignore_case haystack span valid i at occurs) (none at occurs.after_start before)
+
+-- one pattern more that passes
+pub more_pass : (f : FingerprintsValue) (ignore_case : Bool) (patterns : List (Vec ℕ)) (n : ℕ) (here : Vec ℕ)
+    → ((k : ℕ) (d : Vec ℕ) → k < n → LetsPass f ignore_case (get_or patterns k d).items) → n < length patterns
+    → here ≡ get_or patterns n here → LetsPass f ignore_case here.items
+    → (k : ℕ) (d : Vec ℕ) → k < n + 1 → LetsPass f ignore_case (get_or patterns k d).items
+more_pass f ignore_case patterns n here before below is passes k d within = elim (cases_lt k n) [
+  | inl earlier ↦ before k d earlier
+  | inr not ↦
+      let same : n ≡ k = omega arith in
+      subst (λ j. LetsPass f ignore_case (get_or patterns j d).items) same
+      (subst (λ (v : Vec ℕ). LetsPass f ignore_case v.items) (is ∙ get_or_default patterns n here d below) passes)
+]

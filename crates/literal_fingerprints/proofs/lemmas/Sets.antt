@@ -1,0 +1,42 @@
+-- Sets of buckets, as bits of numbers.
+use Rattle.std.proofs.Common.{◌≡◌, ◌≢◌, ℕ, ◌%◌, ◌/◌, ◌∙◌, List, IsTrue, not, ap, arith, bit_and, get_or, replicate, sym}
+use Rattle.std.proofs.lemmas.Bool.Decides.{nat_tests}
+use Rattle.std.proofs.lemmas.Nat.{and_assoc, and_comm}
+use Rattle.std.proofs.lemmas.Simd.{get_or-replicate}
+use Rattle.std.specs.Int.Bits.{and_self, and_zero_r}
+use Rattle.std.specs.Prelude.{nat_eq}
+
+pub is_some : (a : ℕ) → IsTrue (not (nat_eq a 0)) → a ≢ 0
+is_some a e none = grind (arith, nat_tests)
+
+pub meets : (a b c d : ℕ) → a ≡ c → b ≡ d → bit_and a b ≡ bit_and c d
+meets a b c d one other = ap (λ x. bit_and x b) one ∙ ap (bit_and c) other
+
+-- each bucket of one set is in the other
+abbrev pub IsWithin : ℕ → ℕ → Type 0
+IsWithin a b = bit_and a b ≡ a
+
+pub left_within : (a b : ℕ) → IsWithin (bit_and a b) a
+left_within a b =
+    ap (λ x. bit_and x a) (and_comm a b) ∙ (and_assoc a b a ∙ (ap (bit_and b) (and_self a) ∙ and_comm b a))
+
+pub right_within : (a b : ℕ) → IsWithin (bit_and a b) b
+right_within a b = and_assoc b a b ∙ ap (bit_and a) (and_self b)
+
+pub both_within : (a b c d : ℕ) → IsWithin a c → IsWithin b d → IsWithin (bit_and a b) (bit_and c d)
+both_within a b c d one other =
+    let swapped : bit_and b (bit_and c d) ≡ bit_and c b =
+    sym (and_assoc d b c) ∙ (ap (λ x. bit_and x d) (and_comm b c) ∙ (and_assoc d c b ∙ ap (bit_and c) other)) in
+    and_assoc (bit_and c d) a b
+    ∙ (ap (bit_and a) swapped ∙ (sym (and_assoc b a c) ∙ ap (λ x. bit_and x b) one))
+
+pub some_within : (a b : ℕ) → IsWithin a b → a ≢ 0 → b ≢ 0
+some_within a b within some none = some (sym within ∙ (ap (bit_and a) none ∙ and_zero_r a))
+
+-- each byte is in all buckets of tables that have all at each half
+pub within_all : (low high : List ℕ) → low ≡ replicate 16 255 → high ≡ replicate 16 255 → (byte : ℕ)
+    → IsWithin 255 (bit_and (get_or low (byte % 16) 0) (get_or high (byte / 16 % 16) 0))
+within_all low high all_low all_high byte =
+    ap (bit_and 255) (meets _ _ 255 255
+    (ap (λ l. get_or l (byte % 16) 0) all_low ∙ get_or-replicate 16 (byte % 16) 255 0 (omega arith))
+    (ap (λ l. get_or l (byte / 16 % 16) 0) all_high ∙ get_or-replicate 16 (byte / 16 % 16) 255 0 (omega arith)))

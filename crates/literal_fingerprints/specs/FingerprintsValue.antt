@@ -1,0 +1,44 @@
+-- Fingerprints of patterns, and what a scan by them passes over.
+use Rattle.std.specs.Prelude.{◌≡◌, ◌≢◌, ℕ, ◌+◌, ◌/◌, ◌%◌, ◌<◌, Bool, true, List, length, slice_index, bit_and}
+use Rattle.std.specs.List.{All}
+use Rattle.literal_base.specs.declared.search.Span.{Span}
+use Rattle.literal_base.specs.Occurs.{Occurs, same_byte}
+use Rattle.literal_fingerprints.specs.declared.nibbles.Nibbles.{Nibbles}
+
+-- what contracts see of `Fingerprints`: the tables for the first byte of a pattern and the three behind it
+pub record FingerprintsValue : Type 0 where
+  pub first : Nibbles
+  pub second : Nibbles
+  pub third : Nibbles
+  pub fourth : Nibbles
+
+-- the buckets of a byte by a table, as bits of a number: those that its lower half has, and its upper half too
+abbrev pub buckets_of : Nibbles → ℕ → ℕ
+buckets_of table byte = bit_and (slice_index table.low (byte % 16)) (slice_index table.high (byte / 16 % 16))
+
+-- the buckets that the first four bytes of a text share, each byte by the table for its place
+abbrev pub shared_buckets : FingerprintsValue → (ℕ → ℕ) → ℕ
+shared_buckets f text =
+    bit_and (bit_and (buckets_of f.first (text 0)) (buckets_of f.second (text 1)))
+    (bit_and (buckets_of f.third (text 2)) (buckets_of f.fourth (text 3)))
+
+-- the four bytes from a place of the haystack on share a bucket
+abbrev pub PassesAt : FingerprintsValue → List ℕ → ℕ → Type 0
+PassesAt f haystack at = shared_buckets f (λ k. slice_index haystack (at + k)) ≢ 0
+
+-- the pattern is not empty, and the first four bytes of each text that begins with it share a bucket
+pub record LetsPass (f : FingerprintsValue) (ignore_case : Bool) (pattern : List ℕ) : Type 0 where
+  pub some : 0 < length pattern
+  pub each : (text : ℕ → ℕ)
+      → ((k : ℕ) → k < length pattern → same_byte ignore_case (text k) (slice_index pattern k) ≡ true)
+      → shared_buckets f text ≢ 0
+
+-- the same of each pattern
+abbrev pub AllPass : FingerprintsValue → Bool → List (List ℕ) → Type 0
+AllPass f ignore_case patterns = All (λ (pattern : List ℕ). LetsPass f ignore_case pattern) patterns
+
+-- of all patterns of which each passes, none begins before the place that lies whole in the span
+abbrev pub NoneBegins : FingerprintsValue → List ℕ → Span → ℕ → Type 0
+NoneBegins f haystack span place =
+    (patterns : List (List ℕ)) (ignore_case : Bool) → AllPass f ignore_case patterns → (i at : ℕ) → at < place
+    → ¬ Occurs patterns ignore_case haystack span i at

@@ -1,0 +1,2 @@
+pub mod FingerprintsValue
+pub mod Inside

@@ -1,0 +1,181 @@
+//! Patterns dealt out to buckets. Nothing is proved of how, since the tables that come of it are tried afterwards.
+ghost use Rattle.std.specs.Prelude.{◌<◌};
+
+use crate::nibbles::{Nibbles, other_case};
+
+/// How many bytes of each pattern are looked at, at most.
+pub const LOOKED_AT: usize = 4;
+
+/// How many buckets there are.
+const BUCKETS: usize = 8;
+
+/// A scan is faster than a search where one text of so many passes at most, and one of so many needlessly: that was
+/// measured.
+const PASSING: u64 = 8;
+
+const NEEDLESS: u64 = 256;
+
+/// The halves of bytes, as sets.
+#[derive(Clone, Copy)]
+struct Halves {
+    low: u16,
+    high: u16,
+}
+
+impl Halves {
+    /// The same with those of a byte more.
+    fn with(self, byte: u8) -> Halves {
+        Halves {
+            low: self.low | 1u16 << (byte % 16),
+            high: self.high | 1u16 << (byte / 16),
+        }
+    }
+
+    /// How many bytes have such halves.
+    fn bytes(self) -> u64 {
+        (self.low.count_ones() as u64).wrapping_mul(self.high.count_ones() as u64)
+    }
+}
+
+/// The halves of the bytes that the patterns of a bucket have at each place.
+#[derive(Clone, Copy)]
+struct Bucket {
+    places: [Halves; LOOKED_AT],
+}
+
+impl Bucket {
+    /// Of no pattern. Behind so many bytes a text may have any.
+    fn behind(shortest: usize) -> Bucket {
+        let mut places = [Halves { low: 0, high: 0 }; LOOKED_AT];
+        for place in shortest..LOOKED_AT {
+            places[place] = Halves {
+                low: u16::MAX,
+                high: u16::MAX,
+            };
+        }
+        Bucket { places }
+    }
+
+    /// The same with a pattern more, in both cases where case is ignored.
+    fn with(self, ignore_case: bool, pattern: &[u8]) -> Bucket {
+        let mut places = self.places;
+        for place in 0..LOOKED_AT.min(pattern.len()) {
+            let byte = pattern[place];
+            places[place] = places[place].with(byte).with(other_case(ignore_case, byte));
+        }
+        Bucket { places }
+    }
+
+    /// How many texts of four bytes pass, of bytes of so many kinds.
+    fn texts(&self, kinds: u64) -> u64 {
+        let mut texts: u64 = 1;
+        for halves in self.places {
+            texts = texts.wrapping_mul(halves.bytes().min(kinds));
+        }
+        texts
+    }
+
+    /// How many kinds of bytes a text of such patterns may have: all with one of their upper halves.
+    fn kinds(&self) -> u64 {
+        let mut high: u16 = 0;
+        for halves in self.places {
+            high |= halves.high;
+        }
+        (high.count_ones() as u64).wrapping_mul(16)
+    }
+}
+
+/// Patterns, each in one of eight buckets.
+#[derive(Clone, Copy)]
+pub struct Buckets {
+    buckets: [Bucket; BUCKETS],
+    /// How many kinds of bytes a text may have.
+    kinds: u64,
+    /// How many texts of four bytes begin as some pattern does.
+    wanted: u64,
+}
+
+impl Buckets {
+    /// Each pattern in the bucket by which the fewest texts more pass.
+    pub fn of(ignore_case: bool, patterns: &[Vec<u8>]) -> Buckets {
+        let none = Bucket::behind(shortest_len(patterns));
+        let kinds = together(ignore_case, patterns).kinds();
+        let mut buckets = [none; BUCKETS];
+        let mut wanted: u64 = 0;
+        for pattern in patterns {
+            let best = best_for(&buckets, kinds, ignore_case, pattern);
+            buckets[best] = buckets[best].with(ignore_case, pattern);
+            wanted = wanted.wrapping_add(none.with(ignore_case, pattern).texts(kinds));
+        }
+        Buckets {
+            buckets,
+            kinds,
+            wanted,
+        }
+    }
+
+    /// Whether so many texts pass, or so many with which no pattern begins, that a scan is no faster than a search.
+    pub fn are_too_full(&self) -> bool {
+        let mut texts: u64 = 0;
+        for bucket in &self.buckets {
+            texts = texts.wrapping_add(bucket.texts(self.kinds));
+        }
+        let all = Bucket::behind(0).texts(self.kinds);
+        texts > all / PASSING || texts.saturating_sub(self.wanted) > all / NEEDLESS
+    }
+
+    /// The table for one place.
+    pub fn table(&self, place: usize) -> Nibbles
+        requires { place < LOOKED_AT }
+    {
+        let (mut low, mut high) = ([0; 16], [0; 16]);
+        for bucket in 0..BUCKETS {
+            let halves = self.buckets[bucket].places[place];
+            let bit = 1u8 << bucket;
+            for half in 0usize..16 {
+                if (halves.low >> half) & 1 == 1 {
+                    low[half] |= bit;
+                }
+                if (halves.high >> half) & 1 == 1 {
+                    high[half] |= bit;
+                }
+            }
+        }
+        Nibbles { low, high }
+    }
+}
+
+/// How many bytes of each pattern are looked at.
+fn shortest_len(patterns: &[Vec<u8>]) -> usize {
+    let mut shortest = LOOKED_AT;
+    for pattern in patterns {
+        shortest = shortest.min(pattern.len());
+    }
+    shortest
+}
+
+/// All patterns in one bucket.
+fn together(ignore_case: bool, patterns: &[Vec<u8>]) -> Bucket {
+    let mut bucket = Bucket::behind(LOOKED_AT);
+    for pattern in patterns {
+        bucket = bucket.with(ignore_case, pattern);
+    }
+    bucket
+}
+
+/// The bucket by which the fewest texts more pass once it has the pattern too.
+fn best_for(buckets: &[Bucket; BUCKETS], kinds: u64, ignore_case: bool, pattern: &[u8]) -> usize
+    ensures { result < BUCKETS }
+{
+    let mut best = 0;
+    let mut least = u64::MAX;
+    for bucket in 0..BUCKETS {
+        let with = buckets[bucket].with(ignore_case, pattern);
+        let more = with.texts(kinds).wrapping_sub(buckets[bucket].texts(kinds));
+        if more < least {
+            best = bucket;
+            least = more;
+        }
+    }
+    best
+}

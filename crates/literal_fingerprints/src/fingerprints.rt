@@ -1,0 +1,135 @@
+//! Tables of the bytes with which patterns begin, and the scan by them.
+ghost use Rattle.std.specs.Prelude.{◌≡◌, ◌⊎◌, ℕ, ◌+◌, ◌-◌, ◌*◌, ◌<◌, ◌≤◌, List, IfSome, IsTrue};
+ghost use Rattle.std.specs.Prelude.{length, map, slice_index};
+ghost use Rattle.literal_base.specs.Occurs.{IsValidSpan};
+ghost use Rattle.literal_fingerprints.specs.FingerprintsValue.{AllPass, LetsPass, NoneBegins, PassesAt};
+ghost use Rattle.literal_fingerprints.specs.Inside.Lanes.{HasLanes};
+ghost use Rattle.literal_fingerprints.specs.Inside.Scan.{IsLookedUp};
+
+use crate::buckets::{Buckets, LOOKED_AT};
+use crate::lanes::{LANES, load, look_up, zeros_before};
+use crate::looked_up::LookedUp;
+use crate::nibbles::Nibbles;
+use literal_base::Span;
+use literal_base::count::Tally;
+use std::marker::Model;
+use std::simd::prelude::*;
+
+/// For how many patterns there are fingerprints.
+const MOST_PATTERNS: usize = 64;
+
+/// The fingerprints of a list of patterns: by the first four bytes of each, or all of a shorter one, a scan tells at
+/// which places of a haystack one of them may begin. Contracts see the tables.
+#[derive(Clone, Copy)]
+pub struct Fingerprints {
+    first: Nibbles,
+    second: Nibbles,
+    third: Nibbles,
+    fourth: Nibbles,
+}
+
+impl Model for Fingerprints {
+    ghost use Rattle.literal_fingerprints.specs.FingerprintsValue.{FingerprintsValue};
+
+    ghost Value = { FingerprintsValue };
+
+    ghost view = { λ f. record { first = f.first; second = f.second; third = f.third; fourth = f.fourth } };
+
+    ghost inverse = { λ f. record { first = f.first; second = f.second; third = f.third; fourth = f.fourth } };
+}
+
+impl Fingerprints {
+    /// Those of some patterns. There are none where there is no pattern, or an empty one, or more than 64, and where
+    /// so many places would pass that a scan doesn't help.
+    pub fn new(ignore_case: bool, patterns: &[Vec<u8>]) -> Option<Fingerprints>
+        ensures pass { IfSome result (λ f. AllPass f ignore_case (map (λ pattern. pattern.items) patterns.now)) }
+        ensures some { IfSome result (λ _. (0 < length patterns.now) × (length patterns.now ≤ 64)) }
+    {
+        if patterns.is_empty() || patterns.len() > MOST_PATTERNS {
+            return None;
+        }
+        let buckets = Buckets::of(ignore_case, patterns);
+        if buckets.are_too_full() {
+            return None;
+        }
+        let made = Fingerprints {
+            first: buckets.table(0),
+            second: buckets.table(1),
+            third: buckets.table(2),
+            fourth: buckets.table(3),
+        };
+        if made.are_for(ignore_case, patterns) {
+            Some(made)
+        } else {
+            None
+        }
+    }
+
+    /// Whether each of some patterns passes wherever it stands.
+    fn are_for(&self, ignore_case: bool, patterns: &[Vec<u8>]) -> bool
+        ensures { IsTrue result → AllPass self.now ignore_case (map (λ pattern. pattern.items) patterns.now) }
+    {
+        for pattern in patterns {
+            if !self.lets_pass(ignore_case, pattern) {
+                return false;
+            }
+        }
+        true
+    }
+
+    /// Whether a pattern is not empty, and passes wherever it stands.
+    fn lets_pass(&self, ignore_case: bool, pattern: &[u8]) -> bool
+        ensures { IsTrue result → LetsPass self.now ignore_case pattern.now }
+    {
+        if pattern.is_empty() {
+            return false;
+        }
+        let first = self.first.shared(ignore_case, pattern, 0);
+        let second = self.second.shared(ignore_case, pattern, 1);
+        let third = self.third.shared(ignore_case, pattern, 2);
+        let fourth = self.fourth.shared(ignore_case, pattern, 3);
+        (first & second) & (third & fourth) != 0
+    }
+
+    /// A place of the span, or its end, before which no pattern begins that lies whole in the span. The span has to be
+    /// valid. The scan stops at the first place at which a pattern may begin by its fingerprint. Bytes are read 16 at
+    /// a time, each once; what is left of the span behind the last 16 is not read.
+    pub fn next(&self, haystack: &[u8], span: Span, tally: &mut Tally) -> usize
+        requires { IsValidSpan haystack.now span }
+        ensures inside { (span.start ≤ result) × (result ≤ span.end) }
+        ensures passed { NoneBegins self.now haystack.now span result }
+        ensures stops { PassesAt self.now haystack.now result ⊎ (span.end < result + 19) }
+        ensures others { tally.new ≡ record tally.old { scanned = tally.new.scanned } }
+        ensures once { tally.new.scanned ≤ tally.old.scanned + (span.end - span.start) }
+        ensures read { tally.old.scanned + result ≤ tally.new.scanned + span.start }
+        ensures counted { tally.new.scanned + span.start ≤ tally.old.scanned + result + 19 }
+        ensures thrice { tally.new.scanned + 3 * span.start ≤ tally.old.scanned + 3 * result + 16 }
+    {
+        let mut before = LookedUp::before_span();
+        let mut at = span.start;
+        while LANES <= span.end - at {
+            let here = self.look_up(load(haystack, at, tally));
+            let passed = zeros_before(here.shared_after(before));
+            if passed < LANES {
+                return at + passed - (LOOKED_AT - 1);
+            }
+            before = here;
+            at += LANES;
+        }
+        at.saturating_sub(LOOKED_AT - 1).max(span.start)
+    }
+
+    /// What the tables give 16 bytes of a haystack.
+    #[inline(always)]
+    fn look_up(&self, bytes: u8x16) -> LookedUp
+        ensures { (haystack : List ℕ) (start at : ℕ) → start ≤ at → HasLanes bytes (λ k. slice_index haystack (at + k))
+            → IsLookedUp result self.now haystack start (at + 16) }
+    {
+        LookedUp {
+            first: look_up(&self.first, bytes),
+            second: look_up(&self.second, bytes),
+            third: look_up(&self.third, bytes),
+            fourth: look_up(&self.fourth, bytes),
+        }
+    }
+}

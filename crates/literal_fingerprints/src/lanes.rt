@@ -1,0 +1,110 @@
+//! Vectors of 16 bytes, lane by lane.
+ghost use Rattle.std.specs.Prelude.{◌≡◌, ◌≢◌, ℕ, ◌+◌, ◌/◌, ◌%◌, ◌<◌, ◌≤◌, length, slice_index, bit_and};
+ghost use Rattle.literal_fingerprints.specs.FingerprintsValue.{buckets_of};
+ghost use Rattle.literal_fingerprints.specs.Inside.Lanes.{HasLanes};
+
+use crate::nibbles::Nibbles;
+use literal_base::count::Tally;
+use std::simd::prelude::*;
+
+/// How many lanes a vector has.
+pub const LANES: usize = 16;
+
+/// The bytes of a haystack from a place on, each of which so counts as scanned.
+#[inline(always)]
+pub fn load(haystack: &[u8], at: usize, tally: &mut Tally) -> u8x16
+    requires { at + 16 ≤ length haystack.now }
+    ensures lanes { HasLanes result (λ k. slice_index haystack.now (at + k)) }
+    ensures ticks { tally.new ≡ record tally.old { scanned = tally.old.scanned + 16 } }
+{
+    for _ in 0..LANES {
+        tally.tick_scanned();
+    }
+    u8x16::from_slice(&haystack[at..])
+}
+
+/// The bits of both.
+#[inline(always)]
+pub fn both(one: u8x16, other: u8x16) -> u8x16
+    ensures { HasLanes result (λ k. bit_and (slice_index one k) (slice_index other k)) }
+{
+    one & other
+}
+
+/// The entry of a table at the low half of each byte.
+#[inline(always)]
+fn by_low(table: &[u8; 16], bytes: u8x16) -> u8x16
+    ensures { HasLanes result (λ k. slice_index table.now (slice_index bytes k % 16)) }
+{
+    u8x16::from_slice(table).swizzle_dyn(bytes & u8x16::splat(15))
+}
+
+/// The same at the high half.
+#[inline(always)]
+fn by_high(table: &[u8; 16], bytes: u8x16) -> u8x16
+    ensures { HasLanes result (λ k. slice_index table.now (slice_index bytes k / 16 % 16)) }
+{
+    u8x16::from_slice(table).swizzle_dyn(bytes >> u8x16::splat(4))
+}
+
+/// The buckets of each byte.
+#[inline(always)]
+pub fn look_up(nibbles: &Nibbles, bytes: u8x16) -> u8x16
+    ensures { HasLanes result (λ k. buckets_of nibbles.now (slice_index bytes k)) }
+{
+    both(by_low(&nibbles.low, bytes), by_high(&nibbles.high, bytes))
+}
+
+/// The last lane of one vector, and all but the last of the next.
+#[inline(always)]
+pub fn one_back(before: u8x16, here: u8x16) -> u8x16
+    ensures { (f : ℕ → ℕ) → HasLanes before f → HasLanes here (λ k. f (16 + k)) → HasLanes result (λ k. f (15 + k)) }
+{
+    before.shuffle(
+        here,
+        [
+            15, 16, 17, 18, 19, 20, 21, 22, 23, 24, 25, 26, 27, 28, 29, 30,
+        ],
+    )
+}
+
+/// The last two lanes of one vector, and all but the last two of the next.
+#[inline(always)]
+pub fn two_back(before: u8x16, here: u8x16) -> u8x16
+    ensures { (f : ℕ → ℕ) → HasLanes before f → HasLanes here (λ k. f (16 + k)) → HasLanes result (λ k. f (14 + k)) }
+{
+    before.shuffle(
+        here,
+        [
+            14, 15, 16, 17, 18, 19, 20, 21, 22, 23, 24, 25, 26, 27, 28, 29,
+        ],
+    )
+}
+
+/// The last three lanes of one vector, and all but the last three of the next.
+#[inline(always)]
+pub fn three_back(before: u8x16, here: u8x16) -> u8x16
+    ensures { (f : ℕ → ℕ) → HasLanes before f → HasLanes here (λ k. f (16 + k)) → HasLanes result (λ k. f (13 + k)) }
+{
+    before.shuffle(
+        here,
+        [
+            13, 14, 15, 16, 17, 18, 19, 20, 21, 22, 23, 24, 25, 26, 27, 28,
+        ],
+    )
+}
+
+/// How many lanes come before the first that is not 0.
+#[inline(always)]
+pub fn zeros_before(lanes: u8x16) -> usize
+    ensures few { result ≤ 16 }
+    ensures zero { (k : ℕ) → k < result → slice_index lanes k ≡ 0 }
+    ensures stops { result < 16 → slice_index lanes result ≢ 0 }
+{
+    let set = lanes.simd_ne(u8x16::splat(0)).to_bitmask();
+    if set == 0 {
+        LANES
+    } else {
+        set.trailing_zeros() as usize
+    }
+}

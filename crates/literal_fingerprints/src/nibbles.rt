@@ -1,0 +1,50 @@
+//! The buckets of bytes, by the two halves of each.
+ghost use Rattle.std.specs.Prelude.{◌≡◌, ◌⊎◌, ℕ, ◌<◌, bit_and, length, slice_index, true};
+ghost use Rattle.literal_base.specs.Occurs.{same_byte};
+ghost use Rattle.literal_fingerprints.specs.FingerprintsValue.{buckets_of};
+
+use literal_base::alphabet::opposite_ascii_case;
+
+/// For each half of a byte a set of eight buckets, as bits. A byte is in the buckets that both of its halves are in.
+#[derive(Clone, Copy)]
+pub struct Nibbles {
+    pub low: [u8; 16],
+    pub high: [u8; 16],
+}
+
+impl Nibbles {
+    /// The buckets of a byte.
+    pub fn buckets(&self, byte: u8) -> u8
+        ensures { result ≡ buckets_of self.now byte }
+    {
+        self.low[(byte % 16) as usize] & self.high[(byte / 16) as usize]
+    }
+
+    /// Buckets in which each byte is that a text can have where a pattern has its byte of this place, in either case
+    /// where case is ignored, and any byte behind the pattern.
+    pub fn shared(&self, ignore_case: bool, pattern: &[u8], place: usize) -> u8
+        ensures { (byte : ℕ)
+            → (place < length pattern.now → same_byte ignore_case byte (slice_index pattern.now place) ≡ true)
+            → bit_and result (buckets_of self.now byte) ≡ result }
+    {
+        if place < pattern.len() {
+            let byte = pattern[place];
+            self.buckets(byte) & self.buckets(other_case(ignore_case, byte))
+        } else if self.low == [u8::MAX; 16] && self.high == [u8::MAX; 16] {
+            u8::MAX
+        } else {
+            0
+        }
+    }
+}
+
+/// The other byte that is the same where case is ignored, and else the byte.
+pub fn other_case(ignore_case: bool, byte: u8) -> u8
+    ensures { (a : ℕ) → same_byte ignore_case a byte ≡ true → (a ≡ byte) ⊎ (a ≡ result) }
+{
+    if ignore_case {
+        opposite_ascii_case(byte)
+    } else {
+        byte
+    }
+}

@@ -1,5 +1,0 @@
-use Rattle.literal_packed.proofs.lemmas.GreedyLists.{greedy_apart}
-use Rattle.literal_packed.proofs.laws.greedy_lists_lie_apart.Goals as goal
-
-pub returns : goal.returns
-returns c = greedy_apart

@@ -1,0 +1,37 @@
+-- What is asked for where all that is promised of a search for any list of patterns is said at once.
+use Rattle.std.specs.Prelude.{◌≡◌, ◌⊎◌, ℕ, ◌<◌, List, length, map, take}
+use Rattle.std.specs.Borrow.{Bor}
+use Rattle.literal_base.specs.Kinds.{root_kind_of}
+use Rattle.literal_base.specs.Occurs.{NoneIsEmpty, pattern_at}
+use Rattle.literal_base.specs.declared.search.MatchKind.TheVariants.{Standard}
+use Rattle.literal_ids.specs.declared.primitives.pattern_id.TheConstants.PatternID
+use Rattle.literal_search.specs.Linear.{NeedTooManyReversed}
+use Rattle.literal_search.specs.SearchValue.{NeedTooManyStates, SearchValue, search_by}
+use Rattle.literal_search.specs.declared.BuildError.{BuildError}
+use Rattle.literal_search.specs.declared.BuildError.TheVariants.{EmptyPattern, OutOfMemory, TooManyPatterns}
+use Rattle.literal_search.specs.declared.BuildError.TheVariants.{TooManyStates}
+use Rattle.literal_promise.specs.declared.any_list.AnySearch.{AnySearch}
+
+-- the search that is asked for
+abbrev pub searched_for : AnySearch → SearchValue
+searched_for asked =
+    search_by asked.kind asked.ignore_case (map (λ (p : Bor (List ℕ)). p.now) asked.patterns.now)
+
+-- why a list is refused: a pattern is the first that is empty; memory is refused, where there is a pattern; there are
+-- more patterns than identifiers; they need too many states
+abbrev pub RefusesPatterns : (List (List ℕ) → Type 0) → List (List ℕ) → BuildError → Type 0
+RefusesPatterns NeedTooMany patterns (EmptyPattern number) =
+    (number < length patterns) × (length (pattern_at patterns number) ≡ 0) × NoneIsEmpty (take number patterns)
+RefusesPatterns NeedTooMany patterns OutOfMemory = 0 < length patterns
+RefusesPatterns NeedTooMany patterns TooManyPatterns = PatternID.LIMIT < length patterns
+RefusesPatterns NeedTooMany patterns TooManyStates = NeedTooMany patterns
+
+-- the patterns need too many states for one of the three searches that are asked for
+abbrev pub NeedTooManyForAny : AnySearch → List (List ℕ) → Type 0
+NeedTooManyForAny asked patterns =
+    NeedTooManyStates (root_kind_of asked.kind) asked.ignore_case patterns
+    ⊎ NeedTooManyStates Standard asked.ignore_case patterns ⊎ NeedTooManyReversed asked.ignore_case patterns
+
+-- why the list that is asked for is refused
+abbrev pub RefusesAnyList : AnySearch → BuildError → Type 0
+RefusesAnyList asked = RefusesPatterns (NeedTooManyForAny asked) (searched_for asked).query.patterns

@@ -1,0 +1,225 @@
+//! What the searches for any list of patterns promise together.
+//!
+//! Want of memory and the size of the table aside, exactly the lists without an empty pattern build a
+//! `Search`, whose answer on every valid span is the leftmost whole occurrence under the tie rule;
+//! `find_iter` is the greedy list of these, and `Overlapping` gives each occurrence once; a search looks up
+//! at most three times the bytes of its span, and a whole iteration at most three times those of the haystack
+//! and for each match those of the longest pattern; `Linear` lists the same matches, looking up at most
+//! twice the bytes of the haystack.
+//!
+//! The contract of [`search_any_list`] says all of this.
+ghost use Rattle.std.specs.Prelude.{◌≡◌, ◌+◌, ◌<◌, ◌≤◌, IfErr, IfOk, OnErr, length};
+ghost use Rattle.literal_base.specs.Greedy.{IsGreedy};
+ghost use Rattle.literal_base.specs.Leftmost.{IsLeftmost};
+ghost use Rattle.literal_base.specs.Occurs.{IsValidSpan, whole_of};
+ghost use Rattle.literal_search.specs.Earliest.{IsEarliestEnd};
+ghost use Rattle.literal_search.specs.Linear.{ScansTwice};
+ghost use Rattle.literal_search.specs.Overlapping.{IsOverlapping};
+ghost use Rattle.literal_search.specs.SearchValue.{CanBeKept, ScansWithin, ScansListAtMost};
+ghost use Rattle.literal_promise.specs.AnyList.{RefusesAnyList, searched_for};
+
+use literal_base::laws::greedy_is_unique;
+use literal_search::laws::{iterations_give_each_occurrence_once, iterations_scan_at_most};
+use literal_search::{BuildError, Linear, Match, MatchKind, Overlapping, Search, Span, Tally};
+use std::alloc::{AllocError, Global};
+
+/// Patterns, and how they are searched for.
+#[derive(Drop)]
+pub struct AnySearch<'p> {
+    /// Which occurrence is the match.
+    pub kind: MatchKind,
+    /// Whether ASCII case is ignored.
+    pub ignore_case: bool,
+    /// The patterns.
+    pub patterns: &'p [&'p [u8]],
+}
+
+/// What a [`Search`] finds.
+#[derive(Drop)]
+pub struct Searched {
+    /// By [`Search::find_in_counted`], in the span.
+    pub found: Option<Match>,
+    /// By [`Search::earliest_end`], in the span.
+    pub earliest: Option<usize>,
+    /// By [`Search::find_iter`], up to its first `None`.
+    pub all: Vec<Match>,
+}
+
+/// What all searches for a list find.
+#[derive(Drop)]
+pub struct AnyFound {
+    pub searched: Searched,
+    /// By [`Overlapping::find_overlapping_in`], in the span, up to its first `None`.
+    pub occurring: Vec<Match>,
+    /// By [`Linear::find_all_in_counted`], of the whole haystack.
+    pub linear: Vec<Match>,
+}
+
+/// Searches for a list of patterns by a `Search`, an `Overlapping` and a `Linear`, each made for it. It refuses as they
+/// do. Memory is asked for only where there is a pattern. Of the tallies the first is for the search of the span, the
+/// second for the iteration, and the third for the list of `Linear`.
+pub fn search_any_list(
+    alloc: Global,
+    asked: &AnySearch<'_>,
+    haystack: &[u8],
+    span: Span,
+    once: &mut Tally,
+    iterated: &mut Tally,
+    listed: &mut Tally,
+) -> Result<AnyFound, BuildError>
+    requires { IsValidSpan haystack.now span }
+    ensures built { IfOk result (λ _. CanBeKept (searched_for asked.now).query.patterns) }
+    ensures refused { IfErr result (RefusesAnyList asked.now) }
+    ensures leftmost { IfOk result (λ any. IsLeftmost (searched_for asked.now).query asked.now.ignore_case
+        haystack.now span any.searched.found) }
+    ensures earliest { IfOk result (λ any. IsEarliestEnd (searched_for asked.now).query.patterns asked.now.ignore_case
+        haystack.now span any.searched.earliest) }
+    ensures scanned { IfOk result (λ any. ScansWithin (searched_for asked.now).query.patterns span any.searched.found
+        once.old once.new) }
+    ensures greedy { IfOk result (λ any. IsGreedy (searched_for asked.now).query asked.now.ignore_case
+        haystack.now 0 any.searched.all.items) }
+    ensures iteration { IfOk result (λ any. ScansListAtMost (searched_for asked.now).query.patterns
+        (length haystack.now) (length any.searched.all.items) iterated.old iterated.new) }
+    ensures overlapping { IfOk result (λ any. IsOverlapping (searched_for asked.now).query.patterns
+        asked.now.ignore_case haystack.now span any.occurring.items) }
+    ensures same_list { IfOk result (λ any. any.linear.items ≡ any.searched.all.items) }
+    ensures twice { IfOk result (λ _. ScansTwice (whole_of haystack.now) listed.old listed.new) }
+    ensures listed_each { IfOk result (λ _. listed.old.scanned + length haystack.now ≤ listed.new.scanned) }
+    ensures iterated_each { IfOk result (λ _. iterated.old.scanned + length haystack.now ≤ iterated.new.scanned) }
+{
+    greedy_is_unique();
+    let searched = search(alloc, asked, haystack, span, once, iterated)?;
+    let occurring = all_that_occurs(alloc, asked, haystack, span)?;
+    let linear = list(alloc, asked, haystack, listed)?;
+    Ok(AnyFound {
+        searched,
+        occurring,
+        linear,
+    })
+}
+
+fn search(
+    alloc: Global,
+    asked: &AnySearch<'_>,
+    haystack: &[u8],
+    span: Span,
+    once: &mut Tally,
+    iterated: &mut Tally,
+) -> Result<Searched, BuildError>
+    requires { IsValidSpan haystack.now span }
+    ensures built { IfOk result (λ _. CanBeKept (searched_for asked.now).query.patterns) }
+    ensures refused { IfErr result (RefusesAnyList asked.now) }
+    ensures leftmost { IfOk result (λ searched. IsLeftmost (searched_for asked.now).query asked.now.ignore_case
+        haystack.now span searched.found) }
+    ensures earliest { IfOk result (λ searched. IsEarliestEnd (searched_for asked.now).query.patterns
+        asked.now.ignore_case haystack.now span searched.earliest) }
+    ensures scanned { IfOk result (λ searched. ScansWithin (searched_for asked.now).query.patterns span searched.found
+        once.old once.new) }
+    ensures greedy { IfOk result (λ searched. IsGreedy (searched_for asked.now).query asked.now.ignore_case
+        haystack.now 0 searched.all.items) }
+    ensures iteration { IfOk result (λ searched. ScansListAtMost (searched_for asked.now).query.patterns
+        (length haystack.now) (length searched.all.items) iterated.old iterated.new) }
+    ensures each { IfOk result (λ _. iterated.old.scanned + length haystack.now ≤ iterated.new.scanned) }
+{
+    let search = search_for(alloc, asked)?;
+    let found = search.find_in_counted(haystack, span, once);
+    let earliest = search.earliest_end(haystack, span);
+    let all = taken_in_turn(alloc, &search, haystack, iterated)?;
+    Ok(Searched {
+        found,
+        earliest,
+        all,
+    })
+}
+
+fn search_for(alloc: Global, asked: &AnySearch<'_>) -> Result<Search, BuildError>
+    ensures same { IfOk result (λ search. search ≡ searched_for asked.now) }
+    ensures kept { IfOk result (λ _. CanBeKept (searched_for asked.now).query.patterns) }
+    ensures refused { IfErr result (RefusesAnyList asked.now) }
+{
+    let search = Search::new(
+        alloc,
+        asked.kind,
+        asked.ignore_case,
+        asked.patterns.iter().copied(),
+    )?;
+    let _ = search.patterns_len(); // (its contract says that they can be kept)
+    Ok(search)
+}
+
+/// The matches that an iteration gives.
+fn taken_in_turn(
+    alloc: Global,
+    search: &Search,
+    haystack: &[u8],
+    iterated: &mut Tally,
+) -> Result<Vec<Match>, AllocError>
+    ensures greedy { IfOk result (λ taken. IsGreedy search.now.query search.now.ignore_case haystack.now 0
+        taken.items) }
+    ensures bounded { IfOk result (λ taken. ScansListAtMost search.now.query.patterns (length haystack.now)
+        (length taken.items) iterated.old iterated.new) }
+    ensures each { IfOk result (λ _. iterated.old.scanned + length haystack.now ≤ iterated.new.scanned) }
+    ensures no_memory { OnErr result (0 < length search.now.query.patterns) }
+{
+    iterations_scan_at_most();
+    let mut matches = Vec::new(alloc);
+    let mut iteration = search.find_iter(haystack);
+    while let Some(found) = iteration.next_counted(iterated) {
+        matches.push(found)?;
+    }
+    Ok(matches)
+}
+
+fn all_that_occurs(
+    alloc: Global,
+    asked: &AnySearch<'_>,
+    haystack: &[u8],
+    span: Span,
+) -> Result<Vec<Match>, BuildError>
+    requires { IsValidSpan haystack.now span }
+    ensures refused { IfErr result (RefusesAnyList asked.now) }
+    ensures overlapping { IfOk result (λ all. IsOverlapping (searched_for asked.now).query.patterns
+        asked.now.ignore_case haystack.now span all.items) }
+{
+    let patterns = asked.patterns.iter().copied();
+    let search = Overlapping::new(alloc, asked.ignore_case, patterns)?;
+    Ok(taken_overlapping(alloc, &search, haystack, span)?)
+}
+
+/// The matches that an iteration over all that occurs gives.
+fn taken_overlapping(
+    alloc: Global,
+    search: &Overlapping,
+    haystack: &[u8],
+    span: Span,
+) -> Result<Vec<Match>, AllocError>
+    requires { IsValidSpan haystack.now span }
+    ensures overlapping { IfOk result (λ all. IsOverlapping search.now.patterns search.now.ignore_case haystack.now span
+        all.items) }
+    ensures no_memory { OnErr result (0 < length search.now.patterns) }
+{
+    iterations_give_each_occurrence_once();
+    let mut all = Vec::new(alloc);
+    for found in search.find_overlapping_in(haystack, span) {
+        all.push(found)?;
+    }
+    Ok(all)
+}
+
+fn list(
+    alloc: Global,
+    asked: &AnySearch<'_>,
+    haystack: &[u8],
+    listed: &mut Tally,
+) -> Result<Vec<Match>, BuildError>
+    ensures refused { IfErr result (RefusesAnyList asked.now) }
+    ensures greedy { IfOk result (λ all. IsGreedy (searched_for asked.now).query asked.now.ignore_case haystack.now
+        0 all.items) }
+    ensures twice { IfOk result (λ _. ScansTwice (whole_of haystack.now) listed.old listed.new) }
+    ensures once { IfOk result (λ _. listed.old.scanned + length haystack.now ≤ listed.new.scanned) }
+{
+    let patterns = asked.patterns.iter().copied();
+    let linear = Linear::new(alloc, asked.kind, asked.ignore_case, patterns)?;
+    let end = haystack.len();
+    Ok(linear.find_all_in_counted(haystack, Span { start: 0, end }, listed)?)
+}

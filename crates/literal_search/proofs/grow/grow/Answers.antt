@@ -1,0 +1,67 @@
+use Rattle.std.proofs.Common.{◌≡◌, ◌*◌, ◌∙◌, ap, arith, length, refl, subst}
+use Rattle.std.proofs.Math.Nat.{mul-le-mul_right}
+use Rattle.literal_search.specs.Inside.Growing.{texts_of, words_of}
+use Rattle.literal_search.specs.States.{IsRowsLength}
+use Rattle.literal_search.specs.Table.{Recognises, stride_of}
+use Rattle.literal_search.specs.declared.grow.Texts.{Texts}
+use Rattle.literal_search.proofs.lemmas.Growing.{recognises, some_texts}
+use Rattle.literal_search.proofs.lemmas.States.{few_states, states_made, symbols_below}
+use Rattle.literal_search.proofs.grow.grow.Goals as goal
+
+pub has_too_long-requires : goal.has_too_long-requires
+has_too_long-requires c = record {
+  classes = c.requires.classes;
+  some = some_texts c.args.classes.now c.args.patterns.now c.requires.some;
+  few = c.requires.few;
+}
+
+pub start-requires : goal.start-requires
+start-requires c = record {
+  classes = c.requires.classes;
+  some = some_texts c.args.classes.now c.args.patterns.now c.requires.some;
+  few = c.requires.few;
+}
+
+pub returns-clause-recognises : goal.returns-clause-recognises
+returns-clause-recognises c =
+    let g = c.loop-state.growing in
+    let said = c.loop-state.invariant in
+    let known = c.len.ensures ∙ g.states.ok.0 in
+    let late = c.loop-state-test.false in
+    let all : c.loop-state.state ≡ length g.states.items = omega (arith, known, late, said.states) in
+    subst (λ (t : Texts). Recognises t.kind (texts_of t) t.width g.rows.items)
+    (said.texts ∙ c.in_ok-growing.ensures.texts)
+    (recognises g.texts g.states.items g.lists.items g.rows.items said.grows
+    (said.filled ∙ ap (λ n. n * stride_of g.texts.width) all))
+
+pub returns-clause-states : goal.returns-clause-states
+unfolding recognises IsRowsLength
+returns-clause-states c =
+    let g = c.loop-state.growing in
+    let t = g.texts in
+    let said = c.loop-state.invariant in
+    let known = c.len.ensures ∙ g.states.ok.0 in
+    let late = c.loop-state-test.false in
+    let all : c.loop-state.state ≡ length g.states.items = omega (arith, known, late, said.states) in
+    let are = recognises t g.states.items g.lists.items g.rows.items said.grows
+    (said.filled ∙ ap (λ n. n * stride_of t.width) all) in
+    subst (λ (t : Texts). IsRowsLength t.kind (texts_of t) t.width (length g.rows.items))
+    (said.texts ∙ c.in_ok-growing.ensures.texts) (
+      length (words_of g),
+      record {
+        texts = words_of g;
+        are_states = states_made t.kind (texts_of t) (words_of g) t.width (length g.rows.items) said.words;
+        count_is = refl;
+        most = few_states t.kind (texts_of t) t.width
+            (symbols_below t.classes.now t.width said.grows.texts.classes t.patterns.now) g.rows.items are;
+      },
+      are.full,
+    )
+
+pub returns-clause-few : goal.returns-clause-few
+unfolding IsRowsLength
+returns-clause-few c many =
+    let rows = returns-clause-states c in
+    let fits = mul-le-mul_right (stride_of c.args.width) (rows.1.most many.0 many.1) in
+    let few = (returns-clause-recognises c).few in
+    omega (arith, fits, few, rows.2, many.2)

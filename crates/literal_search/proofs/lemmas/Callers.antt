@@ -1,0 +1,99 @@
+-- What callers take from this crate beside its contracts and laws: what an automaton was built of, and iterations over
+-- matches. For callers.
+use Rattle.std.proofs.Common.{◌≡◌, ℕ, Bool, List, [], ◌∷◌, map, Option, None, sym, ap, ◌∙◌, subst}
+use Rattle.std.specs.Borrow.{Bor}
+use Rattle.std.specs.Fn.{Called}
+use Rattle.std.specs.Iterator.{Yields}
+use Rattle.std.specs.Iterator.Adapters.{map_callee, map_source}
+use Rattle.std.specs.Slice.Iter.{iter_rest, iter_steps}
+use Rattle.std.specs.declared.iter.Map.{Map}
+use Rattle.std.specs.declared.slice.Iter.{Iter}
+use Rattle.std.proofs.lemmas.Iterator.{YieldsList, YieldsList-from_map_by, YieldsList-from_slice, items_from_drains}
+use Rattle.std.proofs.lemmas.Iterator.{maps}
+use denote.Param.Members.{Mut}
+use Rattle.literal_base.specs.declared.packed.MatchKind.{MatchKind}
+use Rattle.literal_base.specs.declared.search.MatchKind as search
+use Rattle.literal_base.specs.Greedy.{IsGreedy}
+use Rattle.literal_base.specs.MatchValue.{MatchValue}
+use Rattle.literal_base.specs.Occurs.{NothingOccurs, rest_from}
+use Rattle.literal_base.proofs.lemmas.Callers.{GivesList, items_are}
+use Rattle.literal_search.specs.SearchValue.{BuildsSearch, SearchValue, GivesAll, NeedTooManyStates, search_by}
+use Rattle.literal_search.specs.MatchesValue.{GivesMatch, MatchesValue}
+use Rattle.literal_search.specs.Overlapping.{BuildsOverlapping, OverlappingValue}
+use Rattle.literal_search.specs.States.{HasTooManyStates}
+use Rattle.literal_search.proofs.lemmas.Rows.{none_few, one_class}
+
+module _ {U T : Type 0} {becomes : U → T → Type 0} {steps : T → Option (Bor (List ℕ)) → T → Type 0} {given : U}
+    {list : List (Bor (List ℕ))} where
+  -- all the items of a list that is given, as by `array_gives`, are that list
+  all_are : GivesList becomes steps given list → {patterns : List (List ℕ)} → GivesAll becomes steps given patterns
+      → patterns ≡ map (λ p. p.now) list
+  all_are gives all =
+      all.4 ∙ ap (map (λ (p : Bor (List ℕ)). p.now)) (items_are gives all.0 all.1 all.2 all.3)
+
+  -- so an automaton that is built of it is for that list
+  pub search_is_for : GivesList becomes steps given list → (kind : MatchKind) (ignore_case : Bool) (built : SearchValue)
+      → BuildsSearch becomes steps given kind ignore_case built
+      → built ≡ search_by kind ignore_case (map (λ p. p.now) list)
+  search_is_for gives kind ignore_case built (patterns, all, is) =
+      is ∙ ap (search_by kind ignore_case) (all_are gives all)
+
+  -- and so is a search for everything that occurs
+  pub overlapping_is_for : GivesList becomes steps given list → (ignore_case : Bool) (built : OverlappingValue)
+      → BuildsOverlapping becomes steps given ignore_case built
+      → built ≡ record { patterns = map (λ p. p.now) list; ignore_case = ignore_case }
+  overlapping_is_for gives ignore_case built (patterns, all, is) =
+      is ∙ ap (λ (p : List (List ℕ)). let o : OverlappingValue = record { patterns = p; ignore_case = ignore_case }
+      in o) (all_are gives all)
+
+-- whichever iterator the given value becomes, that gives references to these byte strings and ends
+pub record GivesBytes {U T : Type 0} (becomes : U → T → Type 0) (steps : T → Option (Bor (List ℕ)) → T → Type 0)
+    (given : U) (list : List (List ℕ)) : Type 0 where
+  pub each : (it : T) → becomes given it → YieldsList steps (λ p. p.now) it list
+
+-- `list.iter().map(f)` gives what `h` says of each element, where that is what a call of `f` answers
+pub mapped_gives : {A F : Type 0} {given : Map (Iter A) F} (g : Mut F (Bor A × Unit {0}) (Bor (List ℕ)))
+    (h : A → List ℕ) (list : List A) {f : F} → iter_rest (map_source given) ≡ list → map_callee given ≡ f
+    → ((x : Bor A) (r : Bor (List ℕ)) (q : F) → Called g f (x, tt) r q → (q ≡ f) × (r.now ≡ h x.now))
+    → GivesBytes (λ s r. r ≡ s) (maps (iter_steps {A = A}) g) given (map h list)
+mapped_gives g h list is callee calls = record {
+  each = λ it same.
+      YieldsList-from_map_by g (λ r. r.now) h
+      (YieldsList-from_slice {s = map_source it} list (ap (λ i. iter_rest (map_source i)) same ∙ is))
+      (ap map_callee same ∙ callee) calls;
+}
+
+-- an automaton that is built of byte strings that are given, as by `mapped_gives`, is for these
+pub search_is_for_bytes : {U T : Type 0} {becomes : U → T → Type 0} {steps : T → Option (Bor (List ℕ)) → T → Type 0}
+    {given : U} {list : List (List ℕ)} → GivesBytes becomes steps given list → (kind : MatchKind) (ignore_case : Bool)
+    (built : SearchValue) → BuildsSearch becomes steps given kind ignore_case built
+    → built ≡ search_by kind ignore_case list
+search_is_for_bytes gives kind ignore_case built (patterns, all, is) =
+    is ∙ ap (search_by kind ignore_case) (all.4
+    ∙ items_from_drains all.1 (all.3.1.0, all.3.1.1, λ _. (all.3.0, all.3.1.2)) (gives.each all.0 all.2))
+
+-- what an iteration over matches gives up to its end is the greedy list from where it stood
+pub greedy_from_yields : (m : MatchesValue) (all : List MatchValue) (n o : MatchesValue) → Yields GivesMatch m all n
+    → GivesMatch n None o → IsGreedy m.search.query m.search.ignore_case m.haystack m.at all
+greedy_from_yields m [] n o stays nothing =
+    subst (λ (it : MatchesValue). NothingOccurs it.search.query.patterns it.search.ignore_case it.haystack
+    (rest_from it.haystack it.at)) (sym stays) nothing.leftmost
+greedy_from_yields m (found ∷ more) n o run nothing = (
+  run.1.leftmost,
+  subst (λ (it : MatchesValue). IsGreedy it.search.query it.search.ignore_case it.haystack it.at more) run.1.goes_on
+      (greedy_from_yields run.0 more n o run.2 nothing),
+)
+
+-- the same of one that began at the start of a haystack
+pub greedy_from_matches : (searched : SearchValue) (haystack : List ℕ) (m : MatchesValue) (all : List MatchValue)
+    (n o : MatchesValue) → m ≡ record { search = searched; haystack = haystack; at = 0 } → Yields GivesMatch m all n
+    → GivesMatch n None o → IsGreedy searched.query searched.ignore_case haystack 0 all
+greedy_from_matches searched haystack m all n o start run nothing =
+    subst (λ (it : MatchesValue). IsGreedy it.search.query it.search.ignore_case it.haystack it.at all) start
+    (greedy_from_yields m all n o run nothing)
+
+-- where there is no pattern the states are not too many
+pub none_need_few : (kind : search.MatchKind) (ignore_case : Bool) → ¬ NeedTooManyStates kind ignore_case []
+unfolding NeedTooManyStates
+none_need_few kind ignore_case (classes, are, tells, many) =
+    none_few kind (subst (HasTooManyStates kind []) (one_class ignore_case) many)

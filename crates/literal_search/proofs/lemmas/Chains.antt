@@ -1,0 +1,350 @@
+-- The patterns that are an end of a pattern, from one to the next.
+use Rattle.std.proofs.Common.{◌≡◌, ◌≢◌, ℕ, ◌+◌, ◌*◌, ◌-◌, ◌<◌, ◌≤◌, ◌^◌, List, [], ◌∷◌, ◌++◌, length, get_or, take}
+use Rattle.std.proofs.Common.{drop, eqb, set}
+use Rattle.std.proofs.Common.{Option, Some, None, inl, inr, ◌⊎◌, refl, sym, ap, subst, ◌∙◌, arith, mul-le-mul_right}
+use Rattle.std.proofs.lemmas.Bool.{cases_lt}
+use Rattle.std.proofs.lemmas.Bool.Decides.{Decides-eqb, nat_tests}
+use Rattle.std.proofs.lemmas.List.{get_or-set_other, get_or-set_same, get_or_default, get_or_past, length-drop}
+use Rattle.std.proofs.lemmas.List.{length-set, take-append-drop}
+use Rattle.std.proofs.lemmas.List.Elements.{All-nil, All-push, All-weaker, Contains-append_left, Contains-push}
+use Rattle.std.proofs.lemmas.List.Kept.{AllPairs-from_increasing}
+use Rattle.std.proofs.lemmas.List.Quantifiers.{all_pairs_push}
+use Rattle.std.proofs.lemmas.List.Sorted.{All-permutation, Contains-permutation, IsNonDecreasingBy-from_sort}
+use Rattle.std.proofs.lemmas.Map.Keys.{IsDistinct-IsPermutation, IsStrictlyIncreasing-from_distinct}
+use Rattle.std.proofs.lemmas.Map.Made.{IsDistinct-from_AllPairs}
+use Rattle.std.specs.List.{Contains}
+use Rattle.std.specs.List.Sorted.{IsPermutation, IsSorted}
+use Rattle.std.specs.Ordering.{nat_cmp}
+use Rattle.std.specs.Option.{unwrap_or}
+use Rattle.literal_base.specs.declared.search.MatchKind.TheVariants.{Standard}
+use Rattle.literal_base.specs.Occurs.{NoneIsEmpty, pattern_at}
+use Rattle.literal_search.specs.Inside.Ends.{AreEnds, ComesLater, EndsWith, HasUpTo, IsEnd, IsLink, IsNextEqual}
+use Rattle.literal_search.specs.Inside.Ends.{left_from}
+use Rattle.literal_search.specs.Inside.Lists.{AreHeads, AreLinks}
+use Rattle.literal_search.specs.Table.{nothing}
+use Rattle.literal_search.specs.Words.{ending}
+use Rattle.literal_search.proofs.lemmas.Standard.{end_of_itself, ends_length, ends_on, ends_same, ends_within}
+use Rattle.literal_search.proofs.lemmas.Standard.{first_ends, none_ends}
+
+module _ (patterns : List (List ℕ)) (some : NoneIsEmpty patterns) (few : length patterns ≤ 2 ^ 31 - 1) where
+  -- a pattern is the first of the equals of another
+  pub record IsFirstEqual (pattern first : ℕ) : Type 0 where
+    pub below : first < length patterns
+    pub same : pattern_at patterns first ≡ pattern_at patterns pattern
+    pub first_is : ending Standard patterns (pattern_at patterns first) ≡ Some first
+
+  pub first_equal_of : (pattern first : ℕ) → pattern < length patterns
+      → first ≡ unwrap_or (ending Standard patterns (pattern_at patterns pattern)) nothing → IsFirstEqual pattern first
+  first_equal_of pattern first below is = by (ending Standard patterns (pattern_at patterns pattern)) refl is
+    where
+      text : List ℕ
+      text = pattern_at patterns pattern
+
+      by : (o : Option ℕ) → ending Standard patterns (pattern_at patterns pattern) ≡ o → first ≡ unwrap_or o nothing
+          → IsFirstEqual pattern first
+      by None ends at = absurd (none_ends patterns some (pattern_at patterns pattern) ends pattern
+          (end_of_itself patterns some pattern below))
+      by (Some i) ends at =
+          let all = first_ends patterns some (pattern_at patterns pattern) i ends in
+          let itself = end_of_itself patterns some pattern below in
+          let size = ends_length (pattern_at patterns pattern) (pattern_at patterns i) all.is.ends in
+          let long : length (pattern_at patterns pattern) ≤ length (pattern_at patterns i) =
+          elim (all.others pattern itself) [
+            | inl equal ↦ omega (arith, ap (λ k. length (pattern_at patterns k)) equal)
+            | inr later ↦ elim later [
+              | inl shorter ↦ omega arith
+              | inr as_long ↦ omega (arith, as_long.0)
+            ]
+          ] in
+          let same : pattern_at patterns i ≡ pattern_at patterns pattern =
+          ends_same (pattern_at patterns pattern) (pattern_at patterns i) (pattern_at patterns pattern) all.is.ends
+          itself.ends (omega arith) in
+          subst (IsFirstEqual pattern) (sym at)
+          (record { below = all.is.is_pattern; same = same; first_is = ap (ending Standard patterns) same ∙ ends })
+
+  pub behind_first : (text : List ℕ) → EndsWith text (drop 1 text)
+  behind_first text = record { front = take 1 text; split = sym (take-append-drop 1 text) }
+
+  -- a shorter end of a pattern is one of what is behind its first symbol
+  pub shorter_end : (text : List ℕ) (i : ℕ) → IsEnd patterns text i → length (pattern_at patterns i) < length text
+      → IsEnd patterns (drop 1 text) i
+  shorter_end text i is shorter = record {
+    is_pattern = is.is_pattern;
+    ends = ends_within text (pattern_at patterns i) (drop 1 text) is.ends (behind_first text)
+        (omega (arith, length-drop 1 text));
+  }
+
+  module _ (pattern head equal : ℕ) (below : pattern < length patterns)
+      (next : IsNextEqual patterns head (pattern + 1) equal)
+      (same : pattern_at patterns head ≡ pattern_at patterns pattern)
+    where
+      itself : IsEnd patterns (pattern_at patterns pattern) pattern
+      itself = end_of_itself patterns some pattern below
+
+      -- as long as the pattern, and later: an equal
+      as_long : (i : ℕ) → IsEnd patterns (pattern_at patterns pattern) i
+          → length (pattern_at patterns i) ≡ length (pattern_at patterns pattern) → pattern < i
+          → (equal ≢ nothing) × (equal ≤ i)
+      as_long i end long later =
+          let is : pattern_at patterns i ≡ pattern_at patterns pattern =
+          ends_same (pattern_at patterns pattern) (pattern_at patterns i) (pattern_at patterns pattern) end.ends
+          itself.ends long in
+          next.others i (omega arith) end.is_pattern (is ∙ sym same)
+
+      pub link_to_equal : equal ≢ nothing → IsLink patterns pattern equal
+      link_to_equal found = elim next.is [
+        | inl none ↦ absurd (found none)
+        | inr one ↦
+            let equals : pattern_at patterns equal ≡ pattern_at patterns pattern = one.2 ∙ same in
+            let long = ap (λ (l : List ℕ). length l) equals in
+            record {
+              next = inr (
+                record { is_pattern = one.1; ends = record { front = []; split = sym equals } },
+                inr (long, omega (arith, one.0)),
+              );
+              others = λ i end later. (
+                found,
+                elim later [
+                  | inl shorter ↦ inr (inl (omega (arith, long)))
+                  | inr long_too ↦
+                      let least = as_long i end long_too.0 long_too.1 in
+                      elim (cases_lt equal i) [
+                        | inl sooner ↦ inr (inr (omega (arith, long, long_too.0), sooner))
+                        | inr not ↦ inl (omega (arith, least.1))
+                      ]
+                ],
+              );
+            }
+      ]
+
+      pub link_to_shorter : equal ≡ nothing → (link : ℕ)
+          → link ≡ unwrap_or (ending Standard patterns (drop 1 (pattern_at patterns pattern))) nothing
+          → IsLink patterns pattern link
+      link_to_shorter none link is =
+          by (ending Standard patterns (drop 1 (pattern_at patterns pattern))) refl is
+        where
+          only_shorter : (i : ℕ) → IsEnd patterns (pattern_at patterns pattern) i → ComesLater patterns pattern i
+              → IsEnd patterns (drop 1 (pattern_at patterns pattern)) i
+          only_shorter i end (inl shorter) = shorter_end (pattern_at patterns pattern) i end shorter
+          only_shorter i end (inr later) = absurd ((as_long i end later.0 later.1).0 none)
+
+          by : (o : Option ℕ) → ending Standard patterns (drop 1 (pattern_at patterns pattern)) ≡ o
+              → link ≡ unwrap_or o nothing → IsLink patterns pattern link
+          by None ends at = record {
+            next = inl at;
+            others = λ i end later. absurd (none_ends patterns some (drop 1 (pattern_at patterns pattern)) ends i
+                (only_shorter i end later));
+          }
+          by (Some first) ends at =
+              let all = first_ends patterns some (drop 1 (pattern_at patterns pattern)) first ends in
+              let within = ends_length (drop 1 (pattern_at patterns pattern)) (pattern_at patterns first) all.is.ends in
+              let long = some pattern [] below in
+              let is_pattern = all.is.is_pattern in
+              subst (IsLink patterns pattern) (sym at)
+              (record {
+                next = inr (
+                  record {
+                    is_pattern = all.is.is_pattern;
+                    ends = ends_on (pattern_at patterns pattern) (drop 1 (pattern_at patterns pattern))
+                        (pattern_at patterns first) (behind_first (pattern_at patterns pattern)) all.is.ends;
+                  },
+                  inl (omega (arith, within, long, length-drop 1 (pattern_at patterns pattern))),
+                );
+                others = λ i end later. (λ no. omega (arith, no), all.others i (only_shorter i end later));
+              })
+
+  -- the heads and links from one pattern more on
+  pub heads_on : (heads : List ℕ) (pattern first : ℕ) → AreHeads patterns heads (pattern + 1)
+      → pattern < length patterns → IsFirstEqual pattern first → AreHeads patterns (set heads first pattern) pattern
+  heads_on heads pattern first are below is = record {
+    long = length-set heads first pattern ∙ are.long;
+    each = λ head is_head first_is. elim (cases_ne head first) [
+      | inl same ↦
+          subst (λ h. IsNextEqual patterns h pattern (get_or (set heads first pattern) h 0)) (sym same)
+          (subst (IsNextEqual patterns first pattern)
+          (sym (get_or-set_same heads first pattern 0 (omega (arith, is.below, are.long))))
+          (record {
+            is = inr (omega arith, below, sym is.same);
+            others = λ i from inside equal. (λ no. omega (arith, no), from);
+          }))
+      | inr other ↦
+          let before = are.each head is_head first_is in
+          subst (IsNextEqual patterns head pattern) (sym (get_or-set_other heads first head pattern 0 other))
+          (record {
+            is = elim before.is [
+              | inl none ↦ inl none
+              | inr one ↦ inr (omega (arith, one.0), one.1, one.2)
+            ];
+            others = λ i from inside equal. elim (cases_lt pattern i) [
+              | inl later ↦ before.others i (omega arith) inside equal
+              | inr not ↦
+                  let here : i ≡ pattern = omega arith in
+                  let same : pattern_at patterns head ≡ pattern_at patterns first =
+                  sym equal ∙ (ap (pattern_at patterns) here ∙ sym is.same) in
+                  let both : Some head ≡ Some first =
+                  sym first_is ∙ (ap (ending Standard patterns) same ∙ is.first_is) in
+                  absurd (other (cc))
+            ];
+          })
+    ];
+  }
+    where
+      cases_ne : (a b : ℕ) → (a ≡ b) ⊎ (a ≢ b)
+      cases_ne a b = elim (cases_lt a b) [
+        | inl less ↦ inr (λ same. omega arith)
+        | inr not ↦ elim (cases_lt b a) [
+          | inl more ↦ inr (λ same. omega arith)
+          | inr neither ↦ inl (omega arith)
+        ]
+      ]
+
+  pub links_on : (links : List ℕ) (pattern link : ℕ) → AreLinks patterns links (pattern + 1)
+      → pattern < length patterns → IsLink patterns pattern link → AreLinks patterns (set links pattern link) pattern
+  links_on links pattern link are below is = record {
+    long = length-set links pattern link ∙ are.long;
+    each = λ i from inside. elim (cases_lt pattern i) [
+      | inl later ↦ subst (IsLink patterns i)
+          (sym (get_or-set_other links pattern i link 0 (λ same. omega arith)))
+          (are.each i (omega arith) inside)
+      | inr not ↦
+          let here : pattern ≡ i = omega arith in
+          subst (λ k. IsLink patterns k (get_or (set links pattern link) k 0)) here
+          (subst (IsLink patterns pattern)
+          (sym (get_or-set_same links pattern link 0 (omega (arith, are.long)))) is)
+    ];
+  }
+
+-- behind all patterns
+pub heads_start : (patterns : List (List ℕ)) (heads : List ℕ) → length heads ≡ length patterns
+    → ((k : ℕ) → k < length heads → get_or heads k 0 ≡ nothing) → AreHeads patterns heads (length patterns)
+heads_start patterns heads long none = record {
+  long = long;
+  each = λ head is_head first_is. record {
+    is = inl (none head (omega arith));
+    others = λ i from inside equal. absurd (omega arith);
+  };
+}
+
+pub links_start : (patterns : List (List ℕ)) (links : List ℕ) → length links ≡ length patterns
+    → AreLinks patterns links (length patterns)
+links_start patterns links long = record { long = long; each = λ i from inside. absurd (omega arith) }
+
+module _ (patterns : List (List ℕ)) (some : NoneIsEmpty patterns) (few : length patterns ≤ 2 ^ 31 - 1) where
+  -- a list of the ends of a pattern, from the first of its equals on
+  pub up_to_first : (first : ℕ) → ending Standard patterns (pattern_at patterns first) ≡ Some first
+      → HasUpTo patterns (pattern_at patterns first) [] first
+  up_to_first first is =
+      let all = first_ends patterns some (pattern_at patterns first) first is in
+      let below = all.is.is_pattern in
+      record {
+        each = All-nil (IsEnd patterns (pattern_at patterns first));
+        order = λ j k d before inside. absurd (omega arith);
+        earlier = λ found. All-nil (λ i. ComesLater patterns i first);
+        others = λ i end. inr (λ no. omega (arith, no), all.others i end);
+        next_is = inr all.is;
+      }
+
+  later_still : (i next link : ℕ) → ComesLater patterns i next → ComesLater patterns next link
+      → ComesLater patterns i link
+  later_still i next link (inl one) (inl other) = inl (omega arith)
+  later_still i next link (inl one) (inr other) = inl (omega (arith, other.0))
+  later_still i next link (inr one) (inl other) = inl (omega (arith, one.0))
+  later_still i next link (inr one) (inr other) = inr (other.0 ∙ one.0, omega (arith, one.1, other.1))
+
+  differs : (i other : ℕ) → ComesLater patterns i other → i ≢ other
+  differs i other (inl shorter) same = omega (arith, ap (λ k. length (pattern_at patterns k)) same)
+  differs i other (inr as_long) same = omega (arith, as_long.1, same)
+
+  -- with the next of them it goes on with what that one's link leads to
+  pub up_to_more : (text list : List ℕ) (next link : ℕ) → HasUpTo patterns text list next → next ≢ nothing
+      → IsLink patterns next link → HasUpTo patterns text (list ++ next ∷ []) link
+  up_to_more text list next link has go_on is = elim has.next_is [
+    | inl none ↦ absurd (go_on none)
+    | inr here ↦ record {
+      each = All-push (IsEnd patterns text) list next has.each here;
+      order = all_pairs_push (ComesLater patterns) list next has.order (has.earlier go_on);
+      earlier = λ found. elim is.next [
+        | inl none ↦ absurd (found none)
+        | inr one ↦ All-push (λ i. ComesLater patterns i link) list next
+            (All-weaker (λ i. ComesLater patterns i next) (λ i. ComesLater patterns i link)
+            (λ i sooner. later_still i next link sooner one.1) list (has.earlier go_on)) one.1
+      ];
+      others = λ i end. elim (has.others i end) [
+        | inl in_list ↦ inl (Contains-append_left list (next ∷ []) i in_list)
+        | inr rest ↦ elim rest.1 [
+          | inl same ↦ inl (subst (Contains (list ++ next ∷ [])) same (Contains-push list next))
+          | inr later ↦ inr (is.others i (within i here end later) later)
+        ]
+      ];
+      next_is = elim is.next [
+        | inl none ↦ inl none
+        | inr one ↦ inr (record {
+          is_pattern = one.0.is_pattern;
+          ends = ends_on text (pattern_at patterns next) (pattern_at patterns link) here.ends one.0.ends;
+        })
+      ];
+    }
+  ]
+    where
+      within : (i : ℕ) → IsEnd patterns text next → IsEnd patterns text i → ComesLater patterns next i
+          → IsEnd patterns (pattern_at patterns next) i
+      within i here end (inl shorter) = record {
+        is_pattern = end.is_pattern;
+        ends = ends_within text (pattern_at patterns i) (pattern_at patterns next) end.ends here.ends (omega arith);
+      }
+      within i here end (inr as_long) = record {
+        is_pattern = end.is_pattern;
+        ends = ends_within text (pattern_at patterns i) (pattern_at patterns next) end.ends here.ends
+            (omega (arith, as_long.0));
+      }
+
+  -- and at the end it has all: sorted, they ascend
+  pub up_to_all : (text list sorted : List ℕ) (next : ℕ) → HasUpTo patterns text list next → next ≡ nothing
+      → IsPermutation list sorted → IsSorted nat_cmp sorted → AreEnds patterns text 0 sorted 0 (length sorted)
+  up_to_all text list sorted next has none moved rises =
+      let apart = IsDistinct-from_AllPairs Decides-eqb list
+      (λ j k d before inside. differs (get_or list j d) (get_or list k d) (has.order j k d before inside)) in
+      let increases = IsStrictlyIncreasing-from_distinct sorted (IsNonDecreasingBy-from_sort (λ n. n) sorted rises)
+      (IsDistinct-IsPermutation eqb (λ x y. grind (arith, nat_tests)) list sorted moved apart) in
+      record {
+        ascends = λ j k from before inside. AllPairs-from_increasing sorted increases j k 0 before inside;
+        each = λ k from inside.
+            (All-permutation (IsEnd patterns text) list sorted moved has.each k 0 inside, omega arith);
+        every = λ i end from. elim (has.others i end) [
+          | inl in_list ↦
+              let one = Contains-permutation list sorted i moved in_list in
+              (one.0, omega arith, one.1, sym (get_or_default sorted one.0 i 0 one.1) ∙ one.2)
+          | inr rest ↦ absurd (rest.0 none)
+        ];
+      }
+
+  -- a chain ends
+  pub left_falls : (next link : ℕ) → next < length patterns → IsLink patterns next link
+      → left_from patterns link < left_from patterns next
+  left_falls next link below is = elim is.next [
+    | inl none ↦
+        let past : pattern_at patterns link ≡ [] = get_or_past patterns link [] (omega (arith, none)) in
+        let nowhere : length (pattern_at patterns link) * length patterns ≡ 0 =
+        ap (λ (l : List ℕ). length l * length patterns) past ∙ zero_times (length patterns) in
+        omega (arith, nowhere, none)
+    | inr one ↦ elim one.1 [
+      | inl shorter ↦
+          let most : (length (pattern_at patterns link) + 1) * length patterns
+          ≤ length (pattern_at patterns next) * length patterns =
+          mul-le-mul_right (length patterns)
+          (let less : length (pattern_at patterns link) + 1 ≤ length (pattern_at patterns next) = omega arith in
+          less) in
+          let sum = one_more (length (pattern_at patterns link)) (length patterns) in
+          omega (arith, most, sum)
+      | inr as_long ↦
+          let same : length (pattern_at patterns link) * length patterns
+          ≡ length (pattern_at patterns next) * length patterns = ap (λ n. n * length patterns) as_long.0 in
+          omega (arith, same, as_long.1, one.0.is_pattern)
+    ]
+  ]
+    where
+      zero_times : (n : ℕ) → 0 * n ≡ 0
+      zero_times n = grind arith
+
+      one_more : (n m : ℕ) → (n + 1) * m ≡ n * m + m
+      one_more n m = grind arith

@@ -1,0 +1,162 @@
+-- Classes that tell bytes from each other.
+use Rattle.std.proofs.Common.{◌≡◌, ℕ, ◌<◌, Bool, true, false, List, [], ◌∷◌, if◌then◌else◌, length, get_or, map, min}
+use Rattle.std.proofs.Common.{◌+◌, ◌⊎◌, eqb, inl, inr, replicate}
+use Rattle.std.proofs.Common.{refl, sym, ap, subst, ◌∙◌, arith}
+use Rattle.std.proofs.lemmas.Bool.{cases_lt, cond-false, cond-true, eq-eqb, eqb-true, false≢true}
+use Rattle.std.proofs.lemmas.List.{ext_get_or, get_or-map, get_or-replicate, get_or_default, get_or_past, length-map}
+use Rattle.std.proofs.lemmas.List.{length-replicate}
+use Rattle.std.proofs.lemmas.List.Folds.{Any-from_list_any, list_any_at}
+use Rattle.std.proofs.lemmas.List.FromFn.{get_or-range_with_len, length-map-range_with_len, length-range_with_len}
+use Rattle.std.specs.List.{count_by, fold, list_any, range_with_len}
+use Rattle.std.specs.Global.{Vec}
+use Rattle.literal_base.specs.Occurs.{pattern_at}
+use Rattle.literal_search.specs.SearchValue.{is_in_patterns}
+use Rattle.literal_search.specs.Inside.Classes.{AreNumbers, IsFoldOfOne, Marks, Tells, TellsMarked, folded}
+use Rattle.literal_search.proofs.lemmas.Grown.{same_test}
+
+-- numbers for the marked bytes once folded, and the next one for the others, tell the marked ones
+pub tells_marked : (ignore_case : Bool) (seen : List Bool) (numbers table : List ℕ) (next other : ℕ)
+    → AreNumbers seen numbers 256 next → other ≡ min next 255
+    → ((b : ℕ) → b < 256 → (folded ignore_case b < 256)
+    × (get_or table b 0
+    ≡ (if get_or seen (folded ignore_case b) false then get_or numbers (folded ignore_case b) 0 else other)))
+    → TellsMarked ignore_case seen table
+tells_marked ignore_case seen numbers table next other are is_other is byte marked is_byte is_marked mark =
+    by_seen (get_or seen (folded ignore_case byte) false) refl
+  where
+    there : get_or table marked 0 ≡ get_or numbers (folded ignore_case marked) 0
+    there = (is marked is_marked).1 ∙ cond-true _ _ _ mark
+
+    by_seen : (s : Bool) → get_or seen (folded ignore_case byte) false ≡ s
+        → (get_or table byte 0 ≡ get_or table marked 0 → folded ignore_case byte ≡ folded ignore_case marked)
+        × (folded ignore_case byte ≡ folded ignore_case marked → get_or table byte 0 ≡ get_or table marked 0)
+    by_seen true here =
+        let number = (is byte is_byte).1 ∙ cond-true _ _ _ here in (
+          λ same. are.apart (folded ignore_case byte) (folded ignore_case marked) (is byte is_byte).0
+              (is marked is_marked).0 here mark (sym number ∙ (same ∙ there)),
+          λ same. number ∙ (ap (λ b. get_or numbers b 0) same ∙ sym there),
+        )
+    by_seen false here =
+        let number : get_or table byte 0 ≡ other = (is byte is_byte).1 ∙ cond-false _ _ _ here in
+        let room = are.room (folded ignore_case byte) (is byte is_byte).0 here in
+        let below = are.below (folded ignore_case marked) (is marked is_marked).0 mark in (
+          λ same. absurd (omega (arith, number, same, there, is_other, room, below)),
+          λ same. absurd (false≢true (sym here ∙ (ap (λ b. get_or seen b false) same ∙ mark))),
+        )
+
+-- each pattern's marks
+pub marks_all : (ignore_case : Bool) (seen : List Bool) (patterns : List (Vec ℕ))
+    → ((i : ℕ) (d : Vec ℕ) → i < length patterns → Marks ignore_case seen (get_or patterns i d).items)
+    → (i : ℕ) → i < length (map (λ (pattern : Vec ℕ). pattern.items) patterns)
+    → Marks ignore_case seen (pattern_at (map (λ (pattern : Vec ℕ). pattern.items) patterns) i)
+marks_all ignore_case seen patterns marks i is_pattern =
+    let below : i < length patterns =
+    omega (arith, is_pattern, length-map patterns (λ (pattern : Vec ℕ). pattern.items)) in
+    let d = one_of i patterns below in
+    subst (λ (bytes : List ℕ). Marks ignore_case seen bytes)
+    (sym (get_or-map (λ (pattern : Vec ℕ). pattern.items) patterns i d [] below)) (marks i d below)
+  where
+    one_of : (i : ℕ) (patterns : List (Vec ℕ)) → i < length patterns → Vec ℕ
+    one_of i [] below = absurd (omega arith)
+    one_of i (pattern ∷ patterns) below = pattern
+
+-- where all bytes of patterns are marked, these are told
+pub tells_by : (ignore_case : Bool) (seen : List Bool) (table : List ℕ) (patterns : List (Vec ℕ))
+    → TellsMarked ignore_case seen table
+    → ((i : ℕ) (d : Vec ℕ) → i < length patterns → Marks ignore_case seen (get_or patterns i d).items)
+    → Tells ignore_case table (map (λ pattern. pattern.items) patterns)
+tells_by ignore_case seen table patterns tells marks i k byte is_pattern inside is_byte =
+    let marked = marks_all ignore_case seen patterns marks i is_pattern in
+    tells byte (get_or (pattern_at (map (λ pattern. pattern.items) patterns) i) k 0) is_byte
+    (marked k inside).0 (marked k inside).1
+
+-- how many bytes are marked
+count_map_from : (f : ℕ → Bool) (n : ℕ) (xs : List ℕ)
+    → fold (λ (a : ℕ) (is : Bool). a + (if is then 1 else 0)) n (map f xs)
+    ≡ fold (λ (a x : ℕ). a + (if f x then 1 else 0)) n xs
+count_map_from f n [] = refl
+count_map_from f n (x ∷ xs) = count_map_from f (n + (if f x then 1 else 0)) xs
+
+count_map : (f : ℕ → Bool) (xs : List ℕ) → count_by (λ is. is) (map f xs) ≡ count_by f xs
+count_map f xs = count_map_from f 0 xs
+
+module _ (ignore_case : Bool) (seen : List Bool) (lists : List (List ℕ)) (size : length seen ≡ 256)
+    (marks : (i : ℕ) → i < length lists → Marks ignore_case seen (pattern_at lists i))
+    (only : (b : ℕ) → get_or seen b false ≡ true → (i : ℕ) × (i < length lists)
+    × IsFoldOfOne ignore_case (pattern_at lists i) b)
+  where
+    marked_then_in : (byte : ℕ) → get_or seen byte false ≡ true → is_in_patterns ignore_case lists byte ≡ true
+    marked_then_in byte is =
+        let one = only byte is in
+        list_any_at (λ pattern. list_any (λ b. eqb (folded ignore_case b) byte) pattern) lists one.0 [] one.1
+        (list_any_at (λ b. eqb (folded ignore_case b) byte) (pattern_at lists one.0) one.2.0 0 one.2.1
+        (eq-eqb _ byte one.2.2))
+
+    in_then_marked : (byte : ℕ) → is_in_patterns ignore_case lists byte ≡ true → get_or seen byte false ≡ true
+    in_then_marked byte is =
+        let one = Any-from_list_any (λ pattern. list_any (λ b. eqb (folded ignore_case b) byte) pattern) lists is in
+        let of = Any-from_list_any (λ b. eqb (folded ignore_case b) byte) one.1 one.4 in
+        let pattern_is : pattern_at lists one.0 ≡ one.1 = get_or_default lists one.0 [] one.1 one.2 ∙ one.3 in
+        let long = ap (λ (l : List ℕ). length l) pattern_is in
+        let byte_is : get_or (pattern_at lists one.0) of.0 0 ≡ of.1 =
+        ap (λ l. get_or l of.0 0) pattern_is ∙ (get_or_default one.1 of.0 0 of.1 of.2 ∙ of.3) in
+        let mark = (marks one.0 one.2 of.0 (omega (arith, long, of.2))).1 in
+        ap (λ b. get_or seen b false)
+        (sym (eqb-true (folded ignore_case of.1) byte of.4) ∙ ap (folded ignore_case) (sym byte_is)) ∙ mark
+
+    seen_is : seen ≡ map (is_in_patterns ignore_case lists) (range_with_len 0 256)
+    seen_is =
+        let f = is_in_patterns ignore_case lists in
+        let long = length-map-range_with_len f 0 256 in
+        ext_get_or false seen (map f (range_with_len 0 256)) (size ∙ sym long) (λ k below.
+        let inside : k < 256 = omega (arith, size) in
+        let at : 0 + k ≡ k = omega arith in
+        let read : get_or (map f (range_with_len 0 256)) k false ≡ f k =
+        get_or-map f (range_with_len 0 256) k 0 false (omega (arith, inside, length-range_with_len 0 256))
+        ∙ ap f (get_or-range_with_len 0 256 k 0 inside ∙ at) in
+        same_test (get_or seen k false) (f k) (marked_then_in k) (in_then_marked k) ∙ sym read)
+
+    pub marked_are : count_by (λ is. is) seen
+        ≡ count_by (is_in_patterns ignore_case lists) (range_with_len 0 256)
+    marked_are = ap (count_by (λ is. is)) seen_is ∙ count_map (is_in_patterns ignore_case lists) (range_with_len 0 256)
+
+-- no byte is marked at first
+pub none_marked : (b : ℕ) → get_or (replicate 256 false) b false ≡ false
+none_marked b = elim (cases_lt b 256) [
+  | inl inside ↦ get_or-replicate 256 b false false inside
+  | inr past ↦ get_or_past (replicate 256 false) b false (omega (arith, length-replicate 256 false))
+]
+
+-- the marks of one pattern more
+pub marks_more : (ignore_case : Bool) (old new : List Bool) (patterns : List (Vec ℕ)) (n : ℕ) (here : Vec ℕ)
+    → ((i : ℕ) (d : Vec ℕ) → i < n → Marks ignore_case old (get_or patterns i d).items)
+    → ((b : ℕ) → get_or old b false ≡ true → get_or new b false ≡ true) → n < length patterns
+    → here ≡ get_or patterns n here → Marks ignore_case new here.items
+    → (i : ℕ) (d : Vec ℕ) → i < n + 1 → Marks ignore_case new (get_or patterns i d).items
+marks_more ignore_case old new patterns n here before keeps below is marks i d within = elim (cases_lt i n) [
+  | inl earlier ↦ λ k inside.
+      let one = before i d earlier k inside in (one.0, keeps _ one.1)
+  | inr not ↦
+      let same : n ≡ i = omega arith in
+      subst (λ j. Marks ignore_case new (get_or patterns j d).items) same
+      (subst (λ (v : Vec ℕ). Marks ignore_case new v.items) (is ∙ get_or_default patterns n here d below) marks)
+]
+
+-- and what is marked for one pattern more
+pub only_more : (ignore_case : Bool) (old new : List Bool) (patterns : List (Vec ℕ)) (n : ℕ) (here : Vec ℕ)
+    → ((b : ℕ) → get_or old b false ≡ true → (i : ℕ) × (i < n)
+    × IsFoldOfOne ignore_case (pattern_at (map (λ (p : Vec ℕ). p.items) patterns) i) b)
+    → n < length patterns → here ≡ get_or patterns n here
+    → ((b : ℕ) → get_or new b false ≡ true → (get_or old b false ≡ true) ⊎ IsFoldOfOne ignore_case here.items b)
+    → (b : ℕ) → get_or new b false ≡ true → (i : ℕ) × (i < n + 1)
+    × IsFoldOfOne ignore_case (pattern_at (map (λ (p : Vec ℕ). p.items) patterns) i) b
+only_more ignore_case old new patterns n here before below is only b marked = elim (only b marked) [
+  | inl already ↦ let one = before b already in (one.0, omega (arith, one.1), one.2)
+  | inr one ↦ (
+    n,
+    omega arith,
+    subst (λ (bytes : List ℕ). IsFoldOfOne ignore_case bytes b)
+        (sym (get_or-map (λ (p : Vec ℕ). p.items) patterns n here [] below ∙ ap (λ (v : Vec ℕ). v.items) (sym is)))
+        one,
+  )
+]

@@ -1,0 +1,263 @@
+-- The best match in the classes of a span's bytes is the leftmost match in the span.
+use Rattle.std.proofs.Common.{◌≡◌, ℕ, ◌+◌, ◌-◌, ◌<◌, ◌≤◌, Bool, true, false, List, [], ◌++◌, length, get_or}
+use Rattle.std.proofs.Common.{None, drop, take, map, refl, sym, ap, ◌∙◌, arith, inl, inr, nat_eq}
+use Rattle.std.proofs.Common.{length-append}
+use Rattle.std.proofs.lemmas.Bool.{cases_lt, false≢true}
+use Rattle.std.proofs.lemmas.Bool.Decides.{Decides-eqb}
+use Rattle.std.proofs.lemmas.List.{drop-drop, drop-map, drop-take, ext_get_or, get_or-drop, get_or-map, get_or-take}
+use Rattle.std.proofs.lemmas.List.{get_or_past}
+use Rattle.std.proofs.lemmas.List.{length-drop, length-map, length-take, map-id, take-append-drop, take-map, take-take}
+use Rattle.std.proofs.lemmas.Grind.{common_steps}
+use Rattle.std.proofs.lemmas.Slice.Eq.{starts_is}
+use Rattle.std.specs.List.{slice_range, starts_with}
+use Rattle.literal_base.specs.declared.packed.MatchKind.{MatchKind}
+use Rattle.literal_base.specs.declared.packed.MatchKind.TheVariants.{LeftmostFirst, LeftmostLongest}
+use Rattle.literal_base.specs.declared.search.Span.{Span}
+use Rattle.literal_base.specs.Leftmost.{IsBetter, IsLeftmostMatch}
+use Rattle.literal_base.specs.Occurs.{IsValidSpan, NoneIsEmpty, NothingOccurs, Occurs, case_folded, pattern_at}
+use Rattle.literal_search.specs.Inside.Classes.{Tells, folded, symbols_in}
+use Rattle.literal_search.specs.Inside.Walk.{IsFirst, IsFound, from_match, text_of}
+use Rattle.literal_search.specs.declared.walk.Ended.{Ended}
+use Rattle.literal_search.proofs.lemmas.Ends.{from_match_at, from_match_short}
+
+-- lists that one function makes equal, another makes equal too, where it does so byte for byte
+map_same : (f g : ℕ → ℕ) (a p : List ℕ)
+    → ((k : ℕ) → k < length a → k < length p → f (get_or a k 0) ≡ f (get_or p k 0) → g (get_or a k 0)
+    ≡ g (get_or p k 0))
+    → map f a ≡ map f p → map g a ≡ map g p
+map_same f g a p each is =
+    let la = length-map a f in
+    let lp = length-map p f in
+    let ga = length-map a g in
+    let gp = length-map p g in
+    let same = ap (λ (l : List ℕ). length l) is in
+    ext_get_or 0 (map g a) (map g p) (omega (arith, la, lp, ga, gp, same)) (λ k below.
+    let in_a : k < length a = omega (arith, ga) in
+    let in_p : k < length p = omega (arith, la, lp, same, in_a) in
+    get_or-map g a k 0 0 in_a
+    ∙ (each k in_a in_p
+    (sym (get_or-map f a k 0 0 in_a) ∙ (ap (λ l. get_or l k 0) is ∙ get_or-map f p k 0 0 in_p))
+    ∙ sym (get_or-map g p k 0 0 in_p)))
+
+folded_is : (ignore_case : Bool) (bytes : List ℕ) → case_folded ignore_case bytes ≡ map (folded ignore_case) bytes
+folded_is true bytes = refl
+folded_is false bytes = sym (map-id bytes)
+
+-- a pattern has as many symbols as bytes
+pub symbols_length : (classes : List ℕ) (patterns : List (List ℕ)) (i : ℕ)
+    → length (pattern_at (map (symbols_in classes) patterns) i) ≡ length (pattern_at patterns i)
+symbols_length classes patterns i = elim (cases_lt i (length patterns)) [
+  | inl below ↦
+      ap (λ (w : List ℕ). length w) (get_or-map (symbols_in classes) patterns i [] [] below)
+      ∙ length-map (pattern_at patterns i) (λ b. get_or classes b 0)
+  | inr past ↦
+      ap (λ (w : List ℕ). length w)
+      (get_or_past (map (symbols_in classes) patterns) i [] (omega (arith, length-map patterns (symbols_in classes)))
+      ∙ sym (get_or_past patterns i [] past))
+]
+
+-- a part of a span's text is that of the haystack
+part_is : (classes haystack : List ℕ) (span : Span) (at n : ℕ) → span.start ≤ at → at + n ≤ span.end
+    → take n (drop (at - span.start) (text_of classes haystack span))
+    ≡ symbols_in classes (slice_range haystack at (at + n))
+part_is classes haystack span at n after before =
+    let f : ℕ → ℕ = λ byte. get_or classes byte 0 in
+    let all = slice_range haystack span.start span.end in
+    let rest = drop span.start haystack in
+    let place : span.start + (at - span.start) ≡ at = omega arith in
+    let size : span.end - span.start ≡ (at - span.start) + (span.end - at) = omega arith in
+    let least : n ≤ span.end - at = omega arith in
+    let long : (at + n) - at ≡ n = omega arith in
+    ap (take n) (drop-map f (at - span.start) all)
+    ∙ (take-map f n (drop (at - span.start) all)
+    ∙ ap (map f)
+    (ap (λ m. take n (drop (at - span.start) (take m rest))) size
+    ∙ (ap (take n) (drop-take (at - span.start) (span.end - at) rest)
+    ∙ (take-take n (span.end - at) (drop (at - span.start) rest) least
+    ∙ (ap (take n) (drop-drop (at - span.start) span.start haystack)
+    ∙ (ap (λ k. take n (drop k haystack)) place ∙ ap (λ m. take m (drop at haystack)) (sym long)))))))
+
+-- what stands in front of a text is its front of that length
+stands_front : (text pattern : List ℕ) → starts_with nat_eq text pattern ≡ true → take (length pattern) text ≡ pattern
+stands_front text pattern is =
+    let split = (starts_is Decides-eqb text pattern _ refl).0 is in
+    let rest = drop (length pattern) text in
+    ap (take (length pattern)) split ∙ front pattern rest
+  where
+    front : (a b : List ℕ) → take (length a) (a ++ b) ≡ a
+    front a b = grind (arith, common_steps)
+
+front_stands : (text pattern : List ℕ) → take (length pattern) text ≡ pattern → starts_with nat_eq text pattern ≡ true
+front_stands text pattern is =
+    (starts_is Decides-eqb text pattern _ refl).1 (drop (length pattern) text)
+    (sym (take-append-drop (length pattern) text) ∙ ap (λ l. l ++ drop (length pattern) text) is)
+
+module _ (ignore_case : Bool) (classes : List ℕ) (patterns : List (List ℕ)) (tells : Tells ignore_case classes patterns)
+    (haystack : List ℕ) (bytes : (i : ℕ) → get_or haystack i 0 < 256) (span : Span) (valid : IsValidSpan haystack span)
+  where
+    word_at : (i : ℕ) → i < length patterns
+        → pattern_at (map (symbols_in classes) patterns) i ≡ symbols_in classes (pattern_at patterns i)
+    word_at i below = get_or-map (symbols_in classes) patterns i [] [] below
+
+    same_length : (i : ℕ) → length (pattern_at (map (symbols_in classes) patterns) i) ≡ length (pattern_at patterns i)
+    same_length i = symbols_length classes patterns i
+
+    part_byte : (from to k : ℕ) → get_or (slice_range haystack from to) k 0 < 256
+    part_byte from to k = elim (cases_lt k (to - from)) [
+      | inl inside ↦
+          let is = get_or-take (to - from) (drop from haystack) k 0 inside ∙ get_or-drop from haystack k 0 in
+          omega (arith, is, bytes (from + k))
+      | inr past ↦
+          let none = get_or_past (slice_range haystack from to) k 0
+          (omega (arith, length-take (to - from) (drop from haystack))) in
+          omega (arith, none)
+    ]
+
+    pub text_long : span.start + length (text_of classes haystack span) ≡ span.end
+    text_long =
+        let ordered = valid.ordered in
+        let inside = valid.in_haystack in
+        omega (
+          arith,
+          length-map (slice_range haystack span.start span.end) (λ b. get_or classes b 0),
+          length-take (span.end - span.start) (drop span.start haystack),
+          length-drop span.start haystack,
+        )
+
+    -- a pattern that occurs stands there by its classes
+    pub stands_where : (i at : ℕ) → Occurs patterns ignore_case haystack span i at
+        → starts_with nat_eq (drop (at - span.start) (text_of classes haystack span))
+        (pattern_at (map (symbols_in classes) patterns) i) ≡ true
+    stands_where i at o =
+        let p = pattern_at patterns i in
+        let a = slice_range haystack at (at + length p) in
+        let text = drop (at - span.start) (text_of classes haystack span) in
+        let same = map_same (folded ignore_case) (λ b. get_or classes b 0) a p
+        (λ k in_a in_p. (tells i k (get_or a k 0) o.is_pattern in_p (part_byte at (at + length p) k)).1)
+        (sym (folded_is ignore_case a) ∙ (o.same ∙ folded_is ignore_case p)) in
+        front_stands text (pattern_at (map (symbols_in classes) patterns) i)
+        (ap (λ n. take n text) (same_length i)
+        ∙ (part_is classes haystack span at (length p) o.after_start o.before_end
+        ∙ (same ∙ sym (word_at i o.is_pattern))))
+
+    -- and one that stands there occurs
+    pub occurs_where : (i at : ℕ) → i < length patterns → span.start ≤ at → at ≤ span.end
+        → starts_with nat_eq (drop (at - span.start) (text_of classes haystack span))
+        (pattern_at (map (symbols_in classes) patterns) i) ≡ true
+        → Occurs patterns ignore_case haystack span i at
+    occurs_where i at below after inside stands =
+        let p = pattern_at patterns i in
+        let a = slice_range haystack at (at + length p) in
+        let text = drop (at - span.start) (text_of classes haystack span) in
+        let word = pattern_at (map (symbols_in classes) patterns) i in
+        let split = (starts_is Decides-eqb text word _ refl).0 stands in
+        let before : at + length p ≤ span.end = omega (
+          arith,
+          same_length i,
+          text_long,
+          ap (λ (l : List ℕ). length l) split,
+          length-append word (drop (length word) text),
+          length-drop (at - span.start) (text_of classes haystack span),
+        ) in
+        let same = map_same (λ b. get_or classes b 0) (folded ignore_case) a p
+        (λ k in_a in_p. (tells i k (get_or a k 0) below in_p (part_byte at (at + length p) k)).0)
+        (sym (part_is classes haystack span at (length p) after before)
+        ∙ (ap (λ n. take n text) (sym (same_length i)) ∙ (stands_front text word stands ∙ word_at i below))) in
+        record {
+          is_pattern = below;
+          after_start = after;
+          before_end = before;
+          same = folded_is ignore_case a ∙ (same ∙ sym (folded_is ignore_case p));
+        }
+
+    -- a better pattern is better by its classes
+    better_where : (kind : MatchKind) (j i : ℕ) → IsBetter kind patterns j i
+        → IsBetter kind (map (symbols_in classes) patterns) j i
+    better_where LeftmostFirst j i better = better
+    better_where LeftmostLongest j i (inl longer) = inl (omega (arith, same_length i, same_length j))
+    better_where LeftmostLongest j i (inr same) = inr (omega (arith, same_length i, same_length j, same.0), same.1)
+
+-- no text of classes of a pattern is empty if no pattern is
+pub some_symbols : (classes : List ℕ) (patterns : List (List ℕ)) → NoneIsEmpty patterns
+    → NoneIsEmpty (map (symbols_in classes) patterns)
+some_symbols classes patterns some i d below =
+    let inside : i < length patterns = omega (arith, length-map patterns (symbols_in classes)) in
+    let read = get_or-map (symbols_in classes) patterns i [] d inside in
+    let size = length-map (get_or patterns i []) (λ b. get_or classes b 0) in
+    let long = some i [] inside in
+    omega (arith, ap (λ (l : List ℕ). length l) read, size, long)
+
+module _ (ignore_case : Bool) (classes : List ℕ) (patterns : List (List ℕ)) (tells : Tells ignore_case classes patterns)
+    (haystack : List ℕ) (bytes : (i : ℕ) → get_or haystack i 0 < 256) (span : Span) (valid : IsValidSpan haystack span)
+    (some : NoneIsEmpty patterns) (kind : MatchKind)
+  where
+    -- where no pattern stands in the classes nothing occurs
+    pub nothing_found : IsFound kind (map (symbols_in classes) patterns) span.start (text_of classes haystack span) None
+        → NothingOccurs patterns ignore_case haystack span
+    nothing_found none i at o =
+        let words = map (symbols_in classes) patterns in
+        let text = text_of classes haystack span in
+        let stands = stands_where ignore_case classes patterns tells haystack bytes span valid i at o in
+        let long = text_long ignore_case classes patterns tells haystack bytes span valid in
+        let one = some i [] o.is_pattern in
+        let before = o.before_end in
+        let after = o.after_start in
+        let below : i < length words = omega (arith, o.is_pattern, length-map patterns (symbols_in classes)) in
+        let all : at - span.start < length text - length (from_match words text) =
+        omega (arith, ap (λ (l : List ℕ). length l) none, long, one) in
+        false≢true (sym ((from_match_at words text).1 (at - span.start) i all below) ∙ stands)
+
+    module _ (e : Ended)
+        (found : IsFirst kind (map (symbols_in classes) patterns) span.start (text_of classes haystack span) e)
+      where
+        pub found_pattern : e.pattern < length patterns
+        found_pattern =
+            let below = found.best.is_pattern in omega (arith, length-map patterns (symbols_in classes))
+
+        -- where the match begins
+        pub found_start : e.end ≡ span.start + (length (text_of classes haystack span)
+            - length (from_match (map (symbols_in classes) patterns) (text_of classes haystack span)))
+            + length (pattern_at patterns e.pattern)
+        found_start =
+            let size = same_length ignore_case classes patterns tells haystack bytes span valid e.pattern in
+            let short = from_match_short kind (map (symbols_in classes) patterns) (text_of classes haystack span) in
+            omega (arith, found.end, size, short)
+
+        pub leftmost_found : IsLeftmostMatch (record { kind = kind; patterns = patterns }) ignore_case haystack span
+            (record { pattern = e.pattern; start = e.end - length (pattern_at patterns e.pattern); end = e.end })
+        leftmost_found =
+            let words = map (symbols_in classes) patterns in
+            let text = text_of classes haystack span in
+            let u = from_match words text in
+            let place = length text - length u in
+            let at = e.end - length (pattern_at patterns e.pattern) in
+            let first = from_match_at words text in
+            let long = text_long ignore_case classes patterns tells haystack bytes span valid in
+            let begins : at - span.start ≡ place = omega (arith, found_start) in
+            let here : drop (at - span.start) text ≡ u = ap (λ n. drop n text) begins ∙ sym first.0 in
+            record {
+              occurs = occurs_where ignore_case classes patterns tells haystack bytes span valid e.pattern at
+                  found_pattern
+                  (omega (arith, found_start)) (omega (arith, found_start, long))
+                  (ap (λ (t : List ℕ). starts_with nat_eq t (pattern_at words e.pattern)) here ∙ found.best.stands);
+              whole = omega (arith, found_start);
+              earliest = λ i before early o.
+                  let below : i < length words = omega (
+                    arith,
+                    o.is_pattern,
+                    length-map patterns (symbols_in classes),
+                  ) in
+                  let sooner : before - span.start < place = omega (arith, begins, o.after_start) in
+                  false≢true (sym (first.1 (before - span.start) i sooner below)
+                  ∙ stands_where ignore_case classes patterns tells haystack bytes span valid i before o);
+              best = λ i better o.
+                  let below : i < length words = omega (
+                    arith,
+                    o.is_pattern,
+                    length-map patterns (symbols_in classes),
+                  ) in
+                  false≢true (sym (found.best.best i below
+                  (better_where ignore_case classes patterns tells haystack bytes span valid kind i e.pattern better))
+                  ∙ (ap (λ (t : List ℕ). starts_with nat_eq t (pattern_at words i)) (sym here)
+                  ∙ stands_where ignore_case classes patterns tells haystack bytes span valid i at o));
+            }

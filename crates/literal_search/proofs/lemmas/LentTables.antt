@@ -1,0 +1,319 @@
+-- Searches for everything that occurs by an array that is lent.
+use Rattle.std.proofs.Common.{◌≡◌, ℕ, ◌+◌, ◌-◌, ◌<◌, ◌≤◌, ◌^◌, List, [], drop, length, get_or}
+use Rattle.std.proofs.Common.{Err, IfErr, IfOk, Ok, None, Result, Some, refl, sym, ap, subst, ◌∙◌, arith}
+use Rattle.std.proofs.lemmas.List.{get_or-drop, get_or-map, get_or-take, length-map}
+use Rattle.std.specs.List.{slice_range}
+use Rattle.literal_base.specs.MatchValue.{MatchValue}
+use Rattle.literal_base.specs.Occurs.{IsValidSpan, between, pattern_at}
+use Rattle.literal_base.specs.declared.search.MatchKind.TheVariants.{Standard}
+use Rattle.literal_base.specs.declared.search.Span.{Span}
+use Rattle.literal_search.specs.Inside.Classes.{AreClasses}
+use Rattle.literal_search.specs.Inside.LentTables.{AreFor, AreLent, IsNextBy, IsNextEnd, tables_by}
+use Rattle.literal_search.specs.Inside.Prepared.{IsFront, Puts, RefusesArray, numbers_for}
+use Rattle.literal_search.specs.Inside.Standing.{IsStanding, longest_at, overlapping_value, standing_at}
+use Rattle.literal_search.specs.Inside.Walk.{FindsEnd, IsRow, IsTable}
+use Rattle.literal_search.specs.Overlapping.{OverlappingValue}
+use Rattle.literal_search.specs.PreparedOverlapping.{AreSized, AreTables, HasLongLists, HaveTables}
+use Rattle.literal_search.specs.PreparedOverlapping.{IsPreparedOverlapping, RefusesOverlapping, Tables}
+use Rattle.literal_search.specs.PreparedOverlapping.{TakesListedPlaces, WritesOverlapping, ends_at, ends_in}
+use Rattle.literal_search.specs.PreparedOverlapping.{listed_len, starts_in, texts_in}
+use Rattle.literal_search.specs.Prepared.{prepared_len, rows_at}
+use Rattle.literal_search.specs.States.{IsRowsLength}
+use Rattle.literal_search.specs.declared.prepared.Front.{Front}
+use Rattle.literal_search.specs.declared.prepared.PrepareError.{PrepareError}
+use Rattle.literal_search.specs.declared.prepared.TheConstants.{OVERLAPPING_VERSION}
+use Rattle.literal_search.specs.declared.prepared_overlapping.LentTables.{LentTables}
+use Rattle.literal_search.specs.declared.standing.Standing.{Standing}
+use Rattle.literal_search.specs.declared.walk.Stop.{Stop}
+use Rattle.literal_search.proofs.lemmas.Numbers.{check_written, classes_written, ends_written, lengths_written}
+use Rattle.literal_search.proofs.lemmas.Numbers.{numbers_long, numbers_refused, numbers_written, rows_written}
+use Rattle.literal_search.proofs.lemmas.Numbers.{starts_written}
+use Rattle.literal_search.proofs.lemmas.Prepared.{length_part}
+use Rattle.literal_search.proofs.lemmas.Standing.{is_pattern, longest_below, next_is, none_to_come, nothing_to_come}
+use Rattle.literal_search.proofs.lemmas.Standing.{row_inside, same_to_come, some_left, stands_next, stands_there}
+use Rattle.literal_search.proofs.lemmas.Walk.{row_at, table_of}
+
+-- tables of a search whose parts are equal
+pub same_tables : (search : OverlappingValue) (classes classes' : List ℕ) (width width' : ℕ)
+    (rows rows' ends ends' starts starts' : List ℕ) → classes ≡ classes' → width ≡ width' → rows ≡ rows'
+    → ends ≡ ends' → starts ≡ starts' → AreTables (record {
+      patterns = search.patterns;
+      ignore_case = search.ignore_case;
+      classes = classes;
+      width = width;
+      rows = rows;
+      ends = ends;
+      starts = starts;
+    }) → AreTables (record {
+      patterns = search.patterns;
+      ignore_case = search.ignore_case;
+      classes = classes';
+      width = width';
+      rows = rows';
+      ends = ends';
+      starts = starts';
+    })
+same_tables search classes classes' width width' rows rows' ends ends' starts starts' a b c d e tables =
+    let of = λ (k : List ℕ) (w : ℕ) (r n s : List ℕ). let t : Tables = record {
+      patterns = search.patterns;
+      ignore_case = search.ignore_case;
+      classes = k;
+      width = w;
+      rows = r;
+      ends = n;
+      starts = s;
+    } in t in
+    subst (λ s. AreTables (of classes' width' rows' ends' s)) e
+    (subst (λ n. AreTables (of classes' width' rows' n starts)) d
+    (subst (λ r. AreTables (of classes' width' r ends starts)) c
+    (subst (λ w. AreTables (of classes' w rows ends starts)) b
+    (subst (λ k. AreTables (of k width rows ends starts)) a tables))))
+
+-- the parts of an array that is prepared for a search are for it
+pub are_for : (p : LentTables) → AreLent p → (search : OverlappingValue)
+    → IsPreparedOverlapping search p.front.numbers.now → AreFor search p
+are_for p lent search prepared = record {
+  tables = same_tables search _ p.front.classes.now _ p.front.width _ p.front.rows.now _ p.ends.now _ p.starts.now
+      (sym lent.front.classes_are) (sym lent.front.width_is) (sym lent.front.rows_are) (sym lent.ends_are)
+      (sym lent.starts_are) prepared.tables;
+  lengths = lent.front.lengths_are ∙ prepared.lengths;
+}
+
+-- where the rows end, and how many lengths there are, by the parts of an array
+pub parts_end : {version : ℕ} (f : Front) (numbers : List ℕ) → f.numbers.now ≡ numbers → IsFront version f
+    → (262 + length f.lengths.now + length f.rows.now ≡ prepared_len numbers)
+    × (length f.lengths.now ≡ get_or numbers 3 0)
+parts_end {version} f numbers same front =
+    let own = f.numbers.now in
+    let fits = front.parts.fits in
+    let lengths = ap (λ (l : List ℕ). length l) front.lengths_are
+    ∙ length_part own 262 (rows_at own) (omega arith) (omega arith) in
+    let rows = ap (λ (l : List ℕ). length l) front.rows_are
+    ∙ length_part own (rows_at own) (prepared_len own) (omega arith) (omega arith) in
+    subst (λ (n : List ℕ). (262 + length f.lengths.now + length f.rows.now ≡ prepared_len n)
+    × (length f.lengths.now ≡ get_or n 3 0)) same (omega (arith, lengths, rows), omega (arith, lengths))
+
+-- there are as many lengths as the fourth number says
+pub lengths_many : {p : LentTables} → AreLent p → length p.front.lengths.now ≡ get_or p.front.numbers.now 3 0
+lengths_many {p} lent = (parts_end p.front p.front.numbers.now refl lent.front).1
+
+-- there is the length of each pattern
+pub lengths_for : {search : OverlappingValue} {p : LentTables} → AreFor search p
+    → length p.front.lengths.now ≡ length search.patterns
+lengths_for {search} are =
+    ap (λ (l : List ℕ). length l) are.lengths ∙ length-map search.patterns (λ (bytes : List ℕ). length bytes)
+
+-- where a search by the parts stands
+module _ {search : OverlappingValue} {p : LentTables} (are : AreFor search p) (haystack : List ℕ)
+    (bytes : (i : ℕ) → get_or haystack i 0 < 256) (span : Span) (valid : IsValidSpan haystack span) (s : Standing)
+    (standing : IsStanding (tables_by search p) haystack span s)
+  where
+    abbrev t : Tables
+    t = tables_by search p
+
+    -- at the end of the span there is none
+    pub next_none : s.end ≤ s.next → s.at ≡ span.end → IsNextEnd t haystack span s None
+    next_none empty last = record {
+      stands = tt;
+      more = tt;
+      to_come = nothing_to_come t are.tables haystack bytes span valid s standing empty last;
+    }
+
+    module _ (empty : s.end ≤ s.next) (more : s.at < span.end) where
+      is_table : IsTable t.width t.rows
+      is_table = table_of Standard (texts_in t) t.width t.rows are.tables.recognises
+
+      is_row : IsRow t.width t.rows s.place
+      is_row =
+          row_at Standard (texts_in t) t.width t.rows are.tables.recognises _ s.place
+          (standing.stands more are.tables.recognises)
+
+      -- no walk by it says that it is damaged
+      pub walk_is_whole : ¬ (AreClasses t.classes t.width → IsTable t.width t.rows → IsRow t.width t.rows s.place → ⊥)
+      walk_is_whole damaged = damaged are.tables.classes is_table is_row
+
+      -- where it finds no end, there is none
+      pub next_nowhere : (AreClasses t.classes t.width → IsTable t.width t.rows → IsRow t.width t.rows s.place
+          → FindsEnd t.width t.rows s.place t.classes haystack (between s.at span.end) None)
+          → IsNextEnd t haystack span s None
+      next_nowhere finds = record {
+        stands = tt;
+        more = tt;
+        to_come = none_to_come t are.tables haystack bytes span valid s standing more
+            (finds are.tables.classes is_table is_row) empty;
+      }
+
+      -- and else it is where the walk stops, whose row and list lie in the array
+      module _ (stop : Stop)
+          (finds : AreClasses t.classes t.width → IsTable t.width t.rows → IsRow t.width t.rows s.place
+          → FindsEnd t.width t.rows s.place t.classes haystack (between s.at span.end) (Some stop))
+          (after : s.at < stop.end) (inside : stop.end ≤ span.end)
+        where
+          found : FindsEnd t.width t.rows s.place t.classes haystack (between s.at span.end) (Some stop)
+          found = finds are.tables.classes is_table is_row
+
+          pub row_there : stop.place + t.width < length t.rows
+          row_there = row_inside t are.tables haystack bytes span valid s standing more stop found after inside
+
+          pub list_there : longest_at t stop + 1 < length t.starts
+          list_there =
+              let below = longest_below t are.tables haystack bytes span valid s standing more stop found after inside
+              in
+              let long = are.tables.lists.long in
+              omega (arith, below, long)
+
+          pub next_there : IsNextEnd t haystack span s (Some (standing_at t stop))
+          next_there = record {
+            stands = stands_there t are.tables haystack bytes span valid s standing more stop found after inside;
+            more = some_left t are.tables haystack bytes span valid s standing more stop found after inside;
+            to_come = same_to_come t are.tables haystack bytes span valid s standing more stop found after inside
+                empty;
+          }
+
+    -- where the list has more
+    module _ (left : s.next < s.end) where
+      abbrev pattern : ℕ
+      pattern = get_or p.ends.now s.next 0
+
+      below : pattern < length search.patterns
+      below = is_pattern t are.tables haystack bytes span valid s standing left
+
+      length_is : get_or p.front.lengths.now pattern 0 ≡ length (pattern_at search.patterns pattern)
+      length_is =
+          ap (λ (l : List ℕ). get_or l pattern 0) are.lengths
+          ∙ get_or-map (λ (bytes : List ℕ). length bytes) search.patterns pattern [] 0 below
+
+      -- which is some, and lies in the span
+      pub length_inside : (0 < get_or p.front.lengths.now pattern 0)
+          × (span.start + get_or p.front.lengths.now pattern 0 ≤ s.at)
+      length_inside =
+          let next = next_is t are.tables haystack bytes span valid s standing left in
+          let some = are.tables.kept.some pattern [] below in
+          let whole = next.to_come.occurrence.whole in
+          let start = next.to_come.occurrence.occurs.after_start in
+          (omega (arith, length_is, some), omega (arith, length_is, whole, start))
+
+      pub next_by : (i len : ℕ) → i ≡ pattern → len ≡ get_or p.front.lengths.now i 0
+          → IsNextBy t haystack span s (record { pattern = i; start = s.at - len; end = s.at })
+          (record { at = s.at; place = s.place; pattern = i + 1; next = s.next + 1; end = s.end })
+      next_by i len i_is len_is =
+          let behind = λ (k : ℕ). let b : Standing = record {
+            at = s.at;
+            place = s.place;
+            pattern = k + 1;
+            next = s.next + 1;
+            end = s.end;
+          } in b in
+          let found = λ (k n : ℕ). let m : MatchValue = record { pattern = k; start = s.at - n; end = s.at } in m in
+          let len_there : len ≡ length (pattern_at search.patterns pattern) =
+          len_is ∙ (ap (λ k. get_or p.front.lengths.now k 0) i_is ∙ length_is) in
+          subst (λ k. IsNextBy t haystack span s (found k len) (behind k)) (sym i_is)
+          (subst (λ n. IsNextBy t haystack span s (found pattern n) (behind pattern)) (sym len_there) (record {
+            stands = stands_next t are.tables haystack bytes span valid s standing left;
+            next = next_is t are.tables haystack bytes span valid s standing left;
+            goes_on = refl;
+          }))
+
+-- what is written of tables is prepared for their search
+module _ (t : Tables) (tables : AreTables t) where
+  abbrev pub all_of : List ℕ
+  all_of = numbers_for OVERLAPPING_VERSION t.classes t.width t.patterns t.rows t.starts t.ends
+
+  long : length t.starts ≡ length t.patterns + 1
+  long = tables.lists.long
+
+  size : length all_of ≡ 262 + length t.patterns + length t.rows + length t.starts + length t.ends
+  size = numbers_long OVERLAPPING_VERSION t.classes t.width t.patterns t.rows t.starts t.ends tables.classes.each
+
+  ends_at_is : ends_at all_of ≡ prepared_len all_of + length t.starts
+  ends_at_is = omega (arith, long)
+
+  starts_are : starts_in all_of ≡ t.starts
+  starts_are =
+      ap (slice_range all_of (prepared_len all_of)) ends_at_is
+      ∙ starts_written OVERLAPPING_VERSION t.classes t.width t.patterns t.rows t.starts t.ends tables.classes.each
+
+  -- the last of the numbers that say where lists begin is how many numbers are in these
+  last_is : get_or all_of (prepared_len all_of + length t.patterns) 0 ≡ length t.ends
+  last_is =
+      sym (get_or-drop (prepared_len all_of) all_of (length t.patterns) 0)
+      ∙ (sym (get_or-take (ends_at all_of - prepared_len all_of) (drop (prepared_len all_of) all_of)
+      (length t.patterns) 0 (omega arith))
+      ∙ (ap (λ (l : List ℕ). get_or l (length t.patterns) 0) starts_are ∙ tables.lists.last))
+
+  listed_is : listed_len all_of ≡ prepared_len all_of + length t.starts + length t.ends
+  listed_is = omega (arith, last_is, ends_at_is)
+
+  ends_are : ends_in all_of ≡ t.ends
+  ends_are =
+      ap (λ from. slice_range all_of from (listed_len all_of)) ends_at_is
+      ∙ (ap (slice_range all_of (prepared_len all_of + length t.starts)) listed_is
+      ∙ ends_written OVERLAPPING_VERSION t.classes t.width t.patterns t.rows t.starts t.ends tables.classes.each)
+
+  pub prepared_all : IsPreparedOverlapping (overlapping_value t) all_of
+  prepared_all = record {
+    whole = record {
+      lists = record {
+        parts = record {
+          version_is = refl;
+          few = tables.kept.few;
+          fits = omega (arith, size);
+        };
+        fits = omega (arith, size, listed_is);
+      };
+      check = check_written OVERLAPPING_VERSION t.classes t.width t.patterns t.rows t.starts t.ends tables.classes.each
+          (listed_len all_of) (omega (arith, size, listed_is));
+    };
+    tables = same_tables (overlapping_value t) t.classes _ t.width _ t.rows _ t.ends _ t.starts _
+        (sym (classes_written OVERLAPPING_VERSION t.classes t.width t.patterns t.rows t.starts t.ends
+        tables.classes.each)) refl
+        (sym (rows_written OVERLAPPING_VERSION t.classes t.width t.patterns t.rows t.starts t.ends
+        tables.classes.each)) (sym ends_are) (sym starts_are) tables;
+    lengths = lengths_written OVERLAPPING_VERSION t.classes t.width t.patterns t.rows t.starts t.ends
+        tables.classes.each;
+  }
+
+  module _ (sized : AreSized t) where
+    have_tables : (P : ℕ → List ℕ → List ℕ → Type 0) → P (length t.rows) t.ends t.starts
+        → HaveTables (overlapping_value t) P
+    have_tables P holds = (
+      t.classes,
+      subst (AreClasses t.classes) sized.width tables.classes,
+      tables.tells,
+      (
+        length t.rows,
+        subst (λ width. IsRowsLength Standard (texts_in t) width (length t.rows)) sized.width sized.rows,
+        t.ends,
+        t.starts,
+        tables.lists,
+        holds,
+      ),
+    )
+
+    takes_all : TakesListedPlaces (overlapping_value t) (length all_of)
+    unfolding TakesListedPlaces
+    takes_all =
+        have_tables (λ rows ends starts. length all_of
+        ≡ 262 + length t.patterns + rows + length starts + length ends) size
+
+    long_lists : 2 ^ 32 ≤ length t.ends → HasLongLists (overlapping_value t)
+    unfolding HasLongLists
+    long_lists long = have_tables (λ rows ends starts. 2 ^ 32 ≤ length ends) long
+
+    module _ (old new : List ℕ) where
+      pub prepare_ok : (result : Result ℕ PrepareError)
+          → IfOk result (λ needed. (needed ≤ length old) × (length t.ends < 2 ^ 32) × Puts 0 all_of old new
+          × (needed ≡ length all_of))
+          → IfOk result (WritesOverlapping (overlapping_value t) old new)
+      prepare_ok (Err error) ok = tt
+      prepare_ok (Ok needed) ok =
+          numbers_written (IsPreparedOverlapping (overlapping_value t)) (TakesListedPlaces (overlapping_value t)) all_of
+          old new needed prepared_all takes_all ok.0 ok.2 ok.3
+
+      pub prepare_refused : (result : Result ℕ PrepareError)
+          → IfErr result (RefusesArray t.patterns t.ends all_of old)
+          → IfErr result (RefusesOverlapping (overlapping_value t) old)
+      prepare_refused (Ok needed) refused = tt
+      prepare_refused (Err error) refused =
+          numbers_refused t.patterns (HasLongLists (overlapping_value t)) (IsPreparedOverlapping (overlapping_value t))
+          (TakesListedPlaces (overlapping_value t)) t.ends all_of old prepared_all takes_all long_lists error refused

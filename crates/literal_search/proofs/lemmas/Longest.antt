@@ -1,0 +1,26 @@
+-- How long the longest of some patterns is.
+use Rattle.std.proofs.Common.{ℕ, ◌<◌, ◌≤◌, List, [], ◌∷◌, arith, length, suc, zero}
+use Rattle.std.specs.List.{All}
+use Rattle.literal_base.specs.Occurs.{pattern_at}
+use Rattle.literal_search.specs.SearchValue.{longest_of}
+
+-- no pattern is longer
+pub longest_is : (patterns : List (List ℕ)) (i : ℕ) → length (pattern_at patterns i) ≤ longest_of patterns
+longest_is [] i = omega arith
+longest_is (bytes ∷ more) zero = omega arith
+longest_is (bytes ∷ more) (suc i) = omega (arith, longest_is more i)
+
+-- all are shorter than so many bytes exactly if it is
+pub all_short : (patterns : List (List ℕ)) (n : ℕ) → longest_of patterns < n
+    → All (λ (bytes : List ℕ). length bytes < n) patterns
+all_short [] n short i d below = absurd (omega arith)
+all_short (bytes ∷ more) n short zero d below = omega arith
+all_short (bytes ∷ more) n short (suc i) d below =
+    all_short more n (omega (arith, short)) i d (omega (arith, below))
+
+pub longest_short : (patterns : List (List ℕ)) (n : ℕ) → 0 < n → All (λ (bytes : List ℕ). length bytes < n) patterns
+    → longest_of patterns < n
+longest_short [] n some all = some
+longest_short (bytes ∷ more) n some all =
+    let first = all 0 [] (omega arith) in
+    omega (arith, first, longest_short more n some (λ i d below. all (suc i) d (omega (arith, below))))

@@ -1,0 +1,143 @@
+-- The numbers that are written for a search: where its parts stand in them, and that they are written.
+use Rattle.std.proofs.Common.{◌≡◌, ℕ, ◌+◌, ◌-◌, ◌≤◌, ◌^◌, List, [], ◌∷◌, ◌++◌, drop, length, get_or, map, take}
+use Rattle.std.proofs.Common.{append-nil, append_assoc, length-append, refl, sym, ap, subst, ◌∙◌, arith}
+use Rattle.std.proofs.Math.Seq.{drop-append_seam, take-append_seam}
+use Rattle.std.proofs.lemmas.List.{length-drop, length-map}
+use Rattle.std.specs.List.{slice_range}
+use Rattle.literal_search.specs.Inside.Prepared.{Puts, RefusesArray, numbers_for}
+use Rattle.literal_search.specs.SearchValue.{longest_of}
+use Rattle.literal_search.specs.Prepared.{RefusesNumbers, WritesNumbers, check_of, classes_in, lengths_in}
+use Rattle.literal_search.specs.Prepared.{prepared_len, rows_in}
+use Rattle.literal_search.specs.declared.prepared.PrepareError.{PrepareError}
+use Rattle.literal_search.specs.declared.prepared.PrepareError.TheVariants.{ArrayTooShort, ListsTooLong}
+use Rattle.literal_search.specs.declared.prepared.PrepareError.TheVariants.{PatternTooLong}
+
+-- a part of a list that is known
+pub part_at : (numbers front part back : List ℕ) (from to : ℕ) → numbers ≡ front ++ (part ++ back)
+    → from ≡ length front → to ≡ from + length part → slice_range numbers from to ≡ part
+part_at numbers front part back from to is from_is to_is =
+    let size : to - from ≡ length part = omega arith in
+    ap (λ n. take n (drop from numbers)) size
+    ∙ (ap (λ k. take (length part) (drop k numbers)) from_is
+    ∙ (ap (λ l. take (length part) (drop (length front) l)) is
+    ∙ (ap (take (length part)) (drop-append_seam front (part ++ back)) ∙ take-append_seam part back)))
+
+module _ (version : ℕ) (classes : List ℕ) (width : ℕ) (patterns : List (List ℕ)) (rows starts ends : List ℕ)
+    (each : length classes ≡ 256)
+  where
+    abbrev lengths : List ℕ
+    lengths = map (λ (bytes : List ℕ). length bytes) patterns
+
+    abbrev pub numbers : List ℕ
+    numbers = numbers_for version classes width patterns rows starts ends
+
+    abbrev body : List ℕ
+    body = width ∷ length patterns ∷ length rows ∷ longest_of patterns ∷ classes ++ lengths ++ rows ++ starts ++ ends
+
+    abbrev head : List ℕ
+    head = version ∷ check_of body ∷ width ∷ length patterns ∷ length rows ∷ longest_of patterns ∷ []
+
+    many : length lengths ≡ length patterns
+    many = length-map patterns (λ (bytes : List ℕ). length bytes)
+
+    -- how many they are
+    pub numbers_long : length numbers ≡ 262 + length patterns + length rows + length starts + length ends
+    numbers_long = omega (
+      arith,
+      length-append (classes ++ lengths ++ rows ++ starts) ends,
+      length-append (classes ++ lengths ++ rows) starts,
+      length-append (classes ++ lengths) rows,
+      length-append classes lengths,
+      many,
+      each,
+    )
+
+    -- what stands behind the lengths
+    behind_lengths : classes ++ lengths ++ rows ++ starts ++ ends ≡ (classes ++ lengths) ++ (rows ++ (starts ++ ends))
+    behind_lengths =
+        append_assoc ((classes ++ lengths) ++ rows) starts ends
+        ∙ append_assoc (classes ++ lengths) rows (starts ++ ends)
+
+    -- and behind the classes
+    behind_classes : classes ++ lengths ++ rows ++ starts ++ ends ≡ classes ++ (lengths ++ (rows ++ (starts ++ ends)))
+    behind_classes = behind_lengths ∙ append_assoc classes lengths (rows ++ (starts ++ ends))
+
+    pub classes_written : classes_in numbers ≡ classes
+    classes_written =
+        part_at numbers head classes (lengths ++ (rows ++ (starts ++ ends))) 6 262 (ap (λ l. head ++ l) behind_classes)
+        refl (omega (arith, each))
+
+    pub lengths_written : lengths_in numbers ≡ lengths
+    lengths_written =
+        part_at numbers (head ++ classes) lengths (rows ++ (starts ++ ends)) 262 (262 + length patterns)
+        (ap (λ l. head ++ l) behind_classes) (omega (arith, length-append head classes, each)) (omega (arith, many))
+
+    upto_rows : length ((head ++ classes) ++ lengths) ≡ 262 + length patterns
+    upto_rows = omega (arith, length-append (head ++ classes) lengths, length-append head classes, each, many)
+
+    pub rows_written : rows_in numbers ≡ rows
+    rows_written =
+        part_at numbers ((head ++ classes) ++ lengths) rows (starts ++ ends) (262 + length patterns)
+        (262 + length patterns + length rows) (ap (λ l. head ++ l) behind_lengths) (omega (arith, upto_rows))
+        (omega arith)
+
+    upto_starts : length (((head ++ classes) ++ lengths) ++ rows) ≡ prepared_len numbers
+    upto_starts = omega (arith, length-append ((head ++ classes) ++ lengths) rows, upto_rows)
+
+    pub starts_written : slice_range numbers (prepared_len numbers) (prepared_len numbers + length starts) ≡ starts
+    starts_written =
+        part_at numbers (((head ++ classes) ++ lengths) ++ rows) starts ends (prepared_len numbers)
+        (prepared_len numbers + length starts)
+        (ap (λ l. head ++ l) (append_assoc ((classes ++ lengths) ++ rows) starts ends)) (sym upto_starts) refl
+
+    pub ends_written : slice_range numbers (prepared_len numbers + length starts)
+        (prepared_len numbers + length starts + length ends) ≡ ends
+    ends_written =
+        part_at numbers ((((head ++ classes) ++ lengths) ++ rows) ++ starts) ends []
+        (prepared_len numbers + length starts) (prepared_len numbers + length starts + length ends)
+        (ap (λ l. ((((head ++ classes) ++ lengths) ++ rows) ++ starts) ++ l) (sym (append-nil ends)))
+        (omega (arith, length-append (((head ++ classes) ++ lengths) ++ rows) starts, upto_starts)) refl
+
+    -- the check is that over all numbers behind it
+    pub check_written : (end : ℕ) → end ≡ length numbers → get_or numbers 1 0 ≡ check_of (slice_range numbers 2 end)
+    check_written end is =
+        ap check_of (sym (part_at numbers (version ∷ check_of body ∷ []) body [] 2 end
+        (ap (λ l. version ∷ check_of body ∷ l) (sym (append-nil body))) refl (omega (arith, is))))
+
+-- what `write` answers for a search that numbers are for
+module _ (AreFor : List ℕ → Type 0) (Takes : ℕ → Type 0) (numbers old new : List ℕ) (needed : ℕ)
+    (are_for : AreFor numbers) (takes : Takes (length numbers))
+  where
+    pub numbers_written : needed ≤ length old → Puts 0 numbers old new → needed ≡ length numbers
+        → WritesNumbers AreFor Takes old new needed
+    numbers_written fits puts needed_is =
+        let new_is : new ≡ numbers ++ drop needed old =
+        puts ∙ ap (λ k. numbers ++ drop k old) (let k : 0 + length numbers ≡ needed = omega (arith, needed_is) in k) in
+        let same : length new ≡ length old = omega (
+          arith,
+          ap (λ (l : List ℕ). length l) new_is,
+          length-append numbers (drop needed old),
+          length-drop needed old,
+          fits,
+          needed_is,
+        ) in
+        record {
+          len = same;
+          fits = omega (arith, fits, same);
+          takes = subst Takes (sym needed_is) takes;
+          prepared = subst AreFor (sym (ap (λ k. take k new) needed_is
+              ∙ (ap (take (length numbers)) new_is ∙ take-append_seam numbers (drop needed old)))) are_for;
+          others = ap (λ k. drop k new) needed_is
+              ∙ (ap (drop (length numbers)) new_is ∙ drop-append_seam numbers (drop needed old));
+        }
+
+-- and why it writes none
+pub numbers_refused : (patterns : List (List ℕ)) (HasLongLists : Type 0) (AreFor : List ℕ → Type 0) (Takes : ℕ → Type 0)
+    (ends all old : List ℕ) → AreFor all → Takes (length all)
+    → (2 ^ 32 ≤ length ends → HasLongLists) → (error : PrepareError) → RefusesArray patterns ends all old error
+    → RefusesNumbers patterns HasLongLists AreFor Takes old error
+numbers_refused patterns HasLongLists AreFor Takes ends all old are takes long PatternTooLong refused = refused
+numbers_refused patterns HasLongLists AreFor Takes ends all old are takes long ListsTooLong refused =
+    (refused.0, long refused.1)
+numbers_refused patterns HasLongLists AreFor Takes ends all old are takes long (ArrayTooShort needed) refused =
+    (refused.0, refused.2, subst Takes (sym refused.3) takes, (all, are, sym refused.3))

@@ -1,0 +1,205 @@
+-- Searches by an array that is lent.
+use Rattle.std.proofs.Common.{◌≡◌, ℕ, ◌+◌, ◌-◌, ◌<◌, ◌≤◌, ◌^◌, Bool, List, [], drop, length, get_or, map}
+use Rattle.std.proofs.Common.{Err, IfErr, IfOk, Ok, Result, refl}
+use Rattle.std.proofs.Common.{sym, ap, subst, ◌∙◌, arith}
+use Rattle.std.proofs.lemmas.List.{get_or-map, length-drop, length-map, length-take}
+use Rattle.std.specs.List.{slice_range}
+use Rattle.literal_base.specs.Kinds.{root_kind_of}
+use Rattle.literal_base.specs.Leftmost.{IsLeftmostMatch}
+use Rattle.literal_base.specs.Occurs.{pattern_at}
+use Rattle.literal_base.specs.Query.{Query}
+use Rattle.literal_base.specs.declared.packed.MatchKind.{MatchKind}
+use Rattle.literal_base.specs.declared.search.Span.{Span}
+use Rattle.literal_search.specs.SearchValue.{CanBeKept}
+use Rattle.literal_search.specs.Inside.Classes.{AreClasses, Tells, symbols_in}
+use Rattle.literal_search.specs.Inside.Scan.{IsTableOf, match_by}
+use Rattle.literal_search.specs.Inside.Prepared.{IsFront, IsSplit, table_of}
+use Rattle.literal_search.specs.declared.prepared.Front.{Front}
+use Rattle.literal_search.specs.declared.walk.Table.{Table}
+use Rattle.literal_base.specs.MatchValue.{MatchValue}
+use Rattle.literal_search.specs.Inside.Prepared.{Puts, RefusesArray, numbers_for}
+use Rattle.literal_search.specs.Inside.Search.{IsSound, patterns_in}
+use Rattle.literal_search.specs.Prepared.{IsPrepared, RefusesToPrepare, TakesPlaces, WritesPrepared, classes_in}
+use Rattle.literal_search.specs.Prepared.{prepared_len, rows_in, width_in}
+use Rattle.literal_search.specs.declared.prepared.TheConstants.{PREPARED_VERSION}
+use Rattle.literal_search.specs.States.{IsRowsLength}
+use Rattle.literal_search.specs.Table.{Recognises}
+use Rattle.literal_search.specs.declared.Search.TheInside.{Inside}
+use Rattle.literal_search.specs.declared.prepared.PrepareError.{PrepareError}
+use Rattle.literal_search.specs.declared.walk.Ended.{Ended}
+use Rattle.literal_search.proofs.lemmas.Numbers.{check_written, classes_written, lengths_written, numbers_long}
+use Rattle.literal_search.proofs.lemmas.Numbers.{numbers_refused, numbers_written, rows_written}
+
+-- the length of a part of a list
+pub length_part : (numbers : List ℕ) (from to : ℕ) → from ≤ to → to ≤ length numbers
+    → length (slice_range numbers from to) ≡ to - from
+length_part numbers from to ordered inside =
+    omega (arith, length-take (to - from) (drop from numbers), length-drop from numbers)
+
+-- there is a class for each byte
+pub classes_long : {version : ℕ} {numbers classes : List ℕ} {width : ℕ} {lengths rows : List ℕ} {longest : ℕ}
+    → IsSplit version numbers classes width lengths rows longest → length classes ≡ 256
+classes_long {version} {numbers} split =
+    let fits = split.parts.fits in
+    ap (λ (l : List ℕ). length l) split.classes_are ∙ length_part numbers 6 262 (omega arith) (omega arith)
+
+-- an array that is prepared, in its parts
+module _ {version : ℕ} {numbers classes : List ℕ} {width : ℕ} {lengths rows : List ℕ} {longest : ℕ}
+    (split : IsSplit version numbers classes width lengths rows longest) {query : Query} {ignore_case : Bool}
+    (prepared : IsPrepared query ignore_case numbers)
+  where
+    are_classes : AreClasses classes width
+    are_classes =
+        subst (λ (w : ℕ). AreClasses classes w) (sym split.width_is)
+        (subst (λ (c : List ℕ). AreClasses c (width_in numbers))
+        (sym split.classes_are) prepared.classes)
+
+    tells : Tells ignore_case classes query.patterns
+    tells = subst (λ (c : List ℕ). Tells ignore_case c query.patterns) (sym split.classes_are) prepared.tells
+
+    recognises : Recognises (root_kind_of query.kind) (map (symbols_in classes) query.patterns) width rows
+    recognises =
+        subst (λ (c : List ℕ). Recognises (root_kind_of query.kind) (map (symbols_in c) query.patterns) width rows)
+        (sym split.classes_are)
+        (subst (λ (w : ℕ). Recognises (root_kind_of query.kind)
+        (map (symbols_in (classes_in numbers)) query.patterns) w rows)
+        (sym split.width_is)
+        (subst (λ (r : List ℕ). Recognises (root_kind_of query.kind)
+        (map (symbols_in (classes_in numbers)) query.patterns)
+        (width_in numbers) r) (sym split.rows_are) prepared.recognises))
+
+    -- there is the length of each pattern
+    pub lengths_many : length lengths ≡ length query.patterns
+    lengths_many =
+        ap (λ (l : List ℕ). length l) (split.lengths_are ∙ prepared.lengths)
+        ∙ length-map query.patterns (λ (bytes : List ℕ). length bytes)
+
+    pub length_at : (i : ℕ) → i < length query.patterns → get_or lengths i 0 ≡ length (pattern_at query.patterns i)
+    length_at i below =
+        ap (λ (l : List ℕ). get_or l i 0) (split.lengths_are ∙ prepared.lengths)
+        ∙ get_or-map (λ (bytes : List ℕ). length bytes) query.patterns i [] 0 below
+
+-- so are those of a lent array by which a walk goes
+pub table_for : {version : ℕ} (f : Front) → IsFront version f → (query : Query) (ignore_case : Bool)
+    → IsPrepared query ignore_case f.numbers.now → IsTableOf (table_of f) query ignore_case
+table_for f split query ignore_case prepared = record {
+  classes = are_classes split prepared;
+  tells = tells split prepared;
+  recognises = recognises split prepared;
+  some = prepared.kept.some;
+  longest = split.longest_is ∙ prepared.longest;
+  shortest = λ i below. omega arith;
+  fingerprints = tt;
+}
+
+pub is_for : {version : ℕ} (f : Front) → IsFront version f → (t : Table) → t ≡ table_of f → (query : Query)
+    (ignore_case : Bool) → IsPrepared query ignore_case f.numbers.now → IsTableOf t query ignore_case
+is_for f split t same query ignore_case prepared =
+    subst (λ t. IsTableOf t query ignore_case) (sym same) (table_for f split query ignore_case prepared)
+
+-- what is found by it is the match with the length that the array has
+module _ {version : ℕ} (f : Front) (split : IsFront version f) (query : Query) (ignore_case : Bool)
+    (prepared : IsPrepared query ignore_case f.numbers.now) (haystack : List ℕ) (span : Span) (e : Ended)
+    (found : IsLeftmostMatch query ignore_case haystack span (match_by query.patterns e))
+  where
+    pub pattern_by : e.pattern < length f.lengths.now
+    pattern_by = let below = found.occurs.is_pattern in omega (arith, below, lengths_many split prepared)
+
+    -- the match lies in the span, and is not empty
+    pub inside_by : (0 < get_or f.lengths.now e.pattern 0) × (span.start + get_or f.lengths.now e.pattern 0 ≤ e.end)
+    inside_by =
+        let some = prepared.kept.some e.pattern [] found.occurs.is_pattern in
+        let size = length_at split prepared e.pattern found.occurs.is_pattern in
+        let after = found.occurs.after_start in
+        let whole = found.whole in
+        (omega arith, omega arith)
+
+    pub match_is : match_by query.patterns e
+        ≡ (let m : MatchValue = record {
+          pattern = e.pattern;
+          start = e.end - get_or f.lengths.now e.pattern 0;
+          end = e.end;
+        } in m)
+    match_is =
+        ap (λ n. let m : MatchValue = record { pattern = e.pattern; start = e.end - n; end = e.end } in m)
+        (sym (length_at split prepared e.pattern found.occurs.is_pattern))
+
+-- what is written for a search is prepared for its patterns
+module _ (classes : List ℕ) (width : ℕ) (kind : MatchKind) (ignore_case : Bool) (patterns : List (List ℕ))
+    (rows : List ℕ) (are : AreClasses classes width) (told : Tells ignore_case classes patterns)
+    (recognised : Recognises (root_kind_of kind) (map (symbols_in classes) patterns) width rows)
+    (kept : CanBeKept patterns)
+  where
+    abbrev numbers : List ℕ
+    numbers = numbers_for PREPARED_VERSION classes width patterns rows [] []
+
+    pub prepared_numbers : IsPrepared (record { kind = kind; patterns = patterns }) ignore_case numbers
+    prepared_numbers =
+        let long = numbers_long PREPARED_VERSION classes width patterns rows [] [] are.each in
+        let first = classes_written PREPARED_VERSION classes width patterns rows [] [] are.each in
+        record {
+          whole = record {
+            parts = record {
+              version_is = refl;
+              few = kept.few;
+              fits = omega (arith, long);
+            };
+            check = check_written PREPARED_VERSION classes width patterns rows [] [] are.each (prepared_len numbers)
+                (omega (arith, long));
+          };
+          longest = refl;
+          classes = subst (λ (c : List ℕ). AreClasses c width) (sym first) are;
+          tells = subst (λ (c : List ℕ). Tells ignore_case c patterns) (sym first) told;
+          lengths = lengths_written PREPARED_VERSION classes width patterns rows [] [] are.each;
+          recognises = subst (λ (c : List ℕ). Recognises (root_kind_of kind) (map (symbols_in c) patterns) width
+              (rows_in numbers)) (sym first)
+              (subst (λ (r : List ℕ). Recognises (root_kind_of kind) (map (symbols_in classes) patterns) width r)
+              (sym (rows_written PREPARED_VERSION classes width patterns rows [] [] are.each)) recognised);
+          kept = kept;
+        }
+
+-- what `write` answers for the parts of a `Search`
+module _ (a : Inside) (sound : IsSound a) (old new : List ℕ) where
+  abbrev query : Query
+  query = record { kind = a.kind; patterns = patterns_in a }
+
+  abbrev all : List ℕ
+  all = numbers_for PREPARED_VERSION a.classes.table a.classes.width (patterns_in a) a.rows [] []
+
+  is_prepared : IsPrepared query a.ignore_case all
+  is_prepared =
+      prepared_numbers a.classes.table a.classes.width a.kind a.ignore_case (patterns_in a) a.rows sound.classes
+      sound.tells sound.recognises sound.kept
+
+  takes : TakesPlaces query a.ignore_case (length all)
+  unfolding TakesPlaces
+  takes = (
+    a.classes.table,
+    subst (AreClasses a.classes.table) sound.width sound.classes,
+    sound.tells,
+    (
+      length a.rows,
+      subst (λ width. IsRowsLength (root_kind_of a.kind) (map (symbols_in a.classes.table) (patterns_in a)) width
+          (length a.rows)) sound.width sound.rows,
+      omega (
+        arith,
+        numbers_long PREPARED_VERSION a.classes.table a.classes.width (patterns_in a) a.rows [] []
+            sound.classes.each,
+      ),
+    ),
+  )
+
+  pub prepare_ok : (result : Result ℕ PrepareError)
+      → IfOk result (λ needed. (needed ≤ length old) × (0 < 2 ^ 32) × Puts 0 all old new × (needed ≡ length all))
+      → IfOk result (WritesPrepared query a.ignore_case old new)
+  prepare_ok (Err error) ok = tt
+  prepare_ok (Ok needed) ok =
+      numbers_written (IsPrepared query a.ignore_case) (TakesPlaces query a.ignore_case) all old new needed is_prepared
+      takes ok.0 ok.2 ok.3
+
+  pub prepare_refused : (result : Result ℕ PrepareError) → IfErr result (RefusesArray (patterns_in a) [] all old)
+      → IfErr result (RefusesToPrepare query a.ignore_case old)
+  prepare_refused (Ok needed) refused = tt
+  prepare_refused (Err error) refused =
+      numbers_refused (patterns_in a) ⊥ (IsPrepared query a.ignore_case) (TakesPlaces query a.ignore_case) [] all old
+      is_prepared takes (λ long. omega arith) error refused

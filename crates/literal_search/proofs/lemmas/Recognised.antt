@@ -1,0 +1,88 @@
+-- Walks over the bytes of patterns, by rows for all that occurs of them.
+use Rattle.std.proofs.Common.{◌≡◌, ℕ, ◌+◌, ◌-◌, ◌<◌, ◌≤◌, ◌^◌, List, [], ◌∷◌, ◌++◌, length, get_or, take, drop}
+use Rattle.std.proofs.Common.{inl, inr, ◌⊎◌, sym, ap, subst, ◌∙◌, arith}
+use Rattle.std.proofs.lemmas.List.{get_or-map, length-map}
+use Rattle.std.specs.Global.{Vec}
+use Rattle.std.specs.Option.{unwrap_or}
+use Rattle.literal_base.specs.declared.search.MatchKind.TheVariants.{Standard}
+use Rattle.literal_base.specs.Occurs.{pattern_at}
+use Rattle.literal_search.specs.Inside.Classes.{symbols_in}
+use Rattle.literal_search.specs.Inside.Lists.{Recognise, StandsBehind, symbols_of}
+use Rattle.literal_search.specs.Inside.Walk.{IsAt}
+use Rattle.literal_search.specs.Table.{Recognises, nothing}
+use Rattle.literal_search.specs.Words.{ending}
+use Rattle.literal_search.specs.declared.ends.Recognised.{Recognised}
+use Rattle.literal_search.proofs.lemmas.Walk.{always_held, at_dead, at_start, at_with_end, at_without_end, ends_at}
+use Rattle.literal_search.proofs.lemmas.Walk.{row_at, slice_push}
+
+module _ (r : Recognised) (recognise : Recognise r) where
+  -- the symbols of a pattern that was read
+  pub symbols_are : (pattern : ℕ) (read : Vec ℕ) → pattern < length r.patterns.now
+      → read ≡ get_or r.patterns.now pattern read
+      → pattern_at (symbols_of r) pattern ≡ symbols_in r.classes.now read.items
+  symbols_are pattern read below is =
+      get_or-map (λ (p : Vec ℕ). symbols_in r.classes.now p.items) r.patterns.now pattern read [] below
+      ∙ ap (λ (p : Vec ℕ). symbols_in r.classes.now p.items) (sym is)
+
+  pub stands_start : (text : List ℕ) → text ≡ [] → StandsBehind r 0 text
+  stands_start text none =
+      let at : (recognises : Recognises Standard (symbols_of r) r.width r.rows.now)
+      → IsAt Standard (symbols_of r) r.width r.rows.now recognises text 0 =
+      λ recognises. subst (λ t. IsAt Standard (symbols_of r) r.width r.rows.now recognises t 0) (sym none)
+      (at_start Standard (symbols_of r) r.width r.rows.now recognises) in
+      record {
+        row = row_at Standard (symbols_of r) r.width r.rows.now recognise.recognises text 0 (at recognise.recognises);
+        at = at;
+      }
+
+  -- one symbol more
+  module _ (text : List ℕ) (place symbol code : ℕ) (behind : StandsBehind r place text) (below : symbol < r.width)
+      (code_is : code ≡ get_or r.rows.now (place + symbol) 0)
+    where
+      alive : (recognises : Recognises Standard (symbols_of r) r.width r.rows.now) → ¬ (code ≡ nothing)
+      alive recognises is = always_held (symbols_of r) (text ++ symbol ∷ [])
+          (at_dead Standard (symbols_of r) r.width r.rows.now recognises text place (behind.at recognises) symbol below
+          code code_is is).0
+
+      pub stands_on : (next : ℕ) → ((code < 2 ^ 31) × (next ≡ code)) ⊎ ((2 ^ 31 ≤ code) × (next ≡ code - 2 ^ 31))
+          → StandsBehind r next (text ++ symbol ∷ [])
+      stands_on next way = record {
+        row = row_at Standard (symbols_of r) r.width r.rows.now recognise.recognises (text ++ symbol ∷ []) next
+            (by way recognise.recognises);
+        at = by way;
+      }
+        where
+          by : ((code < 2 ^ 31) × (next ≡ code)) ⊎ ((2 ^ 31 ≤ code) × (next ≡ code - 2 ^ 31))
+              → (recognises : Recognises Standard (symbols_of r) r.width r.rows.now)
+              → IsAt Standard (symbols_of r) r.width r.rows.now recognises (text ++ symbol ∷ []) next
+          by (inl small) recognises =
+              subst (λ n. IsAt Standard (symbols_of r) r.width r.rows.now recognises (text ++ symbol ∷ []) n)
+              (sym small.1) (at_without_end Standard (symbols_of r) r.width r.rows.now recognises text place
+              (behind.at recognises) symbol below code code_is small.0).0
+          by (inr large) recognises =
+              subst (λ n. IsAt Standard (symbols_of r) r.width r.rows.now recognises (text ++ symbol ∷ []) n)
+              (sym large.1) (at_with_end Standard (symbols_of r) r.width r.rows.now recognises text place
+              (behind.at recognises) symbol below code code_is large.0 (alive recognises)).0
+
+  -- what ends where a walk stands
+  pub ends_there : (text : List ℕ) (place : ℕ) → StandsBehind r place text
+      → get_or r.rows.now (place + r.width) 0 ≡ unwrap_or (ending Standard (symbols_of r) text) nothing
+  ends_there text place behind =
+      ends_at Standard (symbols_of r) r.width r.rows.now recognise.recognises text place
+      (behind.at recognise.recognises)
+
+  -- a symbol more of a pattern that was read
+  pub pattern_push : (pattern from at : ℕ) (read : Vec ℕ) → pattern < length r.patterns.now
+      → read ≡ get_or r.patterns.now pattern read → from ≤ at → at < length read.items
+      → take (at + 1 - from) (drop from (pattern_at (symbols_of r) pattern))
+      ≡ take (at - from) (drop from (pattern_at (symbols_of r) pattern))
+      ++ get_or r.classes.now (get_or read.items at 0) 0 ∷ []
+  pattern_push pattern from at read below is after inside =
+      let text = pattern_at (symbols_of r) pattern in
+      let same = symbols_are pattern read below is in
+      let f : ℕ → ℕ = λ byte. get_or r.classes.now byte 0 in
+      let size = length-map read.items f in
+      let long : at < length text = omega (arith, size, ap (λ (l : List ℕ). length l) same) in
+      slice_push text from at after long
+      ∙ ap (λ s. take (at - from) (drop from text) ++ s ∷ [])
+      (ap (λ l. get_or l at 0) same ∙ get_or-map f read.items at 0 0 inside)

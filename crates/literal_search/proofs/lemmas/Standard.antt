@@ -1,0 +1,213 @@
+-- The pattern that ends with a text, where all occurrences are wanted.
+use Rattle.std.proofs.Common.{◌≡◌, ℕ, ◌+◌, ◌-◌, ◌<◌, ◌≤◌, ◌&&◌, List, [], ◌∷◌, ◌++◌, length, drop, take, nat_eq}
+use Rattle.std.proofs.Common.{Option, Some, None, inl, inr, ◌⊎◌, append_assoc, length-append, refl, sym, ap, ◌∙◌, arith}
+use Rattle.std.proofs.lemmas.Bool.{and_parts, cases_lt, false≢true}
+use Rattle.std.proofs.lemmas.Bool.Decides.{Decides-eqb}
+use Rattle.std.proofs.Math.Seq.{drop-append_seam}
+use Rattle.std.proofs.lemmas.List.{drop-drop, take-append-drop}
+use Rattle.std.proofs.lemmas.List.Quantifiers.{position-Some}
+use Rattle.std.proofs.lemmas.Slice.Eq.{starts_is}
+use Rattle.std.specs.List.{starts_with}
+use Rattle.std.specs.Option.{option_or}
+use Rattle.literal_base.specs.declared.search.MatchKind.TheVariants.{Standard}
+use Rattle.literal_base.specs.Occurs.{NoneIsEmpty, pattern_at}
+use Rattle.literal_search.specs.Inside.Ends.{EndsWith, IsEnd, IsFirstOfEnds}
+use Rattle.literal_search.specs.Words.{ending, first_equal}
+use Rattle.literal_search.proofs.lemmas.Ends.{equal_if, whole_if_long}
+use Rattle.literal_search.proofs.lemmas.Held.{none_any, none_position}
+
+-- an end of an end is one
+pub ends_on : (text middle end : List ℕ) → EndsWith text middle → EndsWith middle end → EndsWith text end
+ends_on text middle end one other = record {
+  front = one.front ++ other.front;
+  split = one.split ∙ (ap (λ l. one.front ++ l) other.split ∙ sym (append_assoc one.front other.front end));
+}
+
+pub ends_length : (text end : List ℕ) (is : EndsWith text end) → length text ≡ length is.front + length end
+ends_length text end is = ap (λ (l : List ℕ). length l) is.split ∙ length-append is.front end
+
+-- of two ends of a text the shorter is an end of the longer
+pub ends_within : (text short long : List ℕ) → EndsWith text short → EndsWith text long → length short ≤ length long
+    → EndsWith long short
+ends_within text short long one other shorter =
+    let n = length other.front in
+    let m = length one.front - n in
+    let sizes : n ≤ length one.front =
+    omega (arith, ends_length text short one, ends_length text long other) in
+    let whole : n + m ≡ length one.front = omega arith in
+    let rest : drop n text ≡ long = ap (drop n) other.split ∙ drop-append_seam other.front long in
+    let last : drop m long ≡ short =
+    ap (drop m) (sym rest)
+    ∙ (drop-drop m n text
+    ∙ (ap (λ k. drop k text) whole
+    ∙ (ap (drop (length one.front)) one.split ∙ drop-append_seam one.front short))) in
+    record { front = take m long; split = sym (take-append-drop m long) ∙ ap (λ l. take m long ++ l) last }
+
+empty_front : (front rest : List ℕ) → length front ≡ 0 → front ++ rest ≡ rest
+empty_front [] rest none = refl
+empty_front (x ∷ front) rest none = absurd (omega arith)
+
+-- of one length they are equal
+pub ends_same : (text a b : List ℕ) → EndsWith text a → EndsWith text b → length a ≡ length b → a ≡ b
+ends_same text a b one other same =
+    let within = ends_within text a b one other (omega arith) in
+    let none : length within.front ≡ 0 = omega (arith, ends_length b a within) in
+    sym (within.split ∙ empty_front within.front a none)
+
+module _ (patterns : List (List ℕ)) (some : NoneIsEmpty patterns) where
+  -- an end of a text is the text, or an end of what is behind its first symbol
+  end_splits : (symbol : ℕ) (more : List ℕ) (i : ℕ) → IsEnd patterns (symbol ∷ more) i
+      → (symbol ∷ more ≡ pattern_at patterns i) ⊎ IsEnd patterns more i
+  end_splits symbol more i is = by_front is.ends.front is.ends.split
+    where
+      by_front : (front : List ℕ) → symbol ∷ more ≡ front ++ pattern_at patterns i
+          → (symbol ∷ more ≡ pattern_at patterns i) ⊎ IsEnd patterns more i
+      by_front [] split = inl split
+      by_front (x ∷ front) split =
+          let tails : more ≡ front ++ pattern_at patterns i = cc in
+          inr (record { is_pattern = is.is_pattern; ends = record { front = front; split = tails } })
+
+  longer_end : (symbol : ℕ) (more : List ℕ) (i : ℕ) → IsEnd patterns more i → IsEnd patterns (symbol ∷ more) i
+  longer_end symbol more i is = record {
+    is_pattern = is.is_pattern;
+    ends = ends_on (symbol ∷ more) more (pattern_at patterns i)
+        (record { front = symbol ∷ []; split = refl }) is.ends;
+  }
+
+  pub no_end_of_nothing : (i : ℕ) → ¬ IsEnd patterns [] i
+  no_end_of_nothing i is =
+      let long = some i [] is.is_pattern in
+      omega (arith, long, ends_length [] (pattern_at patterns i) is.ends)
+
+  not_equal : (text : List ℕ) (i : ℕ) → first_equal Standard patterns text ≡ None → i < length patterns
+      → ¬ (text ≡ pattern_at patterns i)
+  not_equal text i none below same =
+      false≢true (sym (none_any (λ pattern. starts_with nat_eq pattern text && starts_with nat_eq text pattern) patterns
+      [] i (none_position _ patterns none) below) ∙ equal_if text (pattern_at patterns i) same)
+
+  -- the first that is a text
+  equal_is_first : (text : List ℕ) (first : ℕ) → first_equal Standard patterns text ≡ Some first
+      → IsFirstOfEnds patterns text first
+  equal_is_first text first is =
+      let test = λ (pattern : List ℕ). starts_with nat_eq pattern text && starts_with nat_eq text pattern in
+      let one = position-Some test patterns first [] is in
+      let stands = and_parts (starts_with nat_eq (pattern_at patterns first) text) _ one.1 in
+      let begun = (starts_is Decides-eqb (pattern_at patterns first) text _ refl).0 stands.0 in
+      let same : text ≡ pattern_at patterns first =
+      whole_if_long text (pattern_at patterns first) stands.1
+      (omega (
+        arith,
+        ap (λ (l : List ℕ). length l) begun,
+        length-append text (drop (length text) (pattern_at patterns first)),
+      )) in
+      let long = ap (λ (l : List ℕ). length l) same in
+      record {
+        is = record { is_pattern = one.0; ends = record { front = []; split = same } };
+        others = λ i end.
+            let size = ends_length text (pattern_at patterns i) end.ends in
+            elim (cases_lt (length (pattern_at patterns i)) (length (pattern_at patterns first))) [
+              | inl shorter ↦ inr (inl shorter)
+              | inr whole ↦
+                  let equal : text ≡ pattern_at patterns i =
+                  ends_same text text (pattern_at patterns i) (record { front = []; split = refl }) end.ends
+                  (omega arith) in
+                  elim (cases_lt first i) [
+                    | inl later ↦ inr (inr (omega (arith, ap (λ (l : List ℕ). length l) equal, long), later))
+                    | inr early ↦ elim (cases_lt i first) [
+                      | inl before ↦ absurd (false≢true (sym (one.2 i before)
+                          ∙ equal_if text (pattern_at patterns i) equal))
+                      | inr not ↦ inl (omega arith)
+                    ]
+                  ]
+            ];
+      }
+
+  -- where no pattern ends none is an end of the text
+  pub none_ends : (text : List ℕ) → ending Standard patterns text ≡ None → (i : ℕ) → ¬ IsEnd patterns text i
+  none_ends [] none i is = no_end_of_nothing i is
+  none_ends (symbol ∷ more) none i is =
+      by_first (first_equal Standard patterns (symbol ∷ more)) refl none (none_ends more)
+    where
+      by_first : (o : Option ℕ) → first_equal Standard patterns (symbol ∷ more) ≡ o
+          → option_or o (ending Standard patterns more) ≡ None
+          → (ending Standard patterns more ≡ None → (i : ℕ) → ¬ IsEnd patterns more i) → ⊥
+      by_first (Some first) equal none further = cc
+      by_first None equal none further = elim (end_splits symbol more i is) [
+        | inl same ↦ not_equal (symbol ∷ more) i equal is.is_pattern same
+        | inr end ↦ further none i end
+      ]
+
+  -- and where one does it comes first of all that are
+  pub first_ends : (text : List ℕ) (first : ℕ) → ending Standard patterns text ≡ Some first
+      → IsFirstOfEnds patterns text first
+  first_ends [] first is = cc
+  first_ends (symbol ∷ more) first is =
+      by_first (first_equal Standard patterns (symbol ∷ more)) refl is (first_ends more)
+    where
+      by_first : (o : Option ℕ) → first_equal Standard patterns (symbol ∷ more) ≡ o
+          → option_or o (ending Standard patterns more) ≡ Some first
+          → ((first : ℕ) → ending Standard patterns more ≡ Some first → IsFirstOfEnds patterns more first)
+          → IsFirstOfEnds patterns (symbol ∷ more) first
+      by_first (Some equal) whole found further =
+          equal_is_first (symbol ∷ more) first (whole ∙ found)
+      by_first None none found further =
+          let rest = further first found in
+          record {
+            is = longer_end symbol more first rest.is;
+            others = λ i end. elim (end_splits symbol more i end) [
+              | inl same ↦ absurd (not_equal (symbol ∷ more) i none end.is_pattern same)
+              | inr within ↦ rest.others i within
+            ];
+          }
+
+  -- each pattern is an end of itself
+  pub end_of_itself : (i : ℕ) → i < length patterns → IsEnd patterns (pattern_at patterns i) i
+  end_of_itself i below = record { is_pattern = below; ends = record { front = []; split = refl } }
+
+  -- the first of the ends of a text is the first of its own
+  pub first_is_own : (text : List ℕ) (first : ℕ) → IsFirstOfEnds patterns text first
+      → ending Standard patterns (pattern_at patterns first) ≡ Some first
+  first_is_own text first is = by (ending Standard patterns (pattern_at patterns first)) refl
+    where
+      own : IsEnd patterns (pattern_at patterns first) first
+      own = end_of_itself first is.is.is_pattern
+
+      by : (o : Option ℕ) → ending Standard patterns (pattern_at patterns first) ≡ o → o ≡ Some first
+      by None none = absurd (none_ends (pattern_at patterns first) none first own)
+      by (Some other) found =
+          let one = first_ends (pattern_at patterns first) other found in
+          let end : IsEnd patterns text other = record {
+            is_pattern = one.is.is_pattern;
+            ends = ends_on text (pattern_at patterns first) (pattern_at patterns other) is.is.ends one.is.ends;
+          } in
+          elim (is.others other end) [
+            | inl same ↦ ap Some (sym same)
+            | inr later ↦ elim (one.others first own) [
+              | inl same ↦ ap Some same
+              | inr earlier ↦ elim later [
+                | inl shorter ↦ elim earlier [
+                  | inl longer ↦ absurd (omega arith)
+                  | inr as_long ↦ absurd (omega (arith, as_long.0))
+                ]
+                | inr long ↦ elim earlier [
+                  | inl longer ↦ absurd (omega (arith, long.0))
+                  | inr as_long ↦ absurd (omega (arith, as_long.1, long.1))
+                ]
+              ]
+            ]
+          ]
+
+  -- the ends of a text are those of the first of them
+  pub ends_of_first : (text : List ℕ) (first : ℕ) → IsFirstOfEnds patterns text first → (i : ℕ)
+      → IsEnd patterns text i → IsEnd patterns (pattern_at patterns first) i
+  ends_of_first text first is i end = record {
+    is_pattern = end.is_pattern;
+    ends = ends_within text (pattern_at patterns i) (pattern_at patterns first) end.ends is.is.ends
+        (elim (is.others i end) [
+          | inl same ↦ omega (arith, ap (λ k. length (pattern_at patterns k)) same)
+          | inr later ↦ elim later [
+            | inl shorter ↦ omega arith
+            | inr as_long ↦ omega (arith, as_long.0)
+          ]
+        ]);
+  }

@@ -1,0 +1,302 @@
+-- How many states there are.
+use Rattle.std.proofs.Common.{◌≡◌, ◌≢◌, ℕ, ◌+◌, ◌*◌, ◌-◌, ◌<◌, ◌≤◌, ◌^◌, ◌⊎◌, true, List, [], ◌∷◌, ◌++◌, suc, zero}
+use Rattle.std.proofs.Common.{length, get_or}
+use Rattle.std.proofs.Common.{map, take, drop, eqb, nat_eq, inl, inr, refl, sym, ap, ◌∙◌, arith, subst}
+use Rattle.std.proofs.lemmas.Bool.{cases_lt, cases_order, eqb-true, ne_eqb}
+use Rattle.std.proofs.lemmas.Bool.Decides.{Decides-eqb}
+use Rattle.std.proofs.lemmas.List.{get_or-map, get_or_append_left, get_or_default, get_or_past, get_or_push}
+use Rattle.std.proofs.lemmas.List.{length-append, length-map, length-take-le}
+use Rattle.std.proofs.lemmas.List.{length_push, same_from_push, take-append-drop, take_all, take_more}
+use Rattle.std.proofs.lemmas.List.Elements.{All-head, All-tail}
+use Rattle.std.proofs.lemmas.List.Folds.{Any-from_list_any}
+use Rattle.std.proofs.lemmas.List.FromFn.{get_or-map-range_with_len, length-map-range_with_len}
+use Rattle.std.proofs.lemmas.Map.Keys.{IsDistinct-from_apart}
+use Rattle.std.proofs.lemmas.Map.Steps.{length-le_from_distinct_below}
+use Rattle.std.proofs.lemmas.Slice.Eq.{starts_is}
+use Rattle.std.specs.Global.{Vec}
+use Rattle.std.specs.List.{All, range_with_len, starts_with}
+use Rattle.literal_base.specs.Occurs.{pattern_at}
+use Rattle.literal_base.specs.declared.search.MatchKind.{MatchKind}
+use Rattle.literal_base.specs.declared.search.MatchKind.TheVariants.{LeftmostFirst, LeftmostLongest, Standard}
+use Rattle.literal_search.specs.Inside.Classes.{AreClasses, symbols_in}
+use Rattle.literal_search.specs.Inside.Grown.{AreWords, LeadsBy}
+use Rattle.literal_search.specs.States.{AreStates, HasTooManyStates}
+use Rattle.literal_search.specs.Table.{Recognises, stride_of}
+use Rattle.literal_search.specs.Words.{begins_one, held, word_of}
+use Rattle.literal_search.proofs.lemmas.Behind.{held_begun}
+use Rattle.literal_search.proofs.lemmas.Held.{NoneBefore, any_in_question, any_in_question_at, begins_front}
+
+module _ (kind : MatchKind) (patterns : List (List ℕ)) (width : ℕ)
+    (below : (i k : ℕ) → get_or (pattern_at patterns i) k 0 < width) (rows : List ℕ)
+    (r : Recognises kind patterns width rows) where
+  -- each front of a text with which a pattern begins has a state
+  state_of_front : (text : List ℕ) → begins_one kind patterns text ≡ true → (k : ℕ) → k ≤ length text
+      → (n : ℕ) × (n < length r.words) × (word_of r.words n ≡ take k text)
+  state_of_front text begun zero short = (0, r.some, r.root)
+  state_of_front text begun (suc k) short =
+      let before = state_of_front text begun k (omega arith) in
+      let symbol = get_or text k 0 in
+      let one = any_in_question (λ e. starts_with nat_eq e text) kind patterns text begun in
+      let pattern = pattern_at patterns one.0 in
+      let split = (starts_is Decides-eqb pattern text _ refl).0 one.1.passes in
+      let read : get_or pattern k 0 ≡ symbol =
+      ap (λ l. get_or l k 0) split ∙ get_or_append_left text (drop (length text) pattern) 0 k (omega arith) in
+      let is_symbol : symbol < width = subst (λ s. s < width) read (below one.0 k) in
+      let next : suc k ≡ k + 1 = omega arith in
+      let more : take (suc k) text ≡ take k text ++ symbol ∷ [] =
+      ap (λ n. take n text) next ∙ take_more text k 0 (omega arith) in
+      let front_begun = begins_front kind patterns (take (suc k) text) (drop (suc k) text)
+      (subst (λ t. begins_one kind patterns t ≡ true) (sym (take-append-drop (suc k) text)) begun) in
+      let leads = subst
+      (λ t. LeadsBy kind patterns r.words width (get_or rows (before.0 * stride_of width + symbol) 0) t)
+      (ap (λ w. held kind patterns (w ++ symbol ∷ [])) before.2
+      ∙ (ap (held kind patterns) (sym more)
+      ∙ held_begun kind patterns (take (suc k) text) front_begun))
+      (r.leads before.0 symbol before.1 is_symbol) in
+      (leads.state, leads.is_state, leads.word_is)
+
+  state_of : (text : List ℕ) → (text ≡ []) ⊎ (begins_one kind patterns text ≡ true)
+      → (n : ℕ) × (n < length r.words) × (word_of r.words n ≡ text)
+  state_of text (inl none) = (0, r.some, r.root ∙ sym none)
+  state_of text (inr begun) =
+      let is = state_of_front text begun (length text) (omega arith) in
+      (is.0, is.1, is.2 ∙ take_all (length text) text (omega arith))
+
+  -- the states of texts
+  states_of : (texts : List (List ℕ)) → All (λ text. (text ≡ []) ⊎ (begins_one kind patterns text ≡ true)) texts
+      → (states : List ℕ) × (length states ≡ length texts)
+      × ((k d : ℕ) (e : List ℕ) → k < length texts
+      → (get_or states k d < length r.words) × (word_of r.words (get_or states k d) ≡ get_or texts k e))
+  states_of [] begun = ([], refl, λ k d e inside. absurd (omega arith))
+  states_of (text ∷ texts) begun =
+      let first = state_of text
+      (All-head (λ (t : List ℕ). (t ≡ []) ⊎ (begins_one kind patterns t ≡ true)) text texts begun) in
+      let rest = states_of texts
+      (All-tail (λ (t : List ℕ). (t ≡ []) ⊎ (begins_one kind patterns t ≡ true)) text texts begun) in
+      (first.0 ∷ rest.0, ap suc rest.1, at first rest)
+    where
+      at : (first : (n : ℕ) × (n < length r.words) × (word_of r.words n ≡ text))
+          → (rest : (states : List ℕ) × (length states ≡ length texts)
+          × ((k d : ℕ) (e : List ℕ) → k < length texts
+          → (get_or states k d < length r.words) × (word_of r.words (get_or states k d) ≡ get_or texts k e)))
+          → (k d : ℕ) (e : List ℕ) → k < suc (length texts)
+          → (get_or (first.0 ∷ rest.0) k d < length r.words)
+          × (word_of r.words (get_or (first.0 ∷ rest.0) k d) ≡ get_or (text ∷ texts) k e)
+      at first rest zero d e inside = (first.1, first.2)
+      at first rest (suc k) d e inside = rest.2 k d e (omega arith)
+
+  -- so there are no more texts than states
+  pub few_states : (texts : List (List ℕ)) → AreStates kind patterns texts → length texts ≤ length r.words
+  few_states texts are =
+      let all = states_of texts are.begun in
+      let distinct = IsDistinct-from_apart eqb all.0 (λ i j d before inside. ne_eqb _ _ (λ same.
+      are.apart i j [] before (omega (arith, all.1, inside))
+      (sym (all.2 i d [] (omega (arith, all.1, before, inside))).1
+      ∙ (ap (word_of r.words) same ∙ (all.2 j d [] (omega (arith, all.1, inside))).1)))) in
+      let fits = length-le_from_distinct_below all.0 (length r.words) distinct (λ q is.
+      let one = Any-from_list_any (eqb q) all.0 is in
+      let read = (all.2 one.0 one.1 [] (omega (arith, all.1, one.2))).0 in
+      omega (arith, read, one.3, eqb-true q one.1 one.4)) in
+      omega (arith, fits, all.1)
+
+-- words that are made one by one
+module _ (kind : MatchKind) (patterns words : List (List ℕ)) (width upto : ℕ)
+    (are : AreWords kind patterns words width upto) where
+  pub made_more : (later : ℕ) → upto ≤ later → AreWords kind patterns words width later
+  made_more later more = record {
+    root = are.root;
+    apart = are.apart;
+    begun = are.begun;
+    made = λ n some below.
+        let by = are.made n some below in
+        let early = by.early in
+        record {
+          state = by.state;
+          symbol = by.symbol;
+          is_state = by.is_state;
+          is_symbol = by.is_symbol;
+          early = omega (arith, early, more);
+          word_is = by.word_is;
+        };
+  }
+
+  same_state : (i j : ℕ) → i < length words → j < length words → word_of words i ≡ word_of words j → i ≡ j
+  same_state i j is_i is_j same = elim (cases_order i j) [
+    | inl equal ↦ equal
+    | inr other ↦ elim other [
+      | inl less ↦ absurd (are.apart i j less is_j same)
+      | inr more ↦ absurd (are.apart j i more is_i (sym same))
+    ]
+  ]
+
+  -- the word of the next place is new
+  is_new : (state symbol : ℕ) → state < length words → upto ≡ state * stride_of width + symbol → (n : ℕ)
+      → n < length words → word_of words n ≢ word_of words state ++ symbol ∷ []
+  is_new state symbol is_state at n below same = elim (cases_lt 0 n) [
+    | inl some ↦
+        let by = are.made n some below in
+        let both = same_from_push (word_of words by.state) (word_of words state) by.symbol symbol
+        (sym by.word_is ∙ same) in
+        let states = same_state by.state state by.is_state is_state both.0 in
+        let early : state * stride_of width + symbol < upto =
+        subst (λ s. s * stride_of width + symbol < upto) states
+        (subst (λ c. by.state * stride_of width + c < upto) both.1 by.early) in
+        omega (arith, early, at)
+    | inr none ↦
+        let first : n ≡ 0 = omega arith in
+        let long = ap (λ (w : List ℕ). length w) (sym (ap (word_of words) first ∙ are.root) ∙ same)
+        ∙ length-append (word_of words state) (symbol ∷ []) in
+        omega (arith, long)
+  ]
+
+  pub made_next : (state symbol : ℕ) → state < length words → symbol < width
+      → upto ≡ state * stride_of width + symbol
+      → begins_one kind patterns (word_of words state ++ symbol ∷ []) ≡ true
+      → AreWords kind patterns (words ++ (word_of words state ++ symbol ∷ []) ∷ []) width (upto + 1)
+  made_next state symbol is_state is_symbol at begun = record {
+    root = old 0 (omega arith) ∙ are.root;
+    apart = λ i j before inside same. elim (cases_lt j (length words)) [
+      | inl early ↦ are.apart i j before early (sym (old i (omega arith)) ∙ (same ∙ old j early))
+      | inr late ↦ is_new state symbol is_state at i (omega (arith, more, inside))
+          (sym (old i (omega (arith, more, inside))) ∙ (same ∙ last j (omega (arith, more, inside))))
+    ];
+    begun = λ n inside. elim (cases_lt n (length words)) [
+      | inl early ↦ subst (λ w. (w ≡ []) ⊎ (begins_one kind patterns w ≡ true)) (sym (old n early)) (are.begun n early)
+      | inr late ↦ inr (ap (begins_one kind patterns) (last n (omega (arith, more, inside))) ∙ begun)
+    ];
+    made = λ n some inside. elim (cases_lt n (length words)) [
+      | inl early ↦
+          let by = are.made n some early in
+          let was = by.early in
+          let is = by.is_state in
+          record {
+            state = by.state;
+            symbol = by.symbol;
+            is_state = omega (arith, is, more);
+            is_symbol = by.is_symbol;
+            early = omega (arith, was);
+            word_is = old n early ∙ (by.word_is ∙ ap (λ w. w ++ by.symbol ∷ []) (sym (old by.state by.is_state)));
+          }
+      | inr late ↦ record {
+        state = state;
+        symbol = symbol;
+        is_state = omega (arith, is_state, more);
+        is_symbol = is_symbol;
+        early = omega (arith, at);
+        word_is = last n (omega (arith, more, inside)) ∙ ap (λ w. w ++ symbol ∷ []) (sym (old state is_state));
+      }
+    ];
+  }
+    where
+      word : List ℕ
+      word = word_of words state ++ symbol ∷ []
+
+      more : length (words ++ word ∷ []) ≡ length words + 1
+      more = length_push words word
+
+      old : (n : ℕ) → n < length words → word_of (words ++ word ∷ []) n ≡ word_of words n
+      old n below = get_or_append_left words (word ∷ []) [] n below
+
+      last : (n : ℕ) → length words ≡ n → word_of (words ++ word ∷ []) n ≡ word
+      last n is = get_or_push words word [] n is
+
+-- made words are different states
+pub states_made : (kind : MatchKind) (patterns words : List (List ℕ)) (width upto : ℕ)
+    → AreWords kind patterns words width upto → AreStates kind patterns words
+states_made kind patterns words width upto are = record {
+  apart = λ i j d before inside same.
+      are.apart i j before inside
+      (get_or_default words i [] d (omega (arith, before, inside))
+      ∙ (same ∙ get_or_default words j d [] inside));
+  begun = λ k d inside.
+      subst (λ (w : List ℕ). (w ≡ []) ⊎ (begins_one kind patterns w ≡ true)) (get_or_default words k [] d inside)
+      (are.begun k inside);
+}
+
+-- the symbols of all patterns are below the width
+pub symbols_below : (classes : List ℕ) (width : ℕ) → AreClasses classes width → (patterns : List (Vec ℕ))
+    → (i k : ℕ) → get_or (pattern_at (map (λ pattern. symbols_in classes pattern.items) patterns) i) k 0 < width
+symbols_below classes width are patterns i k = elim (cases_lt i (length patterns)) [
+  | inl inside ↦ at patterns i inside
+  | inr past ↦
+      let none = get_or_past (map (λ (p : Vec ℕ). symbols_in classes p.items) patterns) i []
+      (omega (arith, past, length-map patterns (λ (p : Vec ℕ). symbols_in classes p.items))) in
+      subst (λ (l : List ℕ). get_or l k 0 < width) (sym none) are.some
+]
+  where
+    class_below : (byte : ℕ) → get_or classes byte 0 < width
+    class_below byte = elim (cases_lt byte 256) [
+      | inl is ↦ are.below byte is
+      | inr isnt ↦ subst (λ n. n < width) (sym (get_or_past classes byte 0 (omega (arith, are.each, isnt)))) are.some
+    ]
+
+    symbol_below : (bytes : List ℕ) → get_or (symbols_in classes bytes) k 0 < width
+    symbol_below bytes = elim (cases_lt k (length bytes)) [
+      | inl inside ↦
+          subst (λ n. n < width) (sym (get_or-map (λ byte. get_or classes byte 0) bytes k 0 0 inside))
+          (class_below (get_or bytes k 0))
+      | inr past ↦
+          subst (λ n. n < width) (sym (get_or_past (symbols_in classes bytes) k 0
+          (omega (arith, past, length-map bytes (λ byte. get_or classes byte 0))))) are.some
+    ]
+
+    at : (ps : List (Vec ℕ)) (j : ℕ) → j < length ps
+        → get_or (pattern_at (map (λ pattern. symbols_in classes pattern.items) ps) j) k 0 < width
+    at [] j inside = absurd (omega arith)
+    at (p ∷ ps) zero inside = symbol_below p.items
+    at (p ∷ ps) (suc j) inside = at ps j (omega arith)
+
+-- the fronts of a pattern, where each of them may lead to the match
+module _ (kind : MatchKind) (patterns : List (List ℕ)) (i : ℕ) (below : i < length patterns)
+    (first : kind ≡ LeftmostFirst → i ≡ 0) where
+  front : ℕ → List ℕ
+  front n = take n (pattern_at patterns i)
+
+  front_begins : (n : ℕ) → begins_one kind patterns (front n) ≡ true
+  unfolding front
+  front_begins n = any_in_question_at (λ e. starts_with nat_eq e (front n)) kind patterns (front n) i record {
+    below = below;
+    passes = (starts_is Decides-eqb (pattern_at patterns i) (front n) _ refl).1 (drop n (pattern_at patterns i))
+        (sym (take-append-drop n (pattern_at patterns i)));
+    in_question = by_kind kind first;
+  }
+    where
+      by_kind : (k : MatchKind) → (k ≡ LeftmostFirst → i ≡ 0) → NoneBefore k patterns (front n) i
+      by_kind Standard is = tt
+      by_kind LeftmostFirst is = λ j before. absurd (omega (arith, before, is refl))
+      by_kind LeftmostLongest is = tt
+
+  -- where these are too many for rows, all states are
+  pub too_many_fronts : (width : ℕ) → 2 ^ 31 - 1 < (length (pattern_at patterns i) + 1) * stride_of width
+      → HasTooManyStates kind patterns width
+  unfolding front
+  too_many_fronts width long = (
+    map front (range_with_len 0 count),
+    record {
+      apart = λ j k d before inside same. omega (
+        arith,
+        before,
+        inside,
+        many,
+        length-take-le j (pattern_at patterns i) (omega (arith, before, inside, many)),
+        length-take-le k (pattern_at patterns i) (omega (arith, inside, many)),
+        ap (λ (l : List ℕ). length l) (sym (at j d (omega (arith, before, inside, many))) ∙ (same ∙ at k d (omega (
+          arith,
+          inside,
+          many,
+        )))),
+      );
+      begun = λ k d inside. inr (subst (λ (text : List ℕ). begins_one kind patterns text ≡ true)
+          (sym (at k d (omega (arith, inside, many)))) (front_begins k));
+    },
+    subst (λ n. 2 ^ 31 - 1 < n * stride_of width) (sym many) long,
+  )
+    where
+      count : ℕ
+      count = length (pattern_at patterns i) + 1
+
+      many : length (map front (range_with_len 0 count)) ≡ count
+      many = length-map-range_with_len front 0 count
+
+      at : (k : ℕ) (d : List ℕ) → k < count → get_or (map front (range_with_len 0 count)) k d ≡ front k
+      at k d inside = get_or-map-range_with_len front 0 count k k d inside (omega arith)

@@ -1,0 +1,128 @@
+-- Numbers that are written into an array, from a place on. For `write` and what it calls.
+use Rattle.std.proofs.Common.{◌≡◌, ℕ, ◌+◌, ◌-◌, ◌<◌, ◌≤◌, List, [], ◌∷◌, ◌++◌, drop, length, get_or, suc, take}
+use Rattle.std.proofs.Common.{append_assoc, length-append, refl, sym, ap, subst, ◌∙◌, arith}
+use Rattle.std.proofs.Math.ListN.{set}
+use Rattle.std.proofs.Math.Seq.{drop-append-add, drop-cons, set-append_seam, take-append_seam}
+use Rattle.std.proofs.lemmas.List.{drop-drop, length-take-le, take-append-drop, take_more}
+use Rattle.std.specs.List.{slice_range}
+use Rattle.literal_search.specs.Inside.Prepared.{Puts, checked}
+use Rattle.literal_search.specs.Prepared.{check_of}
+
+-- none
+pub puts_none : (at : ℕ) (old : List ℕ) → Puts at [] old old
+puts_none at old =
+    let none : at + 0 ≡ at = omega arith in
+    sym (ap (λ n. take at old ++ drop n old) none ∙ take-append-drop at old)
+
+-- one more
+pub puts_more : (at : ℕ) (numbers old now : List ℕ) (number : ℕ) → at + length numbers < length old
+    → Puts at numbers old now → Puts at (numbers ++ number ∷ []) old (set now (at + length numbers) number)
+puts_more at numbers old now number inside puts =
+    let front = take at old ++ numbers in
+    let n = at + length numbers in
+    let rest = drop (suc n) old in
+    let long : length front ≡ n = omega (
+      arith,
+      length-append (take at old) numbers,
+      length-take-le at old (omega arith),
+    ) in
+    let next : at + length (numbers ++ number ∷ []) ≡ suc n = omega (arith, length-append numbers (number ∷ [])) in
+    let now_is : now ≡ front ++ get_or old n 0 ∷ rest =
+    puts ∙ (sym (append_assoc (take at old) numbers (drop n old))
+    ∙ ap (λ l. front ++ l) (drop-cons old n 0 inside)) in
+    ap (λ l. set l n number) now_is
+    ∙ (ap (λ k. set (front ++ get_or old n 0 ∷ rest) k number) (sym long)
+    ∙ (set-append_seam front (get_or old n 0) rest number
+    ∙ (append_assoc (take at old) numbers (number ∷ rest)
+    ∙ (ap (λ l. take at old ++ l) (sym (append_assoc numbers (number ∷ []) rest))
+    ∙ ap (λ k. take at old ++ ((numbers ++ number ∷ []) ++ drop k old)) (sym next)))))
+
+-- the next of a list, which is written from a place on
+pub puts_next : (at i : ℕ) (all old now : List ℕ) (number : ℕ) → at + length all ≤ length old → i < length all
+    → number ≡ get_or all i 0 → Puts at (take i all) old now → Puts at (take (i + 1) all) old (set now (at + i) number)
+puts_next at i all old now number room below is puts =
+    let long = length-take-le i all (omega arith) in
+    subst (λ (k : ℕ). Puts at (take (i + 1) all) old (set now (at + k) number)) long
+    (subst (λ (numbers : List ℕ). Puts at numbers old (set now (at + length (take i all)) number))
+    (ap (λ v. take i all ++ v ∷ []) is ∙ sym (take_more all i 0 below))
+    (puts_more at (take i all) old now number (omega (arith, long)) puts))
+
+-- behind a front that is written
+pub puts_behind : (at : ℕ) (front numbers old now new : List ℕ) → at ≡ length front
+    → now ≡ front ++ drop (length front) old → Puts at numbers now new
+    → new ≡ (front ++ numbers) ++ drop (length (front ++ numbers)) old
+puts_behind at front numbers old now new at_is before puts =
+    let n = length front in
+    let m = length numbers in
+    let behind : drop (n + m) now ≡ drop (length (front ++ numbers)) old =
+    ap (drop (n + m)) before
+    ∙ (drop-append-add front (drop n old) m
+    ∙ (drop-drop m n old ∙ ap (λ k. drop k old) (let k : n + m ≡ length (front ++ numbers) = omega (
+      arith,
+      length-append front numbers,
+    ) in k))) in
+    let first : take n now ≡ front = ap (take n) before ∙ take-append_seam front (drop n old) in
+    subst (λ (k : ℕ). Puts k numbers now new) at_is puts
+    ∙ (ap (λ l. l ++ (numbers ++ drop (n + m) now)) first
+    ∙ (ap (λ l. front ++ (numbers ++ l)) behind
+    ∙ sym (append_assoc front numbers (drop (length (front ++ numbers)) old))))
+
+-- the parts of a prepared search, one behind the other, and the check over them
+module _ (version width patterns places longest : ℕ) (classes lengths rows starts ends old : List ℕ)
+    (each : length classes ≡ 256) (lengths_are : length lengths ≡ patterns) (rows_are : length rows ≡ places)
+  where
+    abbrev body : List ℕ
+    body = width ∷ patterns ∷ places ∷ longest ∷ classes ++ lengths ++ rows ++ starts ++ ends
+
+    -- how many they are
+    pub size_of_all : length (checked version body) ≡ 262 + patterns + places + length starts + length ends
+    size_of_all = omega (
+      arith,
+      length-append (classes ++ lengths ++ rows ++ starts) ends,
+      length-append (classes ++ lengths ++ rows) starts,
+      length-append (classes ++ lengths) rows,
+      length-append classes lengths,
+    )
+
+    pub puts_all : (first second third fourth fifth last : List ℕ) (check : ℕ)
+        → Puts 0 (version ∷ 0 ∷ width ∷ patterns ∷ places ∷ longest ∷ []) old first
+        → Puts 6 classes first second → Puts 262 lengths second third → Puts (262 + patterns) rows third fourth
+        → Puts (262 + patterns + places) starts fourth fifth
+        → Puts (262 + patterns + places + length starts) ends fifth last
+        → check ≡ check_of (slice_range last 2 (262 + patterns + places + length starts + length ends))
+        → Puts 0 (checked version body) old (set last 1 check)
+    puts_all first second third fourth fifth last check a b c d e f check_is =
+        let front = version ∷ 0 ∷ width ∷ patterns ∷ places ∷ longest ∷ [] in
+        let needed = 262 + patterns + places + length starts + length ends in
+        let size : length (checked version body) ≡ needed = size_of_all in
+        let rest = drop needed old in
+        let one = puts_behind 0 [] front old old first refl refl a in
+        let two = puts_behind 6 front classes old first second refl one b in
+        let three = puts_behind 262 (front ++ classes) lengths old second third
+        (omega (arith, length-append front classes)) two c in
+        let four = puts_behind (262 + patterns) ((front ++ classes) ++ lengths) rows old third fourth
+        (omega (arith, length-append (front ++ classes) lengths, length-append front classes)) three d in
+        let upto_rows = length-append ((front ++ classes) ++ lengths) rows in
+        let upto_lengths = length-append (front ++ classes) lengths in
+        let upto_classes = length-append front classes in
+        let five = puts_behind (262 + patterns + places) (((front ++ classes) ++ lengths) ++ rows) starts old fourth
+        fifth (omega (arith, upto_rows, upto_lengths, upto_classes)) four e in
+        let six = puts_behind (262 + patterns + places + length starts)
+        ((((front ++ classes) ++ lengths) ++ rows) ++ starts) ends old fifth last
+        (omega (
+          arith,
+          length-append (((front ++ classes) ++ lengths) ++ rows) starts,
+          upto_rows,
+          upto_lengths,
+          upto_classes,
+        )) five f in
+        let last_is : last ≡ version ∷ 0 ∷ body ++ rest =
+        six ∙ ap (λ k. version ∷ 0 ∷ body ++ drop k old) size in
+        let places_are : needed ≡ 0 + length (checked version body) = omega (arith, size) in
+        let all : length body ≡ needed - 2 = omega (arith, size) in
+        let over : slice_range last 2 needed ≡ body =
+        ap (λ l. slice_range l 2 needed) last_is
+        ∙ (ap (λ k. take k (body ++ rest)) (sym all) ∙ take-append_seam body rest) in
+        ap (λ l. set l 1 check) last_is
+        ∙ (ap (λ k. version ∷ k ∷ body ++ rest) (check_is ∙ ap check_of over)
+        ∙ ap (λ k. version ∷ check_of body ∷ body ++ drop k old) places_are)

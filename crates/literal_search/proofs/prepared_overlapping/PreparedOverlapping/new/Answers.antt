@@ -1,0 +1,64 @@
+use Rattle.std.proofs.Common.{◌≡◌, ◌+◌, ◌∙◌, ap, arith, get_or, length, subst, sym}
+use Rattle.std.specs.List.{slice_range}
+use Rattle.literal_search.specs.Prepared.{prepared_len}
+use Rattle.literal_search.specs.PreparedOverlapping.{HasLists, ends_at, ends_in, listed_len, starts_in}
+use Rattle.literal_search.proofs.lemmas.LentTables.{parts_end}
+use Rattle.literal_search.proofs.prepared_overlapping.PreparedOverlapping.new.Goals as goal
+
+pub returns-then-numbers-ends_at : goal.returns-then-numbers-ends_at
+returns-then-numbers-ends_at c = λ lists.
+    let numbers = c.args.numbers.now in
+    let f = c.in_ok-front.front in
+    let known = parts_end f numbers c.in_ok-front.ensures.0 c.in_ok-front.ensures.2 in
+    let fits = lists.fits in
+    let last : 262 + length f.lengths.now + length f.rows.now + length f.lengths.now
+    ≡ prepared_len numbers + get_or numbers 3 0 = omega (arith, known.0, known.1) in
+    omega (arith, known.0, known.1, fits, ap (λ k. get_or numbers k 0) last, c.if-numbers-ends_at.true)
+
+pub invariant_of-result : goal.invariant_of-result
+invariant_of-result c =
+    let numbers = c.args.numbers.now in
+    let f = c.in_ok-front.front in
+    let same = c.in_ok-front.ensures.0 in
+    let known = parts_end f numbers same c.in_ok-front.ensures.2 in
+    let last : 262 + length f.lengths.now + length f.rows.now + length f.lengths.now
+    ≡ prepared_len numbers + get_or numbers 3 0 = omega (arith, known.0, known.1) in
+    let ends : 262 + length f.lengths.now + length f.rows.now + length f.lengths.now + 1 ≡ ends_at numbers =
+    omega (arith, last) in
+    let listed : 262 + length f.lengths.now + length f.rows.now + length f.lengths.now + 1
+    + get_or numbers (262 + length f.lengths.now + length f.rows.now + length f.lengths.now) 0 ≡ listed_len numbers =
+    omega (arith, ends, ap (λ k. get_or numbers k 0) last) in
+    record {
+      front = c.in_ok-front.ensures.2;
+      listed = subst HasLists (sym same) (record {
+        parts = c.in_ok-front.ensures.1;
+        fits = omega (arith, listed, c.if-numbers-ends_at.false, c.if-numbers-last.false);
+      });
+      starts_are = ap (λ from. slice_range numbers from
+          (262 + length f.lengths.now + length f.rows.now + length f.lengths.now + 1)) known.0
+          ∙ (ap (slice_range numbers (prepared_len numbers)) ends ∙ ap starts_in (sym same));
+      ends_are = ap (λ from. slice_range numbers from
+          (262 + length f.lengths.now + length f.rows.now + length f.lengths.now + 1
+          + get_or numbers (262 + length f.lengths.now + length f.rows.now + length f.lengths.now) 0)) ends
+          ∙ (ap (slice_range numbers (ends_at numbers)) listed ∙ ap ends_in (sym same));
+    }
+
+pub returns : goal.returns
+returns c =
+    let numbers = c.args.numbers.now in
+    let f = c.in_ok-front.front in
+    let known = parts_end f numbers c.in_ok-front.ensures.0 c.in_ok-front.ensures.2 in
+    let last : 262 + length f.lengths.now + length f.rows.now + length f.lengths.now
+    ≡ prepared_len numbers + get_or numbers 3 0 = omega (arith, known.0, known.1) in (
+      c.in_ok-front.ensures.0,
+      record {
+        parts = c.in_ok-front.ensures.1;
+        fits = omega (
+          arith,
+          last,
+          ap (λ k. get_or numbers k 0) last,
+          c.if-numbers-ends_at.false,
+          c.if-numbers-last.false,
+        );
+      },
+    )

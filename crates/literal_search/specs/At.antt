@@ -1,0 +1,21 @@
+-- A match at one place.
+use Rattle.std.specs.Prelude.{◌≡◌, ℕ, ◌+◌, ◌≤◌, Bool, IfSome, List, MatchOption, Option}
+use Rattle.literal_base.specs.Counts.{Counts}
+use Rattle.literal_base.specs.Leftmost.{IsLeftmostMatch}
+use Rattle.literal_base.specs.MatchValue.{MatchValue}
+use Rattle.literal_base.specs.Occurs.{Occurs, rest_from}
+use Rattle.literal_base.specs.Query.{Query}
+use Rattle.literal_search.specs.SearchValue.{longest_of}
+
+-- the answer is the match that begins at the place: of the patterns that occur there the one that the tie rule takes;
+-- and None exactly if none does
+abbrev pub IsMatchAt : Query → Bool → List ℕ → ℕ → Option MatchValue → Type 0
+IsMatchAt query ignore_case haystack at answer = MatchOption answer
+    ((i : ℕ) → ¬ Occurs query.patterns ignore_case haystack (rest_from haystack at) i at)
+    (λ found. (found.start ≡ at) × IsLeftmostMatch query ignore_case haystack (rest_from haystack at) found)
+
+-- what it scans: at most as many bytes as the longest pattern has, and those of a match
+pub record ScansAt (patterns : List (List ℕ)) (at : ℕ) (answer : Option MatchValue) (old new : Counts) : Type 0 where
+  pub others : new ≡ record old { scanned = new.scanned }
+  pub most : new.scanned ≤ old.scanned + longest_of patterns
+  pub least : IfSome answer (λ found. old.scanned + found.end ≤ new.scanned + at)

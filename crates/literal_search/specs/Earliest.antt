@@ -1,0 +1,34 @@
+-- The earliest end of an occurrence.
+use Rattle.std.specs.Prelude.{◌≡◌, ℕ, ◌+◌, ◌-◌, ◌*◌, ◌≤◌, Bool, List, length, Option, MatchOption}
+use Rattle.literal_base.specs.Counts.{Counts}
+use Rattle.literal_base.specs.declared.search.Span.{Span}
+use Rattle.literal_base.specs.Occurs.{NothingOccurs, Occurs, pattern_at}
+
+-- an occurrence in the span ends there, and none ends before
+pub record EndsEarliest (patterns : List (List ℕ)) (ignore_case : Bool) (haystack : List ℕ) (span : Span) (end : ℕ)
+    : Type 0 where
+  pub occurs : (i : ℕ) × (at : ℕ) × Occurs patterns ignore_case haystack span i at
+      × (at + length (pattern_at patterns i) ≡ end)
+  pub first : (i at : ℕ) → Occurs patterns ignore_case haystack span i at → end ≤ at + length (pattern_at patterns i)
+
+-- the answer is None exactly if nothing occurs in the span, and otherwise the earliest end of what does
+abbrev pub IsEarliestEnd : List (List ℕ) → Bool → List ℕ → Span → Option ℕ → Type 0
+IsEarliestEnd patterns ignore_case haystack span answer =
+    MatchOption answer (NothingOccurs patterns ignore_case haystack span)
+    (EndsEarliest patterns ignore_case haystack span)
+
+-- what a search for the earliest end scans: each byte up to that end once, and none behind it; where nothing ends, each
+-- byte of the span at most once
+pub record ScansToEnd (span : Span) (answer : Option ℕ) (old new : Counts) : Type 0 where
+  pub others : new ≡ record old { scanned = new.scanned }
+  pub scanned : MatchOption answer (new.scanned ≤ old.scanned + (span.end - span.start))
+      (λ end. new.scanned + span.start ≡ old.scanned + end)
+
+-- what a search for the earliest end scans that may read ahead: at least as many bytes as there are up to that end, or
+-- in the span where nothing ends, and at most three times as many
+pub record ScansToEndWithin (span : Span) (answer : Option ℕ) (old new : Counts) : Type 0 where
+  pub others : new ≡ record old { scanned = new.scanned }
+  pub least : MatchOption answer (old.scanned + (span.end - span.start) ≤ new.scanned)
+      (λ end. old.scanned + end ≤ new.scanned + span.start)
+  pub scanned : MatchOption answer (new.scanned ≤ old.scanned + 3 * (span.end - span.start))
+      (λ end. new.scanned + 3 * span.start ≤ old.scanned + 3 * end)

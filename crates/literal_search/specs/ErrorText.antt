@@ -1,0 +1,22 @@
+-- What errors print.
+use Rattle.std.specs.Prelude.{ℕ, List, ◌++◌, codes}
+use Rattle.std.specs.Fmt.{decimal}
+use Rattle.literal_search.specs.declared.BuildError.{BuildError}
+use Rattle.literal_search.specs.declared.BuildError.TheVariants.{EmptyPattern, OutOfMemory, TooManyPatterns}
+use Rattle.literal_search.specs.declared.BuildError.TheVariants.{TooManyStates}
+use Rattle.literal_search.specs.declared.prepared.PrepareError.{PrepareError}
+use Rattle.literal_search.specs.declared.prepared.PrepareError.TheVariants.{ArrayTooShort, ListsTooLong}
+use Rattle.literal_search.specs.declared.prepared.PrepareError.TheVariants.{PatternTooLong}
+
+-- what is printed of why there is no automaton
+abbrev pub build_error_text : BuildError → List ℕ
+build_error_text (EmptyPattern number) = codes "pattern " ++ decimal number ++ codes " is empty"
+build_error_text OutOfMemory = codes "out of memory"
+build_error_text TooManyPatterns = codes "too many patterns"
+build_error_text TooManyStates = codes "the patterns need too many states"
+
+-- what is printed of why a search is not written into an array
+abbrev pub prepare_error_text : PrepareError → List ℕ
+prepare_error_text PatternTooLong = codes "a pattern is too long"
+prepare_error_text ListsTooLong = codes "too many patterns are an end of another"
+prepare_error_text (ArrayTooShort needed) = codes "the array needs " ++ decimal needed ++ codes " places"

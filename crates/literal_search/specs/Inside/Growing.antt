@@ -1,0 +1,78 @@
+-- The fields of `Growing`.
+use Rattle.std.specs.Prelude.{◌≡◌, ℕ, ◌*◌, ◌-◌, ◌<◌, ◌≤◌, ◌^◌, List, [], Option, MatchOption, length, map}
+use Rattle.std.specs.Prelude.{slice_index_or, slice_range, take}
+use Rattle.std.specs.Option.{unwrap_or}
+use Rattle.literal_base.specs.Occurs.{NoneIsEmpty, pattern_at}
+use Rattle.literal_base.specs.declared.search.MatchKind.{MatchKind}
+use Rattle.literal_search.specs.Table.{LeadsTo, nothing, stride_of}
+use Rattle.literal_search.specs.Words.{ending, word_of}
+use Rattle.literal_search.specs.Inside.Classes.{AreClasses, symbols_in}
+use Rattle.literal_search.specs.Inside.Grown.{AreRows, LeadsBy, held_behind, list_for}
+use Rattle.literal_search.specs.declared.grow.Growing.{Growing}
+use Rattle.literal_search.specs.declared.grow.State.{State}
+use Rattle.literal_search.specs.declared.grow.Texts.{Texts}
+
+-- the symbols of the patterns
+abbrev pub texts_of : Texts → List (List ℕ)
+texts_of t = map (λ pattern. symbols_in t.classes.now pattern.items) t.patterns.now
+
+-- the word of a state: a front of a pattern
+abbrev pub word_in : List (List ℕ) → State → List ℕ
+word_in patterns s = take s.depth (pattern_at patterns s.pattern)
+
+-- the words of states
+abbrev pub words_in : Texts → List State → List (List ℕ)
+words_in t states = map (word_in (texts_of t)) states
+
+-- the words of all states
+abbrev pub words_of : Growing → List (List ℕ)
+words_of g = words_in g.texts g.states.items
+
+-- the patterns of a state's list
+abbrev pub list_in : List ℕ → State → List ℕ
+list_in lists s = slice_range lists s.start s.end
+
+-- each byte has a class, no pattern is empty, and there are identifiers for all
+pub record AreTexts (t : Texts) : Type 0 where
+  pub classes : AreClasses t.classes.now t.width
+  pub some : NoneIsEmpty (texts_of t)
+  pub few : length t.patterns.now ≤ 2 ^ 31 - 1
+
+-- the number in a row leads to the state of what is held, if it leads to one
+abbrev pub IsCode : Growing → ℕ → Type 0
+IsCode g code =
+    (word : Option (List ℕ)) × LeadsBy g.texts.kind (texts_of g.texts) (words_of g) g.texts.width code word
+
+-- a state's word is not empty, and its link leads to an earlier state, that of what is held behind the first symbol
+pub record IsLinked (kind : MatchKind) (patterns words : List (List ℕ)) (width n : ℕ) (s : State) : Type 0 where
+  pub some : 0 < s.depth
+  pub leads : MatchOption (held_behind kind patterns (word_in patterns s)) (s.link ≡ nothing)
+      (λ word. (to : LeadsTo kind patterns words width s.link word) × (to.state < n))
+
+-- a state, behind so many others, has the front of a pattern, the list of those that begin with it, what ends there,
+-- and a link, unless it is the first
+pub record IsState (kind : MatchKind) (patterns words : List (List ℕ)) (width : ℕ) (lists : List ℕ) (n : ℕ)
+    (s : State) : Type 0 where
+  pub shallow : s.depth ≤ n
+  pub front : s.depth ≤ length (pattern_at patterns s.pattern)
+  pub ordered : s.start ≤ s.end
+  pub inside : s.end ≤ length lists
+  pub listed : list_in lists s ≡ list_for kind patterns (word_in patterns s)
+  pub ended : s.ending ≡ unwrap_or (ending kind patterns (word_in patterns s)) nothing
+  pub linked : 0 < n → IsLinked kind patterns words width n s
+
+-- each state is right, the first has the empty word, and so are the rows, as far as they are filled
+pub record IsGrowing (t : Texts) (states : List State) (lists rows : List ℕ) : Type 0 where
+  pub texts : AreTexts t
+  pub some : 0 < length states
+  pub root : word_of (words_in t states) 0 ≡ []
+  pub few : length states * stride_of t.width ≤ 2 ^ 31 - 1
+  pub filled : length rows ≤ length states * stride_of t.width
+  pub numbers : (k d : ℕ) → k < length lists → slice_index_or lists k d < length t.patterns.now
+  pub each : (n : ℕ) (d : State) → n < length states
+      → IsState t.kind (texts_of t) (words_in t states) t.width lists n (slice_index_or states n d)
+  pub led : AreRows t.kind (texts_of t) (words_in t states) t.width rows
+
+-- the fields are so
+abbrev pub Grows : Growing → Type 0
+Grows g = IsGrowing g.texts g.states.items g.lists.items g.rows.items

@@ -1,0 +1,60 @@
+-- The parts of a prepared search, and how they are written.
+use Rattle.std.specs.Prelude.{◌≡◌, ◌+◌, ◌<◌, ◌≤◌, ◌^◌, ℕ, List, ◌∷◌, ◌++◌, length, map, None, slice_index}
+use Rattle.std.specs.List.{splice}
+use Rattle.literal_search.specs.SearchValue.{longest_of}
+use Rattle.literal_search.specs.Prepared.{AreShort, HasParts, check_of, classes_in, lengths_in, rows_in}
+use Rattle.literal_search.specs.Prepared.{width_in}
+use Rattle.literal_search.specs.declared.prepared.Front.{Front}
+use Rattle.literal_search.specs.declared.walk.Table.{Table}
+use Rattle.literal_search.specs.declared.prepared.PrepareError.{PrepareError}
+use Rattle.literal_search.specs.declared.prepared.PrepareError.TheVariants.{ArrayTooShort, ListsTooLong}
+use Rattle.literal_search.specs.declared.prepared.PrepareError.TheVariants.{PatternTooLong}
+
+-- the parts of an array that begins as a prepared search of a version
+pub record IsSplit (version : ℕ) (numbers classes : List ℕ) (width : ℕ) (lengths rows : List ℕ)
+    (longest : ℕ) : Type 0 where
+  pub parts : HasParts version numbers
+  pub classes_are : classes ≡ classes_in numbers
+  pub width_is : width ≡ width_in numbers
+  pub small : width < 2 ^ 32
+  pub lengths_are : lengths ≡ lengths_in numbers
+  pub rows_are : rows ≡ rows_in numbers
+  pub longest_is : longest ≡ slice_index numbers 5
+
+-- the fields of a `Front` are these parts
+abbrev pub IsFront : ℕ → Front → Type 0
+IsFront version f = IsSplit version f.numbers.now f.classes.now f.width f.lengths.now f.rows.now f.longest
+
+-- what a walk reads of them
+abbrev pub table_of : Front → Table
+table_of f =
+    record {
+      classes = f.classes;
+      width = f.width;
+      rows = f.rows;
+      longest = f.longest;
+      shortest = 0;
+      fingerprints = None;
+    }
+
+-- numbers stand in a list from a place on, and the rest of it is as it was
+abbrev pub Puts : ℕ → List ℕ → List ℕ → List ℕ → Type 0
+Puts at numbers old new = new ≡ splice old at (at + length numbers) numbers
+
+-- numbers behind a version and their check
+abbrev pub checked : ℕ → List ℕ → List ℕ
+checked version numbers = version ∷ check_of numbers ∷ numbers
+
+-- the numbers of a prepared search, which may have lists behind its rows
+abbrev pub numbers_for : ℕ → List ℕ → ℕ → List (List ℕ) → List ℕ → List ℕ → List ℕ → List ℕ
+numbers_for version classes width patterns rows starts ends =
+    checked version (width ∷ length patterns ∷ length rows ∷ longest_of patterns
+    ∷ classes ++ map (λ bytes. length bytes) patterns ++ rows ++ starts ++ ends)
+
+-- why numbers are not written over an array: not all patterns are short; or they are, and there are too many numbers in
+-- lists; or there are not, and the array is too short
+abbrev pub RefusesArray : List (List ℕ) → List ℕ → List ℕ → List ℕ → PrepareError → Type 0
+RefusesArray patterns ends numbers array PatternTooLong = ¬ AreShort patterns
+RefusesArray patterns ends numbers array ListsTooLong = AreShort patterns × (2 ^ 32 ≤ length ends)
+RefusesArray patterns ends numbers array (ArrayTooShort needed) =
+    AreShort patterns × (length ends < 2 ^ 32) × (length array < needed) × (needed ≡ length numbers)

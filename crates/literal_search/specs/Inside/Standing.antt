@@ -1,0 +1,70 @@
+-- The fields of `Parts` and `Standing`.
+use Rattle.std.specs.Prelude.{◌↔◌, ℕ, ◌+◌, ◌<◌, ◌≤◌, List, length, map, slice_index}
+use Rattle.literal_base.specs.declared.search.MatchKind.TheVariants.{Standard}
+use Rattle.literal_base.specs.declared.search.Span.{Span}
+use Rattle.literal_base.specs.MatchValue.{MatchValue}
+use Rattle.literal_base.specs.Occurs.{between}
+use Rattle.literal_search.specs.Inside.Ends.{AreEnds}
+use Rattle.literal_search.specs.Inside.Lists.{starts_of}
+use Rattle.literal_search.specs.Inside.Walk.{IsAt, text_of}
+use Rattle.literal_search.specs.Overlapping.{OverlappingValue}
+use Rattle.literal_search.specs.OverlappingMatchesValue.{IsToCome, OverlappingMatchesValue}
+use Rattle.literal_search.specs.PreparedOverlapping.{Tables, texts_in}
+use Rattle.literal_search.specs.Table.{Recognises}
+use Rattle.literal_search.specs.declared.overlapping.Parts.{Parts}
+use Rattle.literal_search.specs.declared.standing.Standing.{Standing}
+use Rattle.literal_search.specs.declared.walk.Stop.{Stop}
+
+-- the tables that the parts hold
+abbrev pub tables_of : Parts → Tables
+tables_of p = record {
+  patterns = map (λ pattern. pattern.items) p.patterns.items;
+  ignore_case = p.ignore_case;
+  classes = p.classes.table;
+  width = p.classes.width;
+  rows = p.rows;
+  ends = p.lists.ends.items;
+  starts = starts_of p.lists.starts.items;
+}
+
+-- what a caller sees of a search by tables
+abbrev pub overlapping_value : Tables → OverlappingValue
+overlapping_value t = record { patterns = t.patterns; ignore_case = t.ignore_case }
+
+-- the classes of what was read of a span
+abbrev pub read_of : Tables → List ℕ → Span → ℕ → List ℕ
+read_of t haystack span at = text_of t.classes haystack (between span.start at)
+
+-- a search stands at a place of the span: at its row, if more is to be read, and with those patterns of a list left
+-- that end there, from one on
+pub record IsStanding (t : Tables) (haystack : List ℕ) (span : Span) (s : Standing) : Type 0 where
+  pub after : span.start ≤ s.at
+  pub inside : s.at ≤ span.end
+  pub stands : s.at < span.end → (recognises : Recognises Standard (texts_in t) t.width t.rows)
+      → IsAt Standard (texts_in t) t.width t.rows recognises (read_of t haystack span s.at) s.place
+  pub ordered : s.next ≤ s.end
+  pub within : s.end ≤ length t.ends
+  pub left : AreEnds (texts_in t) (read_of t haystack span s.at) s.pattern t.ends s.next s.end
+
+-- where a search stands, as a caller sees it
+abbrev pub standing_value : Tables → List ℕ → Span → Standing → OverlappingMatchesValue
+standing_value t haystack span s =
+    record { search = overlapping_value t; haystack = haystack; span = span; end = s.at; pattern = s.pattern }
+
+-- in two places the same occurrences are to come
+abbrev pub HaveSameToCome : OverlappingMatchesValue → OverlappingMatchesValue → Type 0
+HaveSameToCome one other = (found : MatchValue) → IsToCome one found ↔ IsToCome other found
+
+-- the pattern that the row names where a walk stopped
+abbrev pub longest_at : Tables → Stop → ℕ
+longest_at t stop = slice_index t.rows (stop.place + t.width)
+
+-- where that walk stands: before all that ends there
+abbrev pub standing_at : Tables → Stop → Standing
+standing_at t stop = record {
+  at = stop.end;
+  place = stop.place;
+  pattern = 0;
+  next = slice_index t.starts (longest_at t stop);
+  end = slice_index t.starts (longest_at t stop + 1);
+}

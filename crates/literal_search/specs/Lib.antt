@@ -1,0 +1,16 @@
+pub mod SearchValue
+pub mod At
+pub mod Earliest
+pub mod ErrorText
+pub mod Inside
+pub mod Linear
+pub mod LinearMatchesValue
+pub mod MatchesValue
+pub mod Overlapping
+pub mod OverlappingMatchesValue
+pub mod Prepared
+pub mod PreparedOverlapping
+pub mod States
+pub mod Stream
+pub mod Table
+pub mod Words

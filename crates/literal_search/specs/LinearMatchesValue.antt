@@ -1,0 +1,39 @@
+-- All leftmost matches of a span, one after another: `LinearMatches`, as contracts see it.
+use Rattle.std.specs.Prelude.{◌≡◌, ℕ, ◌<◌, ◌≤◌, ◌-◌, List, Option, None, Some, IfSome}
+use Rattle.std.specs.Iterator.{Count, at_most}
+use Rattle.literal_base.specs.Leftmost.{IsLeftmost}
+use Rattle.literal_base.specs.MatchValue.{MatchValue}
+use Rattle.literal_base.specs.Occurs.{between}
+use Rattle.literal_base.specs.declared.search.Span.{Span}
+use Rattle.literal_search.specs.Linear.{looked_upto}
+use Rattle.literal_search.specs.SearchValue.{SearchValue}
+
+-- a `LinearMatches` as contracts see it: what is searched for, where, the place from which it goes on, and up to which
+-- place it has looked
+pub record LinearMatchesValue : Type 0 where
+  pub search : SearchValue
+  pub haystack : List ℕ
+  pub span : Span
+  pub at : ℕ
+  pub known : ℕ
+
+-- where it goes on: behind the match, or at the end of the span
+abbrev pub place_behind : Span → Option MatchValue → ℕ
+place_behind span None = span.end
+place_behind span (Some found) = found.end
+
+-- what `next` gives: the leftmost match of the rest of the span, which is not empty, or None where nothing occurs in
+-- it; it goes on behind that, has looked no less far than before, and not behind the span, and what stands before the
+-- place where it goes on was looked up
+pub record GivesInSpan (old : LinearMatchesValue) (answer : Option MatchValue) (new : LinearMatchesValue)
+    : Type 0 where
+  pub leftmost : IsLeftmost old.search.query old.search.ignore_case old.haystack (between old.at old.span.end) answer
+  pub not_empty : IfSome answer (λ found. found.start < found.end)
+  pub goes_on : new ≡ record old { at = place_behind old.span answer; known = new.known }
+  pub further : old.known ≤ new.known
+  pub inside : new.known ≤ old.span.end
+  pub looked : new.at ≤ looked_upto old.search.query.patterns old.span new.known
+
+-- at most how many matches are to come: each takes a byte or more of the rest
+abbrev pub most_in_span : LinearMatchesValue → Count
+most_in_span m = at_most (m.span.end - m.at)

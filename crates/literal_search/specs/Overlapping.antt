@@ -1,0 +1,37 @@
+-- Everything that occurs, in the order of ends, and a search for it as contracts see it.
+use Rattle.std.specs.Prelude.{◌≡◌, ◌⊎◌, ℕ, ◌+◌, ◌<◌, Bool, List, length, Option}
+use Rattle.std.specs.Borrow.{Bor}
+use Rattle.std.specs.List.{All, AllPairs, IsAmong}
+use Rattle.literal_base.specs.declared.search.Span.{Span}
+use Rattle.literal_base.specs.MatchValue.{MatchValue}
+use Rattle.literal_base.specs.Occurs.{Occurs, pattern_at}
+use Rattle.literal_search.specs.SearchValue.{GivesAll}
+
+-- a match is an occurrence, whole in the span
+pub record IsOccurrence (patterns : List (List ℕ)) (ignore_case : Bool) (haystack : List ℕ) (span : Span)
+    (found : MatchValue) : Type 0 where
+  pub occurs : Occurs patterns ignore_case haystack span found.pattern found.start
+  pub whole : found.end ≡ found.start + length (pattern_at patterns found.pattern)
+
+-- of two occurrences one comes before the other: it ends earlier, or at the same place and has the smaller identifier
+abbrev pub ComesBefore : MatchValue → MatchValue → Type 0
+ComesBefore one other = (one.end < other.end) ⊎ ((one.end ≡ other.end) × (one.pattern < other.pattern))
+
+-- a list has every occurrence in the span, once, in that order
+pub record IsOverlapping (patterns : List (List ℕ)) (ignore_case : Bool) (haystack : List ℕ) (span : Span)
+    (all : List MatchValue) : Type 0 where
+  pub each : All (IsOccurrence patterns ignore_case haystack span) all
+  pub ordered : AllPairs ComesBefore all
+  pub every : (found : MatchValue) → IsOccurrence patterns ignore_case haystack span found → IsAmong all found
+
+-- an `Overlapping` as contracts see it: the patterns, and whether ASCII case is ignored
+pub record OverlappingValue : Type 0 where
+  pub patterns : List (List ℕ)
+  pub ignore_case : Bool
+
+-- the answer is the search for all the items of an iterator, which can be kept
+abbrev pub BuildsOverlapping : {U T : Type 0} → (U → T → Type 0) → (T → Option (Bor (List ℕ)) → T → Type 0) → U → Bool
+    → OverlappingValue → Type 0
+BuildsOverlapping becomes steps given ignore_case answer =
+    (patterns : List (List ℕ)) × GivesAll becomes steps given patterns
+    × (answer ≡ record { patterns = patterns; ignore_case = ignore_case })

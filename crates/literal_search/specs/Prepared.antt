@@ -1,0 +1,116 @@
+-- A search as numbers in an array that is lent.
+use Rattle.std.specs.Prelude.{◌≡◌, ◌+◌, ◌*◌, ◌%◌, ◌^◌, ◌<◌, ◌≤◌, ℕ, Bool, List, length, map, take, drop, fold}
+use Rattle.std.specs.Prelude.{slice_index, slice_range}
+use Rattle.std.specs.List.{All}
+use Rattle.literal_base.specs.Kinds.{root_kind_of}
+use Rattle.literal_base.specs.MatchValue.{MatchValue}
+use Rattle.literal_base.specs.Query.{Query}
+use Rattle.literal_base.specs.declared.search.Span.{Span}
+use Rattle.literal_ids.specs.declared.primitives.pattern_id.TheConstants.PatternID
+use Rattle.literal_search.specs.SearchValue.{CanBeKept, HoldsInClasses, longest_of}
+use Rattle.literal_search.specs.Inside.Classes.{AreClasses, Tells, symbols_in}
+use Rattle.literal_search.specs.States.{IsRowsLength}
+use Rattle.literal_search.specs.Table.{Recognises}
+use Rattle.literal_search.specs.declared.prepared.PrepareError.{PrepareError}
+use Rattle.literal_search.specs.declared.prepared.PrepareError.TheVariants.{ArrayTooShort, ListsTooLong}
+use Rattle.literal_search.specs.declared.prepared.PrepareError.TheVariants.{PatternTooLong}
+use Rattle.literal_search.specs.declared.prepared.TheConstants.{CLASSES_AT, LENGTHS_AT, PREPARED_VERSION}
+
+-- how many classes of bytes there are, by the third number
+abbrev pub width_in : List ℕ → ℕ
+width_in numbers = slice_index numbers 2
+
+-- where the rows begin, behind a length for each pattern; the fourth number says how many patterns there are
+abbrev pub rows_at : List ℕ → ℕ
+rows_at numbers = LENGTHS_AT + slice_index numbers 3
+
+-- how many numbers are those of the search; the fifth says how long the rows are
+abbrev pub prepared_len : List ℕ → ℕ
+prepared_len numbers = rows_at numbers + slice_index numbers 4
+
+-- the classes of all bytes
+abbrev pub classes_in : List ℕ → List ℕ
+classes_in numbers = slice_range numbers CLASSES_AT LENGTHS_AT
+
+-- the lengths of the patterns
+abbrev pub lengths_in : List ℕ → List ℕ
+lengths_in numbers = slice_range numbers LENGTHS_AT (rows_at numbers)
+
+-- the rows
+abbrev pub rows_in : List ℕ → List ℕ
+rows_in numbers = slice_range numbers (rows_at numbers) (prepared_len numbers)
+
+-- a check over numbers: with each further number it is multiplied and the number added, in 32 bits
+unfoldable pub check_of : List ℕ → ℕ
+check_of numbers = fold (λ check number. (check * 16777619 + number) % 2 ^ 32) 0 numbers
+
+-- the first number is a version, there are identifiers for the patterns, and the array is as long as its numbers say
+pub record HasParts (version : ℕ) (numbers : List ℕ) : Type 0 where
+  pub version_is : slice_index numbers 0 ≡ version
+  pub few : slice_index numbers 3 ≤ PatternID.LIMIT
+  pub fits : prepared_len numbers ≤ length numbers
+
+-- the array has the parts of a search for the leftmost match, and the second number is the check over those behind it
+pub record IsWhole (numbers : List ℕ) : Type 0 where
+  pub parts : HasParts PREPARED_VERSION numbers
+  pub check : slice_index numbers 1 ≡ check_of (slice_range numbers 2 (prepared_len numbers))
+
+-- the array begins with a whole search for the patterns: the length of the longest, classes that tell their bytes, the
+-- length of each, and rows that recognise their texts in these classes
+pub record IsPrepared (query : Query) (ignore_case : Bool) (numbers : List ℕ) : Type 0 where
+  pub whole : IsWhole numbers
+  pub longest : slice_index numbers 5 ≡ longest_of query.patterns
+  pub classes : AreClasses (classes_in numbers) (width_in numbers)
+  pub tells : Tells ignore_case (classes_in numbers) query.patterns
+  pub lengths : lengths_in numbers ≡ map (λ bytes. length bytes) query.patterns
+  pub recognises : Recognises (root_kind_of query.kind) (map (symbols_in (classes_in numbers)) query.patterns)
+      (width_in numbers) (rows_in numbers)
+  pub kept : CanBeKept query.patterns
+
+-- what holds of whatever an array is prepared for
+abbrev pub ForPrepared : List ℕ → (Query → Bool → Type 0) → Type 0
+ForPrepared numbers P =
+    (query : Query) (ignore_case : Bool) → IsPrepared query ignore_case numbers → P query ignore_case
+
+-- how many places a search takes: those in front, one for each pattern, and the rows of all states
+unfoldable pub TakesPlaces : Query → Bool → ℕ → Type 0
+TakesPlaces query ignore_case needed =
+    HoldsInClasses (λ texts width. (rows : ℕ) × IsRowsLength (root_kind_of query.kind) texts width rows
+    × (needed ≡ LENGTHS_AT + length query.patterns + rows)) ignore_case query.patterns
+
+-- numbers that are for a search are written into the first places of an array, as many as it takes, and the others stay
+-- as they were
+pub record WritesNumbers (AreFor : List ℕ → Type 0) (Takes : ℕ → Type 0) (old new : List ℕ) (needed : ℕ) : Type 0 where
+  pub len : length new ≡ length old
+  pub fits : needed ≤ length new
+  pub takes : Takes needed
+  pub prepared : AreFor (take needed new)
+  pub others : drop needed new ≡ drop needed old
+
+-- the search for the leftmost match is written into an array
+abbrev pub WritesPrepared : Query → Bool → List ℕ → List ℕ → ℕ → Type 0
+WritesPrepared query ignore_case = WritesNumbers (IsPrepared query ignore_case) (TakesPlaces query ignore_case)
+
+-- the length of each pattern is below 2^32
+abbrev pub AreShort : List (List ℕ) → Type 0
+AreShort patterns = All (λ (bytes : List ℕ). length bytes < 2 ^ 32) patterns
+
+-- why a search for patterns is not written into an array: not all patterns are short; or they are, and its lists are
+-- too long, or the array has fewer places than it takes, which would be enough
+abbrev pub RefusesNumbers : List (List ℕ) → Type 0 → (List ℕ → Type 0) → (ℕ → Type 0) → List ℕ → PrepareError → Type 0
+RefusesNumbers patterns HasLongLists AreFor Takes array PatternTooLong = ¬ AreShort patterns
+RefusesNumbers patterns HasLongLists AreFor Takes array ListsTooLong = AreShort patterns × HasLongLists
+RefusesNumbers patterns HasLongLists AreFor Takes array (ArrayTooShort needed) =
+    AreShort patterns × (length array < needed) × Takes needed
+    × ((numbers : List ℕ) × AreFor numbers × (length numbers ≡ needed))
+
+-- why the search for the leftmost match is not, which has no lists
+abbrev pub RefusesToPrepare : Query → Bool → List ℕ → PrepareError → Type 0
+RefusesToPrepare query ignore_case =
+    RefusesNumbers query.patterns ⊥ (IsPrepared query ignore_case) (TakesPlaces query ignore_case)
+
+-- a match lies in the span, and is not empty
+pub record LiesIn (span : Span) (found : MatchValue) : Type 0 where
+  pub start : span.start ≤ found.start
+  pub some : found.start < found.end
+  pub end : found.end ≤ span.end

@@ -1,0 +1,140 @@
+-- A search for everything that occurs as numbers in an array that is lent.
+use Rattle.std.specs.Prelude.{◌≡◌, ◌⊎◌, ◌+◌, ◌<◌, ◌≤◌, ◌^◌, ℕ, Bool, List, length, map, slice_index, slice_range}
+use Rattle.literal_base.specs.declared.search.MatchKind.TheVariants.{Standard}
+use Rattle.literal_base.specs.declared.search.Span.{Span}
+use Rattle.literal_search.specs.SearchValue.{CanBeKept, HoldsInClasses, width_for}
+use Rattle.literal_search.specs.Inside.Classes.{AreClasses, Tells, symbols_in}
+use Rattle.literal_search.specs.Inside.Lists.{AreLists}
+use Rattle.literal_search.specs.Overlapping.{OverlappingValue}
+use Rattle.literal_search.specs.OverlappingMatchesValue.{OverlappingMatchesValue}
+use Rattle.literal_search.specs.Prepared.{HasParts, RefusesNumbers, WritesNumbers, check_of, classes_in}
+use Rattle.literal_search.specs.Prepared.{lengths_in, prepared_len, rows_in, width_in}
+use Rattle.literal_search.specs.States.{IsRowsLength}
+use Rattle.literal_search.specs.Table.{Recognises}
+use Rattle.literal_search.specs.declared.prepared.PrepareError.{PrepareError}
+use Rattle.literal_search.specs.declared.prepared.TheConstants.{LENGTHS_AT, OVERLAPPING_VERSION}
+
+-- what a search for everything that occurs of patterns reads: classes of bytes, rows, and lists of the patterns that
+-- are an end of each, one behind another, and where each begins
+pub record Tables : Type 0 where
+  pub patterns : List (List ℕ)
+  pub ignore_case : Bool
+  pub classes : List ℕ
+  pub width : ℕ
+  pub rows : List ℕ
+  pub ends : List ℕ
+  pub starts : List ℕ
+
+-- the classes of the patterns' bytes
+abbrev pub texts_in : Tables → List (List ℕ)
+texts_in t = map (symbols_in t.classes) t.patterns
+
+-- each byte has a class, by which those of the patterns are told from others; the rows are for all that occurs, by
+-- these classes, and the lists are those of the patterns that are an end of one; none is empty
+pub record AreTables (t : Tables) : Type 0 where
+  pub classes : AreClasses t.classes t.width
+  pub tells : Tells t.ignore_case t.classes t.patterns
+  pub recognises : Recognises Standard (texts_in t) t.width t.rows
+  pub lists : AreLists (texts_in t) t.ends t.starts (length t.patterns)
+  pub kept : CanBeKept t.patterns
+
+-- there are as many classes and rows as the patterns need
+pub record AreSized (t : Tables) : Type 0 where
+  pub width : t.width ≡ width_for t.ignore_case t.patterns
+  pub rows : IsRowsLength Standard (texts_in t) t.width (length t.rows)
+
+-- where the lists begin, behind a number for each pattern that says where its list does, and one more
+abbrev pub ends_at : List ℕ → ℕ
+ends_at numbers = prepared_len numbers + slice_index numbers 3 + 1
+
+-- how many numbers are those of the search; the last of these says how long the lists are
+abbrev pub listed_len : List ℕ → ℕ
+listed_len numbers = ends_at numbers + slice_index numbers (prepared_len numbers + slice_index numbers 3)
+
+-- where each list begins, and the last ends
+abbrev pub starts_in : List ℕ → List ℕ
+starts_in numbers = slice_range numbers (prepared_len numbers) (ends_at numbers)
+
+-- the lists
+abbrev pub ends_in : List ℕ → List ℕ
+ends_in numbers = slice_range numbers (ends_at numbers) (listed_len numbers)
+
+-- the array has the parts of a search for everything that occurs, and is as long as these and its lists are
+pub record HasLists (numbers : List ℕ) : Type 0 where
+  pub parts : HasParts OVERLAPPING_VERSION numbers
+  pub fits : listed_len numbers ≤ length numbers
+
+-- the same, and the second number is the check over those of the search behind it
+pub record IsWholeOverlapping (numbers : List ℕ) : Type 0 where
+  pub lists : HasLists numbers
+  pub check : slice_index numbers 1 ≡ check_of (slice_range numbers 2 (listed_len numbers))
+
+-- the tables in an array
+abbrev pub tables_in : OverlappingValue → List ℕ → Tables
+tables_in search numbers = record {
+  patterns = search.patterns;
+  ignore_case = search.ignore_case;
+  classes = classes_in numbers;
+  width = width_in numbers;
+  rows = rows_in numbers;
+  ends = ends_in numbers;
+  starts = starts_in numbers;
+}
+
+-- the array begins with a whole search for everything that occurs: with its tables, and the length of each pattern
+pub record IsPreparedOverlapping (search : OverlappingValue) (numbers : List ℕ) : Type 0 where
+  pub whole : IsWholeOverlapping numbers
+  pub tables : AreTables (tables_in search numbers)
+  pub lengths : lengths_in numbers ≡ map (λ bytes. length bytes) search.patterns
+
+-- what holds of whatever search for everything that occurs an array is prepared for
+abbrev pub ForOverlapping : List ℕ → (OverlappingValue → Type 0) → Type 0
+ForOverlapping numbers P = (search : OverlappingValue) → IsPreparedOverlapping search numbers → P search
+
+-- in some classes there are rows for the patterns' texts, of so many numbers, and lists
+abbrev pub HaveTables : OverlappingValue → (ℕ → List ℕ → List ℕ → Type 0) → Type 0
+HaveTables search P =
+    HoldsInClasses (λ texts width. (rows : ℕ) × IsRowsLength Standard texts width rows
+    × (ends : List ℕ) × (starts : List ℕ) × AreLists texts ends starts (length search.patterns) × P rows ends starts)
+    search.ignore_case search.patterns
+
+-- how many places a search takes: those in front, one for each pattern, the rows of all states, and the lists with the
+-- places where these begin
+unfoldable pub TakesListedPlaces : OverlappingValue → ℕ → Type 0
+TakesListedPlaces search needed = HaveTables search (λ rows ends starts. needed
+    ≡ LENGTHS_AT + length search.patterns + rows + length starts + length ends)
+
+-- the lists have 2^32 numbers or more
+unfoldable pub HasLongLists : OverlappingValue → Type 0
+HasLongLists search = HaveTables search (λ rows ends starts. 2 ^ 32 ≤ length ends)
+
+-- the search is written into the first places of an array
+abbrev pub WritesOverlapping : OverlappingValue → List ℕ → List ℕ → ℕ → Type 0
+WritesOverlapping search = WritesNumbers (IsPreparedOverlapping search) (TakesListedPlaces search)
+
+-- why it is not
+abbrev pub RefusesOverlapping : OverlappingValue → List ℕ → PrepareError → Type 0
+RefusesOverlapping search =
+    RefusesNumbers search.patterns (HasLongLists search) (IsPreparedOverlapping search) (TakesListedPlaces search)
+
+-- a `PreparedOverlappingMatches` as contracts see it: by which array, where, and from which end and, at that one, from
+-- which identifier on it goes on
+pub record PreparedOverlappingMatchesValue : Type 0 where
+  pub numbers : List ℕ
+  pub haystack : List ℕ
+  pub span : Span
+  pub end : ℕ
+  pub pattern : ℕ
+
+-- the same for a search that the array is prepared for
+abbrev pub matches_for : OverlappingValue → PreparedOverlappingMatchesValue → OverlappingMatchesValue
+matches_for search m =
+    record { search = search; haystack = m.haystack; span = m.span; end = m.end; pattern = m.pattern }
+
+-- it stands at the end of the span, behind the last pattern, of which there are as many as the fourth number says
+abbrev pub HasEnded : PreparedOverlappingMatchesValue → Type 0
+HasEnded m = (m.end ≡ m.span.end) × (m.pattern ≡ slice_index m.numbers 3)
+
+-- an end and an identifier do not come before others: the end is greater, or the same and the identifier no smaller
+abbrev pub IsNotBefore : ℕ → ℕ → ℕ → ℕ → Type 0
+IsNotBefore end pattern other_end other_pattern = (other_end < end) ⊎ ((other_end ≡ end) × (other_pattern ≤ pattern))

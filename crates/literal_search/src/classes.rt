@@ -1,0 +1,115 @@
+//! Classes of bytes: numbers that tell the bytes of the patterns from each other and from all others.
+ghost use Rattle.std.specs.Prelude.{◌≡◌, ◌+◌, ◌<◌, ◌≤◌, ℕ, true, false, length, map, slice_index, slice_index_or};
+ghost use Rattle.std.specs.Prelude.{◌⊎◌, count_by, min};
+ghost use Rattle.literal_search.specs.SearchValue.{width_for};
+ghost use Rattle.literal_search.specs.Inside.Classes.{AreClasses, AreNumbers, IsFoldOfOne, Marks, Tells};
+ghost use Rattle.literal_search.specs.Inside.Classes.{TellsMarked, folded};
+
+/// The class of each byte, and how many classes there are: 1 to 256.
+#[derive(Clone, Copy)]
+pub struct Classes {
+    pub table: [u8; 256],
+    pub width: usize,
+}
+
+/// The same with numbers as long as those in rows.
+#[derive(Clone, Copy)]
+pub struct ClassNumbers {
+    pub table: [u32; 256],
+    pub width: usize,
+}
+
+impl Classes {
+    /// Each class as a longer number.
+    pub fn to_numbers(&self) -> ClassNumbers
+        ensures { result ≡ record { table = self.now.table; width = self.now.width } }
+    {
+        let mut table = [0; 256];
+        for byte in 0usize..256 {
+            table[byte] = u32::from(self.table[byte]);
+        }
+        ClassNumbers {
+            table,
+            width: self.width,
+        }
+    }
+}
+
+/// Classes that tell the bytes of these patterns from all others. Where case is ignored, both letters
+/// of a case have one class.
+pub fn classes_for(ignore_case: bool, patterns: &[Vec<u8>]) -> Classes
+    ensures classes { AreClasses result.table result.width }
+    ensures tells { Tells ignore_case result.table (map (λ pattern. pattern.items) patterns.now) }
+    ensures width { result.width ≡ width_for ignore_case (map (λ pattern. pattern.items) patterns.now) }
+{
+    let mut seen = [false; 256];
+    for pattern in patterns {
+        mark(&mut seen, ignore_case, pattern);
+    }
+    folded_table(ignore_case, &seen, &numbers(&seen))
+}
+
+/// Marks the bytes of a pattern.
+fn mark(seen: &mut [bool], ignore_case: bool, pattern: &[u8])
+    requires { length seen.old ≡ 256 }
+    ensures marks { Marks ignore_case seen.new pattern.now }
+    ensures keeps { (b : ℕ) → slice_index_or seen.old b false ≡ true → slice_index_or seen.new b false ≡ true }
+    ensures only { (b : ℕ) → slice_index_or seen.new b false ≡ true → (slice_index_or seen.old b false ≡ true)
+        ⊎ IsFoldOfOne ignore_case pattern.now b }
+{
+    for byte in pattern {
+        seen[fold(ignore_case, *byte) as usize] = true;
+    }
+}
+
+/// The byte; where case is ignored, the small letter of one of A to Z.
+fn fold(ignore_case: bool, byte: u8) -> u8
+    ensures { result ≡ folded ignore_case byte }
+{
+    if ignore_case {
+        byte.to_ascii_lowercase()
+    } else {
+        byte
+    }
+}
+
+/// A number for each marked byte, from 0 up, and the next one.
+fn numbers(seen: &[bool]) -> Classes
+    requires { length seen.now ≡ 256 }
+    ensures numbers { AreNumbers seen.now result.table 256 result.width }
+    ensures count { result.width ≡ count_by (λ is_seen. is_seen) seen.now }
+{
+    let mut table = [0; 256];
+    let mut next = 0;
+    for byte in 0usize..256 {
+        if seen[byte] {
+            table[byte] = next as u8;
+            next += 1;
+        }
+    }
+    Classes { table, width: next }
+}
+
+/// The number of each byte once it is folded, and the next one for all that are not marked.
+fn folded_table(ignore_case: bool, seen: &[bool], numbers: &Classes) -> Classes
+    requires marked { length seen.now ≡ 256 }
+    requires numbered { AreNumbers seen.now numbers.now.table 256 numbers.now.width }
+    ensures classes { AreClasses result.table result.width }
+    ensures tells { TellsMarked ignore_case seen.now result.table }
+    ensures width { result.width ≡ min (numbers.now.width + 1) 256 }
+{
+    let mut table = [0; 256];
+    let other = numbers.width.min(255) as u8;
+    for byte in 0usize..256 {
+        let small = fold(ignore_case, byte as u8) as usize;
+        table[byte] = if seen[small] {
+            numbers.table[small]
+        } else {
+            other
+        };
+    }
+    Classes {
+        table,
+        width: other as usize + 1,
+    }
+}

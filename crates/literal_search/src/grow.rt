@@ -1,0 +1,550 @@
+//! The states of an automaton, made from the shorter to the longer words, and their rows.
+ghost use Rattle.std.specs.Prelude.{◌≡◌, ◌+◌, ◌-◌, ◌*◌, ◌<◌, ◌≤◌, ◌^◌, ◌++◌, ◌∷◌, ◌==◌, ◌&&◌, [], ℕ, if◌then◌else◌};
+ghost use Rattle.std.specs.Prelude.{IfErr, IfOk, IfSome, List, None, Option, Some, false, length, map, slice_index};
+ghost use Rattle.std.specs.Prelude.{slice_index_or, slice_range, true};
+ghost use Rattle.std.specs.List.{filter, find, range_with_len};
+ghost use Rattle.std.specs.Option.{unwrap_or};
+ghost use Rattle.literal_base.specs.Occurs.{NoneIsEmpty, pattern_at};
+ghost use Rattle.literal_search.specs.Table.{Leads, LeadsTo, Recognises, code_of, nothing, stride_of};
+ghost use Rattle.literal_search.specs.Words.{first_equal, word_of};
+ghost use Rattle.literal_search.specs.Inside.Classes.{AreClasses, symbols_in};
+ghost use Rattle.literal_search.specs.Inside.Grown.{AreWords, IsLonger, LeadsBy, ending_held, goes_on, held_else};
+ghost use Rattle.literal_search.specs.Inside.Grown.{list_for, up_to_whole};
+ghost use Rattle.literal_search.specs.States.{AreStates, HasTooManyStates, IsRowsLength};
+ghost use Rattle.literal_search.specs.Inside.Growing.{AreTexts, Grows, IsCode, IsState, list_in, texts_of};
+ghost use Rattle.literal_search.specs.Inside.Growing.{word_in, words_of};
+
+use crate::walk::{ENDS, NOTHING};
+use literal_base::search::MatchKind;
+use std::alloc::{AllocError, Global};
+
+/// Why there are no rows.
+#[derive(Clone, Copy, Debug, PartialEq, Eq, Drop)]
+pub enum GrowError {
+    /// Memory was refused.
+    OutOfMemory,
+    /// The rows would be longer than the numbers in them reach.
+    TooManyStates,
+}
+
+/// [`GrowError::OutOfMemory`].
+impl From<AllocError> for GrowError {
+    ghost use Rattle.literal_search.specs.declared.grow.GrowError.TheVariants.{OutOfMemory};
+
+    ghost from_gives = { λ _ error. error ≡ OutOfMemory };
+
+    fn from(_: AllocError) -> GrowError {
+        GrowError::OutOfMemory
+    }
+}
+
+/// How long all rows may be together.
+const LIMIT: usize = (1 << 31) - 1;
+
+/// Patterns, whose bytes are read by their classes.
+#[derive(Clone, Copy)]
+pub struct Texts<'p> {
+    pub kind: MatchKind,
+    pub classes: &'p [u8; 256],
+    pub width: usize,
+    pub patterns: &'p [Vec<u8>],
+}
+
+impl<'p> Texts<'p> {
+    /// Whether a pattern goes on with a class behind so many symbols.
+    fn goes_on(&self, pattern: u32, depth: u32, class: u8) -> bool
+        requires texts { AreTexts self.now }
+        requires is_pattern { pattern < length self.now.patterns.now }
+        ensures { result ≡ goes_on (pattern_at (texts_of self.now) pattern) depth class }
+    {
+        let bytes = self.patterns[pattern as usize].as_slice();
+        let at = depth as usize;
+        at < bytes.len() && self.classes[bytes[at] as usize] == class
+    }
+
+    /// Whether a pattern ends behind so many symbols and one more.
+    fn ends_behind(&self, pattern: u32, depth: u32) -> bool
+        requires { pattern < length self.now.patterns.now }
+        ensures { result ≡ (length (pattern_at (texts_of self.now) pattern) == depth + 1) }
+    {
+        self.patterns[pattern as usize].len() == depth as usize + 1
+    }
+
+    /// Whether the rows of the fronts of a pattern are too long.
+    fn is_too_long(&self, pattern: usize) -> bool
+        requires texts { AreTexts self.now }
+        requires is_pattern { pattern < length self.now.patterns.now }
+        ensures { result ≡ true → 2 ^ 31 - 1
+            < (length (pattern_at (texts_of self.now) pattern) + 1) * stride_of self.now.width }
+    {
+        self.patterns[pattern].len() >= LIMIT / (self.width + 1)
+    }
+
+    /// Whether one pattern alone makes the rows too long, of those of which every front has a state.
+    fn has_too_long(&self) -> bool
+        requires { AreTexts self.now }
+        ensures { result ≡ true → HasTooManyStates self.now.kind (texts_of self.now) self.now.width }
+    {
+        for pattern in 0..self.patterns.len() {
+            if self.is_too_long(pattern) {
+                return true;
+            }
+            if self.kind == MatchKind::LeftmostFirst {
+                return false;
+            }
+        }
+        false
+    }
+}
+
+/// A state. Its word is the front of a pattern, and its list the patterns that begin with the word and may still win.
+#[derive(Clone, Copy)]
+pub struct State {
+    /// A pattern that begins with the word.
+    pub pattern: u32,
+    /// How long the word is.
+    pub depth: u32,
+    /// Where in all lists its own begins and ends.
+    pub start: usize,
+    pub end: usize,
+    /// The number in a row for the state of what is held behind the word's first symbol.
+    pub link: u32,
+    /// The pattern that ends with the word.
+    pub ending: u32,
+}
+
+/// States, each by its number, of which the first have their rows.
+#[derive(Drop)]
+pub struct Growing<'p> {
+    pub texts: Texts<'p>,
+    pub states: Vec<State>,
+    pub lists: Vec<u32>,
+    pub rows: Vec<u32>,
+}
+
+impl<'p> Growing<'p> {
+    /// The classes with which a pattern of a state's list goes on.
+    fn marks(&self, state: usize) -> [bool; 256]
+        requires grows { Grows self.now }
+        requires is_state { state < length self.now.states.items }
+        ensures { (class : ℕ) → slice_index_or result class false ≡ false → list_for self.now.texts.kind
+            (texts_of self.now.texts) (word_of (words_of self.now) state ++ class ∷ []) ≡ [] }
+    {
+        let mut marks = [false; 256];
+        let State {
+            depth,
+            start,
+            end,
+            ..
+        } = self.states[state];
+        for pattern in &self.lists[start..end] {
+            let bytes = self.texts.patterns[*pattern as usize].as_slice();
+            if (depth as usize) < bytes.len() {
+                let class = self.texts.classes[bytes[depth as usize] as usize];
+                marks[class as usize] = true;
+            }
+        }
+        marks
+    }
+
+    /// Adds a pattern to the lists if it goes on with a class, and answers whether it ends there.
+    fn push_if_longer(&mut self, depth: u32, class: u8, pattern: u32) -> Result<bool, AllocError>
+        requires texts { AreTexts self.old.texts }
+        requires is_pattern { pattern < length self.old.texts.patterns.now }
+        ensures lists { IfOk result (λ _. self.new.lists.items ≡ self.old.lists.items
+            ++ (if goes_on (pattern_at (texts_of self.old.texts) pattern) depth class then pattern ∷ [] else [])) }
+        ensures whole { IfOk result (λ whole. whole
+            ≡ (goes_on (pattern_at (texts_of self.old.texts) pattern) depth class
+            && length (pattern_at (texts_of self.old.texts) pattern) == depth + 1)) }
+        ensures same { (self.new.texts ≡ self.old.texts) × (self.new.states ≡ self.old.states)
+            × (self.new.rows ≡ self.old.rows) }
+    {
+        if !self.texts.goes_on(pattern, depth, class) {
+            return Ok(false);
+        }
+        self.lists.push(pattern)?;
+        Ok(self.texts.ends_behind(pattern, depth))
+    }
+
+    /// Adds to the lists the patterns of a state's list that go on with a class, and answers the first
+    /// of them that ends there.
+    fn push_longer(&mut self, here: State, class: u8) -> Result<Option<u32>, AllocError>
+        requires texts { AreTexts self.old.texts }
+        requires ordered { here.start ≤ here.end }
+        requires inside { here.end ≤ length self.old.lists.items }
+        requires numbers { (k d : ℕ) → k < length self.old.lists.items
+            → slice_index_or self.old.lists.items k d < length self.old.texts.patterns.now }
+        ensures lists { IfOk result (λ _. self.new.lists.items ≡ self.old.lists.items
+            ++ up_to_whole self.old.texts.kind
+            (λ i. length (pattern_at (texts_of self.old.texts) i) == here.depth + 1)
+            (filter (λ i. goes_on (pattern_at (texts_of self.old.texts) i) here.depth class)
+            (list_in self.old.lists.items here))) }
+        ensures whole { IfOk result (λ whole. whole
+            ≡ find (λ i. length (pattern_at (texts_of self.old.texts) i) == here.depth + 1)
+            (filter (λ i. goes_on (pattern_at (texts_of self.old.texts) i) here.depth class)
+            (list_in self.old.lists.items here))) }
+        ensures numbers { IfOk result (λ _. (k d : ℕ) → k < length self.new.lists.items
+            → slice_index_or self.new.lists.items k d < length self.old.texts.patterns.now) }
+        ensures same { IfOk result (λ _. (self.new.texts ≡ self.old.texts) × (self.new.states ≡ self.old.states)
+            × (self.new.rows ≡ self.old.rows)) }
+    {
+        let mut whole = None;
+        for place in here.start..here.end {
+            let pattern = self.lists[place];
+            if self.push_if_longer(here.depth, class, pattern)? {
+                whole = whole.or(Some(pattern));
+                if self.texts.kind == MatchKind::LeftmostFirst {
+                    return Ok(whole);
+                }
+            }
+        }
+        Ok(whole)
+    }
+
+    /// The same, for a state by its number.
+    fn push_list(&mut self, state: usize, class: u8) -> Result<Option<u32>, AllocError>
+        requires grows { Grows self.old }
+        requires is_state { state < length self.old.states.items }
+        ensures grows { IfOk result (λ _. Grows self.new) }
+        ensures lists { IfOk result (λ _. self.new.lists.items ≡ self.old.lists.items
+            ++ list_for self.old.texts.kind (texts_of self.old.texts)
+            (word_of (words_of self.old) state ++ class ∷ [])) }
+        ensures whole { IfOk result (λ whole. whole ≡ first_equal self.old.texts.kind (texts_of self.old.texts)
+            (word_of (words_of self.old) state ++ class ∷ [])) }
+        ensures same { IfOk result (λ _. (self.new.texts ≡ self.old.texts) × (self.new.states ≡ self.old.states)
+            × (self.new.rows ≡ self.old.rows)) }
+    {
+        let here = self.states[state];
+        let whole = self.push_longer(here, class)?;
+        Ok(whole)
+    }
+
+    /// The number in a row for what is held behind a state and a class, where no pattern goes on with it.
+    fn behind_link(&self, state: usize, class: u8) -> u32
+        requires grows { Grows self.now }
+        requires is_state { state < length self.now.states.items }
+        requires is_class { class < self.now.texts.width }
+        requires filled { state * stride_of self.now.texts.width ≤ length self.now.rows.items }
+        ensures { LeadsBy self.now.texts.kind (texts_of self.now.texts) (words_of self.now) self.now.texts.width result
+            (held_else self.now.texts.kind (texts_of self.now.texts) (word_of (words_of self.now) state) class) }
+    {
+        if state == 0 {
+            return 0;
+        }
+        let link = self.states[state].link;
+        if link == NOTHING {
+            return NOTHING;
+        }
+        self.rows[place_of(link) + class as usize]
+    }
+
+    /// The ending of the state to which a number in a row leads.
+    fn ending_of(&self, code: u32) -> u32
+        requires grows { Grows self.now }
+        requires leads { IsCode self.now code }
+        ensures { (word : Option (List ℕ)) → LeadsBy self.now.texts.kind (texts_of self.now.texts) (words_of self.now)
+            self.now.texts.width code word
+            → result ≡ unwrap_or (ending_held self.now.texts.kind (texts_of self.now.texts) word) nothing }
+    {
+        if code == NOTHING {
+            return NOTHING;
+        }
+        self.states[place_of(code) / (self.texts.width + 1)].ending
+    }
+
+    /// The state behind a state and a class whose list begins at a place, where the first pattern that ends there and
+    /// the number for what is held otherwise are known.
+    fn state_behind(
+        &self,
+        state: usize,
+        class: u8,
+        start: usize,
+        whole: Option<u32>,
+        behind: u32,
+    ) -> State
+        requires grows { Grows self.now }
+        requires is_state { state < length self.now.states.items }
+        requires some { start < length self.now.lists.items }
+        requires listed { slice_range self.now.lists.items start (length self.now.lists.items)
+            ≡ list_for self.now.texts.kind (texts_of self.now.texts) (word_of (words_of self.now) state ++ class ∷ []) }
+        requires whole { whole ≡ first_equal self.now.texts.kind (texts_of self.now.texts)
+            (word_of (words_of self.now) state ++ class ∷ []) }
+        requires behind { LeadsBy self.now.texts.kind (texts_of self.now.texts) (words_of self.now) self.now.texts.width
+            behind (held_else self.now.texts.kind (texts_of self.now.texts) (word_of (words_of self.now) state) class) }
+        ensures word { word_in (texts_of self.now.texts) result ≡ word_of (words_of self.now) state ++ class ∷ [] }
+        ensures state { IsState self.now.texts.kind (texts_of self.now.texts) (words_of self.now) self.now.texts.width
+            self.now.lists.items (length self.now.states.items) result }
+    {
+        let _ = class; // (its contract names it)
+        let link = if whole.is_some() && self.texts.kind != MatchKind::Standard {
+            NOTHING
+        } else {
+            behind
+        };
+        let ending = match whole {
+            Some(pattern) => pattern,
+            None => self.ending_of(link),
+        };
+        State {
+            pattern: self.lists[start],
+            depth: self.states[state].depth + 1,
+            start,
+            end: self.lists.len(),
+            link,
+            ending,
+        }
+    }
+
+    /// Adds a state, where the rows of so many are not too long, and answers the number in a row for it.
+    fn add_state(&mut self, state: State) -> Result<u32, GrowError>
+        requires grows { Grows self.old }
+        requires state { IsState self.old.texts.kind (texts_of self.old.texts) (words_of self.old) self.old.texts.width
+            self.old.lists.items (length self.old.states.items) state }
+        requires different { AreStates self.old.texts.kind (texts_of self.old.texts)
+            (words_of self.old ++ word_in (texts_of self.old.texts) state ∷ []) }
+        ensures grows { IfOk result (λ _. Grows self.new) }
+        ensures words { IfOk result (λ _. words_of self.new
+            ≡ words_of self.old ++ word_in (texts_of self.old.texts) state ∷ []) }
+        ensures too_many { IfErr result (λ error. error ≡ GrowError.TooManyStates
+            → HasTooManyStates self.old.texts.kind (texts_of self.old.texts) self.old.texts.width) }
+        ensures code { IfOk result (λ code. LeadsTo self.old.texts.kind (texts_of self.old.texts) (words_of self.new)
+            self.old.texts.width code (word_in (texts_of self.old.texts) state)) }
+        ensures same { IfOk result (λ _. (self.new.texts ≡ self.old.texts) × (self.new.rows ≡ self.old.rows)) }
+    {
+        let place = self.states.len() * (self.texts.width + 1);
+        if place + self.texts.width + 1 > LIMIT {
+            return Err(GrowError::TooManyStates);
+        }
+        self.push_state(state)?;
+        Ok(code_for(place as u32, state.ending))
+    }
+
+    /// Adds a state.
+    fn push_state(&mut self, state: State) -> Result<(), AllocError>
+        requires grows { Grows self.old }
+        requires state { IsState self.old.texts.kind (texts_of self.old.texts) (words_of self.old) self.old.texts.width
+            self.old.lists.items (length self.old.states.items) state }
+        requires few { (length self.old.states.items + 1) * stride_of self.old.texts.width ≤ 2 ^ 31 - 1 }
+        ensures grows { IfOk result (λ _. Grows self.new) }
+        ensures words { IfOk result (λ _. words_of self.new
+            ≡ words_of self.old ++ word_in (texts_of self.old.texts) state ∷ []) }
+        ensures same { IfOk result (λ _. (self.new.texts ≡ self.old.texts) × (self.new.rows ≡ self.old.rows)) }
+    {
+        self.states.push(state)?;
+        Ok(())
+    }
+
+    /// The number in a row for a state and a class, which may be marked. Adds the state to which it
+    /// leads where a pattern goes on with the class.
+    fn next(&mut self, state: usize, class: u8, is_marked: bool) -> Result<u32, GrowError>
+        requires grows { Grows self.old }
+        requires is_state { state < length self.old.states.items }
+        requires is_class { class < self.old.texts.width }
+        requires filled { length self.old.rows.items ≡ state * stride_of self.old.texts.width + class }
+        requires words { AreWords self.old.texts.kind (texts_of self.old.texts) (words_of self.old) self.old.texts.width
+            (length self.old.rows.items) }
+        requires unmarked { is_marked ≡ false → list_for self.old.texts.kind (texts_of self.old.texts)
+            (word_of (words_of self.old) state ++ class ∷ []) ≡ [] }
+        ensures grows { IfOk result (λ _. Grows self.new) }
+        ensures leads { IfOk result (λ code. Leads self.old.texts.kind (texts_of self.old.texts) (words_of self.new)
+            self.old.texts.width code (word_of (words_of self.old) state ++ class ∷ [])) }
+        ensures words { IfOk result (λ _. AreWords self.old.texts.kind (texts_of self.old.texts) (words_of self.new)
+            self.old.texts.width (length self.old.rows.items + 1)) }
+        ensures too_many { IfErr result (λ error. error ≡ GrowError.TooManyStates
+            → HasTooManyStates self.old.texts.kind (texts_of self.old.texts) self.old.texts.width) }
+        ensures kept { IfOk result (λ _. IsLonger (words_of self.old) (words_of self.new)) }
+        ensures same { IfOk result (λ _. (self.new.texts ≡ self.old.texts) × (self.new.rows ≡ self.old.rows)) }
+    {
+        let behind = self.behind_link(state, class);
+        if !is_marked {
+            return Ok(behind);
+        }
+        let start = self.lists.len();
+        let whole = self.push_list(state, class)?;
+        if self.lists.len() == start {
+            return Ok(behind);
+        }
+        let next = self.state_behind(state, class, start, whole, behind);
+        let code = self.add_state(next)?;
+        Ok(code)
+    }
+
+    /// Adds to the rows the number for a state and a class.
+    fn push_next(&mut self, state: usize, class: u8, next: u32) -> Result<(), AllocError>
+        requires grows { Grows self.old }
+        requires is_state { state < length self.old.states.items }
+        requires is_class { class < self.old.texts.width }
+        requires filled { length self.old.rows.items ≡ state * stride_of self.old.texts.width + class }
+        requires leads { Leads self.old.texts.kind (texts_of self.old.texts) (words_of self.old) self.old.texts.width
+            next (word_of (words_of self.old) state ++ class ∷ []) }
+        ensures grows { IfOk result (λ _. Grows self.new) }
+        ensures filled { IfOk result (λ _. length self.new.rows.items ≡ length self.old.rows.items + 1) }
+        ensures same { IfOk result (λ _. (self.new.texts ≡ self.old.texts) × (self.new.states ≡ self.old.states)) }
+    {
+        let _ = (state, class); // (its contract names them)
+        self.rows.push(next)?;
+        Ok(())
+    }
+
+    /// Adds to the rows the ending of a state, behind its numbers for all classes.
+    fn push_ending(&mut self, state: usize) -> Result<(), AllocError>
+        requires grows { Grows self.old }
+        requires is_state { state < length self.old.states.items }
+        requires filled { length self.old.rows.items ≡ state * stride_of self.old.texts.width + self.old.texts.width }
+        ensures grows { IfOk result (λ _. Grows self.new) }
+        ensures filled { IfOk result (λ _. length self.new.rows.items ≡ length self.old.rows.items + 1) }
+        ensures same { IfOk result (λ _. (self.new.texts ≡ self.old.texts) × (self.new.states ≡ self.old.states)) }
+    {
+        let ending = self.states[state].ending;
+        self.rows.push(ending)?;
+        Ok(())
+    }
+
+    /// Adds the place of a state and a class to the rows.
+    fn add_place(&mut self, state: usize, class: u8, is_marked: bool) -> Result<(), GrowError>
+        requires grows { Grows self.old }
+        requires is_state { state < length self.old.states.items }
+        requires is_class { class < self.old.texts.width }
+        requires filled { length self.old.rows.items ≡ state * stride_of self.old.texts.width + class }
+        requires words { AreWords self.old.texts.kind (texts_of self.old.texts) (words_of self.old) self.old.texts.width
+            (length self.old.rows.items) }
+        requires unmarked { is_marked ≡ false → list_for self.old.texts.kind (texts_of self.old.texts)
+            (word_of (words_of self.old) state ++ class ∷ []) ≡ [] }
+        ensures grows { IfOk result (λ _. Grows self.new) }
+        ensures filled { IfOk result (λ _. length self.new.rows.items ≡ length self.old.rows.items + 1) }
+        ensures words { IfOk result (λ _. AreWords self.old.texts.kind (texts_of self.old.texts) (words_of self.new)
+            self.old.texts.width (length self.new.rows.items)) }
+        ensures too_many { IfErr result (λ error. error ≡ GrowError.TooManyStates
+            → HasTooManyStates self.old.texts.kind (texts_of self.old.texts) self.old.texts.width) }
+        ensures kept { IfOk result (λ _. IsLonger (words_of self.old) (words_of self.new)) }
+        ensures same { IfOk result (λ _. self.new.texts ≡ self.old.texts) }
+    {
+        let next = self.next(state, class, is_marked)?;
+        self.push_next(state, class, next)?;
+        Ok(())
+    }
+
+    /// Adds the row of a state.
+    fn add_row(&mut self, state: usize) -> Result<(), GrowError>
+        requires grows { Grows self.old }
+        requires is_state { state < length self.old.states.items }
+        requires filled { length self.old.rows.items ≡ state * stride_of self.old.texts.width }
+        requires words { AreWords self.old.texts.kind (texts_of self.old.texts) (words_of self.old) self.old.texts.width
+            (length self.old.rows.items) }
+        ensures grows { IfOk result (λ _. Grows self.new) }
+        ensures filled { IfOk result (λ _. length self.new.rows.items ≡ (state + 1) * stride_of self.old.texts.width) }
+        ensures words { IfOk result (λ _. AreWords self.old.texts.kind (texts_of self.old.texts) (words_of self.new)
+            self.old.texts.width (length self.new.rows.items)) }
+        ensures too_many { IfErr result (λ error. error ≡ GrowError.TooManyStates
+            → HasTooManyStates self.old.texts.kind (texts_of self.old.texts) self.old.texts.width) }
+        ensures kept { IfOk result (λ _. IsLonger (words_of self.old) (words_of self.new)) }
+        ensures same { IfOk result (λ _. self.new.texts ≡ self.old.texts) }
+    {
+        let marks = self.marks(state);
+        for class in 0..self.texts.width {
+            self.add_place(state, class as u8, marks[class])?;
+        }
+        self.push_ending(state)?;
+        Ok(())
+    }
+}
+
+/// Where the row of a state begins, from a number in a row.
+fn place_of(code: u32) -> usize
+    ensures { (place : ℕ) (pattern : Option ℕ) → place < 2 ^ 31 → code ≡ code_of place pattern → result ≡ place }
+{
+    if code < ENDS {
+        code as usize
+    } else {
+        (code - ENDS) as usize
+    }
+}
+
+/// A number in a row, for a state.
+fn code_for(place: u32, ending: u32) -> u32
+    requires { place < 2 ^ 31 }
+    ensures { (pattern : Option ℕ) → ending ≡ unwrap_or pattern nothing → IfSome pattern (λ i. i < nothing)
+        → result ≡ code_of place pattern }
+{
+    if ending == NOTHING {
+        place
+    } else {
+        place + ENDS
+    }
+}
+
+/// The rows for patterns, none of which is empty, in classes below the width.
+pub fn grow(
+    alloc: Global,
+    kind: MatchKind,
+    classes: &[u8; 256],
+    width: usize,
+    patterns: &[Vec<u8>],
+) -> Result<Vec<u32>, GrowError>
+    requires classes { AreClasses classes.now width }
+    requires some { NoneIsEmpty (map (λ pattern. pattern.items) patterns.now) }
+    requires few { length patterns.now ≤ 2 ^ 31 - 1 }
+    ensures recognises { IfOk result (λ rows. Recognises kind
+        (map (λ pattern. symbols_in classes.now pattern.items) patterns.now) width rows.items) }
+    ensures states { IfOk result (λ rows. IsRowsLength kind
+        (map (λ pattern. symbols_in classes.now pattern.items) patterns.now) width (length rows.items)) }
+    ensures few { IfOk result (λ _. HasTooManyStates kind
+        (map (λ pattern. symbols_in classes.now pattern.items) patterns.now) width → ⊥) }
+    ensures too_many { IfErr result (λ error. error ≡ GrowError.TooManyStates → HasTooManyStates kind
+        (map (λ pattern. symbols_in classes.now pattern.items) patterns.now) width) }
+{
+    let texts = Texts {
+        kind,
+        classes,
+        width,
+        patterns,
+    };
+    if texts.has_too_long() {
+        return Err(GrowError::TooManyStates);
+    }
+    let mut growing = start(alloc, texts)?;
+    let mut state = 0;
+    while state < growing.states.len() {
+        growing.add_row(state)?;
+        state += 1;
+    }
+    Ok(growing.rows)
+}
+
+/// The state of the empty word, and no row.
+fn start<'p>(alloc: Global, texts: Texts<'p>) -> Result<Growing<'p>, AllocError>
+    requires { AreTexts texts }
+    ensures grows { IfOk result (λ growing. Grows growing) }
+    ensures start { IfOk result (λ growing. growing.rows.items ≡ []) }
+    ensures words { IfOk result (λ growing. words_of growing ≡ [] ∷ []) }
+    ensures texts { IfOk result (λ growing. growing.texts ≡ texts.entry) }
+{
+    let lists = numbers(alloc, texts.patterns.len())?;
+    let mut states = Vec::new(alloc);
+    states.push(State {
+        pattern: 0,
+        depth: 0,
+        start: 0,
+        end: lists.len(),
+        link: NOTHING,
+        ending: NOTHING,
+    })?;
+    Ok(Growing {
+        texts,
+        states,
+        lists,
+        rows: Vec::new(alloc),
+    })
+}
+
+/// The numbers up to a bound.
+fn numbers(alloc: Global, bound: usize) -> Result<Vec<u32>, AllocError>
+    requires { bound ≤ 2 ^ 31 - 1 }
+    ensures { IfOk result (λ numbers. numbers.items ≡ range_with_len 0 bound) }
+{
+    let mut numbers = Vec::new(alloc);
+    for number in 0..bound {
+        numbers.push(number as u32)?;
+    }
+    Ok(numbers)
+}

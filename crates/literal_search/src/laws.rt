@@ -1,0 +1,113 @@
+//! What follows from the definitions, for callers: call a law where its fact is needed.
+ghost use Rattle.std.specs.Prelude.{◌≡◌, ◌+◌, ◌<◌, ◌≤◌, ◌-◌, ◌^◌, ◌++◌, ◌∷◌, [], ℕ, Bool, List, length, take};
+ghost use Rattle.std.specs.Prelude.{IsNone, None, Ok, Option, Some, map};
+ghost use Rattle.std.specs.Iterator.{Yields};
+ghost use Rattle.literal_base.specs.declared.search.Span.{Span};
+ghost use Rattle.literal_base.specs.Counts.{Counts};
+ghost use Rattle.literal_base.specs.Greedy.{IsGreedy};
+ghost use Rattle.literal_base.specs.MatchValue.{MatchValue};
+ghost use Rattle.literal_base.specs.Occurs.{between};
+ghost use Rattle.literal_base.specs.Query.{Query};
+ghost use Rattle.literal_search.specs.Linear.{IsGreedyIn, ScansTwice};
+ghost use Rattle.literal_search.specs.LinearMatchesValue.{GivesInSpan, LinearMatchesValue};
+ghost use Rattle.literal_search.specs.MatchesValue.{GivesCounted, GivesMatch, MatchesValue};
+ghost use Rattle.literal_search.specs.Overlapping.{IsOverlapping, OverlappingValue};
+ghost use Rattle.literal_search.specs.OverlappingMatchesValue.{GivesOverlapping, OverlappingMatchesValue};
+ghost use Rattle.literal_search.specs.Prepared.{IsPrepared, check_of, prepared_len};
+ghost use Rattle.literal_search.specs.PreparedOverlapping.{IsPreparedOverlapping, listed_len};
+ghost use Rattle.literal_search.specs.SearchValue.{ScansListAtMost, SearchValue};
+ghost use Rattle.literal_search.specs.Stream.{GivesStreamed, StreamValue, stream_of};
+
+/// An iterator that answers `None` stands at the end of the haystack then, and there it answers `None` and stays.
+pub fn none_is_for_good()
+    ensures ends { (old new : MatchesValue) → GivesMatch old None new → new.at ≡ length new.haystack }
+    ensures stays { (old new : MatchesValue) (answer : Option MatchValue) → old.at ≡ length old.haystack
+        → GivesMatch old answer new → IsNone answer × (new ≡ old) }
+{}
+
+/// What an iterator gives up to its first `None` is the greedy list from where it stood.
+pub fn iterations_are_greedy()
+    ensures { (first last ended : MatchesValue) (all : List MatchValue) → Yields GivesMatch first all last
+        → GivesMatch last None ended
+        → IsGreedy first.search.query first.search.ignore_case first.haystack first.at all }
+{}
+
+/// An iteration that counts gives up to its first `None` the greedy list too, and scans at most three times the bytes
+/// that were left, and for each match as many as the longest pattern has; and at least the bytes that were left
+/// (`each`). One match more leads it on (`more`).
+pub fn iterations_scan_at_most()
+    ensures bounded { (first last ended : MatchesValue × Counts) (all : List MatchValue)
+        → Yields GivesCounted first all last → GivesCounted last None ended
+        → ScansListAtMost first.0.search.query.patterns (length first.0.haystack - first.0.at) (length all)
+        first.1 ended.1 }
+    ensures each { (first last ended : MatchesValue × Counts) (all : List MatchValue)
+        → Yields GivesCounted first all last → GivesCounted last None ended
+        → first.1.scanned + (length first.0.haystack - first.0.at) ≤ ended.1.scanned }
+    ensures greedy { (first last ended : MatchesValue × Counts) (all : List MatchValue)
+        → Yields GivesCounted first all last → GivesCounted last None ended
+        → IsGreedy first.0.search.query first.0.search.ignore_case first.0.haystack first.0.at all }
+    ensures more { (first last next : MatchesValue × Counts) (all : List MatchValue) (found : MatchValue)
+        → Yields GivesCounted first all last → GivesCounted last (Some found) next
+        → Yields GivesCounted first (all ++ found ∷ []) next }
+{}
+
+/// What an iteration over all leftmost matches of a span gives up to its first `None` is the greedy list from where it
+/// stood. What it scans in two steps adds up: no more than twice the bytes up to which it looked further.
+pub fn iterations_in_spans_are_greedy()
+    ensures greedy { (first last ended : LinearMatchesValue) (all : List MatchValue)
+        → Yields GivesInSpan first all last → GivesInSpan last None ended
+        → IsGreedyIn first.search.query first.search.ignore_case first.haystack (between first.at first.span.end)
+        all }
+    ensures counts { (from to behind : ℕ) (old now new : Counts) → from ≤ to → to ≤ behind
+        → ScansTwice (between from to) old now → ScansTwice (between to behind) now new
+        → ScansTwice (between from behind) old new }
+{}
+
+/// What an iteration over the matches in what a reader gives, if these bytes are known, gave so far begins the greedy
+/// list of all of them, and up to its first `None`, with no error in front of it, it is that list.
+pub fn streams_are_greedy()
+    ensures so_far { (search : SearchValue) (bytes : List ℕ) (last : StreamValue) (all more : List MatchValue)
+        → Yields GivesStreamed (stream_of search bytes) (map Ok all) last
+        → IsGreedy search.query search.ignore_case bytes last.offset more
+        → IsGreedy search.query search.ignore_case bytes 0 (all ++ more) }
+    ensures whole { (search : SearchValue) (bytes : List ℕ) (last ended : StreamValue) (all : List MatchValue)
+        → Yields GivesStreamed (stream_of search bytes) (map Ok all) last → GivesStreamed last None ended
+        → IsGreedy search.query search.ignore_case bytes 0 all }
+{}
+
+/// What an iteration over everything that occurs in a span gives up to its first `None` is every occurrence once, in
+/// the order of ends and, at one end, of identifiers.
+pub fn iterations_give_each_occurrence_once()
+    ensures { (search : OverlappingValue) (haystack : List ℕ) (span : Span) (first last ended : OverlappingMatchesValue)
+        (all : List MatchValue)
+        → first ≡ record { search = search; haystack = haystack; span = span; end = span.start; pattern = 0 }
+        → Yields GivesOverlapping first all last → GivesOverlapping last None ended
+        → IsOverlapping search.patterns search.ignore_case haystack span all }
+{}
+
+/// An array begins with a prepared search if its first places do, and what it begins with stands in as many places as
+/// its numbers say, so that these may be copied.
+pub fn first_places_are_enough()
+    ensures longer { (query : Query) (ignore_case : Bool) (numbers : List ℕ) (n : ℕ)
+        → IsPrepared query ignore_case (take n numbers) → IsPrepared query ignore_case numbers }
+    ensures shorter { (query : Query) (ignore_case : Bool) (numbers : List ℕ) (n : ℕ)
+        → IsPrepared query ignore_case numbers → prepared_len numbers ≤ n
+        → IsPrepared query ignore_case (take n numbers) }
+    ensures longer_overlapping { (search : OverlappingValue) (numbers : List ℕ) (n : ℕ)
+        → IsPreparedOverlapping search (take n numbers) → IsPreparedOverlapping search numbers }
+    ensures shorter_overlapping { (search : OverlappingValue) (numbers : List ℕ) (n : ℕ)
+        → IsPreparedOverlapping search numbers → listed_len numbers ≤ n
+        → IsPreparedOverlapping search (take n numbers) }
+{}
+
+/// The check over numbers finds a change of one of them: if it is the same, so is that number.
+pub fn changed_number_is_found()
+    ensures { (before behind : List ℕ) (one other : ℕ) → one < 2 ^ 32 → other < 2 ^ 32
+        → check_of (before ++ one ∷ behind) ≡ check_of (before ++ other ∷ behind) → one ≡ other }
+{}
+
+/// An iterator over everything that occurs that answers `None` keeps doing so, and stays where it is.
+pub fn overlapping_is_over_for_good()
+    ensures { (old new newer : OverlappingMatchesValue) (answer : Option MatchValue) → GivesOverlapping old None new
+        → GivesOverlapping new answer newer → IsNone answer × (newer ≡ new) }
+{}

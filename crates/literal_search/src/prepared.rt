@@ -1,0 +1,335 @@
+//! A search as numbers in an array that its caller lends: written once, and then searched by, with no memory of its
+//! own. A search does not trust the array: where a number leads out of it, the search says so.
+ghost use Rattle.std.specs.Prelude.{◌≡◌, ◌+◌, ◌-◌, ◌*◌, ◌<◌, ◌≤◌, ◌^◌, ◌↔◌, length, map};
+ghost use Rattle.std.specs.Prelude.{ℕ, IfErr, IfOk, IfSome, IsTrue, MatchResult, OnErr};
+ghost use Rattle.std.specs.Prelude.{slice_index, slice_range};
+ghost use Rattle.std.specs.Result.{IsOkAnd};
+ghost use Rattle.literal_base.specs.Occurs.{IsValidSpan};
+ghost use Rattle.literal_base.specs.Leftmost.{IsLeftmost};
+ghost use Rattle.literal_search.specs.Prepared.{AreShort, ForPrepared, HasParts, IsWhole, LiesIn, check_of};
+ghost use Rattle.literal_search.specs.SearchValue.{ScansWithin};
+ghost use Rattle.literal_search.specs.Inside.Prepared.{IsFront, Puts, RefusesArray, numbers_for, table_of};
+
+use crate::classes::ClassNumbers;
+use crate::longest_len;
+use crate::walk::Table;
+use literal_base::count::Tally;
+use literal_base::{Match, Span};
+use literal_ids::PatternID;
+use std::error::Error;
+use std::fmt;
+use std::marker::Model;
+
+/// What the first number of a prepared search for the leftmost match is.
+pub const PREPARED_VERSION: u32 = 0x4C50_0002;
+
+/// What that of one for everything that occurs is.
+pub const OVERLAPPING_VERSION: u32 = 0x4C4F_0002;
+
+/// Where the classes of all bytes begin, behind the version, the check, the width, how many patterns and places in the
+/// rows there are, and how long the longest pattern is.
+pub const CLASSES_AT: usize = 6;
+
+/// Where the lengths of the patterns begin. Behind them stand the rows.
+pub const LENGTHS_AT: usize = CLASSES_AT + 256;
+
+/// By what a check is multiplied before each further number. It is odd, so that each change of one number over which
+/// the check goes changes it.
+const CHECK_FACTOR: u64 = 16_777_619;
+
+/// Why a search is not written into an array, which then stays as it was.
+#[derive(Clone, Copy, Debug, PartialEq, Eq, Drop)]
+pub enum PrepareError {
+    /// A pattern has 2^32 bytes or more.
+    PatternTooLong,
+    /// The lists of the patterns that are an end of another have 2^32 numbers or more.
+    ListsTooLong,
+    /// The array has to have this many places.
+    ArrayTooShort(usize),
+}
+
+/// What is wrong, in a few words.
+impl fmt::Display for PrepareError {
+    ghost use Rattle.std.specs.Prelude.{Some};
+    ghost use Rattle.literal_search.specs.ErrorText.{prepare_error_text};
+
+    ghost output = { λ error. Some (prepare_error_text error) };
+
+    fn fmt<W: fmt::Write>(&self, f: &mut fmt::Formatter<W>) -> fmt::Result {
+        match self {
+            PrepareError::PatternTooLong => write!(f, "a pattern is too long"),
+            PrepareError::ListsTooLong => write!(f, "too many patterns are an end of another"),
+            PrepareError::ArrayTooShort(needed) => write!(f, "the array needs {needed} places"),
+        }
+    }
+}
+
+impl Error for PrepareError {}
+
+/// The numbers that were lent are not those of a prepared search.
+#[derive(Clone, Copy, Debug, PartialEq, Eq, Drop)]
+pub struct Damaged;
+
+/// What is wrong, in a few words.
+impl fmt::Display for Damaged {
+    ghost use Rattle.std.specs.Prelude.{Some, codes};
+
+    ghost output = { λ _. Some (codes "the prepared search is damaged") };
+
+    fn fmt<W: fmt::Write>(&self, f: &mut fmt::Formatter<W>) -> fmt::Result {
+        write!(f, "the prepared search is damaged")
+    }
+}
+
+impl Error for Damaged {}
+
+/// An array that begins as a prepared search, in its parts.
+#[derive(Clone, Copy)]
+pub struct Front<'p> {
+    pub numbers: &'p [u32],
+    pub classes: &'p [u32],
+    pub width: usize,
+    pub lengths: &'p [u32],
+    pub rows: &'p [u32],
+    pub longest: usize,
+}
+
+impl<'p> Front<'p> {
+    /// What a walk reads of them.
+    pub fn table(&self) -> Table<'p>
+        ensures { result ≡ table_of self.now }
+    {
+        Table {
+            classes: self.classes,
+            width: self.width,
+            rows: self.rows,
+            longest: self.longest,
+            shortest: 0,
+            fingerprints: None,
+        }
+    }
+}
+
+/// Where these parts lie, where the first numbers say that they are those of a search of a version, and that the array
+/// is as long as it has to be.
+pub fn split<'p>(numbers: &'p [u32], version: u32) -> Result<Front<'p>, Damaged>
+    ensures { MatchResult result
+        (λ front. (front.numbers.now ≡ numbers.now) × HasParts version numbers.now × IsFront version front)
+        (λ _. ¬ HasParts version numbers.now) }
+{
+    if numbers.len() < LENGTHS_AT || numbers[0] != version {
+        return Err(Damaged);
+    }
+    let (patterns, places) = (numbers[3] as usize, numbers[4] as usize);
+    if patterns > PatternID::LIMIT || numbers.len() - LENGTHS_AT < patterns + places {
+        return Err(Damaged);
+    }
+    let rows_at = LENGTHS_AT + patterns;
+    Ok(Front {
+        numbers,
+        classes: &numbers[CLASSES_AT..LENGTHS_AT],
+        width: numbers[2] as usize,
+        lengths: &numbers[LENGTHS_AT..rows_at],
+        rows: &numbers[rows_at..rows_at + places],
+        longest: numbers[5] as usize,
+    })
+}
+
+/// Whether the second number is the check over those behind it, up to a place.
+pub fn is_checked(numbers: &[u32], end: usize) -> bool
+    requires some { 2 ≤ end }
+    requires inside { end ≤ length numbers.now }
+    ensures { IsTrue result ↔ (slice_index numbers.now 1 ≡ check_of (slice_range numbers.now 2 end)) }
+{
+    numbers[1] == check_over(&numbers[2..end])
+}
+
+/// A search by numbers that [`Search::prepare`](crate::Search::prepare) wrote into an array, which may be longer.
+/// Contracts see the array.
+#[derive(Drop)]
+pub struct Prepared<'p> {
+    front: Front<'p>,
+}
+
+impl<'p> Model for Prepared<'p> {
+    ghost use Rattle.std.specs.Prelude.{List, ℕ};
+    ghost use Rattle.literal_search.specs.Inside.Prepared.{IsFront};
+    ghost use Rattle.literal_search.specs.declared.prepared.TheConstants.{PREPARED_VERSION};
+
+    ghost Value = { List ℕ };
+
+    ghost view = { λ p. p.front.numbers.now };
+
+    ghost invariant = { λ p. IsFront PREPARED_VERSION p.front };
+}
+
+impl<'p> Prepared<'p> {
+    /// The search by the numbers in an array, where its first numbers say that it is one and as long as it has to be.
+    /// No more of it is read: [`Prepared::is_whole`] goes over all of it.
+    pub fn new(numbers: &'p [u32]) -> Result<Prepared<'p>, Damaged>
+        ensures { MatchResult result (λ prepared. (prepared ≡ numbers.now) × HasParts PREPARED_VERSION numbers.now)
+            (λ _. ¬ HasParts PREPARED_VERSION numbers.now) }
+    {
+        let front = split(numbers, PREPARED_VERSION)?;
+        Ok(Prepared { front })
+    }
+
+    /// Whether the check over all numbers of the search is right. It finds each change of one number, unless that
+    /// says how many numbers there are ([`changed_number_is_found`](crate::laws::changed_number_is_found)), and most
+    /// others, but none that is made to pass.
+    pub fn is_whole(&self) -> bool
+        ensures { IsTrue result ↔ IsWhole self.now }
+    {
+        let end = LENGTHS_AT + self.front.lengths.len() + self.front.rows.len();
+        is_checked(self.front.numbers, end)
+    }
+
+    /// The leftmost match in a span of the haystack, for which the same holds as for
+    /// [`Search::find_in`](crate::Search::find_in). With numbers that were changed it may be another, or [`Damaged`];
+    /// but it lies in the span, is not empty, and names one of the patterns.
+    pub fn find_in(&self, haystack: &[u8], span: Span) -> Result<Option<Match>, Damaged>
+        requires { IsValidSpan haystack.now span }
+        ensures prepared { ForPrepared self.now (λ query ignore_case. IsOkAnd result
+            (IsLeftmost query ignore_case haystack.now span)) }
+        ensures inside { IfOk result (λ answer. IfSome answer (LiesIn span)) }
+        ensures pattern { IfOk result (λ answer. IfSome answer
+            (λ found. found.pattern < slice_index self.now 3)) }
+    {
+        self.find_in_counted(haystack, span, &mut Tally::new())
+    }
+
+    /// Answers as [`Prepared::find_in`], and adds each byte that it looks up to a tally, as scanned: at most three
+    /// times the bytes of the span, whatever the numbers are, and with those that were prepared as
+    /// [`Search::find_in_counted`](crate::Search::find_in_counted).
+    pub fn find_in_counted(
+        &self,
+        haystack: &[u8],
+        span: Span,
+        tally: &mut Tally,
+    ) -> Result<Option<Match>, Damaged>
+        requires { IsValidSpan haystack.now span }
+        ensures prepared { ForPrepared self.now (λ query ignore_case. IsOkAnd result
+            (IsLeftmost query ignore_case haystack.now span)) }
+        ensures near { ForPrepared self.now (λ query ignore_case. IfOk result
+            (λ answer. ScansWithin query.patterns span answer tally.old tally.new)) }
+        ensures inside { IfOk result (λ answer. IfSome answer (LiesIn span)) }
+        ensures pattern { IfOk result (λ answer. IfSome answer
+            (λ found. found.pattern < slice_index self.now 3)) }
+        ensures others { tally.new ≡ record tally.old { scanned = tally.new.scanned } }
+        ensures most { tally.new.scanned ≤ tally.old.scanned + 3 * (span.end - span.start) }
+    {
+        let front = &self.front;
+        let ended = front.table().search(haystack, span, false, false, tally)?;
+        let Some(ended) = ended else {
+            return Ok(None);
+        };
+        let pattern = ended.pattern as usize;
+        if pattern >= front.lengths.len() {
+            return Err(Damaged);
+        }
+        let len = front.lengths[pattern] as usize;
+        if len == 0 || len > ended.end - span.start {
+            return Err(Damaged);
+        }
+        let (start, end) = (ended.end - len, ended.end);
+        Ok(Some(Match::must(pattern, Span { start, end })))
+    }
+}
+
+/// Writes a search of a version into the first places of an array, and answers how many these are. There may be lists,
+/// of which `starts` says where each begins.
+pub fn write(
+    version: u32,
+    classes: &ClassNumbers,
+    patterns: &[Vec<u8>],
+    rows: &[u32],
+    starts: &[usize],
+    ends: &[u32],
+    array: &mut [u32],
+) -> Result<usize, PrepareError>
+    requires classes { length classes.now.table ≡ 256 }
+    requires width { classes.now.width < 2 ^ 32 }
+    requires patterns { length patterns.now < 2 ^ 32 }
+    requires rows { length rows.now < 2 ^ 32 }
+    requires starts { length starts.now ≤ 2 ^ 32 }
+    requires inside { (i : ℕ) → slice_index starts.now i ≤ length ends.now }
+    ensures ok { IfOk result (λ needed. (needed ≤ length array.old) × (length ends.now < 2 ^ 32)
+        × Puts 0 (numbers_for version classes.now.table classes.now.width
+        (map (λ pattern. pattern.items) patterns.now) rows.now starts.now ends.now) array.old array.new
+        × (needed ≡ length (numbers_for version classes.now.table classes.now.width
+        (map (λ pattern. pattern.items) patterns.now) rows.now starts.now ends.now))) }
+    ensures error { IfErr result (RefusesArray (map (λ pattern. pattern.items) patterns.now) ends.now
+        (numbers_for version classes.now.table classes.now.width (map (λ pattern. pattern.items) patterns.now) rows.now
+        starts.now ends.now) array.old) }
+    ensures as_before { OnErr result (array.new ≡ array.old) }
+{
+    let longest = longest_len(patterns);
+    if longest > u32::MAX as usize {
+        return Err(PrepareError::PatternTooLong);
+    }
+    if ends.len() > u32::MAX as usize {
+        return Err(PrepareError::ListsTooLong);
+    }
+    let rows_at = LENGTHS_AT + patterns.len();
+    let starts_at = rows_at + rows.len();
+    let ends_at = starts_at + starts.len();
+    let needed = ends_at + ends.len();
+    if array.len() < needed {
+        return Err(PrepareError::ArrayTooShort(needed));
+    }
+    let width = classes.width as u32;
+    let (count, places) = (patterns.len() as u32, rows.len() as u32);
+    put_numbers(
+        array,
+        0,
+        &[version, 0, width, count, places, longest as u32],
+    );
+    put_numbers(array, CLASSES_AT, &classes.table);
+    put_lengths(array, patterns);
+    put_numbers(array, rows_at, rows);
+    put_starts(array, starts_at, starts);
+    put_numbers(array, ends_at, ends);
+    array[1] = check_over(&array[2..needed]);
+    Ok(needed)
+}
+
+/// Writes numbers into an array, from a place on.
+fn put_numbers(array: &mut [u32], at: usize, numbers: &[u32])
+    requires { at + length numbers.now ≤ length array.old }
+    ensures { Puts at numbers.now array.old array.new }
+{
+    array[at..at + numbers.len()].copy_from_slice(numbers);
+}
+
+/// Writes the lengths of the patterns.
+fn put_lengths(array: &mut [u32], patterns: &[Vec<u8>])
+    requires room { LENGTHS_AT + length patterns.now ≤ length array.old }
+    requires short { AreShort (map (λ pattern. pattern.items) patterns.now) }
+    ensures { Puts LENGTHS_AT (map (λ pattern. length pattern.items) patterns.now) array.old array.new }
+{
+    for (i, pattern) in patterns.iter().enumerate() {
+        array[LENGTHS_AT + i] = pattern.len() as u32;
+    }
+}
+
+/// Writes where lists begin, from a place on.
+fn put_starts(array: &mut [u32], at: usize, starts: &[usize])
+    requires room { at + length starts.now ≤ length array.old }
+    requires short { (i : ℕ) → slice_index starts.now i < 2 ^ 32 }
+    ensures { Puts at starts.now array.old array.new }
+{
+    for (i, start) in starts.iter().enumerate() {
+        array[at + i] = *start as u32;
+    }
+}
+
+/// A check over numbers.
+fn check_over(numbers: &[u32]) -> u32
+    ensures { result ≡ check_of numbers.now }
+{
+    let mut check = 0;
+    for number in numbers {
+        check = ((u64::from(check) * CHECK_FACTOR + u64::from(*number)) % (1 << 32)) as u32;
+    }
+    check
+}

@@ -1,0 +1,258 @@
+//! Searches by the numbers of an automaton: by one walk, which stops where bytes can be passed over, by fingerprints of
+//! few patterns, or else by four walks at once. Which, is decided in `Table::pass_over` and `Table::can_pass`.
+ghost use Rattle.std.specs.Prelude.{◌≡◌, ◌⊎◌, ◌+◌, ◌-◌, ◌*◌, ◌<◌, ◌≤◌, ◌^◌};
+ghost use Rattle.std.specs.Prelude.{IfOk, IfSome, None, false, length, true};
+ghost use Rattle.std.specs.Result.{IsOkAnd};
+ghost use Rattle.literal_base.specs.Occurs.{IsValidSpan, between};
+ghost use Rattle.literal_search.specs.Inside.Walk.{ClassesFit};
+ghost use Rattle.literal_search.specs.Inside.Scan.{Answers, AreNear, ForTable};
+ghost use Rattle.literal_search.specs.Inside.Scan.{NoneBefore, SearchesTo, StepsToEnd};
+ghost use Rattle.literal_search.specs.Inside.Scan.{WalksTo};
+
+use crate::prepared::Damaged;
+use crate::walk::{Ended, Table, Walked};
+use literal_base::Span;
+use literal_base::count::Tally;
+
+/// How long the first blocks are through which four walks go, if no pattern is longer than half of this, and the last.
+const FIRST_BLOCK: usize = 128;
+
+const LAST_BLOCK: usize = 1024;
+
+/// How far one walk goes at least before fingerprints are looked for: half as far as these read in vain.
+const NEAR: usize = 8;
+
+/// How many blocks are gone through by one walk before four begin: a match that is near then costs as much as ever.
+const BLOCKS_NEAR: usize = 3;
+
+/// How long a pattern may be for four walks to begin.
+const LONGEST: usize = 1 << 16;
+
+/// Where so few bytes were passed over, one walk goes twice as far before it is tried again, and so far at most.
+const FEW: usize = 8;
+
+const FARTHEST: usize = 4096;
+
+/// How many bytes one walk reads at least before bytes are passed over, the first time and later.
+#[derive(Clone, Copy)]
+pub struct Nearest {
+    pub first: usize,
+    pub later: usize,
+}
+
+impl Nearest {
+    /// How many these are the next time, where they were so many, and then so many bytes were passed over.
+    fn next(self, near: usize, passed: usize) -> usize
+        ensures least { self.later ≤ result }
+        ensures short { near ≤ 6 * LONGEST → self.later ≤ 6 * LONGEST → result ≤ 6 * LONGEST }
+    {
+        let farther = if passed < FEW {
+            FARTHEST.min(near.saturating_mul(2))
+        } else {
+            near / 2
+        };
+        self.later.max(farther)
+    }
+}
+
+impl<'t> Table<'t> {
+    /// The leftmost match in a span of the haystack, or where `is_earliest` one that ends first. One walk begins; where
+    /// it is back in the first state and has gone far enough, bytes are passed over with which nothing begins, and then
+    /// one walk goes on. What is read in vain is no more than twice what the walk before it read.
+    #[inline(always)]
+    pub fn search(
+        &self,
+        haystack: &[u8],
+        span: Span,
+        is_earliest: bool,
+        fits: bool,
+        tally: &mut Tally,
+    ) -> Result<Option<Ended>, Damaged>
+        requires classes { length self.now.classes.now ≡ 256 }
+        requires valid { IsValidSpan haystack.now span }
+        requires fits { fits ≡ true → ClassesFit self.now }
+        ensures found { ForTable self.now (λ query ignore_case. IsOkAnd result
+            (Answers is_earliest query ignore_case haystack.now span)) }
+        ensures near { is_earliest ≡ false → ForTable self.now (λ query ignore_case. IsOkAnd result (SearchesTo
+            query.patterns span (tally.new.scanned - tally.old.scanned))) }
+        ensures inside { IfOk result (λ answer. IfSome answer (λ e. (span.start < e.end) × (e.end ≤ span.end))) }
+        ensures others { tally.new ≡ record tally.old { scanned = tally.new.scanned } }
+        ensures grows { tally.old.scanned ≤ tally.new.scanned }
+        ensures most { tally.new.scanned ≤ tally.old.scanned + 3 * (span.end - span.start) }
+        ensures first { is_earliest ≡ true → ForTable self.now (λ query ignore_case. IsOkAnd result (StepsToEnd span
+            (tally.new.scanned - tally.old.scanned))) }
+    {
+        let end = span.end;
+        let (mut start, nearest) = (span.start, self.nearest());
+        let mut near = nearest.first;
+        let passes = self.can_pass(end - start);
+        while passes && 3 * near <= end - start {
+            let rest = Span { start, end };
+            match self.walk(haystack, rest, start + near, is_earliest, fits, tally)? {
+                Walked::Known(answer) => return Ok(answer),
+                Walked::Anew(at) => {
+                    let later = Span { start: at, end };
+                    start = self.pass_over(haystack, later, nearest.later, fits, tally)?;
+                    near = nearest.next(near, start - at);
+                }
+            }
+        }
+        self.search_once(haystack, Span { start, end }, is_earliest, fits, tally)
+    }
+
+    /// The same by one walk.
+    #[inline(always)]
+    pub fn search_once(
+        &self,
+        haystack: &[u8],
+        span: Span,
+        is_earliest: bool,
+        fits: bool,
+        tally: &mut Tally,
+    ) -> Result<Option<Ended>, Damaged>
+        requires classes { length self.now.classes.now ≡ 256 }
+        requires valid { IsValidSpan haystack.now span }
+        requires fits { fits ≡ true → ClassesFit self.now }
+        ensures found { ForTable self.now (λ query ignore_case. IsOkAnd result
+            (Answers is_earliest query ignore_case haystack.now span)) }
+        ensures near { ForTable self.now (λ query ignore_case. IsOkAnd result (WalksTo
+            query.patterns span (tally.new.scanned - tally.old.scanned))) }
+        ensures inside { IfOk result (λ answer. IfSome answer (λ e. (span.start < e.end) × (e.end ≤ span.end))) }
+        ensures others { tally.new ≡ record tally.old { scanned = tally.new.scanned } }
+        ensures once { tally.new.scanned ≤ tally.old.scanned + (span.end - span.start) }
+        ensures grows { tally.old.scanned ≤ tally.new.scanned }
+        ensures first { IfOk result (λ answer. IfSome answer (λ e. is_earliest ≡ true
+            → tally.new.scanned + span.start ≡ tally.old.scanned + e.end)) }
+    {
+        match self.walk(haystack, span, usize::MAX, is_earliest, fits, tally)? {
+            Walked::Known(answer) => Ok(answer),
+            Walked::Anew(_) => Ok(None),
+        }
+    }
+
+    /// Whether bytes can be passed over: by fingerprints, or by four walks if the bytes are many enough, and no pattern
+    /// is too long.
+    fn can_pass(&self, bytes: usize) -> bool
+        ensures { result ≡ true → self.now.fingerprints ≡ None → self.now.longest ≤ LONGEST }
+    {
+        self.fingerprints.is_some()
+            || (self.longest <= LONGEST && bytes >= 3 * BLOCKS_NEAR * FIRST_BLOCK)
+    }
+
+    /// How far one walk goes before bytes are passed over.
+    fn nearest(&self) -> Nearest
+        ensures { AreNear self.now result }
+    {
+        if self.fingerprints.is_some() {
+            let later = NEAR;
+            let first = later - self.shortest.min(later);
+            return Nearest { first, later };
+        }
+        let longest = if self.longest <= LONGEST {
+            self.longest
+        } else {
+            0
+        };
+        let later = BLOCKS_NEAR * FIRST_BLOCK.max(2 * longest);
+        Nearest {
+            first: later,
+            later,
+        }
+    }
+
+    /// A place in a span before which nothing begins: its start where the classes have to fit and do not, which is
+    /// looked for here, since where a match is near it takes longer than that.
+    #[inline(always)]
+    fn pass_over(
+        &self,
+        haystack: &[u8],
+        span: Span,
+        near: usize,
+        fits: bool,
+        tally: &mut Tally,
+    ) -> Result<usize, Damaged>
+        requires classes { length self.now.classes.now ≡ 256 }
+        requires valid { IsValidSpan haystack.now span }
+        requires some { 8 ≤ near }
+        requires long { self.now.fingerprints ≡ None → 6 * self.now.longest ≤ near }
+        requires short { near ≤ 6 * LONGEST }
+        requires fits { fits ≡ true → ClassesFit self.now }
+        ensures none { ForTable self.now (λ query ignore_case. IsOkAnd result
+            (NoneBefore query ignore_case haystack.now span)) }
+        ensures inside { IfOk result (λ at. (span.start ≤ at) × (at ≤ span.end)) }
+        ensures others { tally.new ≡ record tally.old { scanned = tally.new.scanned } }
+        ensures most { tally.new.scanned ≤ tally.old.scanned + 2 * near + 3 * (span.end - span.start) }
+        ensures counted { IfOk result (λ at. tally.new.scanned ≤ tally.old.scanned + 2 * near
+            + 3 * (at - span.start)) }
+        ensures grows { tally.old.scanned ≤ tally.new.scanned }
+        ensures least { IfOk result (λ at. tally.old.scanned + at ≤ tally.new.scanned + span.start) }
+        ensures once { self.now.fingerprints ≡ None
+            ⊎ (tally.new.scanned ≤ tally.old.scanned + (span.end - span.start)) }
+    {
+        match self.fingerprints {
+            Some(fingerprints) => Ok(fingerprints.next(haystack, span, tally)),
+            None if fits || self.classes_fit() => self.pass_blocks(haystack, span, near, tally),
+            None => Ok(span.start),
+        }
+    }
+
+    /// The same by four walks at once through blocks that become longer.
+    #[inline(always)]
+    fn pass_blocks(
+        &self,
+        haystack: &[u8],
+        span: Span,
+        near: usize,
+        tally: &mut Tally,
+    ) -> Result<usize, Damaged>
+        requires classes { length self.now.classes.now ≡ 256 }
+        requires valid { IsValidSpan haystack.now span }
+        requires some { BLOCKS_NEAR ≤ near }
+        requires long { 6 * self.now.longest ≤ near }
+        requires short { near ≤ 6 * LONGEST }
+        requires fits { ClassesFit self.now }
+        ensures none { ForTable self.now (λ query ignore_case. IsOkAnd result
+            (NoneBefore query ignore_case haystack.now span)) }
+        ensures inside { IfOk result (λ at. (span.start ≤ at) × (at ≤ span.end)) }
+        ensures others { tally.new ≡ record tally.old { scanned = tally.new.scanned } }
+        ensures most { tally.new.scanned ≤ tally.old.scanned + 2 * near + 3 * (span.end - span.start) }
+        ensures counted { IfOk result (λ at. tally.new.scanned ≤ tally.old.scanned + 2 * near
+            + 3 * (at - span.start)) }
+        ensures grows { tally.old.scanned ≤ tally.new.scanned }
+        ensures least { IfOk result (λ at. tally.old.scanned + at ≤ tally.new.scanned + span.start) }
+    {
+        let limit = self.limit()?;
+        let (mut at, mut block) = (span.start, near / BLOCKS_NEAR);
+        while 5 * block <= span.end - at && self.none_begins(haystack, at, block, limit, tally) {
+            at += 4 * block;
+            block = if block < LAST_BLOCK { 2 * block } else { block };
+        }
+        Ok(at)
+    }
+
+    /// Whether nothing begins in the four blocks from a place on.
+    #[inline(always)]
+    fn none_begins(
+        &self,
+        haystack: &[u8],
+        at: usize,
+        block: usize,
+        limit: usize,
+        tally: &mut Tally,
+    ) -> bool
+        requires classes { length self.now.classes.now ≡ 256 }
+        requires fits { ClassesFit self.now }
+        requires some { 0 < limit }
+        requires limit { limit ≤ 2 ^ 31 }
+        requires within { limit + self.now.width ≤ length self.now.rows.now }
+        requires inside { at + 4 * block + self.now.longest ≤ length haystack.now }
+        ensures none { result ≡ true → ForTable self.now (λ query ignore_case.
+            NoneBefore query ignore_case haystack.now (between at (length haystack.now)) (at + 4 * block)) }
+        ensures others { tally.new ≡ record tally.old { scanned = tally.new.scanned } }
+        ensures grows { tally.old.scanned ≤ tally.new.scanned }
+        ensures most { tally.new.scanned ≤ tally.old.scanned + 4 * (block + self.now.longest) }
+        ensures all { result ≡ true → tally.new.scanned ≡ tally.old.scanned + 4 * (block + self.now.longest) }
+    {
+        self.none_in_four(haystack, at, block, limit, tally)
+    }
+}
