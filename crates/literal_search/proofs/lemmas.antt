@@ -15,6 +15,7 @@ pub mod Growing
 pub mod Grown
 pub mod Held
 pub mod Iterations
+pub mod IterationsIn
 pub mod LentTables
 pub mod Links
 pub mod Lists

@@ -8,8 +8,8 @@ ghost use Rattle.literal_base.specs.Greedy.{IsGreedy};
 ghost use Rattle.literal_base.specs.MatchValue.{MatchValue};
 ghost use Rattle.literal_base.specs.Occurs.{between};
 ghost use Rattle.literal_base.specs.Query.{Query};
-ghost use Rattle.literal_search.specs.Linear.{IsGreedyIn, ScansTwice};
-ghost use Rattle.literal_search.specs.LinearMatchesValue.{GivesInSpan, LinearMatchesValue};
+ghost use Rattle.literal_search.specs.Linear.{IsGreedyIn, ScansTwice, looked_upto};
+ghost use Rattle.literal_search.specs.LinearMatchesValue.{GivesInSpan, GivesInSpanCounted, LinearMatchesValue};
 ghost use Rattle.literal_search.specs.MatchesValue.{GivesCounted, GivesMatch, MatchesValue};
 ghost use Rattle.literal_search.specs.Overlapping.{IsOverlapping, OverlappingValue};
 ghost use Rattle.literal_search.specs.OverlappingMatchesValue.{GivesOverlapping, OverlappingMatchesValue};
@@ -52,15 +52,24 @@ pub fn iterations_scan_at_most()
 {}
 
 /// What an iteration over all leftmost matches of a span gives up to its first `None` is the greedy list from where it
-/// stood. What it scans in two steps adds up: no more than twice the bytes up to which it looked further.
+/// stood. One that counts scans at most twice the bytes up to which it had not looked (`bounded`), whatever the patterns
+/// and however many matches; and each of those that it had not looked up (`each`), which as it begins are those of the
+/// span. One match more leads it on (`more`).
 pub fn iterations_in_spans_are_greedy()
     ensures greedy { (first last ended : LinearMatchesValue) (all : List MatchValue)
         → Yields GivesInSpan first all last → GivesInSpan last None ended
         → IsGreedyIn first.search.query first.search.ignore_case first.haystack (between first.at first.span.end)
         all }
-    ensures counts { (from to behind : ℕ) (old now new : Counts) → from ≤ to → to ≤ behind
-        → ScansTwice (between from to) old now → ScansTwice (between to behind) now new
-        → ScansTwice (between from behind) old new }
+    ensures bounded { (first last ended : LinearMatchesValue × Counts) (all : List MatchValue)
+        → Yields GivesInSpanCounted first all last → GivesInSpanCounted last None ended
+        → ScansTwice (between first.0.known first.0.span.end) first.1 ended.1 }
+    ensures each { (first last ended : LinearMatchesValue × Counts) (all : List MatchValue)
+        → Yields GivesInSpanCounted first all last → GivesInSpanCounted last None ended
+        → first.1.scanned + first.0.span.end
+        ≤ ended.1.scanned + looked_upto first.0.search.query.patterns first.0.span first.0.known }
+    ensures more { (first last next : LinearMatchesValue × Counts) (all : List MatchValue) (found : MatchValue)
+        → Yields GivesInSpanCounted first all last → GivesInSpanCounted last (Some found) next
+        → Yields GivesInSpanCounted first (all ++ found ∷ []) next }
 {}
 
 /// What an iteration over the matches in what a reader gives, if these bytes are known, gave so far begins the greedy

@@ -14,7 +14,7 @@ use Rattle.literal_search.specs.Inside.Search.{ScansTo}
 use Rattle.literal_search.specs.MatchesValue.{GivesCounted, GivesMatch, MatchesValue}
 
 -- only one count changes
-scanned_on : (old now new : Counts) → now ≡ record old { scanned = now.scanned }
+pub scanned_on : (old now new : Counts) → now ≡ record old { scanned = now.scanned }
     → new ≡ record now { scanned = new.scanned } → new ≡ record old { scanned = new.scanned }
 scanned_on old now new before is =
     is ∙ ap (λ (t : Counts). let t' : Counts = record t { scanned = new.scanned } in t') before

@@ -1,0 +1,59 @@
+-- What an iteration over all leftmost matches of a span scans.
+use Rattle.std.proofs.Common.{◌+◌, ◌≤◌, List, [], ◌∷◌, ◌++◌, Some, None, arith, refl, sym, subst}
+use Rattle.std.specs.Iterator.{Yields}
+use Rattle.literal_base.specs.Counts.{Counts}
+use Rattle.literal_base.specs.MatchValue.{MatchValue}
+use Rattle.literal_base.specs.Occurs.{between}
+use Rattle.literal_search.specs.Linear.{ScansTwice, looked_upto}
+use Rattle.literal_search.specs.LinearMatchesValue.{GivesInSpanCounted, LinearMatchesValue}
+use Rattle.literal_search.proofs.lemmas.Iterations.{scanned_on}
+
+-- at most twice what it had not looked at, up to its end
+pub scans_twice_from_yields : (m : LinearMatchesValue × Counts) (all : List MatchValue)
+    (n o : LinearMatchesValue × Counts) → Yields GivesInSpanCounted m all n → GivesInSpanCounted n None o
+    → ScansTwice (between m.0.known m.0.span.end) m.1 o.1
+scans_twice_from_yields m [] n o stays last =
+    subst (λ (it : LinearMatchesValue × Counts). ScansTwice (between it.0.known it.0.span.end) it.1 o.1) (sym stays)
+    (record {
+      others = last.bounded.others;
+      most = omega (arith, last.bounded.most, last.gives.further, last.gives.inside);
+    })
+scans_twice_from_yields m (found ∷ more) n o run last =
+    let step = run.1 in
+    let rest : ScansTwice (between run.0.0.known m.0.span.end) run.0.1 o.1 =
+    subst (λ (it : LinearMatchesValue). ScansTwice (between run.0.0.known it.span.end) run.0.1 o.1) step.gives.goes_on
+    (scans_twice_from_yields run.0 more n o run.2 last) in
+    record {
+      others = scanned_on m.1 run.0.1 o.1 step.bounded.others rest.others;
+      most = omega (arith, step.bounded.most, rest.most, step.gives.further, step.gives.inside);
+    }
+
+-- and at least each byte that it had not looked up
+pub scans_each_in_from_yields : (m : LinearMatchesValue × Counts) (all : List MatchValue)
+    (n o : LinearMatchesValue × Counts) → Yields GivesInSpanCounted m all n → GivesInSpanCounted n None o
+    → m.1.scanned + m.0.span.end ≤ o.1.scanned + looked_upto m.0.search.query.patterns m.0.span m.0.known
+scans_each_in_from_yields m [] n o stays last =
+    subst (λ (it : LinearMatchesValue × Counts). it.1.scanned + it.0.span.end
+    ≤ o.1.scanned + looked_upto it.0.search.query.patterns it.0.span it.0.known) (sym stays) (
+    let at_end : n.0.span.end ≤ looked_upto n.0.search.query.patterns n.0.span o.0.known =
+    subst (λ (it : LinearMatchesValue). it.at ≤ looked_upto n.0.search.query.patterns n.0.span o.0.known)
+    last.gives.goes_on last.gives.looked in
+    omega (arith, last.least, at_end)
+    )
+scans_each_in_from_yields m (found ∷ more) n o run last =
+    let step = run.1 in
+    let rest : run.0.1.scanned + m.0.span.end
+    ≤ o.1.scanned + looked_upto m.0.search.query.patterns m.0.span run.0.0.known =
+    subst (λ (it : LinearMatchesValue). run.0.1.scanned + it.span.end
+    ≤ o.1.scanned + looked_upto it.search.query.patterns it.span run.0.0.known) step.gives.goes_on
+    (scans_each_in_from_yields run.0 more n o run.2 last) in
+    omega (arith, step.least, rest)
+
+-- one match more is given by it too
+pub yields_more_in : (m : LinearMatchesValue × Counts) (all : List MatchValue) (found : MatchValue)
+    (n o : LinearMatchesValue × Counts) → Yields GivesInSpanCounted m all n → GivesInSpanCounted n (Some found) o
+    → Yields GivesInSpanCounted m (all ++ found ∷ []) o
+yields_more_in m [] found n o stays step =
+    (o, subst (λ (it : LinearMatchesValue × Counts). GivesInSpanCounted it (Some found) o) (sym stays) step, refl)
+yields_more_in m (first ∷ more) found n o run step =
+    (run.0, run.1, yields_more_in run.0 more found n o run.2 step)
