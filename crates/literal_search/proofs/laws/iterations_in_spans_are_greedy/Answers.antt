@@ -1,5 +1,6 @@
 use Rattle.literal_search.proofs.lemmas.GreedyIn.{greedy_in_from_yields}
-use Rattle.literal_search.proofs.lemmas.IterationsIn.{scans_each_in_from_yields, scans_twice_from_yields, yields_more_in}
+use Rattle.literal_search.proofs.lemmas.IterationsIn.{scans_each_in_from_yields, scans_twice_from_yields}
+use Rattle.literal_search.proofs.lemmas.IterationsIn.{yields_more_in}
 use Rattle.literal_search.proofs.laws.iterations_in_spans_are_greedy.Goals as goal
 
 pub returns-clause-greedy : goal.returns-clause-greedy
