@@ -56,8 +56,9 @@ REVIEWED = {
     "Table::class_at": "7a13f63110dc", "Table::next_at": "8ae2e543904c",
 }
 
-# What parameters are called that hold bytes of patterns, one or all, and how bytes are typed.
-PATTERN_NAMES = ("pattern", "patterns", "bytes", "by_id", "lists", "classes")
+# What parameters are called that hold bytes of patterns, one or all, or what is put in their place, and how bytes are
+# typed.
+PATTERN_NAMES = ("pattern", "patterns", "bytes", "by_id", "lists", "classes", "replacements")
 BYTES = re.compile(r"\b([a-z]\w*)\s*:[^,):]*(?:\[u8\]|\bVec<u8>|\bstr\b)")
 
 # The types that may keep a slice of bytes: a haystack, patterns, or what C hands over of either.
@@ -71,12 +72,13 @@ KEEPERS = (
 PLAIN_FIELDS = ("starts", "longer", "single")
 ENTRY_READERS = ("BucketEntries::entry", "BucketEntries::new", "BucketEntries::try_clone")
 
-# How a haystack is used: its length is asked for, it is cut into another, bytes of it are hashed with a tally, or it is
-# handed on, whole or cut, as an argument.
+# How a haystack is used: its length is asked for, it is cut into another, bytes of it are hashed with a tally or copied
+# where matches are replaced, or it is handed on, whole or cut, as an argument.
 ARGUMENTS = r"\((?:[^()]|\((?:[^()]|\(\))*\))*\)"
 LENGTH = re.compile(r"\bhaystack\s*\.\s*(?:len|is_empty)\(\)")
 BOUND = re.compile(r"\blet haystack = &?(?:self\s*\.\s*)?haystack(?:\[[^][]*\.\.[^][]*\])?;")
 HASHED = re.compile(r"\.(?:push|roll)\((?:haystack\[[^][]*\],\s*)+tally\)")
+COPIED = re.compile(r"\btext\.extend_from_slice\(&haystack\[[^][]*\]\)")
 HANDED = re.compile(r"(?<=[(,{])\s*&?(?:self\s*\.\s*)?haystack(?:\[[^][]*\.\.[^][]*\])?\s*(?=[,)}])")
 
 
@@ -156,7 +158,8 @@ def haystacks(sources):
                     yield source.at(function.start + place, (
                         "a haystack is asked for its `len()`, cut by a range into another `haystack`, or handed on to "
                         "a function whose parameter is called `haystack`; its bytes are read in `matches_at`, in the "
-                        "scan of `ByteTable`, and in `walk` as arguments of `push` or `roll`, with the tally"))
+                        "scan of `ByteTable`, and in `walk` as arguments of `push` or `roll`, with the tally; they are "
+                        "copied in `replace_all`"))
 
 
 def odd_uses(code, calls, name):
@@ -166,6 +169,7 @@ def odd_uses(code, calls, name):
 
     code = BOUND.sub(passed_over, LENGTH.sub(passed_over, code))
     code = HASHED.sub(passed_over, code) if name.endswith("RabinKarp::walk") else code
+    code = COPIED.sub(passed_over, code) if name.endswith("Search::replace_all") else code
     code = calls.sub(lambda found: HANDED.sub(passed_over, found[0]), code)
     return [found.start() for found in re.finditer(r"\bhaystack\b", code)]
 

@@ -21,6 +21,8 @@ mod prepared;
 #[cfg(test)]
 mod rabin_karp;
 #[cfg(test)]
+mod replacing;
+#[cfg(test)]
 mod searches;
 #[cfg(test)]
 mod spans;

@@ -1,2 +1,2 @@
-pub mod Replaced
+pub mod Redacted
 pub mod Tokens

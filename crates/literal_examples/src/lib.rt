@@ -4,5 +4,5 @@
 
 pub mod frequencies;
 pub mod keywords;
-pub mod replace;
+pub mod redact;
 pub mod tokens;

@@ -1,7 +1,7 @@
 //! Each part does what its reader expects.
 use literal_examples::frequencies::frequencies;
 use literal_examples::keywords::{find_from, is_clean};
-use literal_examples::replace::replace_all;
+use literal_examples::redact::redact;
 use literal_examples::tokens::{Token, tokens};
 use literal_prefilters::packed::Searcher;
 use literal_search::{MatchKind, PatternID, Search, Span};
@@ -28,12 +28,10 @@ fn filters_lines_and_finds_from_an_offset(rt: HostRuntime) -> Result<(), Fail> {
 }
 
 #[test]
-fn replaces_words(rt: HostRuntime) -> Result<(), Fail> {
+fn redacts_words(rt: HostRuntime) -> Result<(), Fail> {
     let words = search(rt.alloc(), b"apple", b"maple")?;
-    let replacements: [&[u8]; 2] = [b"pear", b"oak"];
-    assert!(rt; words.patterns_len() == replacements.len());
-    let text = replace_all(rt.alloc(), &words, SENTENCE, &replacements)?;
-    assert!(rt; text.as_slice() == b"Nobody likes oak in their pear flavored Snpear.".as_slice());
+    let text = redact(rt.alloc(), &words, b"Apple or maple?")?;
+    assert!(rt; text.as_slice() == b"***** or *****?".as_slice());
     Ok(())
 }
 

@@ -25,6 +25,7 @@ pub mod Overlapping
 pub mod Places
 pub mod Prepared
 pub mod Recognised
+pub mod Replaced
 pub mod Rows
 pub mod Scan
 pub mod Standard

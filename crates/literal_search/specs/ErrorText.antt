@@ -7,6 +7,8 @@ use Rattle.literal_search.specs.declared.BuildError.TheVariants.{TooManyStates}
 use Rattle.literal_search.specs.declared.prepared.PrepareError.{PrepareError}
 use Rattle.literal_search.specs.declared.prepared.PrepareError.TheVariants.{ArrayTooShort, ListsTooLong}
 use Rattle.literal_search.specs.declared.prepared.PrepareError.TheVariants.{PatternTooLong}
+use Rattle.literal_search.specs.declared.replace.ReplaceError.{ReplaceError}
+use Rattle.literal_search.specs.declared.replace.ReplaceError.TheVariants as replace
 
 -- what is printed of why there is no automaton
 abbrev pub build_error_text : BuildError → List ℕ
@@ -20,3 +22,8 @@ abbrev pub prepare_error_text : PrepareError → List ℕ
 prepare_error_text PatternTooLong = codes "a pattern is too long"
 prepare_error_text ListsTooLong = codes "too many patterns are an end of another"
 prepare_error_text (ArrayTooShort needed) = codes "the array needs " ++ decimal needed ++ codes " places"
+
+-- what is printed of why matches are not replaced
+abbrev pub replace_error_text : ReplaceError → List ℕ
+replace_error_text replace.NotOneForEach = codes "there is not one replacement for each pattern"
+replace_error_text replace.OutOfMemory = codes "out of memory"

@@ -10,6 +10,8 @@ pub mod Overlapping
 pub mod OverlappingMatchesValue
 pub mod Prepared
 pub mod PreparedOverlapping
+pub mod Replaced
+pub mod SearchBuilderValue
 pub mod States
 pub mod Stream
 pub mod Table

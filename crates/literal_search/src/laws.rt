@@ -1,12 +1,12 @@
 //! What follows from the definitions, for callers: call a law where its fact is needed.
 ghost use Rattle.std.specs.Prelude.{◌≡◌, ◌+◌, ◌<◌, ◌≤◌, ◌-◌, ◌^◌, ◌++◌, ◌∷◌, [], ℕ, Bool, List, length, take};
-ghost use Rattle.std.specs.Prelude.{IsNone, None, Ok, Option, Some, map};
+ghost use Rattle.std.specs.Prelude.{IsNone, None, Ok, Option, Some, false, map, sum_by};
 ghost use Rattle.std.specs.Iterator.{Yields};
 ghost use Rattle.literal_base.specs.declared.search.Span.{Span};
 ghost use Rattle.literal_base.specs.Counts.{Counts};
 ghost use Rattle.literal_base.specs.Greedy.{IsGreedy};
 ghost use Rattle.literal_base.specs.MatchValue.{MatchValue};
-ghost use Rattle.literal_base.specs.Occurs.{between};
+ghost use Rattle.literal_base.specs.Occurs.{between, pattern_at};
 ghost use Rattle.literal_base.specs.Query.{Query};
 ghost use Rattle.literal_search.specs.Linear.{IsGreedyIn, ScansTwice, looked_upto};
 ghost use Rattle.literal_search.specs.LinearMatchesValue.{GivesInSpan, GivesInSpanCounted, LinearMatchesValue};
@@ -15,6 +15,7 @@ ghost use Rattle.literal_search.specs.Overlapping.{IsOverlapping, OverlappingVal
 ghost use Rattle.literal_search.specs.OverlappingMatchesValue.{GivesOverlapping, OverlappingMatchesValue};
 ghost use Rattle.literal_search.specs.Prepared.{IsPrepared, check_of, prepared_len};
 ghost use Rattle.literal_search.specs.PreparedOverlapping.{IsPreparedOverlapping, listed_len};
+ghost use Rattle.literal_search.specs.Replaced.{replaced};
 ghost use Rattle.literal_search.specs.SearchValue.{ScansListAtMost, SearchValue};
 ghost use Rattle.literal_search.specs.Stream.{GivesStreamed, StreamValue, stream_of};
 
@@ -92,6 +93,17 @@ pub fn iterations_give_each_occurrence_once()
         → first ≡ record { search = search; haystack = haystack; span = span; end = span.start; pattern = 0 }
         → Yields GivesOverlapping first all last → GivesOverlapping last None ended
         → IsOverlapping search.patterns search.ignore_case haystack span all }
+{}
+
+/// Where case is kept, replacing each match by its own pattern changes nothing (`same`). A text in which matches are
+/// replaced is longer by the replacements, and shorter by the matches (`length`).
+pub fn replacing_changes_the_matches_alone()
+    ensures same { (query : Query) (haystack : List ℕ) (all : List MatchValue)
+        → IsGreedy query false haystack 0 all → replaced haystack query.patterns 0 all ≡ haystack }
+    ensures length { (query : Query) (ignore_case : Bool) (haystack : List ℕ) (replacements : List (List ℕ))
+        (all : List MatchValue) → IsGreedy query ignore_case haystack 0 all
+        → length (replaced haystack replacements 0 all) + sum_by (λ found. found.end - found.start) all
+        ≡ length haystack + sum_by (λ found. length (pattern_at replacements found.pattern)) all }
 {}
 
 /// An array begins with a prepared search if its first places do, and what it begins with stands in as many places as

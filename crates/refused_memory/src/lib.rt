@@ -22,6 +22,8 @@ mod pattern_lists;
 #[cfg(test)]
 mod prefilters;
 #[cfg(test)]
+mod replacing;
+#[cfg(test)]
 mod searchers;
 #[cfg(test)]
 mod searches;

@@ -1,0 +1,46 @@
+//! Matches that are replaced, and searches that are built by a builder.
+use literal_search::{MatchKind, ReplaceError, Search, SearchBuilder};
+use std::test::Fail;
+
+#[test]
+fn example_of_replacing(rt: HostRuntime) -> Result<(), Fail> {
+    let alloc = rt.alloc();
+    let words = [b"apple".as_slice(), b"maple"];
+    let search = Search::new(alloc, MatchKind::LeftmostFirst, true, words)?;
+    let text = search.replace_all(alloc, b"Maple or apple?", &[b"pear", b"oak"])?;
+    assert!(rt; text.as_slice() == b"oak or pear?".as_slice());
+    Ok(())
+}
+
+#[test]
+fn replaces_by_one_for_each_pattern(rt: HostRuntime) -> Result<(), Fail> {
+    let alloc = rt.alloc();
+    let search = Search::builder().build(alloc, [b"a".as_slice(), b"ab"])?;
+    let text = search.replace_all(alloc, b"aba", &[b"", b"x"])?;
+    assert!(rt; text.as_slice() == b"b".as_slice());
+    let too_few = search.replace_all(alloc, b"", &[b"x"]);
+    assert!(rt; too_few.err() == Some(ReplaceError::NotOneForEach));
+    let too_many = search.replace_all(alloc, b"a", &[b"x", b"y", b"z"]);
+    assert!(rt; too_many.err() == Some(ReplaceError::NotOneForEach));
+    Ok(())
+}
+
+#[test]
+fn example_of_a_builder(rt: HostRuntime) -> Result<(), Fail> {
+    let alloc = rt.alloc();
+    let builder = Search::builder().ascii_case_insensitive(true);
+    let search = builder.build(alloc, [b"password".as_slice(), b"secret"])?;
+    assert!(rt; search.is_match(b"My Secret.") && search.match_kind() == MatchKind::LeftmostFirst);
+    Ok(())
+}
+
+#[test]
+fn builders_keep_what_is_set(rt: HostRuntime) -> Result<(), Fail> {
+    let longest = Search::builder().match_kind(MatchKind::LeftmostLongest);
+    assert!(rt; SearchBuilder::default() == Search::builder() && longest != Search::builder());
+    let folded = longest.ascii_case_insensitive(true);
+    assert!(rt; folded.ascii_case_insensitive(false) == longest);
+    let search = folded.build(rt.alloc(), [b"a".as_slice(), b"ab"])?;
+    assert!(rt; search.match_kind() == MatchKind::LeftmostLongest && search.ignores_case());
+    Ok(())
+}

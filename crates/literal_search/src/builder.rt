@@ -1,0 +1,91 @@
+//! What a search is built by, each of it set by its name.
+ghost use Rattle.std.specs.Prelude.{◌≡◌, IfErr, IfOk};
+ghost use Rattle.literal_base.specs.Given.{CanBeTaken};
+ghost use Rattle.literal_base.specs.Kinds.{root_kind_of};
+ghost use Rattle.literal_search.specs.SearchBuilderValue.{default_builder};
+ghost use Rattle.literal_search.specs.SearchValue.{BuildsSearch, NeedFewStates, NeedTooManyStates, RefusesSearch};
+
+use crate::{BuildError, MatchKind, Search};
+use std::alloc::Global;
+use std::marker::Model;
+
+/// By what a [`Search`] is built: which match is taken, and whether ASCII case is ignored. Each call that sets one
+/// answers a builder that has it, and else what this one has.
+///
+/// ```rust
+/// let builder = Search::builder().ascii_case_insensitive(true);
+/// let search = builder.build(alloc, [b"password".as_slice(), b"secret"])?;
+/// assert!(rt; search.is_match(b"My Secret.") && search.match_kind() == MatchKind::LeftmostFirst);
+/// ```
+#[derive(Clone, Copy, Debug, PartialEq, Eq)]
+pub struct SearchBuilder {
+    kind: MatchKind,
+    ignore_case: bool,
+}
+
+impl Model for SearchBuilder {
+    ghost use Rattle.literal_search.specs.SearchBuilderValue.{SearchBuilderValue};
+
+    ghost Value = { SearchBuilderValue };
+
+    ghost view = { λ builder. record { kind = builder.kind; ignore_case = builder.ignore_case } };
+
+    ghost inverse = { λ value. record { kind = value.kind; ignore_case = value.ignore_case } };
+}
+
+/// What [`Search::builder`] answers.
+impl Default for SearchBuilder {
+    ghost is_default = { λ builder. builder ≡ default_builder };
+
+    fn default() -> SearchBuilder {
+        Search::builder()
+    }
+}
+
+impl Search {
+    /// What a search is built by where nothing is set: [`MatchKind::LeftmostFirst`], with ASCII case kept.
+    pub fn builder() -> SearchBuilder
+        ensures { result ≡ default_builder }
+    {
+        SearchBuilder {
+            kind: MatchKind::LeftmostFirst,
+            ignore_case: false,
+        }
+    }
+}
+
+impl SearchBuilder {
+    /// The same with another kind of match: which of the patterns that match at one place is taken.
+    pub fn match_kind(self, kind: MatchKind) -> SearchBuilder
+        ensures { result ≡ record self { kind = kind } }
+    {
+        SearchBuilder { kind, ..self }
+    }
+
+    /// The same with ASCII case ignored, or kept.
+    pub fn ascii_case_insensitive(self, yes: bool) -> SearchBuilder
+        ensures { result ≡ record self { ignore_case = yes } }
+    {
+        SearchBuilder {
+            ignore_case: yes,
+            ..self
+        }
+    }
+
+    /// The search for the patterns that the iterator gives, by what is set: [`Search::new`] by these.
+    pub fn build<'a, I: IntoIterator<Item = &'a [u8]>>(
+        &self,
+        alloc: Global,
+        patterns: I,
+    ) -> Result<Search, BuildError>
+        requires { CanBeTaken I.into_iter_gives I.IntoIter.can_next I.IntoIter.remaining patterns }
+        ensures ok { IfOk result
+            (BuildsSearch I.into_iter_gives I.IntoIter.next_gives patterns self.now.kind self.now.ignore_case) }
+        ensures few { IfOk result
+            (λ built. NeedFewStates (root_kind_of self.now.kind) self.now.ignore_case built.query.patterns) }
+        ensures error { IfErr result (RefusesSearch I.into_iter_gives I.IntoIter.next_gives patterns
+            (NeedTooManyStates (root_kind_of self.now.kind) self.now.ignore_case)) }
+    {
+        Search::new(alloc, self.kind, self.ignore_case, patterns)
+    }
+}

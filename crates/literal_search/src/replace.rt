@@ -1,0 +1,86 @@
+//! Every match replaced by what is given for its pattern.
+ghost use Rattle.std.specs.Prelude.{IfErr, IfOk, map};
+ghost use Rattle.literal_search.specs.Replaced.{IsReplaced, RefusesToReplace};
+
+use crate::Search;
+use std::alloc::{AllocError, Global};
+use std::error::Error;
+use std::fmt;
+
+/// Why matches are not replaced.
+#[derive(Clone, Copy, Debug, PartialEq, Eq, Drop)]
+pub enum ReplaceError {
+    /// There are not as many replacements as patterns.
+    NotOneForEach,
+    /// Memory was refused.
+    OutOfMemory,
+}
+
+/// What is wrong, in a few words.
+impl fmt::Display for ReplaceError {
+    ghost use Rattle.std.specs.Prelude.{Some};
+    ghost use Rattle.literal_search.specs.ErrorText.{replace_error_text};
+
+    ghost output = { λ error. Some (replace_error_text error) };
+
+    fn fmt<W: fmt::Write>(&self, f: &mut fmt::Formatter<W>) -> fmt::Result {
+        match self {
+            ReplaceError::NotOneForEach => write!(
+                f,
+                "there is not one replacement for each pattern"
+            ),
+            ReplaceError::OutOfMemory => write!(f, "out of memory"),
+        }
+    }
+}
+
+impl Error for ReplaceError {}
+
+/// [`ReplaceError::OutOfMemory`].
+impl From<AllocError> for ReplaceError {
+    ghost use Rattle.std.specs.Prelude.{◌≡◌};
+    ghost use Rattle.literal_search.specs.declared.replace.ReplaceError.TheVariants.{OutOfMemory};
+
+    ghost from_gives = { λ _ error. error ≡ OutOfMemory };
+
+    fn from(_: AllocError) -> ReplaceError {
+        ReplaceError::OutOfMemory
+    }
+}
+
+impl Search {
+    /// The haystack with each match of [`Search::find_iter`] replaced by what is given for its pattern, and as it is
+    /// between them. There has to be one replacement for each pattern, in their order, and it may be empty. Memory is
+    /// asked for only where the answer is not empty.
+    ///
+    /// ```rust
+    /// let words = [b"apple".as_slice(), b"maple"];
+    /// let search = Search::new(alloc, MatchKind::LeftmostFirst, true, words)?;
+    /// let text = search.replace_all(alloc, b"Maple or apple?", &[b"pear", b"oak"])?;
+    /// assert!(rt; text.as_slice() == b"oak or pear?".as_slice());
+    /// ```
+    pub fn replace_all(
+        &self,
+        alloc: Global,
+        haystack: &[u8],
+        replacements: &[&[u8]],
+    ) -> Result<Vec<u8>, ReplaceError>
+        ensures ok { IfOk result
+            (λ text. IsReplaced self.now haystack.now (map (λ r. r.now) replacements.now) text.items) }
+        ensures error { IfErr result
+            (RefusesToReplace self.now haystack.now (map (λ r. r.now) replacements.now)) }
+    {
+        if replacements.len() != self.patterns_len() {
+            return Err(ReplaceError::NotOneForEach);
+        }
+        let mut text = Vec::new(alloc);
+        let mut at = 0;
+        for found in self.find_iter(haystack) {
+            text.extend_from_slice(&haystack[at..found.start()])?;
+            text.extend_from_slice(replacements[found.pattern().as_usize()])?;
+            at = found.end();
+        }
+        text.extend_from_slice(&haystack[at..])?;
+        Ok(text)
+    }
+}

@@ -1,0 +1,59 @@
+//! Replacing matches, and building a search by a builder.
+use crate::made::assert_place;
+use literal_search::{BuildError, MatchKind, ReplaceError, Search};
+use std::alloc::{AllocError, Global};
+use std::process::Abort;
+
+/// A search for two words, one of which is a front of the other.
+fn build(alloc: Global) -> Result<Search, BuildError> {
+    let builder = Search::builder().match_kind(MatchKind::LeftmostLongest);
+    let folded = builder.ascii_case_insensitive(true);
+    folded.build(alloc, [b"ab".as_slice(), b"abc"])
+}
+
+/// It finds the longer one.
+fn assert_finds(rt: &impl Abort, search: &Search) {
+    assert_place(rt, search.find(b"qABC"), 1, (1, 4));
+}
+
+#[test]
+fn build_of_a_search(rt: HostRuntime) {
+    let search = match build(rt.alloc()) {
+        Ok(search) => search,
+        Err(error) => {
+            assert!(rt; error == BuildError::OutOfMemory);
+            build(rt.alloc()).expect(&rt, "it was refused again")
+        }
+    };
+    assert_finds(&rt, &search);
+}
+
+/// One text is replaced by more than stands before it, and the other by nothing; the most stands behind both.
+fn replace_both(alloc: Global, search: &Search) -> Result<Vec<u8>, ReplaceError> {
+    let haystack = b"qab-ABC, behind which stands as much as it takes to ask for memory once more";
+    search.replace_all(alloc, haystack, &[b"<the shorter one of both>", b""])
+}
+
+#[test]
+fn replace_all_of_a_search(rt: HostRuntime) -> Result<(), AllocError> {
+    let built = build(rt.alloc()).or(Err(AllocError));
+    let search = built?;
+    let text = match replace_both(rt.alloc(), &search) {
+        Ok(text) => text,
+        Err(error) => {
+            assert!(rt; error == ReplaceError::OutOfMemory);
+            assert_finds(&rt, &search);
+            replace_both(rt.alloc(), &search).expect(&rt, "it was refused again")
+        }
+    };
+    assert!(rt; text.starts_with(b"q<the shorter one of both>-, behind"));
+    Ok(())
+}
+
+#[test]
+fn an_empty_text_takes_no_memory(rt: HostRuntime) -> Result<(), AllocError> {
+    let built = build(rt.alloc()).or(Err(AllocError));
+    let text = built?.replace_all(rt.alloc(), b"abcAB", &[b"", b""]);
+    assert!(rt; text.expect(&rt, "it takes no memory").is_empty());
+    Ok(())
+}
