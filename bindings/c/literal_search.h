@@ -213,7 +213,7 @@ int32_t literal_prepare(uint32_t kind, bool ignore_case, const uint8_t *patterns
 int32_t literal_prepare_overlapping(bool ignore_case, const uint8_t *patterns, size_t patterns_len, const size_t *ends,
                                     size_t ends_len, uint32_t *prepared, size_t prepared_len, size_t *needed);
 
-/* Whether an array of literal_prepare is whole, as one that was kept in a file: by its version, its lengths, and a sum
+/* Whether an array of literal_prepare is whole, as one that was kept in a file: by its version, its lengths, and a check
  * over all of it. It finds what happens by accident, and is no defence against a forger.
  *
  * LITERAL_OK       the array is whole

@@ -189,6 +189,35 @@ class Arrays(unittest.TestCase):
                 array[at] ^= 1
             self.assertEqual(check(array, length), OK)
 
+    def test_two_flipped_bits_are_noticed(self):
+        """The top bits of each two words, the check among them, and any bits of two."""
+        checks = (prepared, CALLS.literal_check_prepared), (prepared_for_all, CALLS.literal_check_overlapping)
+        chance = random.Random(4)
+        for prepare, check in checks:
+            array, length = prepare(WORDS)
+            pairs = [((one, 31), (other, 31)) for one, other in itertools.combinations(range(length), 2)]
+            for _ in range(20000):
+                one, other = chance.sample(range(length), 2)
+                pairs.append(((one, chance.randrange(32)), (other, chance.randrange(32))))
+            for pair in pairs:
+                for at, bit in pair:
+                    array[at] ^= 1 << bit
+                self.assertEqual(check(array, length), DAMAGED, pair)
+                for at, bit in pair:
+                    array[at] ^= 1 << bit
+            self.assertEqual(check(array, length), OK)
+
+    def test_lost_words_are_noticed(self):
+        """The top bits of all words, and all words behind the version."""
+        checks = (prepared, CALLS.literal_check_prepared), (prepared_for_all, CALLS.literal_check_overlapping)
+        for prepare, check in checks:
+            array, length = prepare(WORDS)
+            zeros = (ctypes.c_uint32 * length)(array[0])
+            self.assertEqual(check(zeros, length), DAMAGED)
+            self.assertTrue(any(it >> 31 for it in array))
+            low = (ctypes.c_uint32 * length)(*(it & 0x7FFFFFFF for it in array))
+            self.assertEqual(check(low, length), DAMAGED)
+
     def test_an_array_without_parts_is_damaged(self):
         (array, length), (for_all, longer) = prepared(WORDS), prepared_for_all(WORDS)
         found, page, number = (Match * 2)(), Page(), ctypes.c_size_t()

@@ -49,6 +49,23 @@ fn finds_by_an_array(rt: HostRuntime) -> Result<(), Fail> {
     Ok(())
 }
 
+/// The check finds two flipped top bits, which a product alone would let cancel, and refuses zeros.
+#[test]
+fn damaged_arrays_are_not_whole(rt: HostRuntime) -> Result<(), Fail> {
+    let mut array = filled(rt.alloc())?;
+    let version = array.first().copied();
+    for number in array.iter_mut().skip(6).step_by(2).take(2) {
+        *number ^= 1 << 31;
+    }
+    assert!(rt; !Prepared::new(&array)?.is_whole());
+    array.fill(0);
+    if let (Some(first), Some(version)) = (array.first_mut(), version) {
+        *first = version;
+    }
+    assert!(rt; !Prepared::new(&array)?.is_whole());
+    Ok(())
+}
+
 /// The search for all that occurs of three words with case ignored, in an array that it fills.
 fn filled_for_all(alloc: Global) -> Result<Vec<u32>, Fail> {
     let words = [b"append".as_slice(), b"app", b"end"];

@@ -3,17 +3,22 @@ use Rattle.std.specs.Prelude.{◌≡◌, ◌≢◌, ℕ, ◌+◌, ◌/◌, ◌%�
 use Rattle.std.specs.List.{All}
 use Rattle.literal_base.specs.declared.search.Span.{Span}
 use Rattle.literal_base.specs.Occurs.{Occurs, same_byte}
-use Rattle.literal_fingerprints.specs.declared.nibbles.Nibbles.{Nibbles}
+
+-- a table of buckets for bytes at one place: for each lower and each upper half of a byte a set of eight buckets, as
+-- bits of a number
+pub record HalfTable : Type 0 where
+  pub low : List ℕ
+  pub high : List ℕ
 
 -- what contracts see of `Fingerprints`: the tables for the first byte of a pattern and the three behind it
 pub record FingerprintsValue : Type 0 where
-  pub first : Nibbles
-  pub second : Nibbles
-  pub third : Nibbles
-  pub fourth : Nibbles
+  pub first : HalfTable
+  pub second : HalfTable
+  pub third : HalfTable
+  pub fourth : HalfTable
 
 -- the buckets of a byte by a table, as bits of a number: those that its lower half has, and its upper half too
-abbrev pub buckets_of : Nibbles → ℕ → ℕ
+abbrev pub buckets_of : HalfTable → ℕ → ℕ
 buckets_of table byte = bit_and (slice_index table.low (byte % 16)) (slice_index table.high (byte / 16 % 16))
 
 -- the buckets that the first four bytes of a text share, each byte by the table for its place

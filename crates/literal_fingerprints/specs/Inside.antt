@@ -1,3 +1,4 @@
 -- What models and private functions alone cite.
 pub mod Lanes
+pub mod Nibbles
 pub mod Scan

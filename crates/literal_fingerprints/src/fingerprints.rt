@@ -30,12 +30,23 @@ pub struct Fingerprints {
 
 impl Model for Fingerprints {
     ghost use Rattle.literal_fingerprints.specs.FingerprintsValue.{FingerprintsValue};
+    ghost use Rattle.literal_fingerprints.specs.Inside.Nibbles.{table_of};
 
     ghost Value = { FingerprintsValue };
 
-    ghost view = { λ f. record { first = f.first; second = f.second; third = f.third; fourth = f.fourth } };
+    ghost view = { λ f. record {
+      first = table_of f.first;
+      second = table_of f.second;
+      third = table_of f.third;
+      fourth = table_of f.fourth;
+    } };
 
-    ghost inverse = { λ f. record { first = f.first; second = f.second; third = f.third; fourth = f.fourth } };
+    ghost inverse = { λ f. record {
+      first = record { low = f.first.low; high = f.first.high };
+      second = record { low = f.second.low; high = f.second.high };
+      third = record { low = f.third.low; high = f.third.high };
+      fourth = record { low = f.fourth.low; high = f.fourth.high };
+    } };
 }
 
 impl Fingerprints {

@@ -2,6 +2,7 @@
 ghost use Rattle.std.specs.Prelude.{◌≡◌, ◌⊎◌, ℕ, ◌<◌, bit_and, length, slice_index, true};
 ghost use Rattle.literal_base.specs.Occurs.{same_byte};
 ghost use Rattle.literal_fingerprints.specs.FingerprintsValue.{buckets_of};
+ghost use Rattle.literal_fingerprints.specs.Inside.Nibbles.{table_of};
 
 use literal_base::alphabet::opposite_ascii_case;
 
@@ -15,7 +16,7 @@ pub struct Nibbles {
 impl Nibbles {
     /// The buckets of a byte.
     pub fn buckets(&self, byte: u8) -> u8
-        ensures { result ≡ buckets_of self.now byte }
+        ensures { result ≡ buckets_of (table_of self.now) byte }
     {
         self.low[(byte % 16) as usize] & self.high[(byte / 16) as usize]
     }
@@ -25,7 +26,7 @@ impl Nibbles {
     pub fn shared(&self, ignore_case: bool, pattern: &[u8], place: usize) -> u8
         ensures { (byte : ℕ)
             → (place < length pattern.now → same_byte ignore_case byte (slice_index pattern.now place) ≡ true)
-            → bit_and result (buckets_of self.now byte) ≡ result }
+            → bit_and result (buckets_of (table_of self.now) byte) ≡ result }
     {
         if place < pattern.len() {
             let byte = pattern[place];

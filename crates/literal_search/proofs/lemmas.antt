@@ -6,6 +6,7 @@ pub mod BestEnds
 pub mod Built
 pub mod Callers
 pub mod Chains
+pub mod Check
 pub mod Classes
 pub mod EndLists
 pub mod Ends

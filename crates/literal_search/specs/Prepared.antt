@@ -1,6 +1,7 @@
 -- A search as numbers in an array that is lent.
-use Rattle.std.specs.Prelude.{◌≡◌, ◌+◌, ◌*◌, ◌%◌, ◌^◌, ◌<◌, ◌≤◌, ℕ, Bool, List, length, map, take, drop, fold}
+use Rattle.std.specs.Prelude.{◌≡◌, ◌+◌, ◌*◌, ◌/◌, ◌%◌, ◌^◌, ◌<◌, ◌≤◌, ℕ, Bool, List, length, map, take, drop, fold}
 use Rattle.std.specs.Prelude.{slice_index, slice_range}
+use Rattle.std.specs.Int.Bits.{bit_xor}
 use Rattle.std.specs.List.{All}
 use Rattle.literal_base.specs.Kinds.{root_kind_of}
 use Rattle.literal_base.specs.MatchValue.{MatchValue}
@@ -40,9 +41,14 @@ lengths_in numbers = slice_range numbers LENGTHS_AT (rows_at numbers)
 abbrev pub rows_in : List ℕ → List ℕ
 rows_in numbers = slice_range numbers (rows_at numbers) (prepared_len numbers)
 
--- a check over numbers: with each further number it is multiplied and the number added, in 32 bits
+-- a number of 32 bits, stirred so that no other becomes the same: its upper half is xored into its lower one, and then
+-- it is multiplied by an odd factor, in 32 bits
+abbrev pub stirred : ℕ → ℕ
+stirred number = bit_xor number (number / 2 ^ 16) * 16777619 % 2 ^ 32
+
+-- a check over numbers: from a number that is not zero on, each of them is added in 32 bits, and the sum is stirred
 unfoldable pub check_of : List ℕ → ℕ
-check_of numbers = fold (λ check number. (check * 16777619 + number) % 2 ^ 32) 0 numbers
+check_of numbers = fold (λ check number. stirred ((check + number) % 2 ^ 32)) 2166136261 numbers
 
 -- the first number is a version, there are identifiers for the patterns, and the array is as long as its numbers say
 pub record HasParts (version : ℕ) (numbers : List ℕ) : Type 0 where

@@ -14,7 +14,7 @@ use std::alloc::{AllocError, Global};
 impl<'p> Recognised<'p> {
     /// For each pattern the best, by a kind of match, of those that are an end of it. Where there is no pattern, no
     /// memory is asked for.
-    pub fn best_ends(&self, alloc: Global, kind: MatchKind) -> Result<Vec<u32>, AllocError>
+    pub(crate) fn best_ends(&self, alloc: Global, kind: MatchKind) -> Result<Vec<u32>, AllocError>
         requires { Recognise self.now }
         ensures best { IfOk result (λ best. AreBest kind (symbols_of self.now) best.items
             (length self.now.patterns.now)) }

@@ -2,6 +2,7 @@
 ghost use Rattle.std.specs.Prelude.{◌≡◌, ◌+◌, ◌<◌, ◌≤◌, ◌-◌, ◌^◌, ◌++◌, ◌∷◌, [], ℕ, Bool, List, length, take};
 ghost use Rattle.std.specs.Prelude.{IsNone, None, Ok, Option, Some, false, map, sum_by};
 ghost use Rattle.std.specs.Iterator.{Yields};
+ghost use Rattle.std.specs.List.{All};
 ghost use Rattle.literal_base.specs.declared.search.Span.{Span};
 ghost use Rattle.literal_base.specs.Counts.{Counts};
 ghost use Rattle.literal_base.specs.Greedy.{IsGreedy};
@@ -13,8 +14,8 @@ ghost use Rattle.literal_search.specs.LinearMatchesValue.{GivesInSpan, GivesInSp
 ghost use Rattle.literal_search.specs.MatchesValue.{GivesCounted, GivesMatch, MatchesValue};
 ghost use Rattle.literal_search.specs.Overlapping.{IsOverlapping, OverlappingValue};
 ghost use Rattle.literal_search.specs.OverlappingMatchesValue.{GivesOverlapping, OverlappingMatchesValue};
-ghost use Rattle.literal_search.specs.Prepared.{IsPrepared, check_of, prepared_len};
-ghost use Rattle.literal_search.specs.PreparedOverlapping.{IsPreparedOverlapping, listed_len};
+ghost use Rattle.literal_search.specs.Prepared.{IsPrepared, IsWhole, check_of, prepared_len};
+ghost use Rattle.literal_search.specs.PreparedOverlapping.{IsPreparedOverlapping, IsWholeOverlapping, listed_len};
 ghost use Rattle.literal_search.specs.Replaced.{replaced};
 ghost use Rattle.literal_search.specs.SearchValue.{ScansListAtMost, SearchValue};
 ghost use Rattle.literal_search.specs.Stream.{GivesStreamed, StreamValue, stream_of};
@@ -125,6 +126,14 @@ pub fn first_places_are_enough()
 pub fn changed_number_is_found()
     ensures { (before behind : List ℕ) (one other : ℕ) → one < 2 ^ 32 → other < 2 ^ 32
         → check_of (before ++ one ∷ behind) ≡ check_of (before ++ other ∷ behind) → one ≡ other }
+{}
+
+/// No array that holds nothing but zeros behind its version is whole.
+pub fn zeros_are_refused()
+    ensures prepared { (version : ℕ) (zeros : List ℕ) → All (λ number. number ≡ 0) zeros
+        → ¬ IsWhole (version ∷ zeros) }
+    ensures overlapping { (version : ℕ) (zeros : List ℕ) → All (λ number. number ≡ 0) zeros
+        → ¬ IsWholeOverlapping (version ∷ zeros) }
 {}
 
 /// An iterator over everything that occurs that answers `None` keeps doing so, and stays where it is.

@@ -21,10 +21,10 @@ use std::fmt;
 use std::marker::Model;
 
 /// What the first number of a prepared search for the leftmost match is.
-pub const PREPARED_VERSION: u32 = 0x4C50_0002;
+pub const PREPARED_VERSION: u32 = 0x4C50_0003;
 
 /// What that of one for everything that occurs is.
-pub const OVERLAPPING_VERSION: u32 = 0x4C4F_0002;
+pub const OVERLAPPING_VERSION: u32 = 0x4C4F_0003;
 
 /// Where the classes of all bytes begin, behind the version, the check, the width, how many patterns and places in the
 /// rows there are, and how long the longest pattern is.
@@ -33,9 +33,11 @@ pub const CLASSES_AT: usize = 6;
 /// Where the lengths of the patterns begin. Behind them stand the rows.
 pub const LENGTHS_AT: usize = CLASSES_AT + 256;
 
-/// By what a check is multiplied before each further number. It is odd, so that each change of one number over which
-/// the check goes changes it.
-const CHECK_FACTOR: u64 = 16_777_619;
+/// What a check over no numbers is. It is not zero, so that no zeros lead to a check of zero.
+const CHECK_START: u32 = 2_166_136_261;
+
+/// By what each sum of a check is multiplied. It is odd, so that no two sums become the same.
+const CHECK_FACTOR: u32 = 16_777_619;
 
 /// Why a search is not written into an array, which then stays as it was.
 #[derive(Clone, Copy, Debug, PartialEq, Eq, Drop)]
@@ -175,8 +177,9 @@ impl<'p> Prepared<'p> {
     }
 
     /// Whether the check over all numbers of the search is right. It finds each change of one number, unless that
-    /// says how many numbers there are ([`changed_number_is_found`](crate::laws::changed_number_is_found)), and most
-    /// others, but none that is made to pass.
+    /// says how many numbers there are ([`changed_number_is_found`](crate::laws::changed_number_is_found)), an array
+    /// of zeros ([`zeros_are_refused`](crate::laws::zeros_are_refused)), and most other changes, but none that is made
+    /// to pass.
     pub fn is_whole(&self) -> bool
         ensures { IsTrue result ↔ IsWhole self.now }
     {
@@ -327,9 +330,11 @@ fn put_starts(array: &mut [u32], at: usize, starts: &[usize])
 fn check_over(numbers: &[u32]) -> u32
     ensures { result ≡ check_of numbers.now }
 {
-    let mut check = 0;
+    let mut check = CHECK_START;
     for number in numbers {
-        check = ((u64::from(check) * CHECK_FACTOR + u64::from(*number)) % (1 << 32)) as u32;
+        let sum = check.wrapping_add(*number);
+        // A product carries upwards only, so the upper half goes into the lower one first.
+        check = (sum ^ (sum >> 16)).wrapping_mul(CHECK_FACTOR);
     }
     check
 }

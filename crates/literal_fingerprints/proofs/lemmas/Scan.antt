@@ -2,15 +2,15 @@
 use Rattle.std.proofs.Common.{◌≡◌, ◌≢◌, ℕ, ◌+◌, ◌-◌, ◌<◌, ◌≤◌, ◌∙◌, List, ap, arith, bit_and, cond}
 use Rattle.std.proofs.Common.{get_or, inl, inr, subst, sym}
 use Rattle.std.proofs.lemmas.Bool.{cases_lt, le-ltb, lt-ltb}
-use Rattle.literal_fingerprints.specs.FingerprintsValue.{FingerprintsValue, PassesAt, buckets_of, shared_buckets}
+use Rattle.literal_fingerprints.specs.FingerprintsValue.{FingerprintsValue, HalfTable, PassesAt, buckets_of}
+use Rattle.literal_fingerprints.specs.FingerprintsValue.{shared_buckets}
 use Rattle.literal_fingerprints.specs.Inside.Lanes.{HasLanes}
 use Rattle.literal_fingerprints.specs.Inside.Scan.{looked_up, shared_from}
-use Rattle.literal_fingerprints.specs.declared.nibbles.Nibbles.{Nibbles}
 use Rattle.literal_fingerprints.proofs.lemmas.Sets.{meets}
 
 module _ (haystack : List ℕ) (start : ℕ) where
   -- the same lanes, their places counted from the vector before
-  pub next_lanes : (table : Nibbles) (lanes : List ℕ) (at : ℕ)
+  pub next_lanes : (table : HalfTable) (lanes : List ℕ) (at : ℕ)
       → HasLanes lanes (λ k. looked_up table haystack start (at + 16 + k))
       → HasLanes lanes (λ k. looked_up table haystack start (at + (16 + k)))
   next_lanes table lanes at has =
@@ -21,11 +21,11 @@ module _ (haystack : List ℕ) (start : ℕ) where
             has.each k below ∙ ap (looked_up table haystack start) same;
       }
 
-  pub moved : (table : Nibbles) (m n : ℕ) → m ≡ n
+  pub moved : (table : HalfTable) (m n : ℕ) → m ≡ n
       → looked_up table haystack start m ≡ looked_up table haystack start n
   moved table m n same = ap (looked_up table haystack start) same
 
-  in_span : (table : Nibbles) (place k : ℕ) → start ≤ place
+  in_span : (table : HalfTable) (place k : ℕ) → start ≤ place
       → looked_up table haystack start (place + 16 + k) ≡ buckets_of table (get_or haystack (place + k) 0)
   in_span table place k after =
       let same : place + 16 + k - 16 ≡ place + k = omega arith in

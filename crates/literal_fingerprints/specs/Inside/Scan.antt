@@ -1,12 +1,11 @@
 -- What a scan has looked up. Places are numbered from 16 before the haystack on, so that there are some before a span.
 use Rattle.std.specs.Prelude.{ℕ, ◌+◌, ◌-◌, if◌then◌else◌, List, nat_lt, slice_index, bit_and}
-use Rattle.literal_fingerprints.specs.FingerprintsValue.{FingerprintsValue, buckets_of}
+use Rattle.literal_fingerprints.specs.FingerprintsValue.{FingerprintsValue, HalfTable, buckets_of}
 use Rattle.literal_fingerprints.specs.Inside.Lanes.{HasLanes}
 use Rattle.literal_fingerprints.specs.declared.looked_up.LookedUp.{LookedUp}
-use Rattle.literal_fingerprints.specs.declared.nibbles.Nibbles.{Nibbles}
 
 -- the buckets of the byte 16 before a place, and none before the start of the span
-abbrev pub looked_up : Nibbles → List ℕ → ℕ → ℕ → ℕ
+abbrev pub looked_up : HalfTable → List ℕ → ℕ → ℕ → ℕ
 looked_up table haystack start place =
     if nat_lt place (start + 16) then 0 else buckets_of table (slice_index haystack (place - 16))
 

@@ -1,73 +1,39 @@
 -- Why there is no search for a list that is given as a slice.
 -- For `search_for`, `all_that_occurs` and `list`.
-use Rattle.std.proofs.Common.{◌≡◌, ◌<◌, ℕ, Bool, List, [], ◌∷◌, length, map, take, get_or, Option, Some}
+use Rattle.std.proofs.Common.{◌≡◌, ◌<◌, ℕ, Bool, List, [], ◌∷◌, length, take, Option}
 use Rattle.std.proofs.Common.{Result, Ok, Err, IfErr}
-use Rattle.std.proofs.Common.{refl, sym, ap, ◌∙◌, arith, subst, inl, inr}
+use Rattle.std.proofs.Common.{sym, ap, ◌∙◌, arith, subst, inl, inr}
 use Rattle.std.specs.Borrow.{Bor}
 use Rattle.std.specs.Result.{IsErrAnd}
-use Rattle.std.proofs.lemmas.Iterator.Consumers.{YieldsList-so_far, YieldsList-turn}
-use Rattle.std.proofs.lemmas.List.{get_or-map, get_or_default, length-map, map-id, take-map}
 use Rattle.literal_base.specs.Occurs.{NoneIsEmpty, NothingOccurs, pattern_at}
 use Rattle.literal_base.specs.declared.search.Span.{Span}
-use Rattle.literal_base.proofs.lemmas.Callers.{GivesList, items_are}
-use Rattle.literal_search.specs.SearchValue.{GivesAll, GivesNext, RefusesSearch}
+use Rattle.literal_base.proofs.lemmas.Callers.{GivesList}
+use Rattle.literal_search.specs.SearchValue.{RefusesSearch}
+use Rattle.literal_search.proofs.lemmas.Callers.{GivesBytes, all_given, list_gives_bytes, next_given}
 use Rattle.literal_search.specs.declared.BuildError.{BuildError}
 use Rattle.literal_search.specs.declared.BuildError.TheVariants.{EmptyPattern, OutOfMemory, TooManyPatterns}
 use Rattle.literal_search.specs.declared.BuildError.TheVariants.{TooManyStates}
 use Rattle.literal_promise.specs.AnyList.{NeedTooManyForAny, RefusesAnyList, RefusesPatterns, searched_for}
 use Rattle.literal_promise.specs.declared.any_list.AnySearch.{AnySearch}
 
--- a list goes on behind its first items with one item
-record GoesOn (list patterns : List (List ℕ)) (next : List ℕ) : Type 0 where
-  are : patterns ≡ take (length patterns) list
-  within : length patterns < length list
-  next_is : next ≡ pattern_at list (length patterns)
-
 module _ {U T : Type 0} {becomes : U → T → Type 0} {steps : T → Option (Bor (List ℕ)) → T → Type 0} {given : U}
-    {list : List (Bor (List ℕ))} (gives : GivesList becomes steps given list) where
-  abbrev texts : List (List ℕ)
-  texts = map (λ (p : Bor (List ℕ)). p.now) list
-
-  all_given : {patterns : List (List ℕ)} → GivesAll becomes steps given patterns → patterns ≡ texts
-  all_given all = all.4 ∙ ap (map (λ (p : Bor (List ℕ)). p.now)) (items_are gives all.0 all.1 all.2 all.3)
-
-  next_given : {patterns : List (List ℕ)} {next : List ℕ} → GivesNext becomes steps given patterns next
-      → GoesOn texts patterns next
-  next_given {patterns} {next} one =
-      let all = gives.each one.iterator one.is_iterator in
-      let turn = YieldsList-turn all one.items one.before one.gave (Some one.item) one.after one.item refl one.gives in
-      let count : length patterns ≡ length one.items =
-      ap (λ (l : List (List ℕ)). length l) one.patterns_are ∙ length-map one.items (λ p. p.now) in
-      let so_far = sym (map-id one.items) ∙ YieldsList-so_far all one.items one.before one.gave in
-      record {
-        are =
-            one.patterns_are ∙ ap (map (λ (p : Bor (List ℕ)). p.now)) so_far
-            ∙ sym (take-map (λ (p : Bor (List ℕ)). p.now) (length one.items) list) ∙ ap (λ n. take n texts) (sym count);
-        within = omega (arith, turn.0, count, length-map list (λ (p : Bor (List ℕ)). p.now));
-        next_is =
-            one.next_is ∙ ap (λ (p : Bor (List ℕ)). p.now) turn.1
-            ∙ sym (get_or-map (λ (p : Bor (List ℕ)). p.now) list (length one.items) one.item one.item.now turn.0)
-            ∙ ap (λ n. get_or texts n one.item.now) (sym count)
-            ∙ get_or_default texts (length patterns) one.item.now []
-            (omega (arith, turn.0, count, length-map list (λ (p : Bor (List ℕ)). p.now)));
-      }
-
-  -- an error of a search that is built of the list
+    {texts : List (List ℕ)} (gives : GivesBytes becomes steps given texts) where
+  -- an error of a search that is built of byte strings
   refuses_patterns : (NeedTooMany : List (List ℕ) → Type 0) (error : BuildError)
       → RefusesSearch becomes steps given NeedTooMany error → RefusesPatterns NeedTooMany texts error
   refuses_patterns NeedTooMany (EmptyPattern number) (patterns, next, one, empty, is) =
-      let on = next_given one in
+      let on = next_given gives one in
       let here : number ≡ length patterns = is in (
         omega (arith, on.within, here),
         ap (λ n. length (pattern_at texts n)) here ∙ ap (λ (l : List ℕ). length l) (sym on.next_is) ∙ empty,
         subst NoneIsEmpty (on.are ∙ ap (λ n. take n texts) (sym here)) one.can_be_kept.some,
       )
-  refuses_patterns NeedTooMany OutOfMemory (inl one) = let on = next_given one.2 in omega (arith, on.within)
+  refuses_patterns NeedTooMany OutOfMemory (inl one) = let on = next_given gives one.2 in omega (arith, on.within)
   refuses_patterns NeedTooMany OutOfMemory (inr all) =
-      let is = all_given all.1 in omega (arith, all.2, ap (λ (l : List (List ℕ)). length l) is)
+      let is = all_given gives all.1 in omega (arith, all.2, ap (λ (l : List (List ℕ)). length l) is)
   refuses_patterns NeedTooMany TooManyPatterns one =
-      let on = next_given one.2 in omega (arith, on.within, one.4)
-  refuses_patterns NeedTooMany TooManyStates all = subst NeedTooMany (all_given all.1) all.2
+      let on = next_given gives one.2 in omega (arith, on.within, one.4)
+  refuses_patterns NeedTooMany TooManyStates all = subst NeedTooMany (all_given gives all.1) all.2
 
 -- an answer that is an error
 module _ {V : Type 0} (asked : AnySearch) (result : Result V BuildError) where
@@ -82,7 +48,7 @@ module _ {V : Type 0} (asked : AnySearch) (result : Result V BuildError) where
       → RefusesSearch becomes steps given NeedTooMany error → IsErrAnd result (λ e. e ≡ error)
       → IfErr result (RefusesAnyList asked)
   refuses_any gives NeedTooMany weaker error refuses is =
-      error_is error (by error (refuses_patterns gives NeedTooMany error refuses)) result is
+      error_is error (by error (refuses_patterns (list_gives_bytes gives) NeedTooMany error refuses)) result is
     where
       by : (error : BuildError) → RefusesPatterns NeedTooMany (searched_for asked).query.patterns error
           → RefusesAnyList asked error

@@ -1,50 +1,31 @@
 -- What callers take from this crate beside its contracts and laws: what an automaton was built of, and iterations over
 -- matches. For callers.
-use Rattle.std.proofs.Common.{◌≡◌, ℕ, Bool, List, [], ◌∷◌, map, Option, None, sym, ap, ◌∙◌, subst}
+use Rattle.std.proofs.Common.{◌≡◌, ◌<◌, ℕ, Bool, List, [], ◌∷◌, length, map, take, get_or, Option, None, Some}
+use Rattle.std.proofs.Common.{refl, sym, ap, ◌∙◌, arith, subst}
 use Rattle.std.specs.Borrow.{Bor}
 use Rattle.std.specs.Fn.{Called}
-use Rattle.std.specs.Iterator.{Yields}
+use Rattle.std.specs.Iterator.{AlwaysYields, Yields}
 use Rattle.std.specs.Iterator.Adapters.{map_callee, map_source}
 use Rattle.std.specs.Slice.Iter.{iter_rest, iter_steps}
 use Rattle.std.specs.declared.iter.Map.{Map}
 use Rattle.std.specs.declared.slice.Iter.{Iter}
 use Rattle.std.proofs.lemmas.Iterator.{YieldsList, YieldsList-from_map_by, YieldsList-from_slice, items_from_drains}
 use Rattle.std.proofs.lemmas.Iterator.{maps}
+use Rattle.std.proofs.lemmas.Iterator.Consumers.{YieldsList-so_far, YieldsList-turn}
+use Rattle.std.proofs.lemmas.List.{get_or_default, length-map}
 use denote.Param.Members.{Mut}
 use Rattle.literal_base.specs.declared.packed.MatchKind.{MatchKind}
 use Rattle.literal_base.specs.declared.search.MatchKind as search
 use Rattle.literal_base.specs.Greedy.{IsGreedy}
 use Rattle.literal_base.specs.MatchValue.{MatchValue}
-use Rattle.literal_base.specs.Occurs.{NothingOccurs, rest_from}
-use Rattle.literal_base.proofs.lemmas.Callers.{GivesList, items_are}
-use Rattle.literal_search.specs.SearchValue.{BuildsSearch, SearchValue, GivesAll, NeedTooManyStates, search_by}
+use Rattle.literal_base.specs.Occurs.{NothingOccurs, pattern_at, rest_from}
+use Rattle.literal_base.proofs.lemmas.Callers.{GivesList}
+use Rattle.literal_search.specs.SearchValue.{BuildsSearch, SearchValue, GivesAll, GivesNext, NeedTooManyStates}
+use Rattle.literal_search.specs.SearchValue.{search_by}
 use Rattle.literal_search.specs.MatchesValue.{GivesMatch, MatchesValue}
 use Rattle.literal_search.specs.Overlapping.{BuildsOverlapping, OverlappingValue}
 use Rattle.literal_search.specs.States.{HasTooManyStates}
 use Rattle.literal_search.proofs.lemmas.Rows.{none_few, one_class}
-
-module _ {U T : Type 0} {becomes : U → T → Type 0} {steps : T → Option (Bor (List ℕ)) → T → Type 0} {given : U}
-    {list : List (Bor (List ℕ))} where
-  -- all the items of a list that is given, as by `array_gives`, are that list
-  all_are : GivesList becomes steps given list → {patterns : List (List ℕ)} → GivesAll becomes steps given patterns
-      → patterns ≡ map (λ p. p.now) list
-  all_are gives all =
-      all.4 ∙ ap (map (λ (p : Bor (List ℕ)). p.now)) (items_are gives all.0 all.1 all.2 all.3)
-
-  -- so an automaton that is built of it is for that list
-  pub search_is_for : GivesList becomes steps given list → (kind : MatchKind) (ignore_case : Bool) (built : SearchValue)
-      → BuildsSearch becomes steps given kind ignore_case built
-      → built ≡ search_by kind ignore_case (map (λ p. p.now) list)
-  search_is_for gives kind ignore_case built (patterns, all, is) =
-      is ∙ ap (search_by kind ignore_case) (all_are gives all)
-
-  -- and so is a search for everything that occurs
-  pub overlapping_is_for : GivesList becomes steps given list → (ignore_case : Bool) (built : OverlappingValue)
-      → BuildsOverlapping becomes steps given ignore_case built
-      → built ≡ record { patterns = map (λ p. p.now) list; ignore_case = ignore_case }
-  overlapping_is_for gives ignore_case built (patterns, all, is) =
-      is ∙ ap (λ (p : List (List ℕ)). let o : OverlappingValue = record { patterns = p; ignore_case = ignore_case }
-      in o) (all_are gives all)
 
 -- whichever iterator the given value becomes, that gives references to these byte strings and ends
 pub record GivesBytes {U T : Type 0} (becomes : U → T → Type 0) (steps : T → Option (Bor (List ℕ)) → T → Type 0)
@@ -63,14 +44,72 @@ mapped_gives g h list is callee calls = record {
       (ap map_callee same ∙ callee) calls;
 }
 
--- an automaton that is built of byte strings that are given, as by `mapped_gives`, is for these
-pub search_is_for_bytes : {U T : Type 0} {becomes : U → T → Type 0} {steps : T → Option (Bor (List ℕ)) → T → Type 0}
-    {given : U} {list : List (List ℕ)} → GivesBytes becomes steps given list → (kind : MatchKind) (ignore_case : Bool)
-    (built : SearchValue) → BuildsSearch becomes steps given kind ignore_case built
-    → built ≡ search_by kind ignore_case list
-search_is_for_bytes gives kind ignore_case built (patterns, all, is) =
-    is ∙ ap (search_by kind ignore_case) (all.4
-    ∙ items_from_drains all.1 (all.3.1.0, all.3.1.1, λ _. (all.3.0, all.3.1.2)) (gives.each all.0 all.2))
+-- a list goes on behind these patterns, its first ones, with one more
+pub record GoesOnWith (list patterns : List (List ℕ)) (next : List ℕ) : Type 0 where
+  pub are : patterns ≡ take (length patterns) list
+  pub within : length patterns < length list
+  pub next_is : next ≡ pattern_at list (length patterns)
+
+-- What is built of byte strings that are given, as by `mapped_gives`, is for these.
+module _ {U T : Type 0} {becomes : U → T → Type 0} {steps : T → Option (Bor (List ℕ)) → T → Type 0} {given : U}
+    {list : List (List ℕ)} (gives : GivesBytes becomes steps given list) where
+  -- all the items are the list
+  pub all_given : {patterns : List (List ℕ)} → GivesAll becomes steps given patterns → patterns ≡ list
+  all_given all =
+      all.4 ∙ items_from_drains all.1 (all.3.1.0, all.3.1.1, λ _. (all.3.0, all.3.1.2)) (gives.each all.0 all.2)
+
+  -- the items before one of them are the first of the list, and it is the next
+  pub next_given : {patterns : List (List ℕ)} {next : List ℕ} → GivesNext becomes steps given patterns next
+      → GoesOnWith list patterns next
+  next_given {patterns} {next} one =
+      let all = gives.each one.iterator one.is_iterator in
+      let turn = YieldsList-turn all one.items one.before one.gave (Some one.item) one.after one.item refl one.gives in
+      let count : length patterns ≡ length one.items =
+      ap (λ (l : List (List ℕ)). length l) one.patterns_are ∙ length-map one.items (λ p. p.now) in
+      let so_far = YieldsList-so_far all one.items one.before one.gave in
+      record {
+        are = one.patterns_are ∙ so_far ∙ ap (λ n. take n list) (sym count);
+        within = omega (arith, turn.0, count);
+        next_is =
+            one.next_is ∙ turn.1 ∙ ap (λ n. get_or list n one.item.now) (sym count)
+            ∙ get_or_default list (length patterns) one.item.now [] (omega (arith, turn.0, count));
+      }
+
+  pub search_is_for_bytes : (kind : MatchKind) (ignore_case : Bool) (built : SearchValue)
+      → BuildsSearch becomes steps given kind ignore_case built → built ≡ search_by kind ignore_case list
+  search_is_for_bytes kind ignore_case built (patterns, all, is) = is ∙ ap (search_by kind ignore_case) (all_given all)
+
+-- the bytes of references
+abbrev bytes_in : List (Bor (List ℕ)) → List (List ℕ)
+bytes_in list = map (λ (p : Bor (List ℕ)). p.now) list
+
+-- What is built of a list of references that is given, as by `array_gives`, is for their byte strings.
+module _ {U T : Type 0} {becomes : U → T → Type 0} {steps : T → Option (Bor (List ℕ)) → T → Type 0} {given : U}
+    {list : List (Bor (List ℕ))} (gives : GivesList becomes steps given list) where
+  -- the list's byte strings are given
+  pub list_gives_bytes : GivesBytes becomes steps given (bytes_in list)
+  list_gives_bytes = record { each = λ it is. record { runs = read it list (gives.each it is).runs } }
+    where
+      read : (it : T) (list : List (Bor (List ℕ))) → AlwaysYields steps (λ x. x) it list
+          → AlwaysYields steps (λ (p : Bor (List ℕ)). p.now) it (bytes_in list)
+      read it [] runs = runs
+      read it (p ∷ list) runs = (
+        runs.0,
+        λ x next gave.
+            let one = runs.1 x next gave in (ap (λ (p : Bor (List ℕ)). p.now) one.0, read next list one.1),
+      )
+
+  pub search_is_for : (kind : MatchKind) (ignore_case : Bool) (built : SearchValue)
+      → BuildsSearch becomes steps given kind ignore_case built → built ≡ search_by kind ignore_case (bytes_in list)
+  search_is_for = search_is_for_bytes list_gives_bytes
+
+  -- and so is a search for everything that occurs
+  pub overlapping_is_for : (ignore_case : Bool) (built : OverlappingValue)
+      → BuildsOverlapping becomes steps given ignore_case built
+      → built ≡ record { patterns = bytes_in list; ignore_case = ignore_case }
+  overlapping_is_for ignore_case built (patterns, all, is) =
+      is ∙ ap (λ (p : List (List ℕ)). let o : OverlappingValue = record { patterns = p; ignore_case = ignore_case }
+      in o) (all_given list_gives_bytes all)
 
 -- what an iteration over matches gives up to its end is the greedy list from where it stood
 pub greedy_from_yields : (m : MatchesValue) (all : List MatchValue) (n o : MatchesValue) → Yields GivesMatch m all n

@@ -1,13 +1,13 @@
 use Rattle.std.proofs.Common.{ℕ, ◌+◌, ◌∙◌, arith}
+use Rattle.literal_fingerprints.specs.FingerprintsValue.{HalfTable}
 use Rattle.literal_fingerprints.specs.Inside.Scan.{looked_up}
-use Rattle.literal_fingerprints.specs.declared.nibbles.Nibbles.{Nibbles}
 use Rattle.literal_fingerprints.proofs.lemmas.Scan.{moved, next_lanes}
 use Rattle.literal_fingerprints.proofs.lemmas.Sets.{meets}
 use Rattle.literal_fingerprints.proofs.looked_up.LookedUp.shared_after.Goals as goal
 
 pub returns : goal.returns
 returns c f haystack start at before here =
-    let value : Nibbles → ℕ → ℕ = λ table k. looked_up table haystack start (at + k) in
+    let value : HalfTable → ℕ → ℕ = λ table k. looked_up table haystack start (at + k) in
     let next = next_lanes haystack start in
     let first = c.three_back.ensures (value f.first) before.first (next f.first _ at here.first) in
     let second = c.two_back.ensures (value f.second) before.second (next f.second _ at here.second) in
