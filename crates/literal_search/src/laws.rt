@@ -67,11 +67,11 @@ pub fn iterations_in_spans_are_greedy()
 /// list of all of them, and up to its first `None`, with no error in front of it, it is that list.
 pub fn streams_are_greedy()
     ensures so_far { (search : SearchValue) (bytes : List ℕ) (last : StreamValue) (all more : List MatchValue)
-        → Yields GivesStreamed (stream_of search bytes) (map Ok all) last
+        → Yields GivesStreamed (stream_of search (Some bytes)) (map Ok all) last
         → IsGreedy search.query search.ignore_case bytes last.offset more
         → IsGreedy search.query search.ignore_case bytes 0 (all ++ more) }
     ensures whole { (search : SearchValue) (bytes : List ℕ) (last ended : StreamValue) (all : List MatchValue)
-        → Yields GivesStreamed (stream_of search bytes) (map Ok all) last → GivesStreamed last None ended
+        → Yields GivesStreamed (stream_of search (Some bytes)) (map Ok all) last → GivesStreamed last None ended
         → IsGreedy search.query search.ignore_case bytes 0 all }
 {}
 

@@ -29,6 +29,7 @@ mod linear;
 mod overlapping;
 mod prepared;
 mod prepared_overlapping;
+mod reading;
 mod rows;
 mod scan;
 mod standing;
