@@ -1,11 +1,12 @@
 -- Searches in a text of which only a beginning is known, or that is read piece by piece.
-use Rattle.std.specs.Prelude.{◌≡◌, ℕ, ◌+◌, ◌-◌, ◌<◌, ◌≤◌, ◌^◌, ◌++◌, [], Bool, false, true, List, drop, length, max}
-use Rattle.std.specs.Prelude.{IfSome, MatchResult, None, Option, Result, Some, if◌then◌else◌}
+use Rattle.std.specs.Prelude.{◌≡◌, ℕ, ◌+◌, ◌-◌, ◌*◌, ◌<◌, ◌≤◌, ◌^◌, ◌++◌, [], Bool, false, true, List}
+use Rattle.std.specs.Prelude.{IfSome, MatchResult, None, Option, Result, Some, drop, length, max, if◌then◌else◌}
 use Rattle.std.specs.Io.KnownBytes.{Consumes, IsAtEnd}
 use Rattle.std.specs.IoError.{error_kind}
 use Rattle.std.specs.declared.io.ErrorKind.{ErrorKind}
 use Rattle.std.specs.Iterator.{Count, at_most}
 use Rattle.std.specs.declared.io.Error.{Error}
+use Rattle.literal_base.specs.Counts.{Counts}
 use Rattle.literal_base.specs.Leftmost.{IsLeftmost, IsLeftmostMatch}
 use Rattle.literal_base.specs.MatchValue.{MatchValue}
 use Rattle.literal_base.specs.Occurs.{Occurs, rest_from}
@@ -29,9 +30,23 @@ IsKnownSoFar patterns len at (Found found) =
     (found.start < found.end) × (found.start + longest_of patterns ≤ len)
 IsKnownSoFar patterns len at (NoneBefore place) = place ≡ max at (len - (longest_of patterns - 1))
 
--- a `StreamMatches` as contracts see it: what is searched for, the bytes ahead that were read, those that are still to be
--- read, where these are known, how many came before, of what kind the error is with which reading failed, if it did, and
--- whether it is over
+-- up to which byte it is told: the match's end, or the place
+abbrev pub told_to : SoFar → ℕ
+told_to (Found found) = found.end
+told_to (NoneBefore place) = place
+
+-- what it scans of so many bytes, from a place on: at least as many as there are up to where it is told; at most three
+-- times as many as there are, and with a match three times those up to its end, and once those of the longest pattern
+pub record ScansSoFar (patterns : List (List ℕ)) (len at : ℕ) (answer : SoFar) (old new : Counts) : Type 0 where
+  pub others : new ≡ record old { scanned = new.scanned }
+  pub least : old.scanned + told_to answer ≤ new.scanned + at
+  pub most : new.scanned ≤ old.scanned + 3 * (len - at)
+  pub near : (found : MatchValue) → answer ≡ Found found
+      → new.scanned + 3 * at ≤ old.scanned + 3 * found.end + longest_of patterns
+
+-- a `StreamMatches` as contracts see it: what is searched for, the bytes ahead that were read, those that are still to
+-- be read, where these are known, how many came before, of what kind the error is with which reading failed, if it did,
+-- and whether it is over
 pub record StreamValue : Type 0 where
   pub search : SearchValue
   pub held : List ℕ
@@ -94,14 +109,14 @@ pub record EndsWhole (old new : StreamValue) : Type 0 where
   pub nothing : IsLeftmostAhead old.search old.offset None (old.held ++ piece)
   pub over : new ≡ stream_over old piece new
 
--- reading failed with the error, and no match is known in what was read: none begins before the last bytes, one less
--- than the longest pattern has
+-- reading failed with the error, and no match is known from what was read: whatever follows, none begins before the
+-- last bytes, one less than the longest pattern has
 pub record EndsFailed (old : StreamValue) (error : Error) (new : StreamValue) : Type 0 where
   pub piece : List ℕ
   pub reads : Reads old piece new
   pub failure : new.failure ≡ Some (error_kind error)
-  pub nothing : PassesOver old.search old.offset (new.offset - (longest_of old.search.query.patterns - 1))
-      (old.held ++ piece)
+  pub nothing : (more : List ℕ) → PassesOver old.search old.offset
+      (new.offset - (longest_of old.search.query.patterns - 1)) ((old.held ++ piece) ++ more)
   pub over : new ≡ stream_over old piece new
 
 -- what `next` gives: the leftmost match of what is ahead, or None where nothing occurs in it, or the error with which

@@ -45,15 +45,15 @@ impl Reading {
 
     /// Reads some bytes of the text, and none where it is over or reading fails. With no room for any the text is
     /// longer than a `usize` counts, which is an error too.
-    pub(crate) fn read<R: Read>(&mut self, reader: &mut R, buf: &mut [u8]) -> usize
+    pub(crate) fn read<R: Read>(&mut self, reader: &mut R, bytes: &mut [u8]) -> usize
         requires open { IsOpen self.old }
         requires no_failure { self.old.failure ≡ None }
-        ensures bound { result ≤ length buf.new }
-        ensures bytes { Consumes (R.remaining reader.old) (R.remaining reader.new) (take result buf.new) }
+        ensures bound { result ≤ length bytes.new }
+        ensures bytes { Consumes (R.remaining reader.old) (R.remaining reader.new) (take result bytes.new) }
         ensures sound { IsSoundReading self.new (R.remaining reader.new) }
         ensures some { IsOpen self.new → 0 < result }
     {
-        match read_into(reader, buf) {
+        match read_into(reader, bytes) {
             Ok(count) => {
                 self.is_whole = count == 0;
                 count
@@ -77,13 +77,13 @@ impl Reading {
 }
 
 /// Reads some bytes, or none at the end of the text. There has to be room for one.
-fn read_into<R: Read>(reader: &mut R, buf: &mut [u8]) -> io::Result<usize>
-    ensures bound { ReadsAtMost result buf.new }
-    ensures bytes { ReadConsumes (R.remaining reader.old) (R.remaining reader.new) result buf.new }
+fn read_into<R: Read>(reader: &mut R, bytes: &mut [u8]) -> io::Result<usize>
+    ensures bound { ReadsAtMost result bytes.new }
+    ensures bytes { ReadConsumes (R.remaining reader.old) (R.remaining reader.new) result bytes.new }
     ensures end { IfOk result (λ count. count ≡ 0 → IsAtEnd (R.remaining reader.new)) }
 {
-    if buf.is_empty() {
+    if bytes.is_empty() {
         return Err(io::Error::from(ErrorKind::FileTooLarge));
     }
-    reader.read(buf)
+    reader.read(bytes)
 }

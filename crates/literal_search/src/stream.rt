@@ -2,15 +2,17 @@
 ghost use Rattle.std.specs.Prelude.{◌≡◌, ◌+◌, ◌-◌, ◌<◌, ◌≤◌, ◌++◌, ℕ, List, drop, length, false, true, IfOk, IfSome};
 ghost use Rattle.std.specs.Prelude.{MatchOption, MatchResult};
 ghost use Rattle.literal_base.specs.Leftmost.{IsLeftmost};
-ghost use Rattle.literal_base.specs.Occurs.{whole_of};
+ghost use Rattle.literal_base.specs.Occurs.{between, whole_of};
 ghost use Rattle.literal_search.specs.SearchValue.{longest_of};
-ghost use Rattle.literal_search.specs.Stream.{AnswersSoFar, EndsFailed, EndsWhole, GoesBehind, IsKnownSoFar, stream_of};
+ghost use Rattle.literal_search.specs.Stream.{AnswersSoFar, EndsFailed, EndsWhole, GoesBehind, IsKnownSoFar};
+ghost use Rattle.literal_search.specs.Stream.{ScansSoFar, stream_of};
 ghost use Rattle.literal_search.specs.declared.stream.SoFar.TheVariants.{Found, NoneBefore};
-ghost use Rattle.literal_search.specs.Inside.Stream.{IsSoundStream, IsWindow, held, shifted, stream_value};
+ghost use Rattle.literal_search.specs.Inside.Stream.{IsSoundStream, IsWindow, TellsOf, held, shifted, stream_value};
 
 use crate::Search;
 use crate::reading::Reading;
 use crate::window::Window;
+use literal_base::count::Tally;
 use literal_base::{Match, Span};
 use std::alloc::{AllocError, Global};
 use std::io::{self, Read};
@@ -38,8 +40,39 @@ impl Search {
         ensures known { IsKnownSoFar self.now.query.patterns (length haystack.now) at result }
     {
         let end = haystack.len();
+        let found = self.find_in(haystack, Span { start: at, end });
+        self.so_far(haystack, at, found)
+    }
+
+    /// Answers as [`Search::find_so_far`], and adds each byte that it looks up to a tally, as scanned: at least as many
+    /// as there are up to the match's end, or up to that place; at most three times as many as there are from where it
+    /// begins, and with a match three times those up to its end, and once those of the longest pattern.
+    pub fn find_so_far_counted(&self, haystack: &[u8], at: usize, tally: &mut Tally) -> SoFar
+        requires { at ≤ length haystack.now }
+        ensures whatever_follows { (more : List ℕ)
+            → AnswersSoFar self.now.query self.now.ignore_case (haystack.now ++ more) at result }
+        ensures known { IsKnownSoFar self.now.query.patterns (length haystack.now) at result }
+        ensures bounded { ScansSoFar self.now.query.patterns (length haystack.now) at result tally.old tally.new }
+    {
+        let end = haystack.len();
+        let found = self.find_in_counted(haystack, Span { start: at, end }, tally);
+        self.so_far(haystack, at, found)
+    }
+
+    /// What the leftmost match from a place on tells, where more may follow.
+    fn so_far(&self, haystack: &[u8], at: usize, leftmost: Option<Match>) -> SoFar
+        requires within { at ≤ length haystack.now }
+        requires leftmost { IsLeftmost self.now.query self.now.ignore_case haystack.now
+            (between at (length haystack.now)) leftmost }
+        requires not_empty { IfSome leftmost (λ found. found.start < found.end) }
+        ensures whatever_follows { (more : List ℕ)
+            → AnswersSoFar self.now.query self.now.ignore_case (haystack.now ++ more) at result }
+        ensures known { IsKnownSoFar self.now.query.patterns (length haystack.now) at result }
+        ensures told { TellsOf leftmost result }
+    {
+        let end = haystack.len();
         let longest = self.max_pattern_len();
-        if let Some(found) = self.find_in(haystack, Span { start: at, end }) {
+        if let Some(found) = leftmost {
             if end - found.start() >= longest {
                 return SoFar::Found(found);
             }
@@ -172,20 +205,20 @@ fn next_match<R: Read>(
 }
 
 /// The leftmost match in the last bytes of a text, and where more may follow, if it is known from them.
-fn last_in(search: &Search, held: &[u8], is_whole: bool) -> Option<Match>
-    ensures whole { is_whole ≡ true → IsLeftmost search.now.query search.now.ignore_case held.now (whole_of held.now)
-        result }
+fn last_in(search: &Search, haystack: &[u8], is_whole: bool) -> Option<Match>
+    ensures whole { is_whole ≡ true → IsLeftmost search.now.query search.now.ignore_case haystack.now
+        (whole_of haystack.now) result }
     ensures known { is_whole ≡ false → MatchOption result
-        ((more : List ℕ) → AnswersSoFar search.now.query search.now.ignore_case (held.now ++ more) 0
-        (NoneBefore (length held.now - (longest_of search.now.query.patterns - 1))))
-        (λ found. (more : List ℕ) → AnswersSoFar search.now.query search.now.ignore_case (held.now ++ more) 0
+        ((more : List ℕ) → AnswersSoFar search.now.query search.now.ignore_case (haystack.now ++ more) 0
+        (NoneBefore (length haystack.now - (longest_of search.now.query.patterns - 1))))
+        (λ found. (more : List ℕ) → AnswersSoFar search.now.query search.now.ignore_case (haystack.now ++ more) 0
         (Found found)) }
-    ensures inside { IfSome result (λ found. (found.start < found.end) × (found.end ≤ length held.now)) }
+    ensures inside { IfSome result (λ found. (found.start < found.end) × (found.end ≤ length haystack.now)) }
 {
     if is_whole {
-        return search.find(held);
+        return search.find(haystack);
     }
-    match search.find_so_far(held, 0) {
+    match search.find_so_far(haystack, 0) {
         SoFar::Found(found) => Some(found),
         SoFar::NoneBefore(_) => None,
     }

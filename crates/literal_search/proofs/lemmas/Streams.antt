@@ -1,10 +1,10 @@
 -- Texts that are read piece by piece.
-use Rattle.std.proofs.Common.{◌≡◌, ℕ, ◌+◌, ◌-◌, ◌≤◌, ◌<◌, ◌^◌, ◌++◌, [], ◌∷◌, List, Ok, Err, map, Option, None, Some, IfSome}
+use Rattle.std.proofs.Common.{◌≡◌, ℕ, ◌+◌, ◌-◌, ◌≤◌, ◌<◌, ◌^◌, ◌++◌, [], ◌∷◌, List, Ok, Err, map, Option, None, Some}
 use Rattle.std.proofs.Common.{length, take, drop, ap, refl, subst, sym, ◌∙◌, arith, append_assoc, append-nil}
-use Rattle.std.proofs.Common.{length-append, Bool, true, false}
+use Rattle.std.proofs.Common.{length-append, Bool, IfSome, true, false}
 use Rattle.std.proofs.KnownBytes.{Consumes-nil, Consumes-trans}
 use Rattle.std.proofs.Math.Seq.{take-append-add}
-use Rattle.std.proofs.lemmas.Option.{none-some, same_Some}
+use Rattle.std.proofs.lemmas.Option.{none-some}
 use Rattle.std.proofs.lemmas.List.{drop-append-le, drop-drop, drop-take, length-drop, length-take-le}
 use Rattle.std.proofs.lemmas.List.{take-append-drop, take-append-le}
 use Rattle.std.specs.List.{slice_range}
@@ -248,8 +248,8 @@ gone_on old now new piece sound taken search_is is_over held_is offset gone = re
     consumed = Consumes-trans old.unread now.unread new.unread gone.piece piece gone.reads.consumed taken;
     failed = never_failed old.failure now.failure new.failure gone.piece (gone.piece ++ piece) sound gone.reads.failed;
   };
-  passed = subst (λ (rest : List ℕ). HasPassed old.search old.offset new.offset (old.held ++ (gone.piece ++ piece)) rest)
-      (sym held_is) (subst (λ to. HasPassed old.search old.offset to (old.held ++ (gone.piece ++ piece))
+  passed = subst (HasPassed old.search old.offset new.offset (old.held ++ (gone.piece ++ piece))) (sym held_is)
+      (subst (λ to. HasPassed old.search old.offset to (old.held ++ (gone.piece ++ piece))
       (now.held ++ piece)) (sym offset) (subst (λ (seen : List ℕ). HasPassed old.search old.offset now.offset seen
       (now.held ++ piece)) (append_assoc old.held gone.piece piece)
       (read_behind old.search old.offset now.offset (old.held ++ gone.piece) now.held piece gone.passed)));
@@ -345,14 +345,12 @@ ends_failed old now new error failed none is gone =
     let search_is = gone.search_is in
     let far = passed_more old.search old.offset now.offset (length now.held - (longest - 1)) seen now.held
     (omega arith) none gone.passed in
-    let passed = subst (PassesOver old.search old.offset (now.offset + (length now.held - (longest - 1))))
-    (append-nil seen) (far.passed []) in
     subst (EndsFailed old error) (sym is) (record {
       piece = gone.piece;
       reads = record { consumed = gone.reads.consumed; failed = gone.reads.failed };
       failure = failed;
-      nothing = λ before len i p occurs.
-          let there = passed before len i p occurs in
+      nothing = λ more before len i p occurs.
+          let there = far.passed more before len i p occurs in
           omega (arith, there);
       over = cc;
     })
@@ -371,15 +369,18 @@ seen_whole held piece rest None over taken = absurd taken
 seen_whole held piece rest (Some more) over taken =
     ap (λ (l : List ℕ). held ++ l) (sym (append-nil piece) ∙ (ap (λ (l : List ℕ). piece ++ l) (sym over) ∙ sym taken))
 
--- the answer for what is ahead, told in the text
-told_in : (search : SearchValue) (text : List ℕ) (m : StreamValue) (answer : Option MatchValue) (ahead : List ℕ)
-    → (stands : StandsIn search text m) → ahead ≡ m.held ++ stands.rest → IsLeftmostAhead m.search m.offset answer ahead
-    → IsLeftmost search.query search.ignore_case text (rest_from text m.offset) answer
-told_in search text m answer ahead stands is told =
-    let whole = ap (λ (l : List ℕ). stands.before ++ l) is ∙ stands.whole in
-    subst (λ (s : SearchValue). IsLeftmost s.query s.ignore_case text (rest_from text m.offset) answer) stands.search_is
-    (subst (λ (t : List ℕ). IsLeftmost m.search.query m.search.ignore_case t (rest_from t m.offset) answer) whole
+-- what holds of what is ahead, whatever came before, holds of the text
+told_in : (P : SearchValue → List ℕ → Type 0) (search : SearchValue) (text : List ℕ) (m : StreamValue) (ahead : List ℕ)
+    → (stands : StandsIn search text m) → ahead ≡ m.held ++ stands.rest
+    → ((before : List ℕ) → length before ≡ m.offset → P m.search (before ++ ahead)) → P search text
+told_in P search text m ahead stands is told =
+    subst (λ (s : SearchValue). P s text) stands.search_is
+    (subst (P m.search) (ap (λ (l : List ℕ). stands.before ++ l) is ∙ stands.whole)
     (told stands.before stands.offset))
+
+-- the answer for it
+abbrev leftmost_in : ℕ → Option MatchValue → SearchValue → List ℕ → Type 0
+leftmost_in at answer search text = IsLeftmost search.query search.ignore_case text (rest_from text at) answer
 
 -- a match, told in the text
 found_in : (search : SearchValue) (text : List ℕ) (m : StreamValue) (found : MatchValue) (n : StreamValue)
@@ -388,7 +389,7 @@ found_in : (search : SearchValue) (text : List ℕ) (m : StreamValue) (found : M
 found_in search text m found n stands step =
     let goes = step.2 in
     let taken = subst (λ (u : Option (List ℕ)). Consumes u n.unread goes.piece) stands.unread goes.reads.consumed in
-    told_in search text m (Some found) ((m.held ++ goes.piece) ++ known n.unread) stands
+    told_in (leftmost_in m.offset (Some found)) search text m ((m.held ++ goes.piece) ++ known n.unread) stands
     (seen_all m.held goes.piece stands.rest n.unread taken).1 goes.leftmost
 
 -- behind a match it stands in the text still
@@ -459,5 +460,37 @@ streamed_all search text m all n ended stands run last =
     ends.reads.consumed in
     subst (IsGreedy search.query search.ignore_case text m.offset) (append-nil all)
     (streamed_first search text m all n [] stands run
-    (told_in search text n None (n.held ++ ends.piece) there
+    (told_in (leftmost_in n.offset None) search text n (n.held ++ ends.piece) there
     (seen_whole n.held ends.piece there.rest ended.unread ends.end taken) ends.nothing))
+
+-- and then all of the text was read
+pub streamed_len : (search : SearchValue) (text : List ℕ) (m ended : StreamValue) → StandsIn search text m
+    → GivesStreamed m None ended → ended.offset ≡ length text
+streamed_len search text m ended stands last =
+    let ends = last.1 stands.not_over in
+    let taken = subst (λ (u : Option (List ℕ)). Consumes u ended.unread ends.piece) stands.unread
+    ends.reads.consumed in
+    let all = seen_whole m.held ends.piece stands.rest ended.unread ends.end taken in
+    let read = ap (λ (v : StreamValue). v.offset) ends.over in
+    omega (
+      arith,
+      read,
+      ap (λ (l : List ℕ). length l) all,
+      ap (λ (l : List ℕ). length l) stands.whole,
+      length-append stands.before (m.held ++ stands.rest),
+      stands.offset,
+    )
+
+-- in front of an error nothing is missing but what begins in the last bytes that were read
+pub streamed_failed : (search : SearchValue) (text : List ℕ) (m : StreamValue) (error : Error) (ended : StreamValue)
+    → StandsIn search text m → GivesStreamed m (Some (Err error)) ended
+    → (i p : ℕ) → Occurs search.query.patterns search.ignore_case text (rest_from text m.offset) i p
+    → ended.offset - (longest_of search.query.patterns - 1) ≤ p
+streamed_failed search text m error ended stands last =
+    let ends = last.2 in
+    let taken = subst (λ (u : Option (List ℕ)). Consumes u ended.unread ends.piece) stands.unread
+    ends.reads.consumed in
+    told_in (λ s t. (i p : ℕ) → Occurs s.query.patterns s.ignore_case t (rest_from t m.offset) i p
+    → ended.offset - (longest_of s.query.patterns - 1) ≤ p) search text m
+    ((m.held ++ ends.piece) ++ known ended.unread) stands
+    (seen_all m.held ends.piece stands.rest ended.unread taken).1 (ends.nothing (known ended.unread))

@@ -1,17 +1,23 @@
 -- What is known of a text that is read piece by piece, and what a search finds in it.
 use Rattle.std.specs.Prelude.{◌≡◌, ℕ, ◌+◌, ◌-◌, ◌*◌, ◌<◌, ◌≤◌, ◌^◌, ◌++◌, Bool, false, List, None, Option, Some, drop}
-use Rattle.std.specs.Prelude.{length, true}
+use Rattle.std.specs.Prelude.{IfSome, length, true}
 use Rattle.std.specs.Io.KnownBytes.{IsAtEnd}
 use Rattle.std.specs.IoError.{error_kind}
 use Rattle.std.specs.List.{slice_range}
 use Rattle.std.specs.Option.{option_map}
 use Rattle.std.specs.declared.io.Error.{Error}
-use Rattle.std.specs.declared.io.ErrorKind.{ErrorKind}
 use Rattle.literal_base.specs.MatchValue.{MatchValue}
 use Rattle.literal_search.specs.SearchValue.{SearchValue}
 use Rattle.literal_search.specs.Stream.{PassesOver, Reads, StreamValue}
 use Rattle.literal_search.specs.declared.reading.Reading.{Reading}
+use Rattle.literal_search.specs.declared.stream.SoFar.{SoFar}
+use Rattle.literal_search.specs.declared.stream.SoFar.TheVariants.{Found, NoneBefore}
 use Rattle.literal_search.specs.declared.window.Window.{Window}
+
+-- a match is told itself, or by a place at which it begins or before it
+abbrev pub TellsOf : Option MatchValue → SoFar → Type 0
+TellsOf leftmost (Found found) = leftmost ≡ Some found
+TellsOf leftmost (NoneBefore place) = IfSome leftmost (λ found. place ≤ found.start)
 
 -- the bytes that were read and still matter
 abbrev pub held : Window → List ℕ

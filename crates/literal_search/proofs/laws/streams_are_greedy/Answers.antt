@@ -2,7 +2,8 @@ use Rattle.std.proofs.Common.{[], List, Some, ℕ, refl}
 use Rattle.literal_search.specs.SearchValue.{SearchValue}
 use Rattle.literal_search.specs.Stream.{stream_of}
 use Rattle.literal_search.specs.Inside.Stream.{StandsIn}
-use Rattle.literal_search.proofs.lemmas.Streams.{streamed_all, streamed_first}
+use Rattle.literal_search.proofs.lemmas.Streams.{streamed_all, streamed_failed, streamed_first}
+use Rattle.literal_search.proofs.lemmas.Streams.{streamed_len, streamed_to}
 use Rattle.literal_search.proofs.laws.streams_are_greedy.Goals as goal
 
 -- at first it stands in front of the text
@@ -24,3 +25,13 @@ returns-clause-so_far c = λ search bytes last all more run greedy.
 pub returns-clause-whole : goal.returns-clause-whole
 returns-clause-whole c = λ search bytes last ended all run ends.
     streamed_all search bytes (stream_of search (Some bytes)) all last ended (in_front search bytes) run ends
+
+pub returns-clause-read : goal.returns-clause-read
+returns-clause-read c = λ search bytes last ended all run ends.
+    streamed_len search bytes last ended
+    (streamed_to search bytes (stream_of search (Some bytes)) all last (in_front search bytes) run) ends
+
+pub returns-clause-failed : goal.returns-clause-failed
+returns-clause-failed c = λ search bytes last ended all error run fails.
+    streamed_failed search bytes last error ended
+    (streamed_to search bytes (stream_of search (Some bytes)) all last (in_front search bytes) run) fails

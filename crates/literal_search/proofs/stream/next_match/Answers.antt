@@ -1,12 +1,12 @@
-use Rattle.std.proofs.Common.{◌≡◌, ◌+◌, ◌-◌, ◌≤◌, ◌++◌, [], List, ℕ, None, Some, ap, arith, drop, false, true, length, subst, sym, refl, ◌∙◌}
+use Rattle.std.proofs.Common.{◌≡◌, ◌+◌, ◌-◌, ◌≤◌, ◌++◌, [], List, ℕ, None, Some, ap, arith, drop, false, true, length}
+use Rattle.std.proofs.Common.{subst, sym, refl, ◌∙◌}
 use Rattle.std.proofs.Math.Seq.{drop-length}
 use Rattle.std.specs.Option.{option_map}
 use Rattle.std.specs.IoError.{error_kind}
 use Rattle.literal_base.specs.Leftmost.{IsLeftmostMatch}
-use Rattle.literal_base.specs.MatchValue.{MatchValue}
 use Rattle.literal_base.specs.Occurs.{NothingOccurs, Occurs, rest_from, whole_of}
 use Rattle.literal_search.specs.SearchValue.{longest_of}
-use Rattle.literal_search.specs.Stream.{StreamValue, known}
+use Rattle.literal_search.specs.Stream.{known}
 use Rattle.literal_search.specs.Inside.Stream.{HasGoneOn, IsSoundStream, held, stream_value}
 use Rattle.literal_search.proofs.lemmas.Longest.{longest_is}
 use Rattle.literal_search.proofs.lemmas.Streams.{ends_failed, ends_whole, goes_behind, gone_nowhere, gone_on, gone_past}

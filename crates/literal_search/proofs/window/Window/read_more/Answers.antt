@@ -10,11 +10,11 @@ returns-clause-read g c =
     let xs = c.deref_mut.result.now in
     let w = c.make_room.new.self in
     let count = c.read-count.result in
-    let buf = c.read-count.new.buf in
+    let buf = c.read-count.new.bytes in
     let room = (w.end + c.min-room.result) - w.end in
     let all = put_mid w.end room xs buf in
     let len : length all ≡ length w.bytes.items =
-    same_len_mid w.end room xs buf c.read-count.auto.buf
+    same_len_mid w.end room xs buf c.read-count.auto.bytes
     ∙ ap (λ (l : List ℕ). length l) c.deref_mut.ensures.value in (
       take count buf,
       c.read-count.ensures.bytes,
