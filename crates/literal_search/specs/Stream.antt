@@ -23,11 +23,11 @@ AnswersSoFar query ignore_case text at (Found found) =
 AnswersSoFar query ignore_case text at (NoneBefore place) =
     (i p : ℕ) → Occurs query.patterns ignore_case text (rest_from text at) i p → place ≤ p
 
--- when it is known: the match, which is not empty, where the longest pattern would fit in between its start and the end
--- of what is known, and else the first place at which a pattern may begin that goes on behind that end
+-- when it is known: the match, which is not empty and lies in what is known, where the longest pattern would fit in
+-- between its start and the end of that, and else the first place at which a pattern may begin that goes on behind
 abbrev pub IsKnownSoFar : List (List ℕ) → ℕ → ℕ → SoFar → Type 0
 IsKnownSoFar patterns len at (Found found) =
-    (found.start < found.end) × (found.start + longest_of patterns ≤ len)
+    (found.start < found.end) × (found.end ≤ len) × (found.start + longest_of patterns ≤ len)
 IsKnownSoFar patterns len at (NoneBefore place) = place ≡ max at (len - (longest_of patterns - 1))
 
 -- up to which byte it is told: the match's end, or the place

@@ -84,7 +84,7 @@ impl Search {
     /// [`Search::find_iter`] in all of it: with offsets in the whole text, whatever pieces it comes in. Of the text it
     /// keeps twice as many bytes as the longest pattern has, and a block of 64 KiB, or as long as the longest pattern.
     /// A match is given once twice as many bytes as the longest pattern has are read from where the search goes on, or
-    /// the end of the text.
+    /// the end of the text; where reading fails, each that is known from what was read comes before the error.
     ///
     /// ```rust
     /// let words = [b"password".as_slice(), b"secret"];

@@ -8,7 +8,6 @@ use Rattle.literal_base.specs.Occurs.{NothingOccurs, Occurs, rest_from, whole_of
 use Rattle.literal_search.specs.SearchValue.{longest_of}
 use Rattle.literal_search.specs.Stream.{known}
 use Rattle.literal_search.specs.Inside.Stream.{HasGoneOn, IsSoundStream, held, stream_value}
-use Rattle.literal_search.proofs.lemmas.Longest.{longest_is}
 use Rattle.literal_search.proofs.lemmas.Streams.{ends_failed, ends_whole, goes_behind, gone_nowhere, gone_on, gone_past}
 use Rattle.literal_search.proofs.lemmas.Streams.{held_fits, leftmost_either, read_in_part, read_whole}
 use Rattle.literal_search.specs.declared.window.Window.{Window}
@@ -25,15 +24,7 @@ loop-window-init g c = record {
 
 pub take-requires-clause-inside : goal.take-requires-clause-inside
 take-requires-clause-inside g c =
-    let found = c.in-Found.found in
-    let whole = (c.in-Found.ensures.whatever_follows []).whole in
-    omega (
-      arith,
-      whole,
-      c.in-Found.ensures.known.1,
-      ap (λ (l : List ℕ). length l) c.held-then-held-enough.ensures,
-      longest_is c.args.search.now.query.patterns found.pattern,
-    )
+    omega (arith, c.in-Found.ensures.known.1, ap (λ (l : List ℕ). length l) c.held-then-held-enough.ensures)
 
 pub returns-in-Found-clause-gives : goal.returns-in-Found-clause-gives
 returns-in-Found-clause-gives g c =
@@ -41,14 +32,8 @@ returns-in-Found-clause-gives g c =
     let unread = g.R.Read.remaining c.loop-window.reader in
     let found = c.in-Found.found in
     let w = c.loop-window.window in
-    let whole = (c.in-Found.ensures.whatever_follows []).whole in
-    let within : found.end ≤ length (held w) = omega (
-      arith,
-      whole,
-      c.in-Found.ensures.known.1,
-      ap (λ (l : List ℕ). length l) c.held-then-held-enough.ensures,
-      longest_is search.query.patterns found.pattern,
-    ) in
+    let within : found.end ≤ length (held w) =
+    omega (arith, c.in-Found.ensures.known.1, ap (λ (l : List ℕ). length l) c.held-then-held-enough.ensures) in
     let behind = c.take.ensures.held in
     let offset = c.take.ensures.offset in
     goes_behind
