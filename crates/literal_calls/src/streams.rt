@@ -1,5 +1,5 @@
 //! Texts of which more may follow, and texts that are read piece by piece.
-use literal_search::{Match, MatchKind, Search, SoFar, Span};
+use literal_search::{Match, MatchKind, Search, SoFar, Span, Tally};
 use std::alloc::Global;
 use std::io::{self, ErrorKind, Read};
 use std::process::Abort;
@@ -46,6 +46,9 @@ fn tells_what_is_known_so_far(rt: HostRuntime) -> Result<(), Fail> {
     assert!(rt; search.find_so_far(b"xabc", 1) == SoFar::NoneBefore(1));
     let found = Match::must(0, Span { start: 1, end: 3 });
     assert!(rt; search.find_so_far(b"xabcx", 0) == SoFar::Found(found));
+    let tally = &mut Tally::new();
+    assert!(rt; search.find_so_far_counted(b"xabc", 1, tally) == SoFar::NoneBefore(1));
+    assert!(rt; search.find_so_far_counted(b"xabcx", 0, tally) == SoFar::Found(found));
     Ok(())
 }
 
@@ -101,4 +104,30 @@ fn a_failed_read_ends_it(rt: HostRuntime) -> Result<(), Fail> {
     assert!(rt; matches.next().is_some_and(|next| next.is_err()));
     assert!(rt; matches.next().is_none());
     Ok(())
+}
+
+/// With few bytes read, where it would read more before it searches.
+#[test]
+fn known_matches_come_before_an_error(rt: HostRuntime) -> Result<(), Fail> {
+    let words = [b"abcd".as_slice(), b"bc"];
+    let search = Search::new(rt.alloc(), MatchKind::LeftmostFirst, false, words)?;
+    let pieces = Pieces {
+        rest: b"xabcdabc?",
+        step: 3,
+        failing: Some(3),
+    };
+    let mut matches = search.find_stream(rt.alloc(), pieces)?;
+    let first = Match::must(0, Span { start: 1, end: 5 });
+    assert!(rt; matches.next().ok_or("nothing is found")?? == first);
+    assert!(rt; is_error_of_kind(matches.next(), ErrorKind::Other));
+    assert!(rt; matches.next().is_none() && matches.next().is_none());
+    Ok(())
+}
+
+/// Whether the answer is an error of this kind.
+fn is_error_of_kind(answer: Option<io::Result<Match>>, kind: ErrorKind) -> bool {
+    match answer {
+        Some(Err(error)) => error.kind() == kind,
+        _ => false,
+    }
 }

@@ -1,8 +1,12 @@
 -- Searches in a text of which only a beginning is known, or that is read piece by piece.
-use Rattle.std.specs.Prelude.{◌≡◌, ℕ, ◌+◌, ◌-◌, ◌<◌, ◌≤◌, ◌^◌, ◌++◌, Bool, false, true, List, drop, length, max}
-use Rattle.std.specs.Prelude.{IfSome, MatchResult, None, Option, Result, Some, if◌then◌else◌}
+use Rattle.std.specs.Prelude.{◌≡◌, ℕ, ◌+◌, ◌-◌, ◌*◌, ◌<◌, ◌≤◌, ◌^◌, ◌++◌, [], Bool, false, true, List}
+use Rattle.std.specs.Prelude.{IfSome, MatchResult, None, Option, Result, Some, drop, length, max, if◌then◌else◌}
+use Rattle.std.specs.Io.KnownBytes.{Consumes, IsAtEnd}
+use Rattle.std.specs.IoError.{error_kind}
+use Rattle.std.specs.declared.io.ErrorKind.{ErrorKind}
 use Rattle.std.specs.Iterator.{Count, at_most}
 use Rattle.std.specs.declared.io.Error.{Error}
+use Rattle.literal_base.specs.Counts.{Counts}
 use Rattle.literal_base.specs.Leftmost.{IsLeftmost, IsLeftmostMatch}
 use Rattle.literal_base.specs.MatchValue.{MatchValue}
 use Rattle.literal_base.specs.Occurs.{Occurs, rest_from}
@@ -19,19 +23,36 @@ AnswersSoFar query ignore_case text at (Found found) =
 AnswersSoFar query ignore_case text at (NoneBefore place) =
     (i p : ℕ) → Occurs query.patterns ignore_case text (rest_from text at) i p → place ≤ p
 
--- when it is known: the match, which is not empty, where the longest pattern would fit in between its start and the end
--- of what is known, and else the first place at which a pattern may begin that goes on behind that end
+-- when it is known: the match, which is not empty and lies in what is known, where the longest pattern would fit in
+-- between its start and the end of that, and else the first place at which a pattern may begin that goes on behind
 abbrev pub IsKnownSoFar : List (List ℕ) → ℕ → ℕ → SoFar → Type 0
 IsKnownSoFar patterns len at (Found found) =
-    (found.start < found.end) × (found.start + longest_of patterns ≤ len)
+    (found.start < found.end) × (found.end ≤ len) × (found.start + longest_of patterns ≤ len)
 IsKnownSoFar patterns len at (NoneBefore place) = place ≡ max at (len - (longest_of patterns - 1))
 
--- a `StreamMatches` as contracts see it: what is searched for, the bytes that are ahead, where those are known that are
--- still to be read, how many came before them, and whether it is over
+-- up to which byte it is told: the match's end, or the place
+abbrev pub told_to : SoFar → ℕ
+told_to (Found found) = found.end
+told_to (NoneBefore place) = place
+
+-- what it scans of so many bytes, from a place on: at least as many as there are up to where it is told; at most three
+-- times as many as there are, and with a match three times those up to its end, and once those of the longest pattern
+pub record ScansSoFar (patterns : List (List ℕ)) (len at : ℕ) (answer : SoFar) (old new : Counts) : Type 0 where
+  pub others : new ≡ record old { scanned = new.scanned }
+  pub least : old.scanned + told_to answer ≤ new.scanned + at
+  pub most : new.scanned ≤ old.scanned + 3 * (len - at)
+  pub near : (found : MatchValue) → answer ≡ Found found
+      → new.scanned + 3 * at ≤ old.scanned + 3 * found.end + longest_of patterns
+
+-- a `StreamMatches` as contracts see it: what is searched for, the bytes ahead that were read, those that are still to
+-- be read, where these are known, how many came before, of what kind the error is with which reading failed, if it did,
+-- and whether it is over
 pub record StreamValue : Type 0 where
   pub search : SearchValue
-  pub ahead : Option (List ℕ)
+  pub held : List ℕ
+  pub unread : Option (List ℕ)
   pub offset : ℕ
+  pub failure : Option ErrorKind
   pub is_over : Bool
 
 -- the answer is the leftmost match in the bytes that are ahead, by its offsets in the text, whatever came before
@@ -39,28 +60,77 @@ abbrev pub IsLeftmostAhead : SearchValue → ℕ → Option MatchValue → List 
 IsLeftmostAhead search offset answer ahead = (before : List ℕ) → length before ≡ offset
     → IsLeftmost search.query search.ignore_case (before ++ ahead) (rest_from (before ++ ahead) offset) answer
 
--- the search goes on behind a match
-pub record GoesBehind (old : StreamValue) (found : MatchValue) (new : StreamValue) : Type 0 where
-  pub some : old.offset < found.end
-  pub fits : found.end < 2 ^ 64
-  pub offset : new.offset ≡ found.end
-  pub ahead : IfSome old.ahead (λ bytes. new.ahead ≡ Some (drop (found.end - old.offset) bytes))
-  pub not_over : new.is_over ≡ false
+-- whatever came before, no match begins in the bytes ahead from an offset on up to a later one
+abbrev pub PassesOver : SearchValue → ℕ → ℕ → List ℕ → Type 0
+PassesOver search from to ahead = (before : List ℕ) → length before ≡ from → (i p : ℕ)
+    → Occurs search.query.patterns search.ignore_case (before ++ ahead) (rest_from (before ++ ahead) from) i p → to ≤ p
 
--- what `next` gives: the leftmost match of what is ahead, or None where nothing occurs in it, or an error; behind a
--- match it goes on, and else it is over, and gives None
+-- the bytes that are known to be still to be read
+abbrev pub known : Option (List ℕ) → List ℕ
+known None = []
+known (Some bytes) = bytes
+
+-- a piece of what was unread is read, and none once reading failed
+pub record Reads (old : StreamValue) (piece : List ℕ) (new : StreamValue) : Type 0 where
+  pub consumed : Consumes old.unread new.unread piece
+  pub failed : IfSome old.failure (λ kind. (piece ≡ []) × (new.failure ≡ Some kind))
+
+-- a match is given, the leftmost one in what was read and what is known to follow: the search goes on behind it
+pub record GoesBehind (old : StreamValue) (found : MatchValue) (new : StreamValue) : Type 0 where
+  pub piece : List ℕ
+  pub reads : Reads old piece new
+  pub leftmost : IsLeftmostAhead old.search old.offset (Some found) ((old.held ++ piece) ++ known new.unread)
+  pub some : old.offset < found.end
+  pub within : found.end ≤ old.offset + length (old.held ++ piece)
+  pub fits : found.end < 2 ^ 64
+  pub goes_on : new ≡ record old {
+    held = drop (found.end - old.offset) (old.held ++ piece);
+    unread = new.unread;
+    offset = found.end;
+    failure = new.failure;
+  }
+
+-- the search is over: whatever was read came before
+abbrev pub stream_over : StreamValue → List ℕ → StreamValue → StreamValue
+stream_over old piece new = record old {
+  held = [];
+  unread = new.unread;
+  offset = old.offset + length (old.held ++ piece);
+  failure = new.failure;
+  is_over = true;
+}
+
+-- the text ends, no reading failed, and nothing occurs in what was ahead
+pub record EndsWhole (old new : StreamValue) : Type 0 where
+  pub piece : List ℕ
+  pub reads : Reads old piece new
+  pub end : IsAtEnd new.unread
+  pub no_failure : new.failure ≡ None
+  pub nothing : IsLeftmostAhead old.search old.offset None (old.held ++ piece)
+  pub over : new ≡ stream_over old piece new
+
+-- reading failed with the error, and no match is known from what was read: whatever follows, none begins before the
+-- last bytes, one less than the longest pattern has
+pub record EndsFailed (old : StreamValue) (error : Error) (new : StreamValue) : Type 0 where
+  pub piece : List ℕ
+  pub reads : Reads old piece new
+  pub failure : new.failure ≡ Some (error_kind error)
+  pub nothing : (more : List ℕ) → PassesOver old.search old.offset
+      (new.offset - (longest_of old.search.query.patterns - 1)) ((old.held ++ piece) ++ more)
+  pub over : new ≡ stream_over old piece new
+
+-- what `next` gives: the leftmost match of what is ahead, or None where nothing occurs in it, or the error with which
+-- reading failed; behind a match it goes on, and else it is over, gives None, and stays as it is
 abbrev pub GivesStreamed : StreamValue → Option (Result MatchValue Error) → StreamValue → Type 0
-GivesStreamed old None new = (new.search ≡ old.search) × (new.is_over ≡ true)
-    × (old.is_over ≡ false → IfSome old.ahead (IsLeftmostAhead old.search old.offset None))
-GivesStreamed old (Some answer) new = (new.search ≡ old.search) × (old.is_over ≡ false) × (old.offset < 2 ^ 64)
-    × MatchResult answer
-    (λ found. GoesBehind old found new × IfSome old.ahead (IsLeftmostAhead old.search old.offset (Some found)))
-    (λ _. new.is_over ≡ true)
+GivesStreamed old None new = (old.is_over ≡ true → new ≡ old) × (old.is_over ≡ false → EndsWhole old new)
+GivesStreamed old (Some answer) new = (old.is_over ≡ false) × (old.offset < 2 ^ 64)
+    × MatchResult answer (λ found. GoesBehind old found new) (λ error. EndsFailed old error new)
 
 -- at most how many answers are to come: each match takes a byte or more, and an error is the last
 abbrev pub most_streamed : StreamValue → Count
 most_streamed m = at_most (if m.is_over then 0 else 2 ^ 64 - m.offset)
 
--- a search that has not begun, in bytes that are known
-abbrev pub stream_of : SearchValue → List ℕ → StreamValue
-stream_of search bytes = record { search = search; ahead = Some bytes; offset = 0; is_over = false }
+-- a search that has not begun, in what a reader gives, where that is known
+abbrev pub stream_of : SearchValue → Option (List ℕ) → StreamValue
+stream_of search unread =
+    record { search = search; held = []; unread = unread; offset = 0; failure = None; is_over = false }

@@ -1,13 +1,14 @@
 //! What follows from the definitions, for callers: call a law where its fact is needed.
 ghost use Rattle.std.specs.Prelude.{◌≡◌, ◌+◌, ◌<◌, ◌≤◌, ◌-◌, ◌^◌, ◌++◌, ◌∷◌, [], ℕ, Bool, List, length, take};
-ghost use Rattle.std.specs.Prelude.{IsNone, None, Ok, Option, Some, false, map, sum_by};
+ghost use Rattle.std.specs.Prelude.{Err, IsNone, None, Ok, Option, Some, false, map, sum_by};
 ghost use Rattle.std.specs.Iterator.{Yields};
 ghost use Rattle.std.specs.List.{All};
+ghost use Rattle.std.specs.declared.io.Error.{Error};
 ghost use Rattle.literal_base.specs.declared.search.Span.{Span};
 ghost use Rattle.literal_base.specs.Counts.{Counts};
 ghost use Rattle.literal_base.specs.Greedy.{IsGreedy};
 ghost use Rattle.literal_base.specs.MatchValue.{MatchValue};
-ghost use Rattle.literal_base.specs.Occurs.{between, pattern_at};
+ghost use Rattle.literal_base.specs.Occurs.{Occurs, between, pattern_at, rest_from};
 ghost use Rattle.literal_base.specs.Query.{Query};
 ghost use Rattle.literal_search.specs.Linear.{IsGreedyIn, ScansTwice, looked_upto};
 ghost use Rattle.literal_search.specs.LinearMatchesValue.{GivesInSpan, GivesInSpanCounted, LinearMatchesValue};
@@ -17,7 +18,7 @@ ghost use Rattle.literal_search.specs.OverlappingMatchesValue.{GivesOverlapping,
 ghost use Rattle.literal_search.specs.Prepared.{IsPrepared, IsWhole, check_of, prepared_len};
 ghost use Rattle.literal_search.specs.PreparedOverlapping.{IsPreparedOverlapping, IsWholeOverlapping, listed_len};
 ghost use Rattle.literal_search.specs.Replaced.{replaced};
-ghost use Rattle.literal_search.specs.SearchValue.{ScansListAtMost, SearchValue};
+ghost use Rattle.literal_search.specs.SearchValue.{ScansListAtMost, SearchValue, longest_of};
 ghost use Rattle.literal_search.specs.Stream.{GivesStreamed, StreamValue, stream_of};
 
 /// An iterator that answers `None` stands at the end of the haystack then, and there it answers `None` and stays.
@@ -75,15 +76,25 @@ pub fn iterations_in_spans_are_greedy()
 {}
 
 /// What an iteration over the matches in what a reader gives, if these bytes are known, gave so far begins the greedy
-/// list of all of them, and up to its first `None`, with no error in front of it, it is that list.
+/// list of all of them, and up to its first `None`, with no error in front of it, it is that list (`whole`): then it
+/// stands behind all of them (`read`). With an error, behind what it gave no match begins but in the last bytes that
+/// were read, fewer than the longest pattern has (`failed`).
 pub fn streams_are_greedy()
     ensures so_far { (search : SearchValue) (bytes : List ℕ) (last : StreamValue) (all more : List MatchValue)
-        → Yields GivesStreamed (stream_of search bytes) (map Ok all) last
+        → Yields GivesStreamed (stream_of search (Some bytes)) (map Ok all) last
         → IsGreedy search.query search.ignore_case bytes last.offset more
         → IsGreedy search.query search.ignore_case bytes 0 (all ++ more) }
     ensures whole { (search : SearchValue) (bytes : List ℕ) (last ended : StreamValue) (all : List MatchValue)
-        → Yields GivesStreamed (stream_of search bytes) (map Ok all) last → GivesStreamed last None ended
+        → Yields GivesStreamed (stream_of search (Some bytes)) (map Ok all) last → GivesStreamed last None ended
         → IsGreedy search.query search.ignore_case bytes 0 all }
+    ensures read { (search : SearchValue) (bytes : List ℕ) (last ended : StreamValue) (all : List MatchValue)
+        → Yields GivesStreamed (stream_of search (Some bytes)) (map Ok all) last → GivesStreamed last None ended
+        → ended.offset ≡ length bytes }
+    ensures failed { (search : SearchValue) (bytes : List ℕ) (last ended : StreamValue) (all : List MatchValue)
+        (error : Error) → Yields GivesStreamed (stream_of search (Some bytes)) (map Ok all) last
+        → GivesStreamed last (Some (Err error)) ended → (i place : ℕ)
+        → Occurs search.query.patterns search.ignore_case bytes (rest_from bytes last.offset) i place
+        → ended.offset - (longest_of search.query.patterns - 1) ≤ place }
 {}
 
 /// What an iteration over everything that occurs in a span gives up to its first `None` is every occurrence once, in

@@ -30,6 +30,7 @@ mod linear;
 mod overlapping;
 mod prepared;
 mod prepared_overlapping;
+mod reading;
 mod replace;
 mod rows;
 mod scan;

@@ -1,12 +1,18 @@
 //! Searches in texts of which more may follow, and in texts that are read piece by piece.
-ghost use Rattle.std.specs.Prelude.{◌≡◌, ◌+◌, ◌-◌, ◌*◌, ◌<◌, ◌≤◌, ◌++◌, ℕ, List, drop, length, false, IfOk, IfSome};
-ghost use Rattle.std.specs.Prelude.{OnErr, Some};
+ghost use Rattle.std.specs.Prelude.{◌≡◌, ◌+◌, ◌-◌, ◌<◌, ◌≤◌, ◌++◌, ℕ, List, drop, length, false, true, IfOk, IfSome};
+ghost use Rattle.std.specs.Prelude.{MatchOption, MatchResult};
+ghost use Rattle.literal_base.specs.Leftmost.{IsLeftmost};
+ghost use Rattle.literal_base.specs.Occurs.{between, whole_of};
 ghost use Rattle.literal_search.specs.SearchValue.{longest_of};
-ghost use Rattle.literal_search.specs.Stream.{AnswersSoFar, IsKnownSoFar, IsLeftmostAhead};
-ghost use Rattle.literal_search.specs.Inside.Stream.{IsSoundStream, IsWindow, ahead_of, held, shifted};
+ghost use Rattle.literal_search.specs.Stream.{AnswersSoFar, EndsFailed, EndsWhole, GoesBehind, IsKnownSoFar};
+ghost use Rattle.literal_search.specs.Stream.{ScansSoFar, stream_of};
+ghost use Rattle.literal_search.specs.declared.stream.SoFar.TheVariants.{Found, NoneBefore};
+ghost use Rattle.literal_search.specs.Inside.Stream.{IsSoundStream, IsWindow, TellsOf, held, shifted, stream_value};
 
 use crate::Search;
+use crate::reading::Reading;
 use crate::window::Window;
+use literal_base::count::Tally;
 use literal_base::{Match, Span};
 use std::alloc::{AllocError, Global};
 use std::io::{self, Read};
@@ -34,19 +40,51 @@ impl Search {
         ensures known { IsKnownSoFar self.now.query.patterns (length haystack.now) at result }
     {
         let end = haystack.len();
+        let found = self.find_in(haystack, Span { start: at, end });
+        self.so_far(haystack, at, found)
+    }
+
+    /// Answers as [`Search::find_so_far`], and adds each byte that it looks up to a tally, as scanned: at least as many
+    /// as there are up to the match's end, or up to that place; at most three times as many as there are from where it
+    /// begins, and with a match three times those up to its end, and once those of the longest pattern.
+    pub fn find_so_far_counted(&self, haystack: &[u8], at: usize, tally: &mut Tally) -> SoFar
+        requires { at ≤ length haystack.now }
+        ensures whatever_follows { (more : List ℕ)
+            → AnswersSoFar self.now.query self.now.ignore_case (haystack.now ++ more) at result }
+        ensures known { IsKnownSoFar self.now.query.patterns (length haystack.now) at result }
+        ensures bounded { ScansSoFar self.now.query.patterns (length haystack.now) at result tally.old tally.new }
+    {
+        let end = haystack.len();
+        let found = self.find_in_counted(haystack, Span { start: at, end }, tally);
+        self.so_far(haystack, at, found)
+    }
+
+    /// What the leftmost match from a place on tells, where more may follow.
+    fn so_far(&self, haystack: &[u8], at: usize, leftmost: Option<Match>) -> SoFar
+        requires within { at ≤ length haystack.now }
+        requires leftmost { IsLeftmost self.now.query self.now.ignore_case haystack.now
+            (between at (length haystack.now)) leftmost }
+        requires not_empty { IfSome leftmost (λ found. found.start < found.end) }
+        ensures whatever_follows { (more : List ℕ)
+            → AnswersSoFar self.now.query self.now.ignore_case (haystack.now ++ more) at result }
+        ensures known { IsKnownSoFar self.now.query.patterns (length haystack.now) at result }
+        ensures told { TellsOf leftmost result }
+    {
+        let end = haystack.len();
         let longest = self.max_pattern_len();
-        if let Some(found) = self.find_in(haystack, Span { start: at, end }) {
+        if let Some(found) = leftmost {
             if end - found.start() >= longest {
                 return SoFar::Found(found);
             }
         }
         SoFar::NoneBefore(at.max(end.saturating_sub(longest.saturating_sub(1))))
     }
+
     /// All matches in what a reader gives, from the left, none of which overlaps another, as those of
     /// [`Search::find_iter`] in all of it: with offsets in the whole text, whatever pieces it comes in. Of the text it
     /// keeps twice as many bytes as the longest pattern has, and a block of 64 KiB, or as long as the longest pattern.
     /// A match is given once twice as many bytes as the longest pattern has are read from where the search goes on, or
-    /// the end of the text.
+    /// the end of the text; where reading fails, each that is known from what was read comes before the error.
     ///
     /// ```rust
     /// let words = [b"password".as_slice(), b"secret"];
@@ -60,50 +98,45 @@ impl Search {
         alloc: Global,
         reader: R,
     ) -> Result<StreamMatches<'_, R>, AllocError>
-        ensures { IfOk result (λ m. m ≡ record {
-          search = self.now;
-          ahead = R.remaining reader;
-          offset = 0;
-          is_over = false;
-        }) }
+        ensures { IfOk result (λ m. m ≡ stream_of self.now (R.remaining reader)) }
     {
         let longest = self.max_pattern_len();
         let window = Window::new(alloc, longest.saturating_mul(2))?;
         Ok(StreamMatches {
             search: self,
             reader,
+            reading: Reading::new(),
             window,
             is_over: false,
         })
     }
 }
 
-/// What [`Search::find_stream`] goes over. Contracts see the search, the bytes that are ahead, if those are known that
-/// are still to be read, how many came before, and whether it is over. After its first `None` or error it keeps
-/// answering `None`.
+/// What [`Search::find_stream`] goes over. Contracts see the search, the bytes ahead that were read, those that are
+/// still to be read, if they are known, how many came before, of what kind the error is with which reading failed, and
+/// whether it is over. After its first `None` or error it keeps answering `None`, and stays as it is: behind all bytes
+/// that were read.
 #[derive(Drop)]
 pub struct StreamMatches<'s, R: Read + Drop> {
     search: &'s Search,
     reader: R,
+    reading: Reading,
     window: Window,
     is_over: bool,
 }
 
 impl<'s, R: Read + Drop> Model for StreamMatches<'s, R> {
+    ghost use Rattle.std.specs.Prelude.{◌≡◌, false};
     ghost use Rattle.literal_search.specs.SearchValue.{longest_of};
     ghost use Rattle.literal_search.specs.Stream.{StreamValue};
-    ghost use Rattle.literal_search.specs.Inside.Stream.{IsSoundStream, ahead_of};
+    ghost use Rattle.literal_search.specs.Inside.Stream.{IsSoundStream, stream_value};
 
     ghost Value = { StreamValue };
 
-    ghost view = { λ m. record {
-      search = m.search.now;
-      ahead = ahead_of m.window (R.remaining m.reader);
-      offset = m.window.offset;
-      is_over = m.is_over;
-    } };
+    ghost view = { λ m. stream_value m.search.now m.window m.reading (R.remaining m.reader) m.is_over };
 
-    ghost invariant = { λ m. IsSoundStream (longest_of m.search.now.query.patterns) m.window (R.remaining m.reader) };
+    ghost invariant = { λ m. m.is_over ≡ false
+        → IsSoundStream (longest_of m.search.now.query.patterns) m.window m.reading (R.remaining m.reader) };
 }
 
 impl<'s, R: Read + Drop> Iterator for StreamMatches<'s, R> {
@@ -115,46 +148,79 @@ impl<'s, R: Read + Drop> Iterator for StreamMatches<'s, R> {
 
     ghost remaining = { most_streamed };
 
-    /// The error is the one that the reader gave, or says that the text is longer than a `usize` counts.
+    /// An error comes only once every match that is known from what was read was given. It is the one with which the
+    /// reader failed, or says that the text is longer than a `usize` counts ([`io::ErrorKind::FileTooLarge`]).
     fn next(&mut self) -> Option<io::Result<Match>> {
         if self.is_over {
             return None;
         }
-        let next = next_match(self.search, &mut self.window, &mut self.reader);
+        let next = next_match(
+            self.search,
+            &mut self.window,
+            &mut self.reader,
+            &mut self.reading,
+        );
         self.is_over = !matches!(next, Ok(Some(_)));
         next.transpose()
     }
 }
 
-/// The leftmost match in what is ahead, by its offsets in the text, behind which it then goes on.
+/// The leftmost match in what is ahead, by its offsets in the text, behind which it then goes on; the error with which
+/// reading failed, where no match is known from what was read.
 fn next_match<R: Read>(
     search: &Search,
     window: &mut Window,
     reader: &mut R,
+    reading: &mut Reading,
 ) -> io::Result<Option<Match>>
-    requires { IsSoundStream (longest_of search.now.query.patterns) window.old (R.remaining reader.old) }
-    ensures sound { IsSoundStream (longest_of search.now.query.patterns) window.new (R.remaining reader.new) }
-    ensures leftmost { IfOk result (λ answer. IfSome (ahead_of window.old (R.remaining reader.old))
-        (IsLeftmostAhead search.now window.old.offset answer)) }
-    ensures offset { IfOk result (λ answer. IfSome answer (λ found. (window.old.offset < found.end)
-        × (window.new.offset ≡ found.end))) }
-    ensures goes_on { IfOk result (λ answer. IfSome answer (λ found.
-        IfSome (ahead_of window.old (R.remaining reader.old)) (λ bytes.
-        ahead_of window.new (R.remaining reader.new) ≡ Some (drop (found.end - window.old.offset) bytes)))) }
+    requires { IsSoundStream (longest_of search.now.query.patterns) window.old reading.old (R.remaining reader.old) }
+    ensures sound { IfOk result (λ answer. IfSome answer (λ _. IsSoundStream (longest_of search.now.query.patterns)
+        window.new reading.new (R.remaining reader.new))) }
+    ensures gives { MatchResult result (λ answer. MatchOption answer
+        (EndsWhole (stream_value search.now window.old reading.old (R.remaining reader.old) false)
+        (stream_value search.now window.new reading.new (R.remaining reader.new) true))
+        (λ found. GoesBehind (stream_value search.now window.old reading.old (R.remaining reader.old) false) found
+        (stream_value search.now window.new reading.new (R.remaining reader.new) false)))
+        (λ error. EndsFailed (stream_value search.now window.old reading.old (R.remaining reader.old) false) error
+        (stream_value search.now window.new reading.new (R.remaining reader.new) true)) }
 {
     let enough = 2 * search.max_pattern_len();
-    while !window.is_last {
+    while reading.is_open() {
         if window.held().len() >= enough {
             match search.find_so_far(window.held(), 0) {
                 SoFar::Found(found) => return Ok(Some(take(window, found))),
                 SoFar::NoneBefore(place) => window.pass(place),
             }
         }
-        window.read_more(reader)?;
+        window.read_more(reader, reading);
     }
-    match search.find(window.held()) {
-        Some(found) => Ok(Some(take(window, found))),
+    if let Some(found) = last_in(search, window.held(), reading.is_whole()) {
+        return Ok(Some(take(window, found)));
+    }
+    window.pass(window.held().len());
+    match reading.take_error() {
+        Some(error) => Err(error),
         None => Ok(None),
+    }
+}
+
+/// The leftmost match in the last bytes of a text, and where more may follow, if it is known from them.
+fn last_in(search: &Search, haystack: &[u8], is_whole: bool) -> Option<Match>
+    ensures whole { is_whole ≡ true → IsLeftmost search.now.query search.now.ignore_case haystack.now
+        (whole_of haystack.now) result }
+    ensures known { is_whole ≡ false → MatchOption result
+        ((more : List ℕ) → AnswersSoFar search.now.query search.now.ignore_case (haystack.now ++ more) 0
+        (NoneBefore (length haystack.now - (longest_of search.now.query.patterns - 1))))
+        (λ found. (more : List ℕ) → AnswersSoFar search.now.query search.now.ignore_case (haystack.now ++ more) 0
+        (Found found)) }
+    ensures inside { IfSome result (λ found. (found.start < found.end) × (found.end ≤ length haystack.now)) }
+{
+    if is_whole {
+        return search.find(haystack);
+    }
+    match search.find_so_far(haystack, 0) {
+        SoFar::Found(found) => Some(found),
+        SoFar::NoneBefore(_) => None,
     }
 }
 
@@ -166,7 +232,6 @@ fn take(window: &mut Window, found: Match) -> Match
     ensures room { length window.new.bytes.items ≡ length window.old.bytes.items }
     ensures held { held window.new ≡ drop found.end (held window.old) }
     ensures offset { window.new.offset ≡ window.old.offset + found.end }
-    ensures last { window.new.is_last ≡ window.old.is_last }
     ensures found { result ≡ shifted window.old.offset found }
 {
     let moved = found.offset(window.offset);

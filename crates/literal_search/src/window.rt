@@ -1,13 +1,11 @@
 //! What is known of a text that is read piece by piece.
-ghost use Rattle.std.specs.Prelude.{◌≡◌, ◌+◌, ◌*◌, ◌<◌, ◌≤◌, ◌^◌, ◌++◌, [], ℕ, List, drop, length, true, false, IfOk};
-ghost use Rattle.std.specs.Prelude.{OnErr, MatchResult};
-ghost use Rattle.std.specs.Io.KnownBytes.{Consumes, IsAtEnd, Keeps};
-ghost use Rattle.literal_base.specs.MatchValue.{MatchValue};
-ghost use Rattle.literal_search.specs.Inside.Stream.{HasRoom, IsWindow, held};
+ghost use Rattle.std.specs.Prelude.{◌≡◌, ◌+◌, ◌<◌, ◌≤◌, ◌++◌, [], ℕ, List, None, drop, length, IfOk};
+ghost use Rattle.std.specs.Io.KnownBytes.{Consumes};
+ghost use Rattle.literal_search.specs.Inside.Stream.{HasRoom, IsOpen, IsSoundReading, IsWindow, held};
 
-use literal_base::Match;
+use crate::reading::Reading;
 use std::alloc::{AllocError, Global};
-use std::io::{self, ErrorKind, Read};
+use std::io::Read;
 
 /// How many bytes are asked for at a time, at least.
 const BLOCK: usize = 1 << 16;
@@ -20,8 +18,6 @@ pub(crate) struct Window {
     end: usize,
     /// How many bytes of the text come before them.
     pub(crate) offset: usize,
-    /// Whether they are all that is left of the text.
-    pub(crate) is_last: bool,
 }
 
 impl Window {
@@ -29,7 +25,7 @@ impl Window {
     pub(crate) fn new(alloc: Global, len: usize) -> Result<Window, AllocError>
         ensures window { IfOk result (λ w. IsWindow w × HasRoom w len) }
         ensures empty { IfOk result (λ w. held w ≡ []) }
-        ensures first { IfOk result (λ w. (w.offset ≡ 0) × (w.is_last ≡ false)) }
+        ensures first { IfOk result (λ w. w.offset ≡ 0) }
     {
         let room = len.saturating_add(BLOCK.max(len / 2)).saturating_add(1);
         let bytes = vec![in alloc; 0; room]?;
@@ -38,7 +34,6 @@ impl Window {
             start: 0,
             end: 0,
             offset: 0,
-            is_last: false,
         })
     }
 
@@ -58,38 +53,31 @@ impl Window {
         ensures room { length self.new.bytes.items ≡ length self.old.bytes.items }
         ensures held { held self.new ≡ drop count (held self.old) }
         ensures offset { self.new.offset ≡ self.old.offset + count }
-        ensures last { self.new.is_last ≡ self.old.is_last }
     {
         self.start += count;
         self.offset += count;
     }
 
-    /// Reads some more of the text, or finds that it is over. They must be so few that there is room for more.
-    pub(crate) fn read_more<R: Read>(&mut self, reader: &mut R) -> io::Result<()>
+    /// Reads some more of the text, where it is not over and that does not fail. They must be so few that there is room
+    /// for more.
+    pub(crate) fn read_more<R: Read>(&mut self, reader: &mut R, reading: &mut Reading)
         requires window { IsWindow self.old }
         requires room { length (held self.old) < length self.old.bytes.items }
+        requires open { IsOpen reading.old }
+        requires no_failure { reading.old.failure ≡ None }
         ensures window { IsWindow self.new }
         ensures room { length self.new.bytes.items ≡ length self.old.bytes.items }
         ensures offset { self.new.offset ≡ self.old.offset }
-        ensures read { IfOk result (λ _. (piece : List ℕ)
-            × Consumes (R.remaining reader.old) (R.remaining reader.new) piece
-            × (held self.new ≡ held self.old ++ piece)) }
-        ensures last { IfOk result (λ _. self.new.is_last ≡ true → IsAtEnd (R.remaining reader.new)) }
-        ensures more { IfOk result (λ _. self.new.is_last ≡ false → length (held self.old) < length (held self.new)) }
-        ensures error { OnErr result (self.new.is_last ≡ self.old.is_last) }
+        ensures read { (piece : List ℕ) × Consumes (R.remaining reader.old) (R.remaining reader.new) piece
+            × (held self.new ≡ held self.old ++ piece) }
+        ensures sound { IsSoundReading reading.new (R.remaining reader.new) }
+        ensures more { IsOpen reading.new → length (held self.old) < length (held self.new) }
     {
         self.make_room();
-        let count = reader.read(&mut self.bytes[self.end..])?;
-        if self
-            .offset
-            .checked_add(self.end - self.start + count)
-            .is_none()
-        {
-            return Err(io::Error::from(ErrorKind::FileTooLarge));
-        }
-        self.is_last = count == 0;
+        let countable = usize::MAX - self.offset - (self.end - self.start);
+        let room = (self.bytes.len() - self.end).min(countable);
+        let count = reading.read(reader, &mut self.bytes[self.end..self.end + room]);
         self.end += count;
-        Ok(())
     }
 
     /// Moves them to the front where they reach to the end of the room.
@@ -101,7 +89,6 @@ impl Window {
         ensures same_room { length self.new.bytes.items ≡ length self.old.bytes.items }
         ensures held { held self.new ≡ held self.old }
         ensures offset { self.new.offset ≡ self.old.offset }
-        ensures last { self.new.is_last ≡ self.old.is_last }
     {
         if self.end == self.bytes.len() {
             self.bytes.copy_within(self.start..self.end, 0);

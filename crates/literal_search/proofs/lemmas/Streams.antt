@@ -1,21 +1,28 @@
 -- Texts that are read piece by piece.
-use Rattle.std.proofs.Common.{◌≡◌, ℕ, ◌+◌, ◌-◌, ◌≤◌, ◌++◌, [], ◌∷◌, List, Ok, map, Option, None, Some, IfSome}
+use Rattle.std.proofs.Common.{◌≡◌, ℕ, ◌+◌, ◌-◌, ◌≤◌, ◌<◌, ◌^◌, ◌++◌, [], ◌∷◌, List, Ok, Err, map, Option, None, Some}
 use Rattle.std.proofs.Common.{length, take, drop, ap, refl, subst, sym, ◌∙◌, arith, append_assoc, append-nil}
-use Rattle.std.proofs.Common.{length-append}
+use Rattle.std.proofs.Common.{length-append, Bool, IfSome, true, false}
+use Rattle.std.proofs.KnownBytes.{Consumes-nil, Consumes-trans}
 use Rattle.std.proofs.Math.Seq.{take-append-add}
-use Rattle.std.proofs.lemmas.Option.{none-some, same_Some}
+use Rattle.std.proofs.lemmas.Option.{none-some}
 use Rattle.std.proofs.lemmas.List.{drop-append-le, drop-drop, drop-take, length-drop, length-take-le}
 use Rattle.std.proofs.lemmas.List.{take-append-drop, take-append-le}
 use Rattle.std.specs.List.{slice_range}
-use Rattle.std.specs.Io.KnownBytes.{Consumes, IsAtEnd, prepend_known}
-use Rattle.literal_base.specs.Occurs.{NothingOccurs, Occurs, rest_from, whole_of}
+use Rattle.std.specs.Io.KnownBytes.{Consumes, IsAtEnd}
+use Rattle.std.specs.IoError.{error_kind}
 use Rattle.std.specs.Iterator.{Yields}
+use Rattle.std.specs.Option.{option_map}
+use Rattle.std.specs.declared.io.Error.{Error}
+use Rattle.std.specs.declared.io.ErrorKind.{ErrorKind}
 use Rattle.literal_base.specs.Greedy.{IsGreedy}
-use Rattle.literal_base.specs.MatchValue.{MatchValue}
 use Rattle.literal_base.specs.Leftmost.{IsLeftmost, IsLeftmostMatch}
-use Rattle.literal_search.specs.SearchValue.{SearchValue}
-use Rattle.literal_search.specs.Stream.{GivesStreamed, IsLeftmostAhead, StreamValue}
-use Rattle.literal_search.specs.Inside.Stream.{IsLater, PassesOver, StandsIn, shifted}
+use Rattle.literal_base.specs.MatchValue.{MatchValue}
+use Rattle.literal_base.specs.Occurs.{NothingOccurs, Occurs, rest_from}
+use Rattle.literal_search.specs.SearchValue.{SearchValue, longest_of}
+use Rattle.literal_search.specs.Stream.{EndsFailed, EndsWhole, GivesStreamed, GoesBehind, IsLeftmostAhead, PassesOver}
+use Rattle.literal_search.specs.Stream.{StreamValue, known}
+use Rattle.literal_search.specs.Inside.Stream.{HasGoneOn, HasPassed, IsWindow, StandsIn, held, shifted}
+use Rattle.literal_search.specs.declared.window.Window.{Window}
 use Rattle.literal_search.proofs.lemmas.Windows.{leftmost_behind, leftmost_from, none_ahead, nothing_ahead}
 
 -- a part that begins later is the part without its first bytes
@@ -50,40 +57,6 @@ pub part_len : (xs : List ℕ) (start end : ℕ) → start ≤ end → end ≤ l
     → length (slice_range xs start end) ≡ end - start
 part_len xs start end ordered inside =
     length-take-le (end - start) (drop start xs) (omega (arith, inside, length-drop start xs))
-
--- what is read moves from the reader to what is held
-pub read_ahead : (held piece : List ℕ) (old new : Option (List ℕ)) (bytes : List ℕ)
-    → prepend_known held old ≡ Some bytes → Consumes old new piece → prepend_known (held ++ piece) new ≡ Some bytes
-read_ahead held piece None new bytes known taken = absurd (none-some bytes known)
-read_ahead held piece (Some xs) None bytes known taken = absurd taken
-read_ahead held piece (Some xs) (Some ys) bytes known taken =
-    ap Some (append_assoc held piece ys) ∙ (ap (λ (l : List ℕ). Some (held ++ l)) (sym taken) ∙ known)
-
--- what is held is the first of what is ahead
-pub held_first : (held : List ℕ) (rest : Option (List ℕ)) (bytes : List ℕ) → prepend_known held rest ≡ Some bytes
-    → (more : List ℕ) × (rest ≡ Some more) × (held ++ more ≡ bytes)
-held_first held None bytes known = absurd (none-some bytes known)
-held_first held (Some more) bytes known = (more, refl, same_Some _ _ known)
-
--- and all of it where nothing is left to be read
-pub held_all : (held : List ℕ) (rest : Option (List ℕ)) (bytes : List ℕ) → prepend_known held rest ≡ Some bytes
-    → IsAtEnd rest → held ≡ bytes
-held_all held None bytes known over = absurd (none-some bytes known)
-held_all held (Some more) bytes known over =
-    sym (append-nil held) ∙ (ap (λ (l : List ℕ). held ++ l) (sym over) ∙ same_Some _ _ known)
-
--- behind the first of what is held
-pub passed_ahead : (held : List ℕ) (rest : Option (List ℕ)) (bytes : List ℕ) (n : ℕ) → n ≤ length held
-    → prepend_known held rest ≡ Some bytes
-    → (n ≤ length bytes) × (prepend_known (drop n held) rest ≡ Some (drop n bytes))
-passed_ahead held rest bytes n within known =
-    let first = held_first held rest bytes known in
-    let len = length-append held first.0 in
-    let cut : drop n bytes ≡ drop n held ++ first.0 =
-    ap (drop n) (sym first.2) ∙ drop-append-le n held first.0 within in (
-      omega (arith, within, len, ap (λ (l : List ℕ). length l) first.2),
-      ap (λ (r : Option (List ℕ)). prepend_known (drop n held) r) first.1 ∙ ap Some (sym cut),
-    )
 
 module _ (search : SearchValue) (from now : ℕ) (bytes : List ℕ) (later : from ≤ now)
     (within : now - from ≤ length bytes) (before : List ℕ) (before_len : length before ≡ from) where
@@ -127,165 +100,330 @@ passes_more search from now to bytes later within passed more = λ before len i 
       same = occurs.same;
     }))
 
+-- a place behind what a window holds can be told
+pub held_fits : (w : Window) → IsWindow w → w.offset + length (held w) < 2 ^ 64
+held_fits w sound = omega (arith, sound.fits, part_len w.bytes.items w.start w.end sound.ordered sound.inside)
+
+-- where reading is over and did not fail, all was read
+pub read_whole : (is_whole : Bool) (failure : Option ErrorKind) (error : Option Error)
+    → failure ≡ option_map error_kind error → ¬ ((is_whole ≡ false) × (error ≡ None)) → failure ≡ None
+    → is_whole ≡ true
+read_whole true failure error is closed none = refl
+read_whole false failure None is closed none = absurd (closed (refl, refl))
+read_whole false failure (Some error) is closed none = absurd (none-some (error_kind error) (sym none ∙ is))
+
+-- and where it failed, not all was read
+pub read_in_part : (is_whole : Bool) (failure : Option ErrorKind) (error : Option Error) (kind : ErrorKind)
+    → failure ≡ option_map error_kind error → (is_whole ≡ true → error ≡ None) → failure ≡ Some kind
+    → is_whole ≡ false
+read_in_part false failure error kind is apart failed = refl
+read_in_part true failure error kind is apart failed =
+    absurd (none-some kind (sym (ap (option_map error_kind) (apart refl)) ∙ (sym is ∙ failed)))
+
 -- at first nothing was passed over
-pub none_passed : (search : SearchValue) (from : ℕ) (ahead : Option (List ℕ)) → IsLater search from from ahead ahead
-none_passed search from None = record { later = omega arith; passed = tt }
-none_passed search from (Some bytes) =
+pub none_passed : (search : SearchValue) (from : ℕ) (bytes : List ℕ)
+    → HasPassed search from from (bytes ++ []) bytes
+none_passed search from bytes =
     let none : from - from ≡ 0 = omega arith in
     record {
       later = omega arith;
-      passed = (
-        omega (arith, none),
-        ap (λ n. Some (drop n bytes)) (sym none),
-        λ before len i p occurs. occurs.after_start,
-      );
+      within = omega (arith, none);
+      rest_is = sym (append-nil bytes) ∙ ap (λ n. drop n (bytes ++ [])) (sym none);
+      passed = λ more before len i p occurs. occurs.after_start;
     }
 
+-- what is held, and whatever follows it, is what is ahead now
+rest_and_more : (search : SearchValue) (from now : ℕ) (seen rest : List ℕ) → HasPassed search from now seen rest
+    → (more : List ℕ) → drop (now - from) (seen ++ more) ≡ rest ++ more
+rest_and_more search from now seen rest before more =
+    drop-append-le (now - from) seen more before.within ∙ ap (λ (l : List ℕ). l ++ more) (sym before.rest_is)
+
 -- after more bytes are passed over
-pub passed_more : (search : SearchValue) (from now n : ℕ) (ahead : Option (List ℕ)) (held : List ℕ)
-    (rest : Option (List ℕ)) → n ≤ length held
-    → ((more : List ℕ) (i p : ℕ) → Occurs search.query.patterns search.ignore_case (held ++ more)
-    (rest_from (held ++ more) 0) i p → n ≤ p)
-    → IsLater search from now ahead (prepend_known held rest)
-    → IsLater search from (now + n) ahead (prepend_known (drop n held) rest)
-passed_more search from now n None held rest within none before = record {
-  later = omega (arith, before.later);
-  passed = tt;
-}
-passed_more search from now n (Some bytes) held rest within none before =
-    let here = drop (now - from) bytes in
-    let first = held_first held rest here before.passed.1 in
-    let gone = passed_ahead held rest here n within before.passed.1 in
+pub passed_more : (search : SearchValue) (from now n : ℕ) (seen rest : List ℕ) → n ≤ length rest
+    → ((more : List ℕ) (i p : ℕ) → Occurs search.query.patterns search.ignore_case (rest ++ more)
+    (rest_from (rest ++ more) 0) i p → n ≤ p)
+    → HasPassed search from now seen rest → HasPassed search from (now + n) seen (drop n rest)
+passed_more search from now n seen rest within none before =
+    let len : length rest ≡ length seen - (now - from) =
+    ap (λ (l : List ℕ). length l) before.rest_is ∙ length-drop (now - from) seen in
     let far : (now - from) + n ≡ (now + n) - from = omega (arith, before.later) in
     record {
       later = omega (arith, before.later);
-      passed = (
-        omega (arith, gone.0, before.passed.0, length-drop (now - from) bytes, before.later),
-        gone.1 ∙ ap Some (drop-drop n (now - from) bytes ∙ ap (λ k. drop k bytes) far),
-        passes_more search from now (now + n) bytes before.later before.passed.0 before.passed.2
-            (λ front len i p occurs.
-            let text = subst (λ (l : List ℕ). Occurs search.query.patterns search.ignore_case (front ++ l)
-            (rest_from (front ++ l) now) i p) (sym first.2) occurs in
-            let there = none_ahead search.query.patterns search.ignore_case front (held ++ first.0) n (none first.0) i p
-            (subst (λ at. Occurs search.query.patterns search.ignore_case (front ++ (held ++ first.0))
-            (rest_from (front ++ (held ++ first.0)) at) i p) (sym len) text) in
-            omega (arith, there, len)),
-      );
+      within = omega (arith, within, len, before.within, before.later);
+      rest_is = ap (drop n) before.rest_is ∙ (drop-drop n (now - from) seen ∙ ap (λ k. drop k seen) far);
+      passed = λ more. passes_more search from now (now + n) (seen ++ more) before.later
+          (omega (arith, before.within, length-append seen more)) (before.passed more)
+          (λ front front_len i p occurs.
+          let text = subst (λ (l : List ℕ). Occurs search.query.patterns search.ignore_case (front ++ l)
+          (rest_from (front ++ l) now) i p) (rest_and_more search from now seen rest before more) occurs in
+          let there = none_ahead search.query.patterns search.ignore_case front (rest ++ more) n (none more) i p
+          (subst (λ at. Occurs search.query.patterns search.ignore_case (front ++ (rest ++ more))
+          (rest_from (front ++ (rest ++ more)) at) i p) (sym front_len) text) in
+          omega (arith, there, front_len));
     }
 
--- after more is read
-pub read_more : (search : SearchValue) (from now : ℕ) (ahead : Option (List ℕ)) (held piece : List ℕ)
-    (old new : Option (List ℕ)) → Consumes old new piece → IsLater search from now ahead (prepend_known held old)
-    → IsLater search from now ahead (prepend_known (held ++ piece) new)
-read_more search from now None held piece old new taken before = record { later = before.later; passed = tt }
-read_more search from now (Some bytes) held piece old new taken before = record {
+-- after a piece is read
+pub read_behind : (search : SearchValue) (from now : ℕ) (seen rest piece : List ℕ)
+    → HasPassed search from now seen rest → HasPassed search from now (seen ++ piece) (rest ++ piece)
+read_behind search from now seen rest piece before = record {
   later = before.later;
-  passed = (
-    before.passed.0,
-    read_ahead held piece old new (drop (now - from) bytes) before.passed.1 taken,
-    before.passed.2,
-  );
+  within = omega (arith, before.within, length-append seen piece);
+  rest_is = sym (rest_and_more search from now seen rest before piece);
+  passed = λ more. subst (PassesOver search from now) (sym (append_assoc seen piece more))
+      (before.passed (piece ++ more));
 }
 
--- the match of what is held, whatever follows it, is the answer
-pub found_ahead : (search : SearchValue) (from now : ℕ) (ahead : Option (List ℕ)) (held : List ℕ)
-    (rest : Option (List ℕ)) (found : MatchValue)
-    → ((more : List ℕ)
-    → IsLeftmostMatch search.query search.ignore_case (held ++ more) (rest_from (held ++ more) 0) found)
-    → IsLater search from now ahead (prepend_known held rest)
-    → IfSome ahead (IsLeftmostAhead search from (Some (shifted now found)))
-found_ahead search from now None held rest found leftmost before = tt
-found_ahead search from now (Some bytes) held rest found leftmost before =
-    let first = held_first held rest (drop (now - from) bytes) before.passed.1 in
-    ahead_before search from now bytes (Some (shifted now found)) before.later before.passed.0 before.passed.2
+-- the match of what is held, and of what follows it, is the answer
+pub found_ahead : (search : SearchValue) (from now : ℕ) (seen rest more : List ℕ) (found : MatchValue)
+    → IsLeftmostMatch search.query search.ignore_case (rest ++ more) (rest_from (rest ++ more) 0) found
+    → HasPassed search from now seen rest
+    → IsLeftmostAhead search from (Some (shifted now found)) (seen ++ more)
+found_ahead search from now seen rest more found leftmost before =
+    ahead_before search from now (seen ++ more) (Some (shifted now found)) before.later
+    (omega (arith, before.within, length-append seen more)) (before.passed more)
     (λ front len. subst (λ (l : List ℕ). IsLeftmostMatch search.query search.ignore_case (front ++ l)
-    (rest_from (front ++ l) now) (shifted now found)) first.2
-    (subst (λ at. IsLeftmostMatch search.query search.ignore_case (front ++ (held ++ first.0))
-    (rest_from (front ++ (held ++ first.0)) at) (shifted at found)) len
-    (leftmost_behind search.query search.ignore_case front (held ++ first.0) found (leftmost first.0))))
+    (rest_from (front ++ l) now) (shifted now found)) (sym (rest_and_more search from now seen rest before more))
+    (subst (λ at. IsLeftmostMatch search.query search.ignore_case (front ++ (rest ++ more))
+    (rest_from (front ++ (rest ++ more)) at) (shifted at found)) len
+    (leftmost_behind search.query search.ignore_case front (rest ++ more) found leftmost)))
 
--- behind it the search goes on
-pub ahead_behind : (search : SearchValue) (from now n : ℕ) (ahead : Option (List ℕ)) (held : List ℕ)
-    (rest : Option (List ℕ)) (end : ℕ) → n ≤ length held → end ≡ now + n
-    → IsLater search from now ahead (prepend_known held rest)
-    → IfSome ahead (λ bytes. prepend_known (drop n held) rest ≡ Some (drop (end - from) bytes))
-ahead_behind search from now n None held rest end within is before = tt
-ahead_behind search from now n (Some bytes) held rest end within is before =
-    let gone = passed_ahead held rest (drop (now - from) bytes) n within before.passed.1 in
-    let far : (now - from) + n ≡ end - from = omega (arith, before.later, is) in
-    gone.1 ∙ ap Some (drop-drop n (now - from) bytes ∙ ap (λ k. drop k bytes) far)
-
--- where nothing is left to be read, what occurs in what is held is all
-pub nothing_left : (search : SearchValue) (from now : ℕ) (ahead : Option (List ℕ)) (held : List ℕ)
-    (rest : Option (List ℕ)) → IsAtEnd rest
-    → NothingOccurs search.query.patterns search.ignore_case held (whole_of held)
-    → IsLater search from now ahead (prepend_known held rest)
-    → IfSome ahead (IsLeftmostAhead search from None)
-nothing_left search from now None held rest over nothing before = tt
-nothing_left search from now (Some bytes) held rest over nothing before =
-    let all = held_all held rest (drop (now - from) bytes) before.passed.1 over in
-    ahead_before search from now bytes None before.later before.passed.0 before.passed.2
+-- where nothing occurs in what is held, and nothing follows, nothing occurs ahead
+pub nothing_left : (search : SearchValue) (from now : ℕ) (seen rest : List ℕ)
+    → NothingOccurs search.query.patterns search.ignore_case rest (rest_from rest 0)
+    → HasPassed search from now seen rest → IsLeftmostAhead search from None seen
+nothing_left search from now seen rest nothing before =
+    ahead_before search from now seen None before.later before.within
+    (subst (PassesOver search from now) (append-nil seen) (before.passed []))
     (λ front len. subst (λ (l : List ℕ). NothingOccurs search.query.patterns search.ignore_case (front ++ l)
-    (rest_from (front ++ l) now)) all
-    (subst (λ at. NothingOccurs search.query.patterns search.ignore_case (front ++ held)
-    (rest_from (front ++ held) at)) len
-    (nothing_ahead search.query.patterns search.ignore_case front held nothing)))
+    (rest_from (front ++ l) now)) before.rest_is
+    (subst (λ at. NothingOccurs search.query.patterns search.ignore_case (front ++ rest)
+    (rest_from (front ++ rest) at)) len
+    (nothing_ahead search.query.patterns search.ignore_case front rest nothing)))
 
-pub last_found : (search : SearchValue) (from now : ℕ) (ahead : Option (List ℕ)) (held : List ℕ)
-    (rest : Option (List ℕ)) (found : MatchValue) → IsAtEnd rest
-    → IsLeftmostMatch search.query search.ignore_case held (whole_of held) found
-    → IsLater search from now ahead (prepend_known held rest)
-    → IfSome ahead (IsLeftmostAhead search from (Some (shifted now found)))
-last_found search from now None held rest found over leftmost before = tt
-last_found search from now (Some bytes) held rest found over leftmost before =
-    let all = held_all held rest (drop (now - from) bytes) before.passed.1 over in
-    ahead_before search from now bytes (Some (shifted now found)) before.later before.passed.0 before.passed.2
-    (λ front len. subst (λ (l : List ℕ). IsLeftmostMatch search.query search.ignore_case (front ++ l)
-    (rest_from (front ++ l) now) (shifted now found)) all
-    (subst (λ at. IsLeftmostMatch search.query search.ignore_case (front ++ held)
-    (rest_from (front ++ held) at) (shifted at found)) len
-    (leftmost_behind search.query search.ignore_case front held found leftmost)))
+-- where nothing was read, no failure is lost
+nothing_read : (failure : Option ErrorKind) (piece : List ℕ) → piece ≡ []
+    → IfSome failure (λ kind. (piece ≡ []) × (failure ≡ Some kind))
+nothing_read None piece is = tt
+nothing_read (Some kind) piece is = (is, refl)
 
--- the answer for what is ahead, told in the text
-told_in : (search : SearchValue) (text : List ℕ) (m : StreamValue) (answer : Option MatchValue)
-    → (stands : StandsIn search text m) → IfSome m.ahead (IsLeftmostAhead m.search m.offset answer)
-    → IsLeftmost search.query search.ignore_case text (rest_from text m.offset) answer
-told_in search text m answer stands told =
-    let here = subst (λ (a : Option (List ℕ)). IfSome a (IsLeftmostAhead m.search m.offset answer)) stands.ahead told in
-    subst (λ (s : SearchValue). IsLeftmost s.query s.ignore_case text (rest_from text m.offset) answer) stands.search_is
-    (subst (λ (t : List ℕ). IsLeftmost m.search.query m.search.ignore_case t (rest_from t m.offset) answer) stands.whole
-    (here stands.before stands.offset))
+-- what has not failed now had not failed before
+never_failed : (old now new : Option ErrorKind) (piece more : List ℕ) → now ≡ None
+    → IfSome old (λ kind. (piece ≡ []) × (now ≡ Some kind)) → IfSome old (λ kind. (more ≡ []) × (new ≡ Some kind))
+never_failed None now new piece more sound failed = tt
+never_failed (Some kind) now new piece more sound failed = absurd (none-some kind (sym sound ∙ failed.1))
+
+-- a search that has not read anything yet
+pub gone_nowhere : (m : StreamValue) → HasGoneOn m m
+gone_nowhere m = record {
+  piece = [];
+  search_is = refl;
+  is_over = refl;
+  reads = record { consumed = Consumes-nil m.unread; failed = nothing_read m.failure [] refl };
+  passed = none_passed m.search m.offset m.held;
+}
+
+-- it passes over bytes
+pub gone_past : (old now new : StreamValue) (n : ℕ) → n ≤ length now.held
+    → ((more : List ℕ) (i p : ℕ) → Occurs old.search.query.patterns old.search.ignore_case (now.held ++ more)
+    (rest_from (now.held ++ more) 0) i p → n ≤ p)
+    → new ≡ record now { held = drop n now.held; offset = now.offset + n }
+    → HasGoneOn old now → HasGoneOn old new
+gone_past old now new n within none is gone = subst (HasGoneOn old) (sym is) (record {
+  piece = gone.piece;
+  search_is = gone.search_is;
+  is_over = gone.is_over;
+  reads = record { consumed = gone.reads.consumed; failed = gone.reads.failed };
+  passed = passed_more old.search old.offset now.offset n (old.held ++ gone.piece) now.held within none gone.passed;
+})
+
+-- it reads on, where reading has not failed
+pub gone_on : (old now new : StreamValue) (piece : List ℕ) → now.failure ≡ None → Consumes now.unread new.unread piece
+    → new.search ≡ now.search → new.is_over ≡ now.is_over → new.held ≡ now.held ++ piece → new.offset ≡ now.offset
+    → HasGoneOn old now → HasGoneOn old new
+gone_on old now new piece sound taken search_is is_over held_is offset gone = record {
+  piece = gone.piece ++ piece;
+  search_is = search_is ∙ gone.search_is;
+  is_over = is_over ∙ gone.is_over;
+  reads = record {
+    consumed = Consumes-trans old.unread now.unread new.unread gone.piece piece gone.reads.consumed taken;
+    failed = never_failed old.failure now.failure new.failure gone.piece (gone.piece ++ piece) sound gone.reads.failed;
+  };
+  passed = subst (HasPassed old.search old.offset new.offset (old.held ++ (gone.piece ++ piece))) (sym held_is)
+      (subst (λ to. HasPassed old.search old.offset to (old.held ++ (gone.piece ++ piece))
+      (now.held ++ piece)) (sym offset) (subst (λ (seen : List ℕ). HasPassed old.search old.offset now.offset seen
+      (now.held ++ piece)) (append_assoc old.held gone.piece piece)
+      (read_behind old.search old.offset now.offset (old.held ++ gone.piece) now.held piece gone.passed)));
+}
+
+-- how much is read then
+gone_len : (old now : StreamValue) (gone : HasGoneOn old now)
+    → now.offset + length now.held ≡ old.offset + length (old.held ++ gone.piece)
+gone_len old now gone =
+    let seen = old.held ++ gone.piece in
+    let len = ap (λ (l : List ℕ). length l) gone.passed.rest_is in
+    omega (arith, len, length-drop (now.offset - old.offset) seen, gone.passed.later, gone.passed.within)
+
+-- nothing is known to follow where nothing is left to be read
+pub leftmost_last : (search : SearchValue) (rest : List ℕ) (unread : Option (List ℕ)) (found : MatchValue)
+    → IsAtEnd unread → IsLeftmostMatch search.query search.ignore_case rest (rest_from rest 0) found
+    → IsLeftmostMatch search.query search.ignore_case (rest ++ known unread) (rest_from (rest ++ known unread) 0) found
+leftmost_last search rest None found over leftmost =
+    subst (λ (l : List ℕ). IsLeftmostMatch search.query search.ignore_case l (rest_from l 0) found)
+    (sym (append-nil rest)) leftmost
+leftmost_last search rest (Some bytes) found over leftmost =
+    subst (λ (l : List ℕ). IsLeftmostMatch search.query search.ignore_case l (rest_from l 0) found)
+    (sym (ap (λ (l : List ℕ). rest ++ l) over ∙ append-nil rest)) leftmost
+
+-- the match in the last bytes, if all was read, or else one that stands whatever follows
+pub leftmost_either : (search : SearchValue) (rest : List ℕ) (unread : Option (List ℕ)) (found : MatchValue)
+    (is_whole : Bool) → (is_whole ≡ true → IsAtEnd unread)
+    → (is_whole ≡ true → IsLeftmostMatch search.query search.ignore_case rest (rest_from rest 0) found)
+    → (is_whole ≡ false → (more : List ℕ)
+    → IsLeftmostMatch search.query search.ignore_case (rest ++ more) (rest_from (rest ++ more) 0) found)
+    → IsLeftmostMatch search.query search.ignore_case (rest ++ known unread) (rest_from (rest ++ known unread) 0) found
+leftmost_either search rest unread found true over last stands =
+    leftmost_last search rest unread found (over refl) (last refl)
+leftmost_either search rest unread found false over last stands = stands refl (known unread)
+
+-- what it gives where it goes on behind a match
+pub goes_behind : (old now new : StreamValue) (found answer : MatchValue)
+    → IsLeftmostMatch old.search.query old.search.ignore_case (now.held ++ known now.unread)
+    (rest_from (now.held ++ known now.unread) 0) found
+    → found.start < found.end → found.end ≤ length now.held → now.offset + length now.held < 2 ^ 64
+    → answer ≡ shifted now.offset found
+    → new ≡ record now { held = drop found.end now.held; offset = now.offset + found.end }
+    → HasGoneOn old now → GoesBehind old answer new
+goes_behind old now new found answer leftmost some within fits answer_is is gone =
+    let seen = old.held ++ gone.piece in
+    let k = now.offset - old.offset in
+    let far : k + found.end ≡ (found.end + now.offset) - old.offset = omega (arith, gone.passed.later) in
+    let held : drop found.end now.held ≡ drop ((found.end + now.offset) - old.offset) seen =
+    ap (drop found.end) gone.passed.rest_is ∙ (drop-drop found.end k seen ∙ ap (λ n. drop n seen) far) in
+    let offset : now.offset + found.end ≡ found.end + now.offset = omega arith in
+    let search_is = gone.search_is in
+    let is_over = gone.is_over in
+    subst (GoesBehind old answer) (sym is) (subst (λ a. GoesBehind old a
+    (record now { held = drop found.end now.held; offset = now.offset + found.end })) (sym answer_is) (record {
+      piece = gone.piece;
+      reads = record { consumed = gone.reads.consumed; failed = gone.reads.failed };
+      leftmost = found_ahead old.search old.offset now.offset seen now.held (known now.unread) found leftmost
+          gone.passed;
+      some = omega (arith, some, gone.passed.later);
+      within = omega (arith, within, gone_len old now gone);
+      fits = omega (arith, within, fits);
+      goes_on = cc;
+    }))
+
+-- where it is over
+pub ends_whole : (old now new : StreamValue) → IsAtEnd now.unread → now.failure ≡ None
+    → NothingOccurs old.search.query.patterns old.search.ignore_case now.held (rest_from now.held 0)
+    → new ≡ record now { held = []; offset = now.offset + length now.held; is_over = true }
+    → HasGoneOn old now → EndsWhole old new
+ends_whole old now new over sound nothing is gone =
+    let seen = old.held ++ gone.piece in
+    let offset = gone_len old now gone in
+    let search_is = gone.search_is in
+    subst (EndsWhole old) (sym is) (record {
+      piece = gone.piece;
+      reads = record { consumed = gone.reads.consumed; failed = gone.reads.failed };
+      end = over;
+      no_failure = sound;
+      nothing = nothing_left old.search old.offset now.offset seen now.held nothing gone.passed;
+      over = cc;
+    })
+
+-- and where reading failed
+pub ends_failed : (old now new : StreamValue) (error : Error) → now.failure ≡ Some (error_kind error)
+    → ((more : List ℕ) (i p : ℕ) → Occurs old.search.query.patterns old.search.ignore_case (now.held ++ more)
+    (rest_from (now.held ++ more) 0) i p → length now.held - (longest_of old.search.query.patterns - 1) ≤ p)
+    → new ≡ record now { held = []; offset = now.offset + length now.held; is_over = true }
+    → HasGoneOn old now → EndsFailed old error new
+ends_failed old now new error failed none is gone =
+    let seen = old.held ++ gone.piece in
+    let longest = longest_of old.search.query.patterns in
+    let offset = gone_len old now gone in
+    let search_is = gone.search_is in
+    let far = passed_more old.search old.offset now.offset (length now.held - (longest - 1)) seen now.held
+    (omega arith) none gone.passed in
+    subst (EndsFailed old error) (sym is) (record {
+      piece = gone.piece;
+      reads = record { consumed = gone.reads.consumed; failed = gone.reads.failed };
+      failure = failed;
+      nothing = λ more before len i p occurs.
+          let there = far.passed more before len i p occurs in
+          omega (arith, there);
+      over = cc;
+    })
+
+-- what is read of a known text, and what is then known to follow, is all that is ahead
+seen_all : (held piece rest : List ℕ) (unread : Option (List ℕ)) → Consumes (Some rest) unread piece
+    → (unread ≡ Some (known unread)) × ((held ++ piece) ++ known unread ≡ held ++ rest)
+seen_all held piece rest None taken = absurd taken
+seen_all held piece rest (Some more) taken =
+    (refl, append_assoc held piece more ∙ ap (λ (l : List ℕ). held ++ l) (sym taken))
+
+-- and where nothing is left it is all
+seen_whole : (held piece rest : List ℕ) (unread : Option (List ℕ)) → IsAtEnd unread
+    → Consumes (Some rest) unread piece → held ++ piece ≡ held ++ rest
+seen_whole held piece rest None over taken = absurd taken
+seen_whole held piece rest (Some more) over taken =
+    ap (λ (l : List ℕ). held ++ l) (sym (append-nil piece) ∙ (ap (λ (l : List ℕ). piece ++ l) (sym over) ∙ sym taken))
+
+-- what holds of what is ahead, whatever came before, holds of the text
+told_in : (P : SearchValue → List ℕ → Type 0) (search : SearchValue) (text : List ℕ) (m : StreamValue) (ahead : List ℕ)
+    → (stands : StandsIn search text m) → ahead ≡ m.held ++ stands.rest
+    → ((before : List ℕ) → length before ≡ m.offset → P m.search (before ++ ahead)) → P search text
+told_in P search text m ahead stands is told =
+    subst (λ (s : SearchValue). P s text) stands.search_is
+    (subst (P m.search) (ap (λ (l : List ℕ). stands.before ++ l) is ∙ stands.whole)
+    (told stands.before stands.offset))
+
+-- the answer for it
+abbrev leftmost_in : ℕ → Option MatchValue → SearchValue → List ℕ → Type 0
+leftmost_in at answer search text = IsLeftmost search.query search.ignore_case text (rest_from text at) answer
+
+-- a match, told in the text
+found_in : (search : SearchValue) (text : List ℕ) (m : StreamValue) (found : MatchValue) (n : StreamValue)
+    → StandsIn search text m → GivesStreamed m (Some (Ok found)) n
+    → IsLeftmost search.query search.ignore_case text (rest_from text m.offset) (Some found)
+found_in search text m found n stands step =
+    let goes = step.2 in
+    let taken = subst (λ (u : Option (List ℕ)). Consumes u n.unread goes.piece) stands.unread goes.reads.consumed in
+    told_in (leftmost_in m.offset (Some found)) search text m ((m.held ++ goes.piece) ++ known n.unread) stands
+    (seen_all m.held goes.piece stands.rest n.unread taken).1 goes.leftmost
 
 -- behind a match it stands in the text still
 stands_behind : (search : SearchValue) (text : List ℕ) (m : StreamValue) (found : MatchValue) (n : StreamValue)
     → StandsIn search text m → GivesStreamed m (Some (Ok found)) n → StandsIn search text n
 stands_behind search text m found n stands step =
-    let goes = step.3.0 in
-    let first = told_in search text m (Some found) stands step.3.1 in
-    let end = first.occurs.before_end in
-    let whole = first.whole in
-    let some = goes.some in
+    let goes = step.2 in
+    let seen = m.held ++ goes.piece in
     let k = found.end - m.offset in
-    let len : length text ≡ length stands.before + length stands.bytes =
-    ap (λ (l : List ℕ). length l) (sym stands.whole) ∙ length-append stands.before stands.bytes in
-    let within : k ≤ length stands.bytes = omega (arith, end, whole, len, stands.offset, some) in
+    let within : k ≤ length seen = omega (arith, goes.within) in
+    let taken = subst (λ (u : Option (List ℕ)). Consumes u n.unread goes.piece) stands.unread goes.reads.consumed in
+    let all = seen_all m.held goes.piece stands.rest n.unread taken in
+    let offset = ap (λ (v : StreamValue). v.offset) goes.goes_on in
+    let held = ap (λ (v : StreamValue). v.held) goes.goes_on in
     record {
-      before = stands.before ++ take k stands.bytes;
-      bytes = drop k stands.bytes;
-      search_is = step.0 ∙ stands.search_is;
-      ahead = subst (λ (a : Option (List ℕ)). IfSome a (λ bytes. n.ahead ≡ Some (drop k bytes))) stands.ahead
-          goes.ahead;
+      before = stands.before ++ take k seen;
+      rest = known n.unread;
+      search_is = ap (λ (v : StreamValue). v.search) goes.goes_on ∙ stands.search_is;
+      unread = all.0;
       offset = omega (
         arith,
-        length-append stands.before (take k stands.bytes),
-        length-take-le k stands.bytes within,
+        length-append stands.before (take k seen),
+        length-take-le k seen within,
         stands.offset,
-        some,
-        goes.offset,
+        goes.some,
+        offset,
       );
-      whole = append_assoc stands.before (take k stands.bytes) (drop k stands.bytes)
-          ∙ (ap (λ l. stands.before ++ l) (take-append-drop k stands.bytes) ∙ stands.whole);
-      not_over = goes.not_over;
+      whole = append_assoc stands.before (take k seen) (n.held ++ known n.unread)
+          ∙ (ap (λ (l : List ℕ). stands.before ++ l)
+          (ap (λ (l : List ℕ). take k seen ++ (l ++ known n.unread)) held
+          ∙ (sym (append_assoc (take k seen) (drop k seen) (known n.unread))
+          ∙ (ap (λ (l : List ℕ). l ++ known n.unread) (take-append-drop k seen) ∙ all.1)))
+          ∙ stands.whole);
+      not_over = ap (λ (v : StreamValue). v.is_over) goes.goes_on ∙ stands.not_over;
     }
 
 -- what it gives, in front of the list from where it then stands, is the list from where it stood
@@ -297,8 +435,9 @@ streamed_first search text m [] n more stands stays greedy =
     subst (λ (it : StreamValue). IsGreedy search.query search.ignore_case text it.offset more) (sym stays) greedy
 streamed_first search text m (found ∷ rest) n more stands run greedy =
     let step = run.1 in (
-      told_in search text m (Some found) stands step.3.1,
-      subst (λ at. IsGreedy search.query search.ignore_case text at (rest ++ more)) step.3.0.offset
+      found_in search text m found run.0 stands step,
+      subst (λ at. IsGreedy search.query search.ignore_case text at (rest ++ more))
+          (ap (λ (v : StreamValue). v.offset) step.2.goes_on)
           (streamed_first search text run.0 rest n more (stands_behind search text m found run.0 stands step) run.2
           greedy),
     )
@@ -316,6 +455,42 @@ pub streamed_all : (search : SearchValue) (text : List ℕ) (m : StreamValue) (a
     → GivesStreamed n None ended → IsGreedy search.query search.ignore_case text m.offset all
 streamed_all search text m all n ended stands run last =
     let there = streamed_to search text m all n stands run in
+    let ends = last.1 there.not_over in
+    let taken = subst (λ (u : Option (List ℕ)). Consumes u ended.unread ends.piece) there.unread
+    ends.reads.consumed in
     subst (IsGreedy search.query search.ignore_case text m.offset) (append-nil all)
     (streamed_first search text m all n [] stands run
-    (told_in search text n None there (last.2 there.not_over)))
+    (told_in (leftmost_in n.offset None) search text n (n.held ++ ends.piece) there
+    (seen_whole n.held ends.piece there.rest ended.unread ends.end taken) ends.nothing))
+
+-- and then all of the text was read
+pub streamed_len : (search : SearchValue) (text : List ℕ) (m ended : StreamValue) → StandsIn search text m
+    → GivesStreamed m None ended → ended.offset ≡ length text
+streamed_len search text m ended stands last =
+    let ends = last.1 stands.not_over in
+    let taken = subst (λ (u : Option (List ℕ)). Consumes u ended.unread ends.piece) stands.unread
+    ends.reads.consumed in
+    let all = seen_whole m.held ends.piece stands.rest ended.unread ends.end taken in
+    let read = ap (λ (v : StreamValue). v.offset) ends.over in
+    omega (
+      arith,
+      read,
+      ap (λ (l : List ℕ). length l) all,
+      ap (λ (l : List ℕ). length l) stands.whole,
+      length-append stands.before (m.held ++ stands.rest),
+      stands.offset,
+    )
+
+-- in front of an error nothing is missing but what begins in the last bytes that were read
+pub streamed_failed : (search : SearchValue) (text : List ℕ) (m : StreamValue) (error : Error) (ended : StreamValue)
+    → StandsIn search text m → GivesStreamed m (Some (Err error)) ended
+    → (i p : ℕ) → Occurs search.query.patterns search.ignore_case text (rest_from text m.offset) i p
+    → ended.offset - (longest_of search.query.patterns - 1) ≤ p
+streamed_failed search text m error ended stands last =
+    let ends = last.2 in
+    let taken = subst (λ (u : Option (List ℕ)). Consumes u ended.unread ends.piece) stands.unread
+    ends.reads.consumed in
+    told_in (λ s t. (i p : ℕ) → Occurs s.query.patterns s.ignore_case t (rest_from t m.offset) i p
+    → ended.offset - (longest_of s.query.patterns - 1) ≤ p) search text m
+    ((m.held ++ ends.piece) ++ known ended.unread) stands
+    (seen_all m.held ends.piece stands.rest ended.unread taken).1 (ends.nothing (known ended.unread))

@@ -1,13 +1,23 @@
 -- What is known of a text that is read piece by piece, and what a search finds in it.
-use Rattle.std.specs.Prelude.{◌≡◌, ℕ, ◌+◌, ◌-◌, ◌*◌, ◌<◌, ◌≤◌, ◌^◌, ◌++◌, IfSome, false, List, Option, Some, drop}
-use Rattle.std.specs.Prelude.{length, true}
-use Rattle.std.specs.Io.KnownBytes.{IsAtEnd, prepend_known}
+use Rattle.std.specs.Prelude.{◌≡◌, ℕ, ◌+◌, ◌-◌, ◌*◌, ◌<◌, ◌≤◌, ◌^◌, ◌++◌, Bool, false, List, None, Option, Some, drop}
+use Rattle.std.specs.Prelude.{IfSome, length, true}
+use Rattle.std.specs.Io.KnownBytes.{IsAtEnd}
+use Rattle.std.specs.IoError.{error_kind}
 use Rattle.std.specs.List.{slice_range}
+use Rattle.std.specs.Option.{option_map}
+use Rattle.std.specs.declared.io.Error.{Error}
 use Rattle.literal_base.specs.MatchValue.{MatchValue}
-use Rattle.literal_base.specs.Occurs.{Occurs, rest_from}
 use Rattle.literal_search.specs.SearchValue.{SearchValue}
-use Rattle.literal_search.specs.Stream.{StreamValue}
+use Rattle.literal_search.specs.Stream.{PassesOver, Reads, StreamValue}
+use Rattle.literal_search.specs.declared.reading.Reading.{Reading}
+use Rattle.literal_search.specs.declared.stream.SoFar.{SoFar}
+use Rattle.literal_search.specs.declared.stream.SoFar.TheVariants.{Found, NoneBefore}
 use Rattle.literal_search.specs.declared.window.Window.{Window}
+
+-- a match is told itself, or by a place at which it begins or before it
+abbrev pub TellsOf : Option MatchValue → SoFar → Type 0
+TellsOf leftmost (Found found) = leftmost ≡ Some found
+TellsOf leftmost (NoneBefore place) = IfSome leftmost (λ found. place ≤ found.start)
 
 -- the bytes that were read and still matter
 abbrev pub held : Window → List ℕ
@@ -23,37 +33,64 @@ pub record IsWindow (w : Window) : Type 0 where
 abbrev pub HasRoom : Window → ℕ → Type 0
 HasRoom w len = len < length w.bytes.items
 
--- and a search through it, which goes on while these are fewer than twice the longest pattern
-pub record IsSoundStream (longest : ℕ) (w : Window) (remaining : Option (List ℕ)) : Type 0 where
+-- more may be read: neither was all read, nor has reading failed
+abbrev pub IsOpen : Reading → Type 0
+IsOpen r = (r.is_whole ≡ false) × (r.error ≡ None)
+
+-- and so it may be read once more than there are bytes
+abbrev pub turns_left : Bool → Option Error → ℕ
+turns_left true error = 0
+turns_left false None = 1
+turns_left false (Some error) = 0
+
+-- all was read only where nothing is left and reading did not fail; and the error of a failure is there to be given
+pub record IsSoundReading (r : Reading) (unread : Option (List ℕ)) : Type 0 where
+  pub whole : r.is_whole ≡ true → IsAtEnd unread
+  pub apart : r.is_whole ≡ true → r.error ≡ None
+  pub failure : r.failure ≡ option_map error_kind r.error
+
+-- and a search through a window, which goes on while what it holds is fewer than twice the longest pattern
+pub record IsSoundStream (longest : ℕ) (w : Window) (r : Reading) (unread : Option (List ℕ)) : Type 0 where
   pub window : IsWindow w
   pub room : HasRoom w (2 * longest)
-  pub last : w.is_last ≡ true → IsAtEnd remaining
+  pub reading : IsSoundReading r unread
 
--- the bytes that are ahead, where those are known that are still to be read
-abbrev pub ahead_of : Window → Option (List ℕ) → Option (List ℕ)
-ahead_of w remaining = prepend_known (held w) remaining
+-- such a search as contracts see it
+abbrev pub stream_value : SearchValue → Window → Reading → Option (List ℕ) → Bool → StreamValue
+stream_value search w r unread is_over = record {
+  search = search;
+  held = held w;
+  unread = unread;
+  offset = w.offset;
+  failure = r.failure;
+  is_over = is_over;
+}
 
 -- the match so many bytes further on
 abbrev pub shifted : ℕ → MatchValue → MatchValue
 shifted base found = record { pattern = found.pattern; start = found.start + base; end = found.end + base }
 
--- whatever came before, no match begins in the bytes ahead from an offset on up to a later one
-abbrev pub PassesOver : SearchValue → ℕ → ℕ → List ℕ → Type 0
-PassesOver search from to ahead = (before : List ℕ) → length before ≡ from → (i p : ℕ)
-    → Occurs search.query.patterns search.ignore_case (before ++ ahead) (rest_from (before ++ ahead) from) i p → to ≤ p
-
--- from an offset on bytes were passed over up to a later one: there the others are ahead
-pub record IsLater (search : SearchValue) (from to : ℕ) (ahead now : Option (List ℕ)) : Type 0 where
+-- of the bytes from an offset on those up to a later one were passed over, and the others are held
+pub record HasPassed (search : SearchValue) (from to : ℕ) (seen rest : List ℕ) : Type 0 where
   pub later : from ≤ to
-  pub passed : IfSome ahead (λ bytes. (to - from ≤ length bytes) × (now ≡ Some (drop (to - from) bytes))
-      × PassesOver search from to bytes)
+  pub within : to - from ≤ length seen
+  pub rest_is : rest ≡ drop (to - from) seen
+  pub passed : (more : List ℕ) → PassesOver search from to (seen ++ more)
+
+-- a search has gone on: it read a piece, and passed over bytes
+pub record HasGoneOn (old new : StreamValue) : Type 0 where
+  pub piece : List ℕ
+  pub search_is : new.search ≡ old.search
+  pub is_over : new.is_over ≡ old.is_over
+  pub reads : Reads old piece new
+  pub passed : HasPassed old.search old.offset new.offset (old.held ++ piece) new.held
 
 -- a search stands in this text: what is ahead is the text from its offset on
 pub record StandsIn (search : SearchValue) (text : List ℕ) (m : StreamValue) : Type 0 where
   pub before : List ℕ
-  pub bytes : List ℕ
+  pub rest : List ℕ
   pub search_is : m.search ≡ search
-  pub ahead : m.ahead ≡ Some bytes
+  pub unread : m.unread ≡ Some rest
   pub offset : length before ≡ m.offset
-  pub whole : before ++ bytes ≡ text
+  pub whole : before ++ (m.held ++ rest) ≡ text
   pub not_over : m.is_over ≡ false

@@ -2,12 +2,12 @@ use Rattle.std.proofs.Common.{Ok, Some, map, ap, subst, sym, ◌∙◌}
 use Rattle.std.proofs.iter.Next.{Yields-more}
 use Rattle.std.proofs.lemmas.List.{map_push}
 use Rattle.std.specs.Iterator.{Yields}
-use Rattle.literal_search.specs.Stream.{GivesStreamed, StreamValue, stream_of}
+use Rattle.literal_search.specs.Stream.{GivesStreamed, stream_of}
 use Rattle.literal_callers.proofs.counts.list_streamed.Goals as goal
 
 pub loop-found-preserved : goal.loop-found-preserved
 loop-found-preserved c =
-    let first = stream_of c.args.search.now c.args.text.now in
+    let first = stream_of c.args.search.now (Some c.args.text.now) in
     let found = c.in_ok-found.field-0 in
     let step = subst (λ it. GivesStreamed c.loop-found.found-iterator (Some it) c.next.new.self) c.in_ok-found.was
     c.in-Some.ensures.steps in

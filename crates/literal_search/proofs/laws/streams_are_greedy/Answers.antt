@@ -1,17 +1,18 @@
-use Rattle.std.proofs.Common.{[], List, ℕ, refl}
+use Rattle.std.proofs.Common.{[], List, Some, ℕ, refl}
 use Rattle.literal_search.specs.SearchValue.{SearchValue}
 use Rattle.literal_search.specs.Stream.{stream_of}
 use Rattle.literal_search.specs.Inside.Stream.{StandsIn}
-use Rattle.literal_search.proofs.lemmas.Streams.{streamed_all, streamed_first}
+use Rattle.literal_search.proofs.lemmas.Streams.{streamed_all, streamed_failed, streamed_first}
+use Rattle.literal_search.proofs.lemmas.Streams.{streamed_len, streamed_to}
 use Rattle.literal_search.proofs.laws.streams_are_greedy.Goals as goal
 
 -- at first it stands in front of the text
-in_front : (search : SearchValue) (bytes : List ℕ) → StandsIn search bytes (stream_of search bytes)
+in_front : (search : SearchValue) (bytes : List ℕ) → StandsIn search bytes (stream_of search (Some bytes))
 in_front search bytes = record {
   before = [];
-  bytes = bytes;
+  rest = bytes;
   search_is = refl;
-  ahead = refl;
+  unread = refl;
   offset = refl;
   whole = refl;
   not_over = refl;
@@ -19,8 +20,18 @@ in_front search bytes = record {
 
 pub returns-clause-so_far : goal.returns-clause-so_far
 returns-clause-so_far c = λ search bytes last all more run greedy.
-    streamed_first search bytes (stream_of search bytes) all last more (in_front search bytes) run greedy
+    streamed_first search bytes (stream_of search (Some bytes)) all last more (in_front search bytes) run greedy
 
 pub returns-clause-whole : goal.returns-clause-whole
 returns-clause-whole c = λ search bytes last ended all run ends.
-    streamed_all search bytes (stream_of search bytes) all last ended (in_front search bytes) run ends
+    streamed_all search bytes (stream_of search (Some bytes)) all last ended (in_front search bytes) run ends
+
+pub returns-clause-read : goal.returns-clause-read
+returns-clause-read c = λ search bytes last ended all run ends.
+    streamed_len search bytes last ended
+    (streamed_to search bytes (stream_of search (Some bytes)) all last (in_front search bytes) run) ends
+
+pub returns-clause-failed : goal.returns-clause-failed
+returns-clause-failed c = λ search bytes last ended all error run fails.
+    streamed_failed search bytes last error ended
+    (streamed_to search bytes (stream_of search (Some bytes)) all last (in_front search bytes) run) fails

@@ -1,85 +1,66 @@
-use Rattle.std.proofs.Common.{◌≡◌, ◌-◌, ◌≤◌, ◌++◌, [], List, ℕ, Some, IfSome, ap, arith, drop}
-use Rattle.std.proofs.Common.{length, subst, sym, ◌∙◌}
-use Rattle.std.specs.Io.KnownBytes.{prepend_known}
+use Rattle.std.proofs.Common.{◌≡◌, ◌+◌, ◌-◌, ◌≤◌, ◌++◌, [], List, ℕ, None, Some, ap, arith, drop, false, true, length}
+use Rattle.std.proofs.Common.{subst, sym, refl, ◌∙◌}
+use Rattle.std.proofs.Math.Seq.{drop-length}
+use Rattle.std.specs.Option.{option_map}
+use Rattle.std.specs.IoError.{error_kind}
 use Rattle.literal_base.specs.Leftmost.{IsLeftmostMatch}
-use Rattle.literal_base.specs.MatchValue.{MatchValue}
 use Rattle.literal_base.specs.Occurs.{NothingOccurs, Occurs, rest_from, whole_of}
 use Rattle.literal_search.specs.SearchValue.{longest_of}
-use Rattle.literal_search.specs.Stream.{IsLeftmostAhead}
-use Rattle.literal_search.specs.Inside.Stream.{IsLater, IsSoundStream, ahead_of, held}
-use Rattle.literal_search.proofs.lemmas.Longest.{longest_is}
-use Rattle.literal_search.proofs.lemmas.Streams.{ahead_behind, found_ahead, last_found, nothing_left, passed_more}
-use Rattle.literal_search.proofs.lemmas.Streams.{read_more}
+use Rattle.literal_search.specs.Stream.{known}
+use Rattle.literal_search.specs.Inside.Stream.{HasGoneOn, IsSoundStream, held, stream_value}
+use Rattle.literal_search.proofs.lemmas.Streams.{ends_failed, ends_whole, goes_behind, gone_nowhere, gone_on, gone_past}
+use Rattle.literal_search.proofs.lemmas.Streams.{held_fits, leftmost_either, read_in_part, read_whole}
 use Rattle.literal_search.specs.declared.window.Window.{Window}
 use Rattle.literal_search.proofs.stream.next_match.Given.{Over}
 use Rattle.literal_search.proofs.stream.next_match.Goals.{then-held-enough+in-NoneBefore, else-held-enough}
 use Rattle.literal_search.proofs.stream.next_match.Goals as goal
 
+pub loop-window-init : goal.loop-window-init
+loop-window-init g c = record {
+  sound = c.requires;
+  gone = gone_nowhere (stream_value c.args.search.now c.args.window.now c.args.reading.now
+      (g.R.Read.remaining c.args.reader.now) false);
+}
+
 pub take-requires-clause-inside : goal.take-requires-clause-inside
 take-requires-clause-inside g c =
+    omega (arith, c.in-Found.ensures.known.1, ap (λ (l : List ℕ). length l) c.held-then-held-enough.ensures)
+
+pub returns-in-Found-clause-gives : goal.returns-in-Found-clause-gives
+returns-in-Found-clause-gives g c =
+    let search = c.args.search.now in
+    let unread = g.R.Read.remaining c.loop-window.reader in
     let found = c.in-Found.found in
-    let whole = (c.in-Found.ensures.whatever_follows []).whole in
-    omega (
-      arith,
-      whole,
-      c.in-Found.ensures.known.1,
-      ap (λ (l : List ℕ). length l) c.held-then-held-enough.ensures,
-      longest_is c.args.search.now.query.patterns found.pattern,
-    )
-
-pub returns-in-Found-clause-leftmost : goal.returns-in-Found-clause-leftmost
-returns-in-Found-clause-leftmost g c =
-    let search = c.args.search.now in
-    let old = ahead_of c.args.window.now (g.R.Read.remaining c.args.reader.now) in
-    subst (λ (m : MatchValue). IfSome old (IsLeftmostAhead search c.args.window.now.offset (Some m)))
-    (sym c.take.ensures.found)
-    (found_ahead search c.args.window.now.offset c.loop-window.window.offset old (held c.loop-window.window)
-    (g.R.Read.remaining c.loop-window.reader) c.in-Found.found
-    (subst (λ (h : List ℕ). (more : List ℕ) → IsLeftmostMatch search.query search.ignore_case (h ++ more)
-    (rest_from (h ++ more) 0) c.in-Found.found) c.held-then-held-enough.ensures
-    c.in-Found.ensures.whatever_follows)
-    c.loop-window.invariant.later)
-
-pub returns-in-Found-clause-offset : goal.returns-in-Found-clause-offset
-returns-in-Found-clause-offset g c =
-    let moved = ap (λ (m : MatchValue). m.end) c.take.ensures.found in (
-      omega (arith, moved, c.loop-window.invariant.later.later, c.in-Found.ensures.known.0),
-      omega (arith, moved, c.take.ensures.offset),
-    )
-
-pub returns-in-Found-clause-goes_on : goal.returns-in-Found-clause-goes_on
-returns-in-Found-clause-goes_on g c =
-    let search = c.args.search.now in
-    let old = ahead_of c.args.window.now (g.R.Read.remaining c.args.reader.now) in
-    let rest = g.R.Read.remaining c.loop-window.reader in
-    let whole = (c.in-Found.ensures.whatever_follows []).whole in
-    let within : c.in-Found.found.end ≤ length (held c.loop-window.window) = omega (
-      arith,
-      whole,
-      c.in-Found.ensures.known.1,
-      ap (λ (l : List ℕ). length l) c.held-then-held-enough.ensures,
-      longest_is search.query.patterns c.in-Found.found.pattern,
-    ) in
-    subst (λ (h : List ℕ). IfSome old (λ bytes. prepend_known h rest
-    ≡ Some (drop (c.take.result.end - c.args.window.now.offset) bytes)))
-    (sym c.take.ensures.held)
-    (ahead_behind search c.args.window.now.offset c.loop-window.window.offset c.in-Found.found.end old
-    (held c.loop-window.window) rest c.take.result.end within
-    (omega (arith, ap (λ (m : MatchValue). m.end) c.take.ensures.found)) c.loop-window.invariant.later)
+    let w = c.loop-window.window in
+    let within : found.end ≤ length (held w) =
+    omega (arith, c.in-Found.ensures.known.1, ap (λ (l : List ℕ). length l) c.held-then-held-enough.ensures) in
+    let behind = c.take.ensures.held in
+    let offset = c.take.ensures.offset in
+    goes_behind
+    (stream_value search c.args.window.now c.args.reading.now (g.R.Read.remaining c.args.reader.now) false)
+    (stream_value search w c.loop-window.reading unread false)
+    (stream_value search c.take.new.window c.loop-window.reading unread false) found c.take.result
+    (subst (λ (h : List ℕ). IsLeftmostMatch search.query search.ignore_case (h ++ known unread)
+    (rest_from (h ++ known unread) 0) found) c.held-then-held-enough.ensures
+    (c.in-Found.ensures.whatever_follows (known unread)))
+    c.in-Found.ensures.known.0 within (held_fits w c.loop-window.invariant.sound.window) c.take.ensures.found (cc)
+    c.loop-window.invariant.gone
 
 -- before more is read
-passed : (g : Over) (c : goal.In_ok-read_more g) →
-    IsSoundStream (longest_of c.args.search.now.query.patterns) c.if-held-enough.window
+passed : (g : Over) (c : goal.After-read_more g) →
+    IsSoundStream (longest_of c.args.search.now.query.patterns) c.if-held-enough.window c.loop-window.reading
     (g.R.Read.remaining c.loop-window.reader)
-    × IsLater c.args.search.now c.args.window.now.offset c.if-held-enough.window.offset
-    (ahead_of c.args.window.now (g.R.Read.remaining c.args.reader.now))
-    (ahead_of c.if-held-enough.window (g.R.Read.remaining c.loop-window.reader))
+    × HasGoneOn
+    (stream_value c.args.search.now c.args.window.now c.args.reading.now (g.R.Read.remaining c.args.reader.now) false)
+    (stream_value c.args.search.now c.if-held-enough.window c.loop-window.reading
+    (g.R.Read.remaining c.loop-window.reader) false)
 passed g c =
     let search = c.args.search.now in
-    let rest = g.R.Read.remaining c.loop-window.reader in
-    let old = ahead_of c.args.window.now (g.R.Read.remaining c.args.reader.now) in
+    let unread = g.R.Read.remaining c.loop-window.reader in
+    let reading = c.loop-window.reading in
+    let old = stream_value search c.args.window.now c.args.reading.now (g.R.Read.remaining c.args.reader.now) false in
     let sound = c.loop-window.invariant.sound in
-    let later = c.loop-window.invariant.later in
+    let gone = c.loop-window.invariant.gone in
     elim c.if-held-enough.branch [
       | then-held-enough+in-NoneBefore w ↦
           let place = w.in-NoneBefore.place in
@@ -92,66 +73,113 @@ passed g c =
           let none = subst (λ (h : List ℕ). (more : List ℕ) (i p : ℕ) → Occurs search.query.patterns
           search.ignore_case (h ++ more) (rest_from (h ++ more) 0) i p → place ≤ p)
           w.held-then-held-enough.ensures w.in-NoneBefore.ensures.whatever_follows in
-          subst (λ (v : Window). IsSoundStream (longest_of search.query.patterns) v rest
-          × IsLater search c.args.window.now.offset v.offset old (ahead_of v rest)) (sym w.window-is) (
+          let behind = w.pass.ensures.held in
+          let offset = w.pass.ensures.offset in
+          subst (λ (v : Window). IsSoundStream (longest_of search.query.patterns) v reading unread
+          × HasGoneOn old (stream_value search v reading unread false)) (sym w.window-is) (
             record {
               window = w.pass.ensures.window;
               room = omega (arith, w.pass.ensures.room, sound.room);
-              last = λ is. sound.last (sym w.pass.ensures.last ∙ is);
+              reading = sound.reading;
             },
-            subst (λ (h : List ℕ). IsLater search c.args.window.now.offset w.pass.new.self.offset old
-                (prepend_known h rest)) (sym w.pass.ensures.held)
-                (subst (λ n. IsLater search c.args.window.now.offset n old (prepend_known (drop place here) rest))
-                (sym w.pass.ensures.offset)
-                (passed_more search c.args.window.now.offset c.loop-window.window.offset place old here rest within none
-                later)),
+            gone_past old (stream_value search c.loop-window.window reading unread false)
+                (stream_value search w.pass.new.self reading unread false) place within none (cc) gone,
           )
       | else-held-enough w ↦
-          subst (λ (v : Window). IsSoundStream (longest_of search.query.patterns) v rest
-          × IsLater search c.args.window.now.offset v.offset old (ahead_of v rest)) (sym w.window-is) (sound, later)
+          subst (λ (v : Window). IsSoundStream (longest_of search.query.patterns) v reading unread
+          × HasGoneOn old (stream_value search v reading unread false)) (sym w.window-is) (sound, gone)
     ]
 
 pub loop-window-preserved : goal.loop-window-preserved
 loop-window-preserved g c =
     let search = c.args.search.now in
-    let old = ahead_of c.args.window.now (g.R.Read.remaining c.args.reader.now) in
-    let rest = g.R.Read.remaining c.loop-window.reader in
-    let behind = g.R.Read.remaining c.read_more.new.reader in
+    let unread = g.R.Read.remaining c.loop-window.reader in
     let before = passed g c in
-    let read = c.in_ok-read_more.ensures.read in
+    let read = c.read_more.ensures.read in
+    let failure = before.0.reading.failure in
     record {
       sound = record {
         window = c.read_more.ensures.window;
         room = omega (arith, c.read_more.ensures.room, before.0.room);
-        last = c.in_ok-read_more.ensures.last;
+        reading = c.read_more.ensures.sound;
       };
-      later = subst (λ (h : List ℕ). IsLater search c.args.window.now.offset c.read_more.new.self.offset old
-          (prepend_known h behind)) (sym read.2)
-          (subst (λ n. IsLater search c.args.window.now.offset n old
-          (prepend_known (held c.if-held-enough.window ++ read.0) behind)) (sym c.read_more.ensures.offset)
-          (read_more search c.args.window.now.offset c.if-held-enough.window.offset old
-          (held c.if-held-enough.window) read.0 rest behind read.1 before.1));
+      gone = gone_on
+          (stream_value search c.args.window.now c.args.reading.now (g.R.Read.remaining c.args.reader.now) false)
+          (stream_value search c.if-held-enough.window c.loop-window.reading unread false)
+          (stream_value search c.read_more.new.self c.read_more.new.reading
+          (g.R.Read.remaining c.read_more.new.reader) false)
+          read.0 (failure ∙ ap (option_map error_kind) (c.loop-window-test.ensures.0 refl).1) read.1 refl refl read.2
+          c.read_more.ensures.offset before.1;
     }
 
-pub returns-in-Some-clause-leftmost : goal.returns-in-Some-clause-leftmost
-returns-in-Some-clause-leftmost g c =
+pub returns-in-Some-clause-gives : goal.returns-in-Some-clause-gives
+returns-in-Some-clause-gives g c =
     let search = c.args.search.now in
-    let old = ahead_of c.args.window.now (g.R.Read.remaining c.args.reader.now) in
-    subst (λ (m : MatchValue). IfSome old (IsLeftmostAhead search c.args.window.now.offset (Some m)))
-    (sym c.take-in-Some.ensures.found)
-    (last_found search c.args.window.now.offset c.loop-window.window.offset old (held c.loop-window.window)
-    (g.R.Read.remaining c.loop-window.reader) c.in-Some.found
-    (c.loop-window.invariant.sound.last c.loop-window-test.false)
-    (subst (λ (h : List ℕ). IsLeftmostMatch search.query search.ignore_case h (whole_of h) c.in-Some.found)
-    c.held-2.ensures c.in-Some.ensures.leftmost)
-    c.loop-window.invariant.later)
+    let unread = g.R.Read.remaining c.loop-window.reader in
+    let reading = c.loop-window.reading in
+    let found = c.in-Some.found in
+    let w = c.loop-window.window in
+    let here = c.held-2.ensures in
+    let behind = c.take-in-Some.ensures.held in
+    let offset = c.take-in-Some.ensures.offset in
+    let whole = c.is_whole.ensures in
+    goes_behind
+    (stream_value search c.args.window.now c.args.reading.now (g.R.Read.remaining c.args.reader.now) false)
+    (stream_value search w reading unread false)
+    (stream_value search c.take-in-Some.new.window reading unread false) found c.take-in-Some.result
+    (leftmost_either search (held w) unread found reading.is_whole c.loop-window.invariant.sound.reading.whole
+    (λ is. subst (λ (h : List ℕ). IsLeftmostMatch search.query search.ignore_case h (whole_of h) found) here
+    (c.in-Some.ensures.whole (whole ∙ is)))
+    (λ is more. subst (λ (h : List ℕ). IsLeftmostMatch search.query search.ignore_case (h ++ more)
+    (rest_from (h ++ more) 0) found) here (c.in-Some.ensures.known (whole ∙ is) more)))
+    c.in-Some.ensures.inside.0 (omega (arith, c.in-Some.ensures.inside.1, ap (λ (l : List ℕ). length l) here))
+    (held_fits w c.loop-window.invariant.sound.window) c.take-in-Some.ensures.found (cc) c.loop-window.invariant.gone
 
-pub returns-in-None-clause-leftmost : goal.returns-in-None-clause-leftmost
-returns-in-None-clause-leftmost g c =
+pub returns-in-Some-take_error-clause-gives : goal.returns-in-Some-take_error-clause-gives
+returns-in-Some-take_error-clause-gives g c =
     let search = c.args.search.now in
-    let old = ahead_of c.args.window.now (g.R.Read.remaining c.args.reader.now) in
-    nothing_left search c.args.window.now.offset c.loop-window.window.offset old (held c.loop-window.window)
-    (g.R.Read.remaining c.loop-window.reader) (c.loop-window.invariant.sound.last c.loop-window-test.false)
-    (subst (λ (h : List ℕ). NothingOccurs search.query.patterns search.ignore_case h (whole_of h))
-    c.held-2.ensures c.in-None.ensures.leftmost)
-    c.loop-window.invariant.later
+    let unread = g.R.Read.remaining c.loop-window.reader in
+    let reading = c.loop-window.reading in
+    let sound = c.loop-window.invariant.sound.reading in
+    let w = c.loop-window.window in
+    let longest = longest_of search.query.patterns in
+    let failure = c.take_error.ensures.failure in
+    let failed : reading.failure ≡ Some (error_kind c.in-Some-take_error.error) =
+    sym failure ∙ c.in-Some-take_error.ensures.error in
+    let behind : held c.pass-2.new.self ≡ [] =
+    c.pass-2.ensures.held ∙ (ap (λ (l : List ℕ). drop (length l) (held w)) c.held-3.ensures ∙ drop-length (held w)) in
+    let offset : c.pass-2.new.self.offset ≡ w.offset + length (held w) =
+    c.pass-2.ensures.offset ∙ ap (λ (l : List ℕ). w.offset + length l) c.held-3.ensures in
+    let in_part = read_in_part reading.is_whole reading.failure reading.error (error_kind c.in-Some-take_error.error)
+    sound.failure sound.apart failed in
+    ends_failed
+    (stream_value search c.args.window.now c.args.reading.now (g.R.Read.remaining c.args.reader.now) false)
+    (stream_value search w reading unread false)
+    (stream_value search c.pass-2.new.self c.take_error.new.self unread true) c.in-Some-take_error.error failed
+    (subst (λ (h : List ℕ). (more : List ℕ) (i p : ℕ) → Occurs search.query.patterns search.ignore_case (h ++ more)
+    (rest_from (h ++ more) 0) i p → length h - (longest - 1) ≤ p) c.held-2.ensures
+    (c.in_default.ensures.known (c.is_whole.ensures ∙ in_part)))
+    (cc) c.loop-window.invariant.gone
+
+pub returns-in-None-clause-gives : goal.returns-in-None-clause-gives
+returns-in-None-clause-gives g c =
+    let search = c.args.search.now in
+    let unread = g.R.Read.remaining c.loop-window.reader in
+    let reading = c.loop-window.reading in
+    let sound = c.loop-window.invariant.sound.reading in
+    let w = c.loop-window.window in
+    let failure = c.take_error.ensures.failure in
+    let none : reading.failure ≡ None = sym failure ∙ c.in-None.ensures.error in
+    let behind : held c.pass-2.new.self ≡ [] =
+    c.pass-2.ensures.held ∙ (ap (λ (l : List ℕ). drop (length l) (held w)) c.held-3.ensures ∙ drop-length (held w)) in
+    let offset : c.pass-2.new.self.offset ≡ w.offset + length (held w) =
+    c.pass-2.ensures.offset ∙ ap (λ (l : List ℕ). w.offset + length l) c.held-3.ensures in
+    let whole = read_whole reading.is_whole reading.failure reading.error sound.failure
+    (λ more. let is : false ≡ true = c.loop-window-test.ensures.1 more in (cc)) none in
+    ends_whole
+    (stream_value search c.args.window.now c.args.reading.now (g.R.Read.remaining c.args.reader.now) false)
+    (stream_value search w reading unread false)
+    (stream_value search c.pass-2.new.self c.take_error.new.self unread true) (sound.whole whole) none
+    (subst (λ (h : List ℕ). NothingOccurs search.query.patterns search.ignore_case h (whole_of h)) c.held-2.ensures
+    (c.in_default.ensures.whole (c.is_whole.ensures ∙ whole)))
+    (cc) c.loop-window.invariant.gone
