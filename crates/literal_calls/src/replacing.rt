@@ -1,5 +1,6 @@
 //! Matches that are replaced, and searches that are built by a builder.
 use literal_search::{MatchKind, ReplaceError, Search, SearchBuilder};
+use std::alloc::AllocError;
 use std::test::Fail;
 
 #[test]
@@ -22,6 +23,34 @@ fn replaces_by_one_for_each_pattern(rt: HostRuntime) -> Result<(), Fail> {
     assert!(rt; too_few.err() == Some(ReplaceError::NotOneForEach));
     let too_many = search.replace_all(alloc, b"a", &[b"x", b"y", b"z"]);
     assert!(rt; too_many.err() == Some(ReplaceError::NotOneForEach));
+    Ok(())
+}
+
+#[test]
+fn example_of_replacing_with(rt: HostRuntime) -> Result<(), Fail> {
+    let alloc = rt.alloc();
+    let search = Search::builder().build(alloc, [b"apple".as_slice(), b"maple"])?;
+    let text = search.replace_all_with(alloc, b"apple, maple", |_, bytes, text| {
+        text.extend_from_slice(b"<")?;
+        text.extend_from_slice(bytes)?;
+        text.extend_from_slice(b">")
+    })?;
+    assert!(rt; text.as_slice() == b"<apple>, <maple>".as_slice());
+    Ok(())
+}
+
+#[test]
+fn replaces_by_calls_in_turn(rt: HostRuntime) -> Result<(), Fail> {
+    let search = Search::builder().build(rt.alloc(), [b"a".as_slice(), b"b"])?;
+    let mut next = b'0';
+    let text = search.replace_all_with(rt.alloc(), b"-ab-", |found, _, text| {
+        next = next.wrapping_add(1);
+        text.push(if found.start() == 1 { next } else { b'x' })?;
+        Ok(())
+    })?;
+    assert!(rt; text.as_slice() == b"-1x-".as_slice() && next == b'2');
+    let refused = search.replace_all_with(rt.alloc(), b"ab", |_, _, _| Err(AllocError));
+    assert!(rt; refused.is_err());
     Ok(())
 }
 

@@ -1,6 +1,9 @@
 -- A text in which matches are replaced.
-use Rattle.std.specs.Prelude.{◌≡◌, ℕ, ◌<◌, List, [], ◌∷◌, ◌++◌, length}
-use Rattle.std.specs.List.{slice_range}
+use Rattle.std.specs.Prelude.{◌≡◌, ⊤, ℕ, ◌<◌, List, [], ◌∷◌, ◌++◌, length, Ok, Result}
+use Rattle.std.specs.Borrow.{Bor, MutBor}
+use Rattle.std.specs.Global.{Vec}
+use Rattle.std.specs.List.{FoldsTo, slice_range}
+use Rattle.std.specs.declared.alloc.AllocError.{AllocError}
 use Rattle.literal_base.specs.Greedy.{IsGreedy}
 use Rattle.literal_base.specs.MatchValue.{MatchValue}
 use Rattle.literal_base.specs.Occurs.{pattern_at}
@@ -28,3 +31,35 @@ abbrev pub RefusesToReplace : SearchValue → List ℕ → List (List ℕ) → R
 RefusesToReplace search text replacements NotOneForEach = ¬ length replacements ≡ length search.query.patterns
 RefusesToReplace search text replacements OutOfMemory =
     (answer : List ℕ) × IsReplaced search text replacements answer × (0 < length answer)
+
+-- replacing by calls of a function, after some matches: the function, the text that is written, and the offset up to
+-- which the haystack stands in it
+pub record WritingValue (F : Type 0) : Type 0 where
+  pub writer : F
+  pub text : Vec ℕ
+  pub at : ℕ
+
+module _ {F : Type 0}
+    (step : F → MatchValue → Bor (List ℕ) → MutBor (Vec ℕ) → Result ⊤ AllocError → MutBor (Vec ℕ) → F → Type 0) where
+  -- at a match what stands before it is written, as it is, and then a call with the match and its bytes goes on from
+  -- there
+  pub record WritesMatch (haystack : List ℕ) (old : WritingValue F) (found : MatchValue) (new : WritingValue F)
+      : Type 0 where
+    pub bytes : Bor (List ℕ)
+    pub before : MutBor (Vec ℕ)
+    pub behind : MutBor (Vec ℕ)
+    pub are_matched : bytes.now ≡ slice_range haystack found.start found.end
+    pub between : before.now.items ≡ old.text.items ++ slice_range haystack old.at found.start
+    pub calls : step old.writer found bytes before (Ok tt) behind new.writer
+    pub leaves : behind.now ≡ new.text
+    pub goes_on : new.at ≡ found.end
+
+  -- one after another the matches of the greedy list are written by a call each, and then what stands behind the last
+  pub record IsWritten (search : SearchValue) (haystack : List ℕ) (writer : F) (answer : List ℕ) : Type 0 where
+    pub matches : List MatchValue
+    pub are_greedy : IsGreedy search.query search.ignore_case haystack 0 matches
+    pub first : WritingValue F
+    pub last : WritingValue F
+    pub begins : (first.writer ≡ writer) × (first.text.items ≡ []) × (first.at ≡ 0)
+    pub is_written : FoldsTo (WritesMatch haystack) first matches last
+    pub ends : answer ≡ last.text.items ++ slice_range haystack last.at (length haystack)

@@ -1,8 +1,8 @@
 //! Every match replaced by what is given for its pattern.
-ghost use Rattle.std.specs.Prelude.{IfErr, IfOk, map};
-ghost use Rattle.literal_search.specs.Replaced.{IsReplaced, RefusesToReplace};
+ghost use Rattle.std.specs.Prelude.{◌<◌, IfErr, IfOk, OnErr, length, map};
+ghost use Rattle.literal_search.specs.Replaced.{IsReplaced, IsWritten, RefusesToReplace};
 
-use crate::Search;
+use crate::{Match, Search};
 use std::alloc::{AllocError, Global};
 use std::error::Error;
 use std::fmt;
@@ -78,6 +78,40 @@ impl Search {
         for found in self.find_iter(haystack) {
             text.extend_from_slice(&haystack[at..found.start()])?;
             text.extend_from_slice(replacements[found.pattern().as_usize()])?;
+            at = found.end();
+        }
+        text.extend_from_slice(&haystack[at..])?;
+        Ok(text)
+    }
+
+    /// The haystack with each match of [`Search::find_iter`] replaced by what a call writes for it, and as it is
+    /// between them. The call is handed the match, its bytes, and the text that is written up to there. Where it
+    /// answers that memory was refused, so does this.
+    ///
+    /// ```rust
+    /// let search = Search::builder().build(alloc, [b"apple".as_slice(), b"maple"])?;
+    /// let text = search.replace_all_with(alloc, b"apple, maple", |_, bytes, text| {
+    ///     text.extend_from_slice(b"<")?;
+    ///     text.extend_from_slice(bytes)?;
+    ///     text.extend_from_slice(b">")
+    /// })?;
+    /// assert!(rt; text.as_slice() == b"<apple>, <maple>".as_slice());
+    /// ```
+    pub fn replace_all_with<F: FnMut(Match, &[u8], &mut Vec<u8>) -> Result<(), AllocError>>(
+        &self,
+        alloc: Global,
+        haystack: &[u8],
+        mut write: F,
+    ) -> Result<Vec<u8>, AllocError>
+        requires { F.IsAlwaysCallable write }
+        ensures ok { IfOk result (λ text. IsWritten F.step self.now haystack.now write text.items) }
+        ensures error { OnErr result (0 < length haystack.now) }
+    {
+        let mut text = Vec::new(alloc);
+        let mut at = 0;
+        for found in self.find_iter(haystack) {
+            text.extend_from_slice(&haystack[at..found.start()])?;
+            write(found, &haystack[found.start()..found.end()], &mut text)?;
             at = found.end();
         }
         text.extend_from_slice(&haystack[at..])?;

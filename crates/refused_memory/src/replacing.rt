@@ -50,6 +50,30 @@ fn replace_all_of_a_search(rt: HostRuntime) -> Result<(), AllocError> {
     Ok(())
 }
 
+/// Each match between two marks.
+fn mark_both(alloc: Global, search: &Search) -> Result<Vec<u8>, AllocError> {
+    search.replace_all_with(alloc, b"qab-ABC", |_, bytes, text| {
+        text.extend_from_slice(b"<the beginning of one of both>")?;
+        text.extend_from_slice(bytes)?;
+        text.extend_from_slice(b"<the end of the one that has begun before>")
+    })
+}
+
+#[test]
+fn replace_all_with_of_a_search(rt: HostRuntime) -> Result<(), AllocError> {
+    let built = build(rt.alloc()).or(Err(AllocError));
+    let search = built?;
+    let text = match mark_both(rt.alloc(), &search) {
+        Ok(text) => text,
+        Err(_) => {
+            assert_finds(&rt, &search);
+            mark_both(rt.alloc(), &search).expect(&rt, "it was refused again")
+        }
+    };
+    assert!(rt; text.starts_with(b"q<the beginning of one of both>ab<the end"));
+    Ok(())
+}
+
 #[test]
 fn an_empty_text_takes_no_memory(rt: HostRuntime) -> Result<(), AllocError> {
     let built = build(rt.alloc()).or(Err(AllocError));
