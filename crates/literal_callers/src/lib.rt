@@ -7,6 +7,7 @@ pub mod copies;
 pub mod counts;
 pub mod given;
 pub mod inputs;
+pub mod replacing;
 pub mod uses;
 pub mod uses_of_ids;
 pub mod uses_of_prefilters;

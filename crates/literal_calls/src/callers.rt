@@ -6,6 +6,7 @@ mod counts;
 mod given;
 mod inputs;
 mod laws;
+mod replacing;
 mod together;
 mod uses;
 mod uses_of_ids;

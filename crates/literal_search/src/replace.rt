@@ -50,8 +50,8 @@ impl From<AllocError> for ReplaceError {
 
 impl Search {
     /// The haystack with each match of [`Search::find_iter`] replaced by what is given for its pattern, and as it is
-    /// between them. There has to be one replacement for each pattern, in their order, and it may be empty. Memory is
-    /// asked for only where the answer is not empty.
+    /// between them. There has to be one replacement for each pattern, in their order, else the answer is
+    /// [`ReplaceError::NotOneForEach`]; it may be empty. Memory is asked for only where the answer is not empty.
     ///
     /// ```rust
     /// let words = [b"apple".as_slice(), b"maple"];
@@ -85,8 +85,9 @@ impl Search {
     }
 
     /// The haystack with each match of [`Search::find_iter`] replaced by what a call writes for it, and as it is
-    /// between them. The call is handed the match, its bytes, and the text that is written up to there. Where it
-    /// answers that memory was refused, so does this.
+    /// between them. The function is called for one match after another, with the match, its bytes, and the text that
+    /// is written up to there. It may ask nothing of these. Where memory is refused, to a call or here, the answer is
+    /// that error; for an empty haystack it never is.
     ///
     /// ```rust
     /// let search = Search::builder().build(alloc, [b"apple".as_slice(), b"maple"])?;

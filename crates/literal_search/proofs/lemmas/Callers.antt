@@ -1,12 +1,16 @@
 -- What callers take from this crate beside its contracts and laws: what an automaton was built of, and iterations over
 -- matches. For callers.
-use Rattle.std.proofs.Common.{◌≡◌, ◌<◌, ℕ, Bool, List, [], ◌∷◌, length, map, take, get_or, Option, None, Some}
-use Rattle.std.proofs.Common.{refl, sym, ap, ◌∙◌, arith, subst}
-use Rattle.std.specs.Borrow.{Bor}
+use Rattle.std.proofs.Common.{◌≡◌, ◌<◌, ◌++◌, ℕ, Bool, List, [], ◌∷◌, length, map, take, get_or, Option, None, Some}
+use Rattle.std.proofs.Common.{Ok, Result, append_assoc, refl, slice_range, sym, ap, ◌∙◌, arith, subst}
+use Rattle.std.specs.Bool.{⊤}
+use Rattle.std.specs.Borrow.{Bor, MutBor}
 use Rattle.std.specs.Fn.{Called}
+use Rattle.std.specs.Global.{Vec}
 use Rattle.std.specs.Iterator.{AlwaysYields, Yields}
 use Rattle.std.specs.Iterator.Adapters.{map_callee, map_source}
+use Rattle.std.specs.List.{FoldsTo}
 use Rattle.std.specs.Slice.Iter.{iter_rest, iter_steps}
+use Rattle.std.specs.declared.alloc.AllocError.{AllocError}
 use Rattle.std.specs.declared.iter.Map.{Map}
 use Rattle.std.specs.declared.slice.Iter.{Iter}
 use Rattle.std.proofs.lemmas.Iterator.{YieldsList, YieldsList-from_map_by, YieldsList-from_slice, items_from_drains}
@@ -24,6 +28,7 @@ use Rattle.literal_search.specs.SearchValue.{BuildsSearch, SearchValue, GivesAll
 use Rattle.literal_search.specs.SearchValue.{search_by}
 use Rattle.literal_search.specs.MatchesValue.{GivesMatch, MatchesValue}
 use Rattle.literal_search.specs.Overlapping.{BuildsOverlapping, OverlappingValue}
+use Rattle.literal_search.specs.Replaced.{IsReplaced, IsWritten, WritesMatch, WritingValue, replaced}
 use Rattle.literal_search.specs.States.{HasTooManyStates}
 use Rattle.literal_search.proofs.lemmas.Rows.{none_few, one_class}
 
@@ -136,3 +141,62 @@ pub none_need_few : (kind : search.MatchKind) (ignore_case : Bool) → ¬ NeedTo
 unfolding NeedTooManyStates
 none_need_few kind ignore_case (classes, are, tells, many) =
     none_few kind (subst (HasTooManyStates kind []) (one_class ignore_case) many)
+
+-- `holds` is what holds of the function from call to call, such as that it stays as it was
+module _ {F : Type 0}
+    (step : F → MatchValue → Bor (List ℕ) → MutBor (Vec ℕ) → Result ⊤ AllocError → MutBor (Vec ℕ) → F → Type 0)
+    (searched : SearchValue) (haystack : List ℕ) (replacements : List (List ℕ)) (holds : F → Type 0)
+    (writes : (f : F) (found : MatchValue) (bytes : Bor (List ℕ)) (before behind : MutBor (Vec ℕ)) (next : F)
+    → holds f → found.pattern < length searched.query.patterns → step f found bytes before (Ok tt) behind next
+    → holds next × (behind.now.items ≡ before.now.items ++ pattern_at replacements found.pattern)) where
+  written_behind : (first last : WritingValue F) (all : List MatchValue) → holds first.writer
+      → IsGreedy searched.query searched.ignore_case haystack first.at all
+      → FoldsTo (WritesMatch step haystack) first all last
+      → last.text.items ++ slice_range haystack last.at (length haystack)
+      ≡ first.text.items ++ replaced haystack replacements first.at all
+  written_behind first last [] held nothing stays =
+      ap (λ (w : WritingValue F). w.text.items ++ slice_range haystack w.at (length haystack)) (sym stays)
+  written_behind first last (found ∷ more) held greedy run =
+      let next = run.0 in
+      let one = run.1 in
+      let replacement = pattern_at replacements found.pattern in
+      let between = slice_range haystack first.at found.start in
+      let rest = replaced haystack replacements found.end more in
+      let called = writes first.writer found one.bytes one.before one.behind next.writer held
+      greedy.0.occurs.is_pattern one.calls in
+      let items_are : next.text.items ≡ (first.text.items ++ between) ++ replacement =
+      ap (λ (v : Vec ℕ). v.items) (sym one.leaves)
+      ∙ (called.1 ∙ ap (λ items. items ++ replacement) one.between) in
+      let greedy_on = subst (λ at. IsGreedy searched.query searched.ignore_case haystack at more) (sym one.goes_on)
+      greedy.1 in
+      written_behind next last more called.0 greedy_on run.2
+      ∙ (ap (λ items. items ++ replaced haystack replacements next.at more) items_are
+      ∙ (ap (λ at. ((first.text.items ++ between) ++ replacement) ++ replaced haystack replacements at more) one.goes_on
+      ∙ (append_assoc (first.text.items ++ between) replacement rest
+      ∙ append_assoc first.text.items between (replacement ++ rest))))
+
+-- what calls write that put the replacement of its pattern behind what was there, at each match, is the text with these
+-- replacements
+pub replaced_by_calls : {F : Type 0}
+    {step : F → MatchValue → Bor (List ℕ) → MutBor (Vec ℕ) → Result ⊤ AllocError → MutBor (Vec ℕ) → F → Type 0}
+    {searched : SearchValue} {haystack : List ℕ} {writer : F} {answer : List ℕ}
+    → IsWritten step searched haystack writer answer → (replacements : List (List ℕ))
+    → length replacements ≡ length searched.query.patterns → (holds : F → Type 0) → holds writer
+    → ((f : F) (found : MatchValue) (bytes : Bor (List ℕ)) (before behind : MutBor (Vec ℕ)) (next : F) → holds f
+    → found.pattern < length searched.query.patterns → step f found bytes before (Ok tt) behind next
+    → holds next × (behind.now.items ≡ before.now.items ++ pattern_at replacements found.pattern))
+    → IsReplaced searched haystack replacements answer
+replaced_by_calls {step = step} {searched = searched} {haystack = haystack} written replacements one_for_each holds held
+    writes =
+    record {
+      one_for_each = one_for_each;
+      matches = written.matches;
+      are_greedy = written.are_greedy;
+      is_replaced = written.ends
+          ∙ (written_behind step searched haystack replacements holds writes written.first written.last written.matches
+          (subst holds (sym written.begins.0) held)
+          (subst (λ at. IsGreedy searched.query searched.ignore_case haystack at written.matches)
+          (sym written.begins.2) written.are_greedy) written.is_written
+          ∙ (ap (λ items. items ++ replaced haystack replacements written.first.at written.matches) written.begins.1
+          ∙ ap (λ at. replaced haystack replacements at written.matches) written.begins.2));
+    }
