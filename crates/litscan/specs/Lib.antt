@@ -1,3 +1,4 @@
+pub mod DeviceValue
 pub mod Fault
 pub mod Lines
 pub mod Printed

@@ -1,19 +1,32 @@
 //! Readers and writers that keep in mind how they failed.
-ghost use Rattle.std.specs.Prelude.{◌≡◌, None, Ok, Err, Some, IfErr, IfSome, MatchResult, OnOk};
+ghost use Rattle.std.specs.Prelude.{◌≡◌, None, Ok, Err, Some, false, if◌then◌else◌, IfErr, IfOk, IfSome, MatchResult};
+ghost use Rattle.std.specs.Prelude.{OnOk};
 ghost use Rattle.std.specs.IoError.{error_kind};
-ghost use Rattle.std.specs.Io.KnownBytes.{Appends, Keeps};
-ghost use Rattle.litscan.specs.Fault.{IsWriteFault, read_fault, write_fault};
+ghost use Rattle.std.specs.Option.{OnSome};
+ghost use Rattle.std.specs.Io.{StopsAt};
+ghost use Rattle.std.specs.Io.KnownBytes.{Appends, Consumes, IsAtEnd, Keeps};
+ghost use Rattle.litscan.specs.Fault.{IsReadFault, IsWriteFault, write_fault};
+ghost use Rattle.litscan.specs.Lines.{HasNoFeed, with_feed};
 
 use crate::fault::Fault;
 use std::fmt::Display;
-use std::io::{self, ErrorKind, Write};
+use std::io::{self, BufRead, ErrorKind, Write};
+use std::marker::Model;
 
 /// A reader or a writer of std, and of what kind the error of the call was that failed last, if one did. Contracts tell
 /// by it which fault comes of which device.
 #[derive(Drop)]
 pub struct Device<D> {
-    pub inner: D,
-    pub failure: Option<ErrorKind>,
+    inner: D,
+    failure: Option<ErrorKind>,
+}
+
+impl<D> Model for Device<D> {
+    ghost use Rattle.litscan.specs.DeviceValue.{DeviceValue};
+
+    ghost Value = { DeviceValue D };
+
+    ghost view = { λ d. record { inner = d.inner; failure = d.failure } };
 }
 
 impl<D> Device<D> {
@@ -27,15 +40,6 @@ impl<D> Device<D> {
         }
     }
 
-    /// The fault of a read that ended with this error.
-    pub fn after_failed_read(&mut self, error: io::Error) -> Fault
-        ensures fault { result ≡ read_fault (error_kind error) }
-        ensures kept { self.new ≡ record self.old { failure = Some (error_kind error) } }
-    {
-        self.failure = Some(error.kind());
-        Fault::of_read(error)
-    }
-
     /// What a write answers that ended so.
     fn after_write(&mut self, written: io::Result<()>) -> Result<(), Fault>
         ensures inner { self.new.inner ≡ self.old.inner }
@@ -47,6 +51,28 @@ impl<D> Device<D> {
             Err(error) => {
                 self.failure = Some(error.kind());
                 Err(Fault::of_write(error))
+            }
+        }
+    }
+}
+
+impl<R: BufRead> Device<R> {
+    /// Reads the next line in place of what is in the buffer, and says whether a line feed was behind it. Where none
+    /// was, the text is over, and the last line is empty if it ended with a line feed.
+    pub fn read_line(&mut self, line: &mut Vec<u8>) -> Result<bool, Fault>
+        ensures bytes { IfOk result (λ fed. Consumes (R.remaining self.old.inner) (R.remaining self.new.inner)
+            (if fed then with_feed line.new.items else line.new.items)) }
+        ensures whole { OnOk result (HasNoFeed line.new.items) }
+        ensures ended { IfOk result (λ fed. fed ≡ false
+            → OnSome (R.remaining self.old.inner) (IsAtEnd (R.remaining self.new.inner))) }
+        ensures error { IfErr result (IsReadFault self.new.failure) }
+    {
+        line.clear();
+        match self.inner.read_until(b'\n', line) {
+            Ok(_) => Ok(take_feed(line)),
+            Err(error) => {
+                self.failure = Some(error.kind());
+                Err(Fault::of_read(error))
             }
         }
     }
@@ -80,4 +106,17 @@ impl<W: Write> Device<W> {
         let flushed = self.inner.flush();
         self.after_write(flushed)
     }
+}
+
+/// Takes the line feed off the end of a line, and says whether there was one.
+fn take_feed(line: &mut Vec<u8>) -> bool
+    requires { StopsAt line.old.items 10 }
+    ensures split { line.old.items ≡ (if result then with_feed line.new.items else line.new.items) }
+    ensures whole { HasNoFeed line.new.items }
+{
+    if line.last() == Some(&b'\n') {
+        line.pop();
+        return true;
+    }
+    false
 }

@@ -1,10 +1,7 @@
-//! Lines as they are read.
-ghost use Rattle.std.specs.Prelude.{◌≡◌, ◌⊎◌, ◌++◌, [], ◌∷◌, ℕ, List, map, false, if◌then◌else◌, IfErr, IfOk, OnOk};
-ghost use Rattle.std.specs.Option.{OnSome};
-ghost use Rattle.std.specs.Io.{StopsAt};
-ghost use Rattle.std.specs.Io.KnownBytes.{Consumes, IsAtEnd};
+//! The lines of a text that is read, as words.
+ghost use Rattle.std.specs.Prelude.{◌≡◌, ◌⊎◌, ◌++◌, [], ◌∷◌, ℕ, List, map, IfErr, OnOk};
 ghost use Rattle.litscan.specs.Fault.{IsReadFault};
-ghost use Rattle.litscan.specs.Lines.{HasNoFeed, last_line, lines_of, with_feed};
+ghost use Rattle.litscan.specs.Lines.{HasNoFeed, last_line, lines_of};
 ghost use Rattle.litscan.specs.Printed.{ReadsAll};
 ghost use Rattle.litscan.specs.declared.fault.Fault.TheVariants.{OutOfMemory};
 
@@ -12,36 +9,6 @@ use crate::device::Device;
 use crate::fault::Fault;
 use std::alloc::Global;
 use std::io::BufRead;
-
-/// Reads the next line in place of what is in the buffer, and says whether a line feed was behind it. Where none was,
-/// the text is over, and the last line is empty if it ended with a line feed.
-pub fn read_line<R: BufRead>(reader: &mut Device<R>, line: &mut Vec<u8>) -> Result<bool, Fault>
-    ensures bytes { IfOk result (λ fed. Consumes (R.remaining reader.old.inner) (R.remaining reader.new.inner)
-        (if fed then with_feed line.new.items else line.new.items)) }
-    ensures whole { OnOk result (HasNoFeed line.new.items) }
-    ensures ended { IfOk result (λ fed. fed ≡ false
-        → OnSome (R.remaining reader.old.inner) (IsAtEnd (R.remaining reader.new.inner))) }
-    ensures error { IfErr result (IsReadFault reader.new.failure) }
-{
-    line.clear();
-    match reader.inner.read_until(b'\n', line) {
-        Ok(_) => Ok(take_feed(line)),
-        Err(error) => Err(reader.after_failed_read(error)),
-    }
-}
-
-/// Takes the line feed off the end of a line, and says whether there was one.
-fn take_feed(line: &mut Vec<u8>) -> bool
-    requires { StopsAt line.old.items 10 }
-    ensures split { line.old.items ≡ (if result then with_feed line.new.items else line.new.items) }
-    ensures whole { HasNoFeed line.new.items }
-{
-    if line.last() == Some(&b'\n') {
-        line.pop();
-        return true;
-    }
-    false
-}
 
 /// Adds the lines of a text to the words.
 pub fn add_lines<R: BufRead>(
@@ -56,7 +23,7 @@ pub fn add_lines<R: BufRead>(
 {
     for _ in 0..u64::MAX {
         let mut line = Vec::new(alloc);
-        if !read_line(reader, &mut line)? {
+        if !reader.read_line(&mut line)? {
             return add_last(line, words);
         }
         words.push(line).or(Err(Fault::OutOfMemory))?;

@@ -14,7 +14,6 @@ ghost use Rattle.litscan.specs.declared.fault.Fault.TheVariants.{ReadFailed};
 
 use crate::device::Device;
 use crate::fault::Fault;
-use crate::lines::read_line;
 use crate::request::Options;
 use literal_search::Search;
 use std::alloc::Global;
@@ -75,7 +74,7 @@ fn scan_lines<R: BufRead, W: Write>(
     let mut count = 0;
     let mut offset = 0;
     for number in 1..u64::MAX {
-        let fed = read_line(reader, &mut line)?;
+        let fed = reader.read_line(&mut line)?;
         let next = offset_behind(offset, line.as_slice())?;
         if !fed {
             let last = take_last(search, options, number, offset, line.as_slice(), writer)?;
