@@ -43,8 +43,8 @@ impl Reading {
         !self.is_whole && self.error.is_none()
     }
 
-    /// Reads some bytes of the text, and none where it is over or reading fails. With no room for any the text is
-    /// longer than a `usize` counts, which is an error too.
+    /// Reads some bytes of the text, and none where it is over or reading fails. With no room for any, a `usize` counts
+    /// no more of the text, which is an error too.
     pub(crate) fn read<R: Read>(&mut self, reader: &mut R, bytes: &mut [u8]) -> usize
         requires open { IsOpen self.old }
         requires no_failure { self.old.failure ≡ None }

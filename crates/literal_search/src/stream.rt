@@ -149,7 +149,7 @@ impl<'s, R: Read + Drop> Iterator for StreamMatches<'s, R> {
     ghost remaining = { most_streamed };
 
     /// An error comes only once every match that is known from what was read was given. It is the one with which the
-    /// reader failed, or says that the text is longer than a `usize` counts ([`io::ErrorKind::FileTooLarge`]).
+    /// reader failed, or says that a `usize` counts no more of the text ([`io::ErrorKind::FileTooLarge`]).
     fn next(&mut self) -> Option<io::Result<Match>> {
         if self.is_over {
             return None;
