@@ -2,12 +2,13 @@
 -- For `Pieces`, `are_ends`, `can_be_searched`, `search_for` and `answer_each`.
 use Rattle.std.proofs.Common.{◌≡◌, ◌↔◌, ℕ, ◌+◌, ◌<◌, ◌≤◌, List, [], ◌∷◌, ◌++◌, length, map, Bor, suc}
 use Rattle.std.proofs.Common.{refl, sym, ap, ◌∙◌, subst, arith, add-one}
-use Rattle.std.proofs.Common.{Bool, Some, inl, inr, take, append_assoc}
+use Rattle.std.proofs.Common.{Bool, inl, inr, take, append_assoc}
 use Rattle.std.proofs.Math.ListN.{set}
 use Rattle.std.proofs.Math.Seq.{take-suc-set}
 use Rattle.std.proofs.lemmas.List.{length-append, length-map, map-append}
 use Rattle.std.proofs.lemmas.List.Elements.{All-cons}
-use Rattle.std.specs.Iterator.{Drains, Yields, YieldsFirstRef}
+use Rattle.std.proofs.lemmas.Iterator.Consumers.{YieldsList-from_first}
+use Rattle.std.specs.Iterator.{YieldsFirstRef}
 use Rattle.std.specs.List.{AllZip}
 use Rattle.literal_base.specs.declared.packed.MatchKind.{MatchKind}
 use Rattle.literal_base.specs.Occurs.{NoneIsEmpty}
@@ -17,6 +18,8 @@ use Rattle.literal_search.specs.SearchValue.{BuildsSearch, SearchValue, GivesNex
 use Rattle.literal_search.specs.declared.BuildError.{BuildError}
 use Rattle.literal_search.specs.declared.BuildError.TheVariants.{EmptyPattern, OutOfMemory, TooManyPatterns}
 use Rattle.literal_search.specs.declared.BuildError.TheVariants.{TooManyStates}
+use Rattle.literal_search.proofs.lemmas.Callers.{GivesBytes, all_given, next_given, overlapping_is_for_bytes}
+use Rattle.literal_search.proofs.lemmas.Callers.{search_is_for_bytes}
 use Rattle.literal_c.specs.declared.LiteralAnswer.{LiteralAnswer}
 use Rattle.literal_c.specs.Pieces.{AreEnds, pieces}
 
@@ -40,52 +43,36 @@ pub pieces_are_as_many : (buffer : List ℕ) (from : ℕ) (ends : List ℕ) → 
 pieces_are_as_many buffer from [] = refl
 pieces_are_as_many buffer from (end ∷ more) = ap suc (pieces_are_as_many buffer end more)
 
--- what an iteration over pieces gives is all of them
-pub drained : (left : List (List ℕ)) (items : List (Bor (List ℕ)))
-    → Drains (YieldsFirstRef (λ (s : List (List ℕ)). s)) left items → map (λ p. p.now) items ≡ left
-drained left [] run = sym (run.1.1 ∙ run.1.2.0)
-drained left (item ∷ more) run =
-    let rest = drained run.1.1.0 more (run.0, (run.1.0, run.1.1.2, run.1.2)) in
-    ap (λ ps. item.now ∷ ps) rest ∙ sym run.1.1.1
+-- pieces that are handed over one after another are given
+pieces_given : (left : List (List ℕ))
+    → GivesBytes (λ (patterns it : List (List ℕ)). it ≡ patterns) (YieldsFirstRef (λ (s : List (List ℕ)). s)) left left
+pieces_given left = record { each = λ it is. YieldsList-from_first (λ p. p.now) (λ s. s) left is }
 
--- what is built for pieces that are handed over one after another
+-- what is built for them
 pub built_for : (kind : MatchKind) (ignore_case : Bool) (left : List (List ℕ)) (built : SearchValue)
     → BuildsSearch (λ (patterns it : List (List ℕ)). it ≡ patterns) (YieldsFirstRef (λ (s : List (List ℕ)). s)) left
     kind ignore_case built → built ≡ search_by kind ignore_case left
-built_for kind ignore_case left built (patterns, (it, items, is_iterator, drains, are, can), is) =
-    is ∙ ap (search_by kind ignore_case) (are ∙ (drained it items drains ∙ is_iterator))
+built_for kind ignore_case left = search_is_for_bytes (pieces_given left) kind ignore_case
 
 pub all_built_for : (ignore_case : Bool) (left : List (List ℕ)) (built : OverlappingValue)
     → BuildsOverlapping (λ (patterns it : List (List ℕ)). it ≡ patterns) (YieldsFirstRef (λ (s : List (List ℕ)). s))
     left ignore_case built → built ≡ overlapping_for left ignore_case
-all_built_for ignore_case left built (patterns, (it, items, is_iterator, drains, are, can), is) =
-    is ∙ ap (λ (list : List (List ℕ)). overlapping_for list ignore_case) (are ∙ (drained it items drains ∙ is_iterator))
+all_built_for ignore_case left = overlapping_is_for_bytes (pieces_given left) ignore_case
 
 -- where there is no search for pieces that are handed over, since they need too many states, they do need them
 pub too_many_for : (P : List (List ℕ) → Type 0) (left : List (List ℕ)) (error : BuildError)
     → RefusesSearch (λ (patterns it : List (List ℕ)). it ≡ patterns) (YieldsFirstRef (λ (s : List (List ℕ)). s)) left P
     error → error ≡ TooManyStates → P left
-too_many_for P left TooManyStates (patterns, (it, items, is_iterator, drains, are, can), too_many) is =
-    subst P (are ∙ (drained it items drains ∙ is_iterator)) too_many
+too_many_for P left TooManyStates (patterns, all, too_many) is =
+    subst P (all_given (pieces_given left) all) too_many
 too_many_for P left (EmptyPattern number) refused is = absurd (cc)
 too_many_for P left TooManyPatterns refused is = absurd (cc)
 too_many_for P left OutOfMemory refused is = absurd (cc)
 
--- an iteration over pieces that gives one more begins with one
-more_given : (it : List (List ℕ)) (items : List (Bor (List ℕ))) (before : List (List ℕ)) (item : Bor (List ℕ))
-    (after : List (List ℕ)) → Yields (YieldsFirstRef (λ (s : List (List ℕ)). s)) it items before
-    → YieldsFirstRef (λ (s : List (List ℕ)). s) before (Some item) after → 0 < length it
-more_given it [] before item after stays gives =
-    omega (arith, ap (λ (l : List (List ℕ)). length l) stays, ap (λ (l : List (List ℕ)). length l) gives)
-more_given it (first ∷ more) before item after run gives =
-    omega (arith, ap (λ (l : List (List ℕ)). length l) run.1)
-
 given_next : (left patterns : List (List ℕ)) (next : List ℕ)
     → GivesNext (λ (patterns it : List (List ℕ)). it ≡ patterns) (YieldsFirstRef (λ (s : List (List ℕ)). s)) left
     patterns next → 0 < length left
-given_next left patterns next one =
-    let some = more_given one.iterator one.items one.before one.item one.after one.gave one.gives in
-    omega (arith, some, ap (λ (l : List (List ℕ)). length l) one.is_iterator)
+given_next left patterns next one = let on = next_given (pieces_given left) one in omega (arith, on.within)
 
 -- where there is no search for pieces, there is one of them, if none do not need too many states
 pub some_for : (P : List (List ℕ) → Type 0) (left : List (List ℕ)) (error : BuildError)
@@ -99,8 +86,8 @@ some_for P left TooManyStates refused few = by left (too_many_for P left TooMany
 some_for P left (EmptyPattern number) refused few = given_next left refused.0 refused.1 refused.2
 some_for P left TooManyPatterns refused few = given_next left refused.0 refused.1 refused.2
 some_for P left OutOfMemory (inl one) few = given_next left one.0 one.1 one.2
-some_for P left OutOfMemory (inr (patterns, (it, items, is_iterator, drains, are, can), some)) few =
-    omega (arith, some, ap (λ (l : List (List ℕ)). length l) (are ∙ (drained it items drains ∙ is_iterator)))
+some_for P left OutOfMemory (inr (patterns, all, some)) few =
+    omega (arith, some, ap (λ (l : List (List ℕ)). length l) (all_given (pieces_given left) all))
 
 -- whether a pattern is empty, among those that are left and those behind the first of these
 pub tail_not_empty : (first : List ℕ) (more : List (List ℕ)) → NoneIsEmpty (first ∷ more) → NoneIsEmpty more

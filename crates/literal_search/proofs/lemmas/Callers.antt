@@ -84,6 +84,14 @@ module _ {U T : Type 0} {becomes : U → T → Type 0} {steps : T → Option (Bo
       → BuildsSearch becomes steps given kind ignore_case built → built ≡ search_by kind ignore_case list
   search_is_for_bytes kind ignore_case built (patterns, all, is) = is ∙ ap (search_by kind ignore_case) (all_given all)
 
+  -- and so is a search for everything that occurs
+  pub overlapping_is_for_bytes : (ignore_case : Bool) (built : OverlappingValue)
+      → BuildsOverlapping becomes steps given ignore_case built
+      → built ≡ record { patterns = list; ignore_case = ignore_case }
+  overlapping_is_for_bytes ignore_case built (patterns, all, is) =
+      is ∙ ap (λ (p : List (List ℕ)). let o : OverlappingValue = record { patterns = p; ignore_case = ignore_case }
+      in o) (all_given all)
+
 -- the bytes of references
 abbrev bytes_in : List (Bor (List ℕ)) → List (List ℕ)
 bytes_in list = map (λ (p : Bor (List ℕ)). p.now) list
@@ -108,13 +116,10 @@ module _ {U T : Type 0} {becomes : U → T → Type 0} {steps : T → Option (Bo
       → BuildsSearch becomes steps given kind ignore_case built → built ≡ search_by kind ignore_case (bytes_in list)
   search_is_for = search_is_for_bytes list_gives_bytes
 
-  -- and so is a search for everything that occurs
   pub overlapping_is_for : (ignore_case : Bool) (built : OverlappingValue)
       → BuildsOverlapping becomes steps given ignore_case built
       → built ≡ record { patterns = bytes_in list; ignore_case = ignore_case }
-  overlapping_is_for ignore_case built (patterns, all, is) =
-      is ∙ ap (λ (p : List (List ℕ)). let o : OverlappingValue = record { patterns = p; ignore_case = ignore_case }
-      in o) (all_given list_gives_bytes all)
+  overlapping_is_for = overlapping_is_for_bytes list_gives_bytes
 
 -- what an iteration over matches gives up to its end is the greedy list from where it stood
 pub greedy_from_yields : (m : MatchesValue) (all : List MatchValue) (n o : MatchesValue) → Yields GivesMatch m all n
