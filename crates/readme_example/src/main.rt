@@ -1,12 +1,12 @@
 #![tactic(auto)]
 
-use literal_search::{MatchKind, Search};
+use literal_search::Search;
 use std::io;
 
 fn main(rt: HostRuntime) -> io::Result<()> {
     let words = [b"apple".as_slice(), b"maple", b"Snapple"];
     let text = b"Nobody likes maple in their apple flavored Snapple.";
-    let search = match Search::new(rt.alloc(), MatchKind::LeftmostFirst, false, words) {
+    let search = match Search::builder().build(rt.alloc(), words) {
         Ok(search) => search,
         Err(error) => return eprintln!(rt; "no search: {error}"),
     };
