@@ -1,7 +1,7 @@
 -- What callers take from this crate beside its contracts and laws: what an automaton was built of, and iterations over
 -- matches. For callers.
 use Rattle.std.proofs.Common.{◌≡◌, ◌<◌, ◌++◌, ℕ, Bool, List, [], ◌∷◌, length, map, take, get_or, Option, None, Some}
-use Rattle.std.proofs.Common.{Ok, Result, append_assoc, refl, slice_range, sym, ap, ◌∙◌, arith, subst}
+use Rattle.std.proofs.Common.{Ok, Result, append-nil, append_assoc, refl, slice_range, sym, ap, ◌∙◌, arith, subst}
 use Rattle.std.specs.Bool.{⊤}
 use Rattle.std.specs.Borrow.{Bor, MutBor}
 use Rattle.std.specs.Fn.{Called}
@@ -22,7 +22,7 @@ use Rattle.literal_base.specs.declared.packed.MatchKind.{MatchKind}
 use Rattle.literal_base.specs.declared.search.MatchKind as search
 use Rattle.literal_base.specs.Greedy.{IsGreedy}
 use Rattle.literal_base.specs.MatchValue.{MatchValue}
-use Rattle.literal_base.specs.Occurs.{NothingOccurs, pattern_at, rest_from}
+use Rattle.literal_base.specs.Occurs.{pattern_at}
 use Rattle.literal_base.proofs.lemmas.Callers.{GivesList}
 use Rattle.literal_search.specs.SearchValue.{BuildsSearch, SearchValue, GivesAll, GivesNext, NeedTooManyStates}
 use Rattle.literal_search.specs.SearchValue.{search_by}
@@ -121,17 +121,25 @@ module _ {U T : Type 0} {becomes : U → T → Type 0} {steps : T → Option (Bo
       → built ≡ record { patterns = bytes_in list; ignore_case = ignore_case }
   overlapping_is_for = overlapping_is_for_bytes list_gives_bytes
 
--- what an iteration over matches gives up to its end is the greedy list from where it stood
+-- what an iteration gave, and behind it the greedy list of what is left, is the greedy list from where it stood
+pub greedy_behind : (m : MatchesValue) (all more : List MatchValue) (n : MatchesValue) → Yields GivesMatch m all n
+    → IsGreedy n.search.query n.search.ignore_case n.haystack n.at more
+    → IsGreedy m.search.query m.search.ignore_case m.haystack m.at (all ++ more)
+greedy_behind m [] more n stays greedy =
+    subst (λ (it : MatchesValue). IsGreedy it.search.query it.search.ignore_case it.haystack it.at more) (sym stays)
+    greedy
+greedy_behind m (found ∷ rest) more n run greedy = (
+  run.1.leftmost,
+  subst (λ (it : MatchesValue). IsGreedy it.search.query it.search.ignore_case it.haystack it.at (rest ++ more))
+      run.1.goes_on (greedy_behind run.0 rest more n run.2 greedy),
+)
+
+-- so what it gives up to its end is the greedy list
 pub greedy_from_yields : (m : MatchesValue) (all : List MatchValue) (n o : MatchesValue) → Yields GivesMatch m all n
     → GivesMatch n None o → IsGreedy m.search.query m.search.ignore_case m.haystack m.at all
-greedy_from_yields m [] n o stays nothing =
-    subst (λ (it : MatchesValue). NothingOccurs it.search.query.patterns it.search.ignore_case it.haystack
-    (rest_from it.haystack it.at)) (sym stays) nothing.leftmost
-greedy_from_yields m (found ∷ more) n o run nothing = (
-  run.1.leftmost,
-  subst (λ (it : MatchesValue). IsGreedy it.search.query it.search.ignore_case it.haystack it.at more) run.1.goes_on
-      (greedy_from_yields run.0 more n o run.2 nothing),
-)
+greedy_from_yields m all n o run nothing =
+    subst (IsGreedy m.search.query m.search.ignore_case m.haystack m.at) (append-nil all)
+    (greedy_behind m all [] n run nothing.leftmost)
 
 -- the same of one that began at the start of a haystack
 pub greedy_from_matches : (searched : SearchValue) (haystack : List ℕ) (m : MatchesValue) (all : List MatchValue)

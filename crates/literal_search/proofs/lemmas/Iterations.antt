@@ -121,11 +121,3 @@ pub gives_from_counted : (m : MatchesValue × Counts) (all : List MatchValue) (n
     → Yields GivesCounted m all n → Yields GivesMatch m.0 all n.0
 gives_from_counted m [] n stays = ap (λ (it : MatchesValue × Counts). it.0) stays
 gives_from_counted m (found ∷ more) n run = (run.0.0, run.1.gives, gives_from_counted run.0 more n run.2)
-
--- and one match more is given by it too
-pub yields_more : (m : MatchesValue × Counts) (all : List MatchValue) (found : MatchValue)
-    (n o : MatchesValue × Counts) → Yields GivesCounted m all n → GivesCounted n (Some found) o
-    → Yields GivesCounted m (all ++ found ∷ []) o
-yields_more m [] found n o stays step =
-    (o, subst (λ (it : MatchesValue × Counts). GivesCounted it (Some found) o) (sym stays) step, refl)
-yields_more m (first ∷ more) found n o run step = (run.0, run.1, yields_more run.0 more found n o run.2 step)

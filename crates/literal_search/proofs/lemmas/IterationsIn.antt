@@ -1,5 +1,5 @@
 -- What an iteration over all leftmost matches of a span scans.
-use Rattle.std.proofs.Common.{◌+◌, ◌≤◌, List, [], ◌∷◌, ◌++◌, Some, None, arith, refl, sym, subst}
+use Rattle.std.proofs.Common.{◌+◌, ◌≤◌, List, [], ◌∷◌, None, arith, sym, subst}
 use Rattle.std.specs.Iterator.{Yields}
 use Rattle.literal_base.specs.Counts.{Counts}
 use Rattle.literal_base.specs.MatchValue.{MatchValue}
@@ -48,12 +48,3 @@ scans_each_in_from_yields m (found ∷ more) n o run last =
     ≤ o.1.scanned + looked_upto it.search.query.patterns it.span run.0.0.known) step.gives.goes_on
     (scans_each_in_from_yields run.0 more n o run.2 last) in
     omega (arith, step.least, rest)
-
--- one match more is given by it too
-pub yields_more_in : (m : LinearMatchesValue × Counts) (all : List MatchValue) (found : MatchValue)
-    (n o : LinearMatchesValue × Counts) → Yields GivesInSpanCounted m all n → GivesInSpanCounted n (Some found) o
-    → Yields GivesInSpanCounted m (all ++ found ∷ []) o
-yields_more_in m [] found n o stays step =
-    (o, subst (λ (it : LinearMatchesValue × Counts). GivesInSpanCounted it (Some found) o) (sym stays) step, refl)
-yields_more_in m (first ∷ more) found n o run step =
-    (run.0, run.1, yields_more_in run.0 more found n o run.2 step)

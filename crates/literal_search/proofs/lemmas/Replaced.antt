@@ -11,23 +11,11 @@ use Rattle.literal_base.specs.MatchValue.{MatchValue}
 use Rattle.literal_base.specs.Occurs.{NoneIsEmpty, pattern_at}
 use Rattle.literal_base.specs.Query.{Query}
 use Rattle.literal_base.proofs.lemmas.Exists.{greedy_exists_lem}
+use Rattle.literal_search.proofs.lemmas.Callers.{greedy_behind}
 use Rattle.literal_search.specs.MatchesValue.{GivesMatch, MatchesValue}
 use Rattle.literal_search.specs.Replaced.{RefusesToReplace, replaced}
 use Rattle.literal_search.specs.SearchValue.{SearchValue}
 use Rattle.literal_search.specs.declared.replace.ReplaceError.TheVariants.{OutOfMemory}
-
--- what an iteration gave, and behind it the greedy list of what is left, is the greedy list from where it stood
-pub greedy_behind : (m : MatchesValue) (all more : List MatchValue) (n : MatchesValue) → Yields GivesMatch m all n
-    → IsGreedy n.search.query n.search.ignore_case n.haystack n.at more
-    → IsGreedy m.search.query m.search.ignore_case m.haystack m.at (all ++ more)
-greedy_behind m [] more n stays greedy =
-    subst (λ (it : MatchesValue). IsGreedy it.search.query it.search.ignore_case it.haystack it.at more) (sym stays)
-    greedy
-greedy_behind m (found ∷ rest) more n run greedy = (
-  run.1.leftmost,
-  subst (λ (it : MatchesValue). IsGreedy it.search.query it.search.ignore_case it.haystack it.at (rest ++ more))
-      run.1.goes_on (greedy_behind run.0 rest more n run.2 greedy),
-)
 
 -- the matches from one that was found on
 pub greedy_found : (n o : MatchesValue) (found : MatchValue) → NoneIsEmpty n.search.query.patterns
