@@ -171,9 +171,11 @@ module _ (a : Inside) (sound : IsSound a) (old new : List ℕ) where
       prepared_numbers a.classes.table a.classes.width a.kind a.ignore_case (patterns_in a) a.rows sound.classes
       sound.tells sound.recognises sound.kept
 
-  takes : TakesPlaces query a.ignore_case (length all)
+  -- so many places are those in front, one for each pattern, and the rows
+  pub takes_places : (needed : ℕ) → needed ≡ 262 + length (patterns_in a) + length a.rows
+      → TakesPlaces query a.ignore_case needed
   unfolding TakesPlaces
-  takes = (
+  takes_places needed is = (
     a.classes.table,
     subst (AreClasses a.classes.table) sound.width sound.classes,
     sound.tells,
@@ -181,13 +183,15 @@ module _ (a : Inside) (sound : IsSound a) (old new : List ℕ) where
       length a.rows,
       subst (λ width. IsRowsLength (root_kind_of a.kind) (map (symbols_in a.classes.table) (patterns_in a)) width
           (length a.rows)) sound.width sound.rows,
-      omega (
-        arith,
-        numbers_long PREPARED_VERSION a.classes.table a.classes.width (patterns_in a) a.rows [] []
-            sound.classes.each,
-      ),
+      is,
     ),
   )
+
+  takes : TakesPlaces query a.ignore_case (length all)
+  takes = takes_places (length all) (omega (
+    arith,
+    numbers_long PREPARED_VERSION a.classes.table a.classes.width (patterns_in a) a.rows [] [] sound.classes.each,
+  ))
 
   pub prepare_ok : (result : Result ℕ PrepareError)
       → IfOk result (λ needed. (needed ≤ length old) × (0 < 2 ^ 32) × Puts 0 all old new × (needed ≡ length all))
