@@ -78,8 +78,9 @@ ARGUMENTS = r"\((?:[^()]|\((?:[^()]|\(\))*\))*\)"
 LENGTH = re.compile(r"\bhaystack\s*\.\s*(?:len|is_empty)\(\)")
 BOUND = re.compile(r"\blet haystack = &?(?:self\s*\.\s*)?haystack(?:\[[^][]*\.\.[^][]*\])?;")
 HASHED = re.compile(r"\.(?:push|roll)\((?:haystack\[[^][]*\],\s*)+tally\)")
-COPIED = re.compile(r"\b(?:text\.extend_from_slice\(|write\(found, )&haystack\[[^][]*\](?=[,)])")
-HANDED = re.compile(r"(?<=[(,{])\s*&?(?:self\s*\.\s*)?haystack(?:\[[^][]*\.\.[^][]*\])?\s*(?=[,)}])")
+COPIED = re.compile(r"\b(?:text\.(?:extend_from_slice|push_str)\(|write\(found, )&haystack\[[^][]*\](?=[,)])")
+HANDED = re.compile(
+    r"(?<=[(,{])\s*&?(?:self\s*\.\s*)?haystack(?:\[[^][]*\.\.[^][]*\]|\.as_bytes\(\))?\s*(?=[,)}])")
 
 
 class Source:
@@ -159,7 +160,7 @@ def haystacks(sources):
                         "a haystack is asked for its `len()`, cut by a range into another `haystack`, or handed on to "
                         "a function whose parameter is called `haystack`; its bytes are read in `matches_at`, in the "
                         "scan of `ByteTable`, and in `walk` as arguments of `push` or `roll`, with the tally; they are "
-                        "copied in `replace_all` and `replace_all_with`"))
+                        "copied in `replace_all` and its kin"))
 
 
 def odd_uses(code, calls, name):
@@ -169,7 +170,7 @@ def odd_uses(code, calls, name):
 
     code = BOUND.sub(passed_over, LENGTH.sub(passed_over, code))
     code = HASHED.sub(passed_over, code) if name.endswith("RabinKarp::walk") else code
-    code = COPIED.sub(passed_over, code) if re.search("Search::replace_all(_with)?$", name) else code
+    code = COPIED.sub(passed_over, code) if re.search("Search::replace_all(_with|_str)?$", name) else code
     code = calls.sub(lambda found: HANDED.sub(passed_over, found[0]), code)
     return [found.start() for found in re.finditer(r"\bhaystack\b", code)]
 

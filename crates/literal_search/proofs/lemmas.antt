@@ -36,6 +36,7 @@ pub mod Standard
 pub mod Standing
 pub mod States
 pub mod Streams
+pub mod Texts
 pub mod Walk
 pub mod Windows
 pub mod Written

@@ -3,12 +3,13 @@ ghost use Rattle.std.specs.Prelude.{◌≡◌, ◌+◌, ◌<◌, ◌≤◌, ◌-
 ghost use Rattle.std.specs.Prelude.{Err, IsNone, None, Ok, Option, Some, false, map, sum_by};
 ghost use Rattle.std.specs.Iterator.{Yields};
 ghost use Rattle.std.specs.List.{All};
+ghost use Rattle.std.specs.Str.{IsCharBoundary, IsUtf8};
 ghost use Rattle.std.specs.declared.io.Error.{Error};
 ghost use Rattle.literal_base.specs.declared.search.Span.{Span};
 ghost use Rattle.literal_base.specs.Counts.{Counts};
 ghost use Rattle.literal_base.specs.Greedy.{IsGreedy};
 ghost use Rattle.literal_base.specs.MatchValue.{MatchValue};
-ghost use Rattle.literal_base.specs.Occurs.{Occurs, between, pattern_at, rest_from};
+ghost use Rattle.literal_base.specs.Occurs.{NoneIsEmpty, Occurs, between, pattern_at, rest_from};
 ghost use Rattle.literal_base.specs.Query.{Query};
 ghost use Rattle.literal_search.specs.Linear.{IsGreedyIn, ScansTwice, looked_upto};
 ghost use Rattle.literal_search.specs.LinearMatchesValue.{GivesInSpan, GivesInSpanCounted, LinearMatchesValue};
@@ -118,6 +119,15 @@ pub fn replacing_changes_the_matches_alone()
         (all : List MatchValue) → IsGreedy query ignore_case haystack 0 all
         → length (replaced haystack replacements 0 all) + sum_by (λ found. found.end - found.start) all
         ≡ length haystack + sum_by (λ found. length (pattern_at replacements found.pattern)) all }
+{}
+
+/// What occurs of texts, none of them empty, in a text begins and ends between characters, with case ignored too, so
+/// that [`Span::of_str`](crate::Span::of_str) may be called with a match.
+pub fn matches_of_texts_lie_between_characters()
+    ensures { (patterns : List (List ℕ)) (ignore_case : Bool) (text : List ℕ) (span : Span) (i at : ℕ)
+        → All IsUtf8 patterns → NoneIsEmpty patterns → IsUtf8 text → span.end ≤ length text
+        → Occurs patterns ignore_case text span i at
+        → IsCharBoundary text at × IsCharBoundary text (at + length (pattern_at patterns i)) }
 {}
 
 /// An array begins with a prepared search if its first places do, and what it begins with stands in as many places as

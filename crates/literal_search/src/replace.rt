@@ -1,5 +1,7 @@
 //! Every match replaced by what is given for its pattern.
-ghost use Rattle.std.specs.Prelude.{◌<◌, IfErr, IfOk, OnErr, length, map};
+ghost use Rattle.std.specs.Prelude.{◌<◌, IfErr, IfOk, OnErr, length, map, string_bytes};
+ghost use Rattle.std.specs.List.{All};
+ghost use Rattle.std.specs.Str.{IsUtf8};
 ghost use Rattle.literal_search.specs.Replaced.{IsReplaced, IsWritten, RefusesToReplace};
 
 use crate::{Match, Search};
@@ -81,6 +83,36 @@ impl Search {
             at = found.end();
         }
         text.extend_from_slice(&haystack[at..])?;
+        Ok(text)
+    }
+
+    /// The text with each match replaced by what is given for its pattern: [`Search::replace_all`] of texts. The
+    /// patterns have to be texts too, in UTF-8; then each match begins and ends between characters
+    /// ([`laws::matches_of_texts_lie_between_characters`](crate::laws::matches_of_texts_lie_between_characters)), and
+    /// no bytes are checked anew. Memory is asked for only where the answer is not empty.
+    pub fn replace_all_str(
+        &self,
+        alloc: Global,
+        haystack: &str,
+        replacements: &[&str],
+    ) -> Result<String, ReplaceError>
+        requires { All IsUtf8 self.now.query.patterns }
+        ensures ok { IfOk result (λ text.
+            IsReplaced self.now haystack.now (map (λ r. r.now) replacements.now) (string_bytes text)) }
+        ensures error { IfErr result
+            (RefusesToReplace self.now haystack.now (map (λ r. r.now) replacements.now)) }
+    {
+        if replacements.len() != self.patterns_len() {
+            return Err(ReplaceError::NotOneForEach);
+        }
+        let mut text = String::new(alloc);
+        let mut at = 0;
+        for found in self.find_iter(haystack.as_bytes()) {
+            text.push_str(&haystack[at..found.start()])?;
+            text.push_str(replacements[found.pattern().as_usize()])?;
+            at = found.end();
+        }
+        text.push_str(&haystack[at..])?;
         Ok(text)
     }
 

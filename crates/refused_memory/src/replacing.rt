@@ -112,3 +112,37 @@ fn replace_stream_of_a_search(rt: HostRuntime) -> Result<(), AllocError> {
     assert!(rt; is_right);
     Ok(())
 }
+
+/// A text in which words are replaced.
+fn replace_words(
+    alloc: Global,
+    words: &[String],
+) -> Result<Result<String, ReplaceError>, BuildError> {
+    let patterns = words.iter().map(|word| word.as_bytes());
+    let search = Search::new(alloc, MatchKind::LeftmostFirst, false, patterns)?;
+    Ok(search.replace_all_str(
+        alloc,
+        "ein Maß, ein Fuß und was sonst dahinter steht",
+        &["Meter", ""],
+    ))
+}
+
+#[test]
+fn replace_all_str_of_a_search(rt: HostRuntime) -> Result<(), AllocError> {
+    let alloc = rt.alloc();
+    let words = [format!(in alloc; "Maß")?, format!(in alloc; "Fuß")?];
+    let text = match replace_words(alloc, &words) {
+        Ok(Ok(text)) => text,
+        Ok(Err(error)) => {
+            assert!(rt; error == ReplaceError::OutOfMemory);
+            let again = replace_words(alloc, &words).or(Err(AllocError));
+            again?.expect(&rt, "it was refused again")
+        }
+        Err(error) => {
+            assert!(rt; error == BuildError::OutOfMemory);
+            return Ok(());
+        }
+    };
+    assert!(rt; text.as_str().starts_with("ein Meter, ein  und"));
+    Ok(())
+}
