@@ -41,6 +41,18 @@ fn assert_searches(rt: &impl Abort, prepared: &Prepared<'_>) -> Result<(), Fail>
 }
 
 #[test]
+fn fills_as_many_places_as_it_tells(rt: HostRuntime) -> Result<(), Fail> {
+    let words = [b"password".as_slice(), b"secret"];
+    let search = Search::new(rt.alloc(), MatchKind::LeftmostFirst, true, words)?;
+    let needed = search.prepared_len()?;
+    let mut array = vec![in rt.alloc(); 0; needed]?;
+    assert!(rt; search.prepare(&mut array) == Ok(needed));
+    assert!(rt; array.pop().is_some());
+    assert!(rt; search.prepare(&mut array) == Err(PrepareError::ArrayTooShort(needed)));
+    Ok(())
+}
+
+#[test]
 fn finds_by_an_array(rt: HostRuntime) -> Result<(), Fail> {
     let mut array = filled(rt.alloc())?;
     assert_searches(&rt, &Prepared::new(&array)?)?;

@@ -1,6 +1,6 @@
 //! `Search`, `Linear` and `Overlapping`.
 use literal_base::count::Tally;
-use literal_search::{BuildError, Linear, Match, MatchKind, Overlapping, Search, Span};
+use literal_search::{BuildError, Linear, Match, MatchKind, Overlapping, PatternID, Search, Span};
 use std::alloc::{AllocError, Global};
 use std::process::Abort;
 use std::test::Fail;
@@ -63,6 +63,45 @@ fn finds_at_one_place(rt: HostRuntime) -> Result<(), Fail> {
     );
     let mut matches = search.find_iter_in(b"xabcab", Span { start: 0, end: 5 });
     assert!(rt; matches.next() == Some(found) && matches.next().is_none());
+    Ok(())
+}
+
+#[test]
+fn tells_what_it_was_built_of(rt: HostRuntime) -> Result<(), Fail> {
+    let words = [b"Abc".as_slice(), b"b", b"cd"];
+    let search = Search::new(rt.alloc(), MatchKind::LeftmostFirst, true, words)?;
+    assert!(rt; search.min_pattern_len() == 1 && search.max_pattern_len() == 3);
+    assert!(rt; search.pattern(PatternID::must(0)) == Some(b"Abc".as_slice()));
+    assert!(rt; search.pattern(PatternID::must(2)) == Some(b"cd".as_slice()));
+    assert!(rt; search.pattern(PatternID::must(3)).is_none());
+    let none = Search::builder().build(rt.alloc(), [])?;
+    assert!(rt; none.min_pattern_len() == 0 && none.pattern(PatternID::must(0)).is_none());
+    Ok(())
+}
+
+#[test]
+fn lists_what_lies_in_a_span(rt: HostRuntime) -> Result<(), Fail> {
+    let search = Search::builder().build(rt.alloc(), [b"ab".as_slice(), b"ba"])?;
+    let all = search.find_all_in(b"ababab", Span { start: 1, end: 5 })?;
+    let wanted = [
+        Match::must(1, Span { start: 1, end: 3 }),
+        Match::must(1, Span { start: 3, end: 5 }),
+    ];
+    assert!(rt; all.as_slice() == wanted.as_slice());
+    let none = search.find_all_in(b"ababab", Span { start: 5, end: 6 })?;
+    assert!(rt; none.is_empty());
+    Ok(())
+}
+
+#[test]
+fn copies_find_the_same(rt: HostRuntime) -> Result<(), Fail> {
+    let words = [b"ab".as_slice(), b"abc"];
+    let search = Search::new(rt.alloc(), MatchKind::LeftmostLongest, true, words)?;
+    let copy = search.try_clone()?;
+    assert!(rt; copy.find(b"xABC") == Some(Match::must(1, Span { start: 1, end: 4 })));
+    assert!(rt; copy.find(b"xABC") == search.find(b"xABC") && copy.patterns_len() == 2);
+    let none = Search::builder().build(rt.alloc(), [])?.try_clone()?;
+    assert!(rt; none.find(b"xABC").is_none());
     Ok(())
 }
 

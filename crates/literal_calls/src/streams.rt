@@ -1,7 +1,7 @@
 //! Texts of which more may follow, and texts that are read piece by piece.
-use literal_search::{Match, MatchKind, Search, SoFar, Span, Tally};
+use literal_search::{Match, MatchKind, ReplaceStreamError, Search, SoFar, Span, Tally};
 use std::alloc::Global;
-use std::io::{self, ErrorKind, Read};
+use std::io::{self, ErrorKind, Read, Write};
 use std::process::Abort;
 use std::test::Fail;
 
@@ -130,4 +130,89 @@ fn is_error_of_kind(answer: Option<io::Result<Match>>, kind: ErrorKind) -> bool 
         Some(Err(error)) => error.kind() == kind,
         _ => false,
     }
+}
+
+#[test]
+fn example_of_replacing_in_a_stream(rt: HostRuntime) -> Result<(), Fail> {
+    let alloc = rt.alloc();
+    let words = [b"apple".as_slice(), b"maple"];
+    let search = Search::new(alloc, MatchKind::LeftmostFirst, true, words)?;
+    let (mut text, mut written) = (b"Maple or apple?".as_slice(), Vec::new(alloc));
+    search.replace_stream(alloc, &mut text, &mut written, &[b"pear", b"oak"])?;
+    assert!(rt; written.as_slice() == b"oak or pear?".as_slice());
+    let too_few = search.replace_stream(alloc, &mut text, &mut written, &[b"pear"]);
+    assert!(rt; matches!(too_few, Err(ReplaceStreamError::NotOneForEach)));
+    Ok(())
+}
+
+/// Pieces of so many bytes are written as the whole text with its matches replaced.
+fn assert_written(
+    rt: &impl Abort,
+    alloc: Global,
+    search: &Search,
+    text: &[u8],
+    step: usize,
+) -> Result<(), Fail> {
+    let replacements = [b"<1>".as_slice(), b"", b"x"];
+    let mut pieces = Pieces {
+        rest: text,
+        step,
+        failing: None,
+    };
+    let mut written = Vec::new(alloc);
+    search.replace_stream(alloc, &mut pieces, &mut written, &replacements)?;
+    assert!(rt; written.as_slice() == search.replace_all(alloc, text, &replacements)?.as_slice());
+    Ok(())
+}
+
+#[test]
+fn pieces_are_written_as_the_whole(rt: HostRuntime) -> Result<(), Fail> {
+    let words = [b"abcd".as_slice(), b"bc", b"da"];
+    let search = Search::new(rt.alloc(), MatchKind::LeftmostLongest, false, words)?;
+    let mut text = Vec::new(rt.alloc());
+    for _ in 0..9_000 {
+        text.extend_from_slice(b"xabcdabxbcda")?;
+    }
+    for step in [1, 7, 4_096, 1_000_000] {
+        assert_written(&rt, rt.alloc(), &search, &text, step)?;
+    }
+    Ok(())
+}
+
+/// A writer with room for a few bytes, that takes no more.
+#[derive(Drop)]
+struct Narrow {
+    room: usize,
+}
+
+impl Write for Narrow {
+    fn write(&mut self, buf: &[u8]) -> io::Result<usize> {
+        let count = self.room.min(buf.len());
+        self.room -= count;
+        Ok(count)
+    }
+
+    fn flush(&mut self) -> io::Result<()> {
+        Ok(())
+    }
+}
+
+#[test]
+fn what_is_known_is_written_before_an_error(rt: HostRuntime) -> Result<(), Fail> {
+    let alloc = rt.alloc();
+    let words = [b"abcd".as_slice(), b"bc"];
+    let search = Search::new(alloc, MatchKind::LeftmostFirst, false, words)?;
+    let mut pieces = Pieces {
+        rest: b"xabcdabc?",
+        step: 3,
+        failing: Some(3),
+    };
+    let mut written = Vec::new(alloc);
+    let failed = search.replace_stream(alloc, &mut pieces, &mut written, &[b"12", b"3"]);
+    assert!(rt; matches!(failed, Err(ReplaceStreamError::ReadFailed(_))));
+    assert!(rt; written.as_slice() == b"x12".as_slice());
+    let (mut text, mut narrow) = (b"xabcd".as_slice(), Narrow { room: 2 });
+    let full = search.replace_stream(alloc, &mut text, &mut narrow, &[b"12", b"3"]);
+    assert!(rt; matches!(full, Err(ReplaceStreamError::WriteFailed(_))));
+    Ok(())
 }

@@ -1,2 +1,4 @@
+pub mod Lexed
 pub mod Redacted
+pub mod Routes
 pub mod Tokens

@@ -4,5 +4,7 @@
 
 pub mod frequencies;
 pub mod keywords;
+pub mod lexer;
 pub mod redact;
+pub mod router;
 pub mod tokens;

@@ -1,10 +1,12 @@
 //! Each part does what its reader expects.
 use literal_examples::frequencies::frequencies;
 use literal_examples::keywords::{find_from, is_clean};
+use literal_examples::lexer::lex;
 use literal_examples::redact::redact;
+use literal_examples::router::route;
 use literal_examples::tokens::{Token, tokens};
 use literal_prefilters::packed::Searcher;
-use literal_search::{MatchKind, PatternID, Search, Span};
+use literal_search::{Match, MatchKind, PatternID, Search, Span, Tally};
 use std::alloc::Global;
 use std::test::Fail;
 
@@ -59,6 +61,28 @@ fn cuts_into_tokens(rt: HostRuntime) -> Result<(), Fail> {
         },
     ];
     assert!(rt; all.as_slice() == wanted.as_slice());
+    Ok(())
+}
+
+#[test]
+fn lexes_up_to_what_is_no_word(rt: HostRuntime) -> Result<(), Fail> {
+    let words = [b"<".as_slice(), b"<=", b"let", b" ", b"x"];
+    let search = Search::new(rt.alloc(), MatchKind::LeftmostLongest, false, words)?;
+    let lexed = lex(rt.alloc(), &search, b"let x<=x", &mut Tally::new())?;
+    assert!(rt; lexed.end == 8 && lexed.tokens.len() == 5);
+    assert!(rt; lexed.tokens[3] == Match::must(1, Span { start: 5, end: 7 }));
+    let broken = lex(rt.alloc(), &search, b"x lex", &mut Tally::new())?;
+    assert!(rt; broken.end == 2 && broken.tokens.len() == 2);
+    Ok(())
+}
+
+#[test]
+fn routes_by_the_longest_prefix(rt: HostRuntime) -> Result<(), Fail> {
+    let prefixes = [b"/".as_slice(), b"/api/", b"/api/users/"];
+    let search = Search::new(rt.alloc(), MatchKind::LeftmostLongest, false, prefixes)?;
+    assert!(rt; route(&search, b"/api/users/7") == Some(PatternID::must(2)));
+    assert!(rt; route(&search, b"/index") == Some(PatternID::ZERO));
+    assert!(rt; route(&search, b"see /api/").is_none());
     Ok(())
 }
 

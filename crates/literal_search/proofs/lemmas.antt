@@ -8,6 +8,7 @@ pub mod Callers
 pub mod Chains
 pub mod Check
 pub mod Classes
+pub mod Copied
 pub mod EndLists
 pub mod Ends
 pub mod Found
@@ -26,7 +27,9 @@ pub mod Overlapping
 pub mod Places
 pub mod Prepared
 pub mod Recognised
+pub mod Relabelled
 pub mod Replaced
+pub mod Rewriting
 pub mod Rows
 pub mod Scan
 pub mod Standard

@@ -9,6 +9,8 @@ use Rattle.literal_search.specs.declared.prepared.PrepareError.TheVariants.{Arra
 use Rattle.literal_search.specs.declared.prepared.PrepareError.TheVariants.{PatternTooLong}
 use Rattle.literal_search.specs.declared.replace.ReplaceError.{ReplaceError}
 use Rattle.literal_search.specs.declared.replace.ReplaceError.TheVariants as replace
+use Rattle.literal_search.specs.declared.replace_stream.ReplaceStreamError.{ReplaceStreamError}
+use Rattle.literal_search.specs.declared.replace_stream.ReplaceStreamError.TheVariants as stream
 
 -- what is printed of why there is no automaton
 abbrev pub build_error_text : BuildError → List ℕ
@@ -27,3 +29,10 @@ prepare_error_text (ArrayTooShort needed) = codes "the array needs " ++ decimal 
 abbrev pub replace_error_text : ReplaceError → List ℕ
 replace_error_text replace.NotOneForEach = codes "there is not one replacement for each pattern"
 replace_error_text replace.OutOfMemory = codes "out of memory"
+
+-- what is printed of why a text is not read and written with its matches replaced
+abbrev pub replace_stream_error_text : ReplaceStreamError → List ℕ
+replace_stream_error_text stream.NotOneForEach = codes "there is not one replacement for each pattern"
+replace_stream_error_text stream.OutOfMemory = codes "out of memory"
+replace_stream_error_text (stream.ReadFailed error) = codes "the text could not be read"
+replace_stream_error_text (stream.WriteFailed error) = codes "the text could not be written"

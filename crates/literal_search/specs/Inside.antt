@@ -9,6 +9,7 @@ pub mod LentTables
 pub mod Linear
 pub mod Lists
 pub mod Prepared
+pub mod Rewriting
 pub mod Rows
 pub mod Scan
 pub mod Standing

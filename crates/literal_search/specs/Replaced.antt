@@ -1,15 +1,18 @@
 -- A text in which matches are replaced.
-use Rattle.std.specs.Prelude.{◌≡◌, ⊤, ℕ, ◌<◌, List, [], ◌∷◌, ◌++◌, length, Ok, Result}
+use Rattle.std.specs.Prelude.{◌≡◌, ⊤, ℕ, ◌+◌, ◌-◌, ◌<◌, ◌≤◌, List, [], ◌∷◌, ◌++◌, length, Ok, Option, Result}
 use Rattle.std.specs.Borrow.{Bor, MutBor}
+use Rattle.std.specs.Io.KnownBytes.{Appends, Consumes, IsAtEnd}
 use Rattle.std.specs.Global.{Vec}
 use Rattle.std.specs.List.{FoldsTo, slice_range}
 use Rattle.std.specs.declared.alloc.AllocError.{AllocError}
 use Rattle.literal_base.specs.Greedy.{IsGreedy}
 use Rattle.literal_base.specs.MatchValue.{MatchValue}
 use Rattle.literal_base.specs.Occurs.{pattern_at}
-use Rattle.literal_search.specs.SearchValue.{SearchValue}
+use Rattle.literal_search.specs.SearchValue.{SearchValue, longest_of}
 use Rattle.literal_search.specs.declared.replace.ReplaceError.{ReplaceError}
 use Rattle.literal_search.specs.declared.replace.ReplaceError.TheVariants.{NotOneForEach, OutOfMemory}
+use Rattle.literal_search.specs.declared.replace_stream.ReplaceStreamError.{ReplaceStreamError}
+use Rattle.literal_search.specs.declared.replace_stream.ReplaceStreamError.TheVariants as stream
 
 -- the text from an offset on, with the replacement of its pattern in place of each match, and as it is between them
 abbrev pub replaced : List ℕ → List (List ℕ) → ℕ → List MatchValue → List ℕ
@@ -31,6 +34,48 @@ abbrev pub RefusesToReplace : SearchValue → List ℕ → List (List ℕ) → R
 RefusesToReplace search text replacements NotOneForEach = ¬ length replacements ≡ length search.query.patterns
 RefusesToReplace search text replacements OutOfMemory =
     (answer : List ℕ) × IsReplaced search text replacements answer × (0 < length answer)
+
+-- a text is written up to a place, with its matches replaced: whatever follows the text, with what is put in place of
+-- all behind that place it makes the whole
+pub record IsReplacedUpTo (search : SearchValue) (text : List ℕ) (replacements : List (List ℕ)) (at : ℕ)
+    (answer : List ℕ) : Type 0 where
+  pub within : at ≤ length text
+  pub goes_on : (more : List ℕ) (behind : List MatchValue)
+      → IsGreedy search.query search.ignore_case (text ++ more) at behind
+      → (matches : List MatchValue) × IsGreedy search.query search.ignore_case (text ++ more) 0 matches
+      × (answer ++ replaced (text ++ more) replacements at behind ≡ replaced (text ++ more) replacements 0 matches)
+
+module _ (search : SearchValue) (replacements : List (List ℕ)) (unread left held written : Option (List ℕ)) where
+  -- a text is read to its end, and written with its matches replaced
+  pub record RewritesAll : Type 0 where
+    pub text : List ℕ
+    pub answer : List ℕ
+    pub reads : Consumes unread left text
+    pub end : IsAtEnd left
+    pub is_replaced : IsReplaced search text replacements answer
+    pub writes : Appends held written answer
+
+  -- what was read of a text is written, with its matches replaced, but for some of its last bytes, fewer than the
+  -- longest pattern has
+  pub record RewritesPart : Type 0 where
+    pub text : List ℕ
+    pub answer : List ℕ
+    pub at : ℕ
+    pub reads : Consumes unread left text
+    pub far : length text ≤ at + (longest_of search.query.patterns - 1)
+    pub is_replaced : IsReplacedUpTo search text replacements at answer
+    pub writes : Appends held written answer
+
+  -- why a text is not written so: there are not as many replacements as patterns, or memory was refused, and nothing is
+  -- read or written; or a read failed, once what is known was written; or a write failed, where a text was read
+  abbrev pub StopsRewriting : ReplaceStreamError → Type 0
+  StopsRewriting stream.NotOneForEach =
+      (¬ length replacements ≡ length search.query.patterns) × (left ≡ unread) × (written ≡ held)
+  StopsRewriting stream.OutOfMemory =
+      (length replacements ≡ length search.query.patterns) × (left ≡ unread) × (written ≡ held)
+  StopsRewriting (stream.ReadFailed error) = (length replacements ≡ length search.query.patterns) × RewritesPart
+  StopsRewriting (stream.WriteFailed error) =
+      (length replacements ≡ length search.query.patterns) × ((text : List ℕ) × Consumes unread left text)
 
 -- replacing by calls of a function, after some matches: the function, the text that is written, and the offset up to
 -- which the haystack stands in it

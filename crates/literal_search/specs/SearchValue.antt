@@ -107,6 +107,12 @@ longest_of (bytes ∷ more) = max (length bytes) (longest_of more)
 abbrev pub NoneIsShorter : ℕ → List (List ℕ) → Type 0
 NoneIsShorter n patterns = (i : ℕ) → i < length patterns → n ≤ length (pattern_at patterns i)
 
+-- how long the shortest of some patterns is, and 0 where there is none
+abbrev pub shortest_of : List (List ℕ) → ℕ
+shortest_of [] = 0
+shortest_of (bytes ∷ []) = length bytes
+shortest_of (bytes ∷ more) = min (length bytes) (shortest_of more)
+
 -- what a search in a span scans: at least as many bytes as it has, or with a match as there are up to its end; at most
 -- three times its bytes, and with a match three times those up to its end, and once those of the longest pattern
 pub record ScansWithin (patterns : List (List ℕ)) (span : Span) (answer : Option MatchValue) (old new : Counts)

@@ -15,10 +15,12 @@ ghost use Rattle.literal_search.specs.LinearMatchesValue.{GivesInSpan, GivesInSp
 ghost use Rattle.literal_search.specs.MatchesValue.{GivesCounted, GivesMatch, MatchesValue};
 ghost use Rattle.literal_search.specs.Overlapping.{IsOverlapping, OverlappingValue};
 ghost use Rattle.literal_search.specs.OverlappingMatchesValue.{GivesOverlapping, OverlappingMatchesValue};
-ghost use Rattle.literal_search.specs.Prepared.{IsPrepared, IsWhole, check_of, prepared_len};
+ghost use Rattle.literal_search.specs.Prepared.{AreShort, IsPrepared, IsWhole, RefusesToPrepare, TakesPlaces};
+ghost use Rattle.literal_search.specs.Prepared.{check_of, prepared_len};
 ghost use Rattle.literal_search.specs.PreparedOverlapping.{IsPreparedOverlapping, IsWholeOverlapping, listed_len};
 ghost use Rattle.literal_search.specs.Replaced.{replaced};
 ghost use Rattle.literal_search.specs.SearchValue.{ScansListAtMost, SearchValue, longest_of};
+ghost use Rattle.literal_search.specs.declared.prepared.PrepareError.{PrepareError};
 ghost use Rattle.literal_search.specs.Stream.{GivesStreamed, StreamValue, stream_of};
 
 /// An iterator that answers `None` stands at the end of the haystack then, and there it answers `None` and stays.
@@ -131,6 +133,17 @@ pub fn first_places_are_enough()
     ensures shorter_overlapping { (search : OverlappingValue) (numbers : List ℕ) (n : ℕ)
         → IsPreparedOverlapping search numbers → listed_len numbers ≤ n
         → IsPreparedOverlapping search (take n numbers) }
+{}
+
+/// The patterns alone tell how many places a search takes as numbers (`once`). So what
+/// [`Search::prepared_len`](crate::Search::prepared_len) answers is enough: no array is refused that has as many
+/// (`enough`).
+pub fn prepared_lengths_are_enough()
+    ensures once { (query : Query) (ignore_case : Bool) (n m : ℕ) → TakesPlaces query ignore_case n
+        → TakesPlaces query ignore_case m → n ≡ m }
+    ensures enough { (query : Query) (ignore_case : Bool) (n : ℕ) (array : List ℕ) (error : PrepareError)
+        → AreShort query.patterns → TakesPlaces query ignore_case n → n ≤ length array
+        → ¬ RefusesToPrepare query ignore_case array error }
 {}
 
 /// The check over numbers finds a change of one of them: if it is the same, so is that number.

@@ -4,25 +4,30 @@
 #![tactic(auto)]
 
 ghost use Rattle.std.specs.Prelude.{◌≡◌, ◌+◌, ◌-◌, ◌<◌, ◌≤◌, ◌↔◌, ◌++◌, ◌∷◌, [], ℕ, length, map, take};
-ghost use Rattle.std.specs.Prelude.{IfErr, IfOk, IfSome, IsNone, IsTrue, OnErr};
+ghost use Rattle.std.specs.Prelude.{IfErr, IfOk, IfSome, IsNone, IsTrue, MatchOption, OnErr};
 ghost use Rattle.literal_base.specs.Greedy.{IsGreedy, RefusesList};
 ghost use Rattle.literal_base.specs.Kinds.{root_kind_of};
 ghost use Rattle.literal_base.specs.Leftmost.{IsLeftmost, IsLeftmostMatch};
-ghost use Rattle.literal_base.specs.Occurs.{IsValidSpan, NothingOccurs, Occurs, one_occurs, rest_from, whole_of};
+ghost use Rattle.literal_base.specs.Occurs.{IsValidSpan, NothingOccurs, Occurs, one_occurs, pattern_at, rest_from};
+ghost use Rattle.literal_base.specs.Occurs.{whole_of};
 ghost use Rattle.literal_fingerprints.specs.FingerprintsValue.{AllPass};
 ghost use Rattle.literal_base.specs.Given.{CanBeTaken};
 ghost use Rattle.literal_search.specs.At.{IsMatchAt, ScansAt};
 ghost use Rattle.literal_search.specs.SearchValue.{BuildsSearch, CanBeKept, GivesAll, NeedFewStates};
 ghost use Rattle.literal_search.specs.SearchValue.{NeedTooManyStates, NoneIsShorter, RefusesSearch};
-ghost use Rattle.literal_search.specs.SearchValue.{ScansWithin, ScansListAtMost, ScansOnce, longest_of};
+ghost use Rattle.literal_search.specs.SearchValue.{ScansWithin, ScansListAtMost, ScansOnce, longest_of, shortest_of};
 ghost use Rattle.literal_search.specs.Earliest.{IsEarliestEnd, ScansToEnd, ScansToEndWithin};
 ghost use Rattle.literal_search.specs.Inside.Scan.{IsTableOf, match_by};
+ghost use Rattle.literal_search.specs.Inside.Search.{IsShortestOf};
+ghost use Rattle.literal_search.specs.Linear.{IsGreedyIn};
 ghost use Rattle.literal_search.specs.MatchesValue.{GivesMatch, most_to_come};
-ghost use Rattle.literal_search.specs.Prepared.{RefusesToPrepare, WritesPrepared};
+ghost use Rattle.literal_search.specs.Prepared.{AreShort, RefusesToPrepare, TakesPlaces, WritesPrepared};
+ghost use Rattle.literal_search.specs.declared.prepared.PrepareError.TheVariants.{PatternTooLong};
 
 mod best;
 mod builder;
 mod classes;
+mod copied;
 mod ends;
 mod grow;
 pub mod laws;
@@ -32,6 +37,7 @@ mod prepared;
 mod prepared_overlapping;
 mod reading;
 mod replace;
+mod replace_stream;
 mod rows;
 mod scan;
 mod standing;
@@ -53,6 +59,7 @@ pub use overlapping::{Overlapping, OverlappingMatches};
 pub use prepared::{Damaged, PrepareError, Prepared};
 pub use prepared_overlapping::{PreparedOverlapping, PreparedOverlappingMatches};
 pub use replace::ReplaceError;
+pub use replace_stream::ReplaceStreamError;
 use rows::{Rows, rows_for};
 use std::alloc::{AllocError, Global};
 use std::error::Error;
@@ -375,6 +382,25 @@ impl Search {
         Ok(all)
     }
 
+    /// The list of what [`Search::find_iter_in`] gives: all matches in a span of the haystack, each whole in it, with
+    /// offsets in bytes of the whole haystack. The span has to be valid. Memory is asked for only where there is a
+    /// match.
+    pub fn find_all_in(&self, haystack: &[u8], span: Span) -> Result<Vec<Match>, AllocError>
+        requires { IsValidSpan haystack.now span }
+        ensures greedy { IfOk result
+            (λ all. IsGreedyIn self.now.query self.now.ignore_case haystack.now span all.items) }
+        ensures no_memory { OnErr result
+            (¬ NothingOccurs self.now.query.patterns self.now.ignore_case haystack.now span) }
+    {
+        let mut all = Vec::new(*self.patterns.allocator());
+        let mut rest = span;
+        while let Some(found) = self.find_in(haystack, rest) {
+            all.push(found)?;
+            rest.start = found.end();
+        }
+        Ok(all)
+    }
+
     /// The earliest end of an occurrence that lies whole in a span of the haystack, an offset in bytes of the whole
     /// haystack, and `None` where nothing occurs in the span. It is known sooner than the leftmost match, and may be
     /// the end of another one. The span has to be valid.
@@ -448,6 +474,22 @@ impl Search {
         )
     }
 
+    /// How many places [`Search::prepare`] writes: an array of as many, or more, is long enough for it. For a search
+    /// that it refuses whatever the array, since a pattern has 2^32 bytes or more, the error is the same
+    /// ([`laws::prepared_lengths_are_enough`]).
+    pub fn prepared_len(&self) -> Result<usize, PrepareError>
+        ensures ok { IfOk result (λ needed. AreShort self.now.query.patterns
+            × TakesPlaces self.now.query self.now.ignore_case needed) }
+        ensures error { IfErr result
+            (λ error. (error ≡ PatternTooLong) × ¬ AreShort self.now.query.patterns) }
+    {
+        if self.longest > u32::MAX as usize {
+            return Err(PrepareError::PatternTooLong);
+        }
+        let rows = self.rows.as_slice();
+        Ok(prepared::LENGTHS_AT + self.patterns.len() + rows.len() + prepared::FINGERPRINTS_LEN)
+    }
+
     /// Which of the patterns that match at one place is taken.
     pub fn match_kind(&self) -> MatchKind
         ensures { result ≡ self.now.query.kind }
@@ -475,6 +517,25 @@ impl Search {
         ensures { result ≡ longest_of self.now.query.patterns }
     {
         self.longest
+    }
+
+    /// How many bytes the shortest pattern has, and 0 where there is none.
+    pub fn min_pattern_len(&self) -> usize
+        ensures { result ≡ shortest_of self.now.query.patterns }
+    {
+        if self.patterns.is_empty() {
+            return 0;
+        }
+        self.shortest
+    }
+
+    /// The bytes of the pattern of a number, as they were given, and `None` where there is none of that number.
+    pub fn pattern(&self, id: PatternID) -> Option<&[u8]>
+        ensures { MatchOption result (length self.now.query.patterns ≤ id)
+            (λ bytes. (id < length self.now.query.patterns) × (bytes.now ≡ pattern_at self.now.query.patterns id)) }
+    {
+        let pattern = self.patterns.get(id.as_usize())?;
+        Some(pattern.as_slice())
     }
 }
 
@@ -514,7 +575,8 @@ fn longest_len(patterns: &[Vec<u8>]) -> usize
 
 /// As long as the shortest of some patterns is, and a large number where there is none.
 fn shortest_len(patterns: &[Vec<u8>]) -> usize
-    ensures { NoneIsShorter result (map (λ pattern. pattern.items) patterns.now) }
+    ensures none { NoneIsShorter result (map (λ pattern. pattern.items) patterns.now) }
+    ensures shortest { IsShortestOf result (map (λ pattern. pattern.items) patterns.now) }
 {
     let mut shortest = usize::MAX;
     for pattern in patterns {

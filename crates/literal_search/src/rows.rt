@@ -3,13 +3,14 @@ ghost use Rattle.std.specs.Prelude.{◌≡◌, ◌<◌, ◌≤◌, ◌^◌, ◌-
 ghost use Rattle.literal_base.specs.Occurs.{NoneIsEmpty};
 ghost use Rattle.literal_search.specs.Table.{Recognises};
 ghost use Rattle.literal_search.specs.Inside.Classes.{AreClasses, symbols_in};
+ghost use Rattle.literal_search.specs.Inside.Rows.{rows_in};
 ghost use Rattle.literal_search.specs.States.{HasTooManyStates, IsRowsLength};
 
 use crate::classes::Classes;
 use crate::grow::{GrowError, grow};
 use crate::walk::NOTHING;
 use literal_base::search::MatchKind;
-use std::alloc::Global;
+use std::alloc::{AllocError, Global};
 use std::marker::Model;
 
 /// The row of the one state where there is no pattern: its one class leads to itself, and nothing ends there.
@@ -70,5 +71,19 @@ pub fn rows_for(
         });
     }
     let numbers = grow(alloc, kind, &classes.table, classes.width, patterns)?;
+    Ok(Rows { numbers })
+}
+
+/// A copy of the rows of some patterns, and those of no pattern where there is none. Memory is asked for only where
+/// there is a pattern.
+pub fn copy_of_rows(alloc: Global, patterns: &[Vec<u8>], rows: &Rows) -> Result<Rows, AllocError>
+    ensures same { 0 < length patterns.now → IfOk result (λ copy. copy ≡ rows.now) }
+    ensures none { length patterns.now ≡ 0 → IfOk result (λ copy. copy ≡ rows_in []) }
+    ensures no_memory { OnErr result (0 < length patterns.now) }
+{
+    let mut numbers = Vec::new(alloc);
+    if !patterns.is_empty() {
+        numbers.extend_from_slice(&rows.numbers)?;
+    }
     Ok(Rows { numbers })
 }

@@ -1,6 +1,6 @@
 //! Replacing matches, and building a search by a builder.
 use crate::made::assert_place;
-use literal_search::{BuildError, MatchKind, ReplaceError, Search};
+use literal_search::{BuildError, MatchKind, ReplaceError, ReplaceStreamError, Search};
 use std::alloc::{AllocError, Global};
 use std::process::Abort;
 
@@ -79,5 +79,36 @@ fn an_empty_text_takes_no_memory(rt: HostRuntime) -> Result<(), AllocError> {
     let built = build(rt.alloc()).or(Err(AllocError));
     let text = built?.replace_all(rt.alloc(), b"abcAB", &[b"", b""]);
     assert!(rt; text.expect(&rt, "it takes no memory").is_empty());
+    Ok(())
+}
+
+/// What is written of a text that is read, where memory is granted; where it is not, nothing is read.
+fn rewrite(rt: &impl Abort, alloc: Global, search: &Search) -> Result<bool, ReplaceStreamError> {
+    let (mut text, mut room) = (b"qab-ABC".as_slice(), [0; 8]);
+    let mut written = room.as_mut_slice();
+    let done = search.replace_stream(alloc, &mut text, &mut written, &[b"1", b""]);
+    assert!(rt;
+        text.is_empty() == done.is_ok() && written.len() == if done.is_ok() { 5 } else { 8 }
+    );
+    done?;
+    Ok(room.starts_with(b"q1-"))
+}
+
+#[test]
+fn replace_stream_of_a_search(rt: HostRuntime) -> Result<(), AllocError> {
+    let built = build(rt.alloc()).or(Err(AllocError));
+    let search = built?;
+    let is_right = match rewrite(&rt, rt.alloc(), &search) {
+        Ok(is_right) => is_right,
+        Err(error) => {
+            assert!(rt; matches!(error, ReplaceStreamError::OutOfMemory));
+            assert_finds(&rt, &search);
+            let again = rewrite(&rt, rt.alloc(), &search);
+            again
+                .or(Err(AllocError))
+                .expect(&rt, "it was refused again")
+        }
+    };
+    assert!(rt; is_right);
     Ok(())
 }

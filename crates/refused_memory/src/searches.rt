@@ -41,6 +41,38 @@ fn new_of_a_search(rt: HostRuntime) {
     builds(&rt, rt.alloc(), true, true);
 }
 
+#[test]
+fn try_clone_of_a_search(rt: HostRuntime) -> Result<(), AllocError> {
+    let built = build(rt.alloc(), false, true).or(Err(AllocError));
+    let search = built?;
+    let copy = match search.try_clone() {
+        Ok(copy) => copy,
+        Err(_) => {
+            assert_finds(&rt, &search, true);
+            search.try_clone().expect(&rt, "it was refused again")
+        }
+    };
+    assert_finds(&rt, &copy, true);
+    Ok(())
+}
+
+#[test]
+fn find_all_in_of_a_search(rt: HostRuntime) -> Result<(), AllocError> {
+    let built = build(rt.alloc(), false, true).or(Err(AllocError));
+    let (search, span) = (built?, Span { start: 1, end: 8 });
+    let all = match search.find_all_in(b"axqaxeax", span) {
+        Ok(all) => all,
+        Err(_) => {
+            assert_finds(&rt, &search, true);
+            let again = search.find_all_in(b"axqaxeax", span);
+            again.expect(&rt, "it was refused again")
+        }
+    };
+    assert_place(&rt, all.first().copied(), 1, (3, 6));
+    assert!(rt; all.len() == 2);
+    Ok(())
+}
+
 /// A search for everything that occurs of patterns that are ends of others, and of one that stands twice.
 fn build_overlapping(alloc: Global) -> Result<Overlapping, BuildError> {
     let words = [b"abc".as_slice(), b"c", b"bc", b"c"];

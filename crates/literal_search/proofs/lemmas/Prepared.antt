@@ -200,6 +200,23 @@ prints_pass a value prints (Some f) view pass is some =
     subst (λ p. AllPass p a.ignore_case (patterns_in a)) (sym (is some))
     (subst (λ (v : SearchValue). AllPass f.now v.ignore_case v.query.patterns) (sym view) pass)
 
+-- so many places are those in front, one for each pattern, the rows, and the fingerprints
+pub takes_places : (a : Inside) → IsSound a → (needed : ℕ)
+    → needed ≡ 262 + length (patterns_in a) + length a.rows + 129
+    → TakesPlaces (let q : Query = record { kind = a.kind; patterns = patterns_in a } in q) a.ignore_case needed
+unfolding TakesPlaces
+takes_places a sound needed is = (
+  a.classes.table,
+  subst (AreClasses a.classes.table) sound.width sound.classes,
+  sound.tells,
+  (
+    length a.rows,
+    subst (λ width. IsRowsLength (root_kind_of a.kind) (map (symbols_in a.classes.table) (patterns_in a)) width
+        (length a.rows)) sound.width sound.rows,
+    is,
+  ),
+)
+
 -- what `write` answers for the parts of a `Search`, and the numbers of its fingerprints
 module _ (a : Inside) (sound : IsSound a) (old new prints : List ℕ) (size : length prints ≡ 129)
     (least : shortest_by prints ≤ a.shortest)
@@ -218,23 +235,11 @@ module _ (a : Inside) (sound : IsSound a) (old new prints : List ℕ) (size : le
         (λ i below. let all = sound.shortest i below in omega (arith, all, least)) pass
 
     takes : TakesPlaces query a.ignore_case (length all)
-    unfolding TakesPlaces
-    takes = (
-      a.classes.table,
-      subst (AreClasses a.classes.table) sound.width sound.classes,
-      sound.tells,
-      (
-        length a.rows,
-        subst (λ width. IsRowsLength (root_kind_of a.kind) (map (symbols_in a.classes.table) (patterns_in a)) width
-            (length a.rows)) sound.width sound.rows,
-        omega (
-          arith,
-          numbers_long PREPARED_VERSION a.classes.table a.classes.width (patterns_in a) a.rows [] prints
-              sound.classes.each,
-          size,
-        ),
-      ),
-    )
+    takes = takes_places a sound (length all) (omega (
+      arith,
+      numbers_long PREPARED_VERSION a.classes.table a.classes.width (patterns_in a) a.rows [] prints sound.classes.each,
+      size,
+    ))
 
     pub prepare_ok : (result : Result ℕ PrepareError)
         → IfOk result (λ needed. (needed ≤ length old) × (length prints < 2 ^ 32) × Puts 0 all old new

@@ -1,9 +1,10 @@
 -- The fields of a `Search`.
-use Rattle.std.specs.Prelude.{◌≡◌, ◌+◌, ◌*◌, ◌≤◌, ℕ, IfSome, List, length, map}
+use Rattle.std.specs.Prelude.{◌≡◌, ◌+◌, ◌*◌, ◌<◌, ◌≤◌, ℕ, IfSome, List, length, map}
 use Rattle.literal_base.specs.Counts.{Counts}
 use Rattle.literal_base.specs.Kinds.{root_kind_of}
 use Rattle.literal_fingerprints.specs.FingerprintsValue.{AllPass}
-use Rattle.literal_search.specs.SearchValue.{CanBeKept, SearchValue, search_by, longest_of, width_for}
+use Rattle.literal_search.specs.SearchValue.{CanBeKept, SearchValue, search_by, longest_of, shortest_of}
+use Rattle.literal_search.specs.SearchValue.{width_for}
 use Rattle.literal_search.specs.Inside.Classes.{AreClasses, Tells, symbols_in}
 use Rattle.literal_search.specs.SearchValue.{NoneIsShorter}
 use Rattle.literal_search.specs.States.{IsRowsLength}
@@ -22,6 +23,10 @@ patterns_in a = map (λ pattern. pattern.items) a.patterns.items
 abbrev pub search_value : Inside → SearchValue
 search_value a = search_by a.kind a.ignore_case (patterns_in a)
 
+-- so long is the shortest of some patterns, where there is one
+abbrev pub IsShortestOf : ℕ → List (List ℕ) → Type 0
+IsShortestOf n patterns = 0 < length patterns → n ≡ shortest_of patterns
+
 -- what the fields keep: each byte has a class, by which those of the patterns are told from others, and the rows, one
 -- for each state, recognise the classes of the patterns, none of which is empty
 pub record IsSound (a : Inside) : Type 0 where
@@ -34,6 +39,7 @@ pub record IsSound (a : Inside) : Type 0 where
       (length a.rows)
   pub longest : a.longest ≡ longest_of (patterns_in a)
   pub shortest : NoneIsShorter a.shortest (patterns_in a)
+  pub shortest_is : IsShortestOf a.shortest (patterns_in a)
   pub fingerprints : IfSome a.fingerprints (λ f. AllPass f a.ignore_case (patterns_in a))
   pub kept : CanBeKept (patterns_in a)
 

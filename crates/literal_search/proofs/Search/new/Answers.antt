@@ -6,7 +6,7 @@ use Rattle.literal_base.specs.Kinds.{root_kind_of}
 use Rattle.literal_fingerprints.specs.FingerprintsValue.{AllPass}
 use Rattle.literal_search.specs.SearchValue.{NeedTooManyStates, longest_of, width_for}
 use Rattle.literal_search.specs.Inside.Classes.{Tells}
-use Rattle.literal_search.specs.Inside.Search.{IsSound}
+use Rattle.literal_search.specs.Inside.Search.{IsShortestOf, IsSound}
 use Rattle.literal_search.specs.SearchValue.{NoneIsShorter}
 use Rattle.literal_search.specs.declared.Search.TheInside.{Inside}
 use Rattle.literal_search.specs.declared.classes.ClassNumbers.{ClassNumbers}
@@ -53,7 +53,10 @@ invariant_of-result g c =
           (map (λ (pattern : Vec ℕ Global). pattern.items) patterns)) c.deref-3.ensures.value;
       shortest = subst (λ (patterns : List (Vec ℕ Global)). NoneIsShorter c.shortest_len-shortest.result
           (map (λ (pattern : Vec ℕ Global). pattern.items) patterns)) c.deref-4.ensures.value
-          c.shortest_len-shortest.ensures;
+          c.shortest_len-shortest.ensures.none;
+      shortest_is = subst (λ (patterns : List (Vec ℕ Global)). IsShortestOf c.shortest_len-shortest.result
+          (map (λ (pattern : Vec ℕ Global). pattern.items) patterns)) c.deref-4.ensures.value
+          c.shortest_len-shortest.ensures.shortest;
       fingerprints = subst (λ (patterns : List (Vec ℕ Global)). IfSome c.new-fingerprints.result
           (λ f. AllPass f c.args.ignore_case (map (λ (pattern : Vec ℕ Global). pattern.items) patterns)))
           c.deref-5.ensures.value c.new-fingerprints.ensures.pass;
