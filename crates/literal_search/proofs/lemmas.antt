@@ -29,6 +29,7 @@ pub mod Recognised
 pub mod Replaced
 pub mod Rows
 pub mod Scan
+pub mod SoFar
 pub mod Standard
 pub mod Standing
 pub mod States

@@ -30,6 +30,7 @@ mod linear;
 mod overlapping;
 mod prepared;
 mod prepared_overlapping;
+mod prepared_so_far;
 mod reading;
 mod replace;
 mod rows;

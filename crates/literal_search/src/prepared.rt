@@ -6,7 +6,7 @@ ghost use Rattle.std.specs.Prelude.{slice_index, slice_range};
 ghost use Rattle.std.specs.Result.{IsOkAnd};
 ghost use Rattle.literal_base.specs.Occurs.{IsValidSpan};
 ghost use Rattle.literal_base.specs.Leftmost.{IsLeftmost};
-ghost use Rattle.literal_search.specs.Prepared.{AreShort, ForPrepared, HasParts, IsWhole, LiesIn, check_of};
+ghost use Rattle.literal_search.specs.Prepared.{AreShort, ForPrepared, HasParts, IsWhole, LiesIn, check_of, longest_in};
 ghost use Rattle.literal_search.specs.SearchValue.{ScansWithin};
 ghost use Rattle.literal_search.specs.Inside.Prepared.{IsFront, Puts, RefusesArray, numbers_for, table_of};
 
@@ -185,6 +185,13 @@ impl<'p> Prepared<'p> {
     {
         let end = LENGTHS_AT + self.front.lengths.len() + self.front.rows.len();
         is_checked(self.front.numbers, end)
+    }
+
+    /// How many bytes the longest pattern has, by the numbers.
+    pub fn max_pattern_len(&self) -> usize
+        ensures { result ≡ longest_in self.now }
+    {
+        self.front.longest
     }
 
     /// The leftmost match in a span of the haystack, for which the same holds as for
