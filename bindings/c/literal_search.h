@@ -147,7 +147,7 @@ int32_t literal_find(uint32_t kind, bool ignore_case, const uint8_t *patterns, s
  * Give room for at least one match. With found_len 0 and a match left, nothing is written, page->next stays at the
  * offset, and a loop would spin for ever. Behind its last match a page looks whether another one is left, and the next
  * page searches these bytes again: with room for n matches one search in n is made twice, and pages of one match read
- * the bytes between matches twice.
+ * the bytes between matches twice. literal_find_so_far_in finds each match once.
  *
  * LITERAL_OK             found and page are written, also where no pattern occurs (then page->written is 0)
  * LITERAL_NO_SEARCHER    the patterns can't be searched for
@@ -248,9 +248,10 @@ int32_t literal_find_in(const uint32_t *prepared, size_t prepared_len, const uin
  * pattern would fit in between its start and the end of the haystack; next is its end, for the next call. Else next is
  * the first place at which a match may still begin: nobody needs the bytes before it any more, which are all but one
  * less than the longest pattern has. Keep those from there on, put what comes next behind them, and call again with the
- * place where they begin now for start. Whoever reads little at a time calls once twice as many bytes as the longest
- * pattern has are held, or no more come: so each byte is searched twice at most. With more false it is the leftmost
- * match of the bytes from start on, as of literal_find_in, or next is haystack_len.
+ * place where they begin now for start. Whoever reads little at a time reads at least as many bytes as are kept before
+ * the next call, or up to the end: then all calls together search each byte twice at most, but behind each match, where
+ * a call may look ahead as far as the longest pattern is long. With more false it is the leftmost match of the bytes
+ * from start on, as of literal_find_in, or next is haystack_len.
  *
  * LITERAL_OK             found holds the match, and next its end
  * LITERAL_NONE           whatever follows, no match begins before next; found stays as it was

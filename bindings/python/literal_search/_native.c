@@ -290,7 +290,7 @@ static PyObject *search_split(PyObject *self, PyObject *const *given, Py_ssize_t
 }
 
 /* What is wanted of a part of a text, as _stream.py says. */
-typedef enum { MATCHES, COUNT, REPLACED } OfPart;
+enum { MATCHES, COUNT, REPLACED };
 
 static PyObject *wanted_of(Walk *walk, int wanted, PyObject *replacement) {
     if (wanted == MATCHES)
@@ -304,8 +304,8 @@ static PyObject *wanted_of(Walk *walk, int wanted, PyObject *replacement) {
 }
 
 PyDoc_STRVAR(so_far_doc, "_so_far($self, part, start, before, more, wanted, replacement, /)\n--\n\n"
-"What is known of part[start:], where so much of the text came before the part, and more may follow: what is wanted, up\n"
-"to which offset in the part that is so, and whether no more is known. Of matches it lists some thousands at once.");
+"What is known of part[start:], where so much of the text came before the part, and more may follow: what is wanted,\n"
+"up to which offset in the part that is so, and whether no more is known. Of matches it lists some thousands at once.");
 
 static PyObject *search_so_far(PyObject *of, PyObject *given) {
     PyObject *part, *start, *replacement, *answer;

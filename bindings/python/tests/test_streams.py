@@ -119,6 +119,9 @@ class Refusals(unittest.TestCase):
         for size in (1, 2, 40):
             file = Pieces(b"a bc a....bc", size, why, b"d")
             self.assertIs(self.assert_ends(searcher, file, OSError, [(0, 0, 1), (0, 5, 6)]), why)
+        # (the last byte makes it known, and is not searched before reading fails)
+        file = Pieces(b"axxxxxxx", 7, why)
+        self.assert_ends(Search([b"a", b"bcdefghi"]), file, OSError, [(0, 0, 1)])
         out = io.BytesIO()
         with self.assertRaises(OSError):
             searcher.sub_stream(Pieces(b"a bc a....bc", 1, why), out, b"-")
