@@ -31,6 +31,10 @@ rows_at numbers = LENGTHS_AT + slice_index numbers 3
 abbrev pub rows_end : List ℕ → ℕ
 rows_end numbers = rows_at numbers + slice_index numbers 4
 
+-- how long the longest pattern is, by the sixth number
+abbrev pub longest_in : List ℕ → ℕ
+longest_in numbers = slice_index numbers 5
+
 -- the classes of all bytes
 abbrev pub classes_in : List ℕ → List ℕ
 classes_in numbers = slice_range numbers CLASSES_AT LENGTHS_AT
@@ -88,7 +92,7 @@ pub record IsWhole (numbers : List ℕ) : Type 0 where
 -- length of each, rows that recognise their texts in these classes, and fingerprints that let all of them pass, if any
 pub record IsPrepared (query : Query) (ignore_case : Bool) (numbers : List ℕ) : Type 0 where
   pub whole : IsWhole numbers
-  pub longest : slice_index numbers 5 ≡ longest_of query.patterns
+  pub longest : longest_in numbers ≡ longest_of query.patterns
   pub classes : AreClasses (classes_in numbers) (width_in numbers)
   pub tells : Tells ignore_case (classes_in numbers) query.patterns
   pub lengths : lengths_in numbers ≡ map (λ bytes. length bytes) query.patterns

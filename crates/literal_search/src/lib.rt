@@ -35,6 +35,7 @@ mod linear;
 mod overlapping;
 mod prepared;
 mod prepared_overlapping;
+mod prepared_so_far;
 mod reading;
 mod replace;
 mod replace_stream;

@@ -7,7 +7,7 @@ ghost use Rattle.std.specs.Result.{IsOkAnd};
 ghost use Rattle.literal_base.specs.Occurs.{IsValidSpan};
 ghost use Rattle.literal_base.specs.Leftmost.{IsLeftmost};
 ghost use Rattle.literal_search.specs.Prepared.{AreShort, ForPrepared, HasAllParts, HasParts, IsWhole, LiesIn};
-ghost use Rattle.literal_search.specs.Prepared.{check_of, fingerprints_by, shortest_by};
+ghost use Rattle.literal_search.specs.Prepared.{check_of, fingerprints_by, longest_in, shortest_by};
 ghost use Rattle.literal_search.specs.SearchValue.{ScansWithin};
 ghost use Rattle.literal_search.specs.Inside.Prepared.{IsFront, Puts, RefusesArray, numbers_for, table_of};
 ghost use Rattle.literal_search.specs.Inside.Scan.{IsTableOf};
@@ -218,6 +218,13 @@ impl<'p> Prepared<'p> {
     {
         let end = LENGTHS_AT + self.front.lengths.len() + self.front.rows.len() + FINGERPRINTS_LEN;
         is_checked(self.front.numbers, end)
+    }
+
+    /// How many bytes the longest pattern has, by the numbers.
+    pub fn max_pattern_len(&self) -> usize
+        ensures { result ≡ longest_in self.now }
+    {
+        self.front.longest
     }
 
     /// The leftmost match in a span of the haystack, for which the same holds as for
