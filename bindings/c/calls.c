@@ -81,6 +81,12 @@ static void by_prepared(const uint8_t *text, size_t len) {
     size_t lines[2] = {len, len}, count = 0;
     CHECK(literal_find_in(prepared, PLACES, text, len, 14, len, found) == LITERAL_OK && is(found, 0, 28, 33));
     CHECK(literal_find_in(prepared, PLACES, text, len, 14, len + 1, found) == LITERAL_BAD_ARGUMENTS);
+    CHECK(literal_find_so_far_in(prepared, PLACES, text, 19, 0, true, found, &count) == LITERAL_NONE && count == 13);
+    CHECK(literal_find_so_far_in(prepared, PLACES, text, 20, 13, true, found, &count) == LITERAL_OK && count == 18);
+    CHECK(is(found, 1, 13, 18));
+    CHECK(literal_find_so_far_in(prepared, PLACES, text, len, 34, false, found, &count) == LITERAL_OK && count == 50);
+    CHECK(literal_find_so_far_in(prepared, PLACES, text, 20, 21, true, found, &count) == LITERAL_BAD_ARGUMENTS);
+    CHECK(is(found, 2, 43, 50) && count == 50);
     CHECK(literal_find_all_in(prepared, PLACES, text, len, 14, 50, found, 3, &page) == LITERAL_OK);
     CHECK(page.written == 2 && page.is_last == 1 && is(&found[0], 0, 28, 33) && is(&found[1], 2, 43, 50));
     CHECK(literal_find_overlapping_in(for_all, PLACES, text, len, 14, len, found, 3, &page) == LITERAL_OK);
@@ -111,6 +117,8 @@ static void by_null(const uint8_t *text, size_t len) {
     CHECK(literal_check_overlapping(NULL, 0) == LITERAL_DAMAGED);
     CHECK(literal_find_in(NULL, 0, text, len, 0, len, &found) == LITERAL_DAMAGED);
     CHECK(literal_find_in(prepared, PLACES, NULL, 0, 0, 0, &found) == LITERAL_NONE && is(&found, 7, 8, 9));
+    CHECK(literal_find_so_far_in(NULL, 0, text, len, 0, true, &found, &needed) == LITERAL_DAMAGED && needed == 0);
+    CHECK(literal_find_so_far_in(prepared, PLACES, NULL, 0, 0, false, &found, &needed) == LITERAL_NONE);
     CHECK(literal_find_all_in(prepared, PLACES, NULL, 0, 0, 0, NULL, 0, &page) == LITERAL_OK && page.is_last == 1);
     CHECK(literal_find_overlapping_in(for_all, PLACES, NULL, 0, 0, 0, NULL, 0, &page) == LITERAL_OK);
     CHECK(page.written == 0 && page.next == 0 && page.is_last == 1);

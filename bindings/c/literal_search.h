@@ -24,9 +24,10 @@
  * Each call checks its arguments and answers one of the statuses below. The checks come in their order: first
  * LITERAL_BAD_ARGUMENTS, then LITERAL_NO_SEARCHER, then the two that come while the search is built,
  * LITERAL_OUT_OF_MEMORY and LITERAL_TOO_LARGE, then LITERAL_TOO_SHORT. What a call writes, it writes only where it
- * answers LITERAL_OK: after any other status the memory that it was lent is as it was. There are two exceptions:
- * literal_prepare and literal_prepare_overlapping tell by LITERAL_TOO_SHORT how long the array has to be, and with
- * LITERAL_DAMAGED some of the places for matches or answers may be written.
+ * answers LITERAL_OK: after any other status the memory that it was lent is as it was. There are exceptions:
+ * literal_prepare and literal_prepare_overlapping tell by LITERAL_TOO_SHORT how long the array has to be,
+ * literal_find_so_far_in by LITERAL_NONE where to go on, and with LITERAL_DAMAGED some of the places for matches or
+ * answers may be written.
  *
  * The table of a search has a row for each different beginning of a pattern, and in each row a place for each different
  * byte that stands in patterns, and two more (one, if all 256 stand there). So in LITERAL_TOO_LARGE the patterns decide,
@@ -146,7 +147,7 @@ int32_t literal_find(uint32_t kind, bool ignore_case, const uint8_t *patterns, s
  * Give room for at least one match. With found_len 0 and a match left, nothing is written, page->next stays at the
  * offset, and a loop would spin for ever. Behind its last match a page looks whether another one is left, and the next
  * page searches these bytes again: with room for n matches one search in n is made twice, and pages of one match read
- * the bytes between matches twice.
+ * the bytes between matches twice. literal_find_so_far_in finds each match once.
  *
  * LITERAL_OK             found and page are written, also where no pattern occurs (then page->written is 0)
  * LITERAL_NO_SEARCHER    the patterns can't be searched for
@@ -241,6 +242,23 @@ int32_t literal_check_overlapping(const uint32_t *prepared, size_t prepared_len)
  * LITERAL_DAMAGED        the array is not as it was written */
 int32_t literal_find_in(const uint32_t *prepared, size_t prepared_len, const uint8_t *haystack, size_t haystack_len,
                         size_t start, size_t end, literal_match *found);
+
+/* The leftmost match from start on in a text that comes in pieces. The haystack is what is held of the text, and more
+ * says whether anything may follow it. A match is told once it is the one whatever follows, which is once the longest
+ * pattern would fit in between its start and the end of the haystack; next is its end, for the next call. Else next is
+ * the first place at which a match may still begin: nobody needs the bytes before it any more, which are all but one
+ * less than the longest pattern has. Keep those from there on, put what comes next behind them, and call again with the
+ * place where they begin now for start. Whoever reads little at a time reads at least as many bytes as are kept before
+ * the next call, or up to the end: then all calls together search each byte twice at most, but behind each match, where
+ * a call may look ahead as far as the longest pattern is long. With more false it is the leftmost match of the bytes
+ * from start on, as of literal_find_in, or next is haystack_len.
+ *
+ * LITERAL_OK             found holds the match, and next its end
+ * LITERAL_NONE           whatever follows, no match begins before next; found stays as it was
+ * LITERAL_BAD_ARGUMENTS  start is above haystack_len
+ * LITERAL_DAMAGED        the array is not as it was written */
+int32_t literal_find_so_far_in(const uint32_t *prepared, size_t prepared_len, const uint8_t *haystack,
+                               size_t haystack_len, size_t start, bool more, literal_match *found, size_t *next);
 
 /* As literal_find_all, in the bytes of the haystack from start up to and not including end. To go on, call again with
  * page->next for start.

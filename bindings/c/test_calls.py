@@ -162,6 +162,53 @@ class Pages(unittest.TestCase):
             self.assertEqual(page.next, wanted[min(room, 10) - 1][2] if room else 0)
 
 
+class SoFar(unittest.TestCase):
+    """A text in pieces, of which no more is held than the header says."""
+
+    def spans(self, array, longest, text, size):
+        """All matches in a text that comes in pieces of a size."""
+        found, next_at, held, before, spans = Match(), ctypes.c_size_t(), b"", 0, []
+        for at in (*range(0, len(text), size), len(text)):
+            piece, more = text[at : at + size], at < len(text)
+            held += piece
+            status, start = OK, 0
+            while status == OK:
+                status = CALLS.literal_find_so_far_in(*array, held, len(held), start, more, found, next_at)
+                if status == OK:
+                    spans.append((found.pattern, before + found.start, before + found.end))
+                    self.assertEqual(next_at.value, found.end)
+                start = next_at.value
+            self.assertEqual(status, NONE)
+            before, held = before + start, held[start:]
+            self.assertLess(len(held), longest if more else 1)
+        return spans
+
+    def test_pieces(self):
+        chance = random.Random(5)
+        for _ in range(300):
+            words = [bytes(chance.choices(b"ab", k=chance.randint(1, 5))) for _ in range(chance.randint(1, 4))]
+            text, kind = bytes(chance.choices(b"aabbAc", k=chance.randint(0, 60))), chance.choice((0, 1))
+            array, room, page = prepared(words, kind, kind == 1), (Match * 60)(), Page()
+            self.assertEqual(CALLS.literal_find_all_in(*array, text, len(text), 0, len(text), room, 60, page), OK)
+            wanted = [fields(it) for it in room[: page.written]]
+            for size in (1, 2, 3, 7, 60):
+                self.assertEqual(self.spans(array, max(map(len, words)), text, size), wanted, (words, text, size))
+
+    def test_what_is_known(self):
+        array, found, next_at = prepared([b"ab", b"abcd"]), Match(*BEFORE), ctypes.c_size_t(7)
+        for length, start, more, wanted in (
+            (3, 0, True, (NONE, BEFORE, 0)),
+            (4, 1, True, (NONE, BEFORE, 1)),
+            (4, 5, True, (BAD_ARGUMENTS, BEFORE, 1)),
+            (5, 0, True, (OK, (0, 1, 3), 3)),
+            (5, 2, True, (NONE, (0, 1, 3), 2)),
+            (5, 2, False, (NONE, (0, 1, 3), 5)),
+            (3, 0, False, (OK, (0, 1, 3), 3)),
+        ):
+            status = CALLS.literal_find_so_far_in(*array, b"xabcx", length, start, more, found, next_at)
+            self.assertEqual((status, fields(found), next_at.value), wanted, (length, start, more))
+
+
 class Arrays(unittest.TestCase):
     def test_a_copy_is_whole(self):
         array, length = prepared(WORDS, 1, True)
@@ -226,11 +273,12 @@ class Arrays(unittest.TestCase):
             asked = (lent, given, TEXT, len(TEXT))
             statuses = (
                 CALLS.literal_find_in(*asked, 0, len(TEXT), found[0]),
+                CALLS.literal_find_so_far_in(*asked, 0, True, found[0], number),
                 CALLS.literal_find_all_in(*asked, 0, len(TEXT), found, 2, page),
                 CALLS.literal_find_each_in(*asked, lines, 1, answers, 1),
                 CALLS.literal_count_in(*asked, 0, len(TEXT), number),
             )
-            self.assertEqual(statuses, (DAMAGED,) * 4)
+            self.assertEqual(statuses, (DAMAGED,) * 5)
         for lent, given in (None, 0), (array, length), (for_all, 1), (for_all, longer - 1):
             asked = (lent, given, TEXT, len(TEXT))
             self.assertEqual(CALLS.literal_find_overlapping_in(*asked, 0, len(TEXT), found, 2, page), DAMAGED)
@@ -259,6 +307,10 @@ class Arrays(unittest.TestCase):
             )
             self.assertLessEqual(set(statuses), {OK, NONE, DAMAGED})
             self.assertTrue(statuses[0] != OK or one.pattern < copy[3])
+            place, more = ctypes.c_size_t(7), chance.random() < 0.5
+            status = CALLS.literal_find_so_far_in(*given, 9, more, one, place)
+            self.assertTrue(status == DAMAGED or 9 <= place.value <= len(TEXT))
+            self.assertTrue(status != OK or (9 <= one.start < one.end == place.value and one.pattern < copy[3]))
             if statuses[1] == OK:
                 self.assert_page(copy, page.written, room, page)
             if statuses[2] == OK and answers[0].status == OK:

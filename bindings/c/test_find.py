@@ -57,6 +57,18 @@ class Find(unittest.TestCase):
         self.assertEqual(run(find, text=TEXT), (0, ""))
         self.assertEqual(run(find, "a", "", text=TEXT), refused)
 
+    def test_stream_sanitized(self):
+        stream = self.compiled("stream", *SANITIZED)
+        self.assertEqual(run(stream, *WORDS, text=TEXT), (0, FOUND))
+        self.assertEqual(run(stream, text=TEXT), (0, ""))
+        self.assertEqual(run(stream, "a", "", text=TEXT), (2, "stream: no search for these words\n"))
+        for shift in range(8):
+            text, places = bytearray(b"x" * 200000), [1000, 65530 + shift, 131066 + shift, 199993]
+            for at in places:
+                text[at : at + 7] = b"Snapple"
+            found = "".join(f"2 {at} {at + 7}\n" for at in places)
+            self.assertEqual(run(stream, *WORDS, "applS" * 800, text=text.decode()), (0, found))
+
     def test_calls_sanitized(self):
         self.assertEqual(run(self.compiled("calls", *SANITIZED)), (0, ""))
 

@@ -17,16 +17,18 @@ import stat
 import struct
 import zlib
 from contextlib import suppress
-from itertools import accumulate
-from typing import TYPE_CHECKING, Any, AnyStr, Callable, Iterable, List, Mapping, Optional, Tuple, Type, TypeVar, Union
-from typing import cast, overload
+from itertools import accumulate, chain
+from typing import TYPE_CHECKING, Any, AnyStr, Callable, Iterable, Iterator, List, Mapping, Optional, Tuple, Type
+from typing import TypeVar, Union, cast, overload
 
-from . import _native
+from . import _native, _stream
 from ._native import __version__
 from ._types import Kind, Match
 
 if TYPE_CHECKING:
-    from _typeshed import ReadableBuffer, StrPath
+    from _typeshed import ReadableBuffer, StrPath, SupportsRead, SupportsWrite
+
+    from ._native import _Replacement
 
 __all__ = ["Kind", "Match", "Search", "__version__"]
 
@@ -144,6 +146,47 @@ class Search(_native.Prepared[AnyStr]):
         """
         findall: Callable[[Any], List[Match[Any]]] = self.findall
         return [findall(it) for it in _many(texts)]
+
+    def finditer_stream(self, file: "SupportsRead[Optional[AnyStr]]") -> Iterator[Match[AnyStr]]:
+        """Gives all matches in what a file gives up to its end, as `finditer` does in all of it, whatever pieces it
+        comes in: its offsets are in the whole, and each match has a copy of what was matched. The file has a method
+        `read`, which is asked for 128 KiB at a time, or as many characters. Of the text is kept what `read` gave last,
+        and in front of that twice as many bytes as the longest pattern has, at most. A match is given once that pattern
+        would fit in behind its start.
+
+        What `read` raises, passes through. A file that does not wait, and has nothing, raises BlockingIOError. Either
+        ends the iteration, behind the matches that are known.
+
+        >>> from io import BytesIO
+        >>> [it.span() for it in Search([b"secret"]).finditer_stream(BytesIO(b"a secret secret"))]
+        [(2, 8), (9, 15)]
+        """
+        return chain.from_iterable(_stream.searched(self, file, _stream.MATCHES))
+
+    def count_stream(self, file: "SupportsRead[Optional[AnyStr]]") -> int:
+        """How many matches `finditer_stream` gives.
+
+        >>> from io import StringIO
+        >>> Search(["a"]).count_stream(StringIO("banana"))
+        3
+        """
+        counts: Iterator[int] = _stream.searched(self, file, _stream.COUNT)
+        return sum(counts)
+
+    def sub_stream(
+        self, file: "SupportsRead[Optional[AnyStr]]", out: "SupportsWrite[AnyStr]", replacement: "_Replacement[AnyStr]"
+    ) -> None:
+        """Writes what a file gives to another one, with each match replaced as by `sub`. What is known is written as
+        soon as it is. Where an error comes, of the files or of a function, some of the text is written. What is written
+        to, has to write all that it is given, as each file does that has a buffer.
+
+        >>> from io import StringIO
+        >>> Search(["cat", "dog"]).sub_stream(StringIO("cat and dog"), out := StringIO(), ["dog", "cat"])
+        >>> out.getvalue()
+        'dog and cat'
+        """
+        for part in _stream.searched(self, file, _stream.REPLACED, replacement):
+            out.write(part)
 
     def save(self, path: "StrPath") -> None:
         """Writes the searcher into a file, ready to search. A link is followed. A file that is there already is

@@ -42,10 +42,18 @@ static PyObject *new_match(const size_t shown[SHOWN], PyObject *text, PyObject *
     }
     if (!match)
         return NULL;
-    items_of(match)[WHOLE_TEXT] = Py_NewRef(text);
+    items_of(match)[WHOLE_TEXT] = Py_XNewRef(text);
     items_of(match)[VALUES] = Py_NewRef(values);
     if (leads_on)
         PyObject_GC_Track(match);
+    return match;
+}
+
+/* A match that has what was matched and its value, and no text. */
+static PyObject *match_of_its_own(const size_t shown[SHOWN], PyObject *group, PyObject *value) {
+    PyObject *pair = PyTuple_Pack(2, group, value);
+    PyObject *match = pair ? new_match(shown, NULL, pair, true) : NULL;
+    Py_XDECREF(pair);
     return match;
 }
 

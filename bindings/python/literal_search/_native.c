@@ -117,22 +117,28 @@ static PyObject *search_find_earliest(PyObject *self, PyObject *const *given, Py
     return first_of((Prepared *)self, given, count, names, THE_EARLIEST);
 }
 
-/* The list of all that a walk finds. */
-static PyObject *all_of(Prepared *self, PyObject *const *given, Py_ssize_t count, PyObject *names, bool for_all) {
-    PyObject *asked[3], *all;
-    Walk walk;
+/* The list of what a walk finds: of all, or of so many and what is left of their page. */
+static PyObject *listed(Walk *walk, Py_ssize_t most) {
     const literal_match *found;
-    if (arguments(OF_SEARCH, 1, given, count, names, asked) || walk_begin(&walk, self, for_all, asked))
-        return NULL;
-    all = PyList_New(0);
-    while (all && (found = walk_next(&walk))) {
-        PyObject *match = walk_match(&walk, found);
+    PyObject *all = PyList_New(0);
+    while (all && (PyList_GET_SIZE(all) < most || walk->given < walk->written) && (found = walk_next(walk))) {
+        PyObject *match = walk_match(walk, found);
         if (!match || PyList_Append(all, match))
             Py_CLEAR(all);
         Py_XDECREF(match);
     }
     if (PyErr_Occurred())
         Py_CLEAR(all);
+    return all;
+}
+
+/* The list of all that is found in a text. */
+static PyObject *all_of(Prepared *self, PyObject *const *given, Py_ssize_t count, PyObject *names, bool for_all) {
+    PyObject *asked[3];
+    Walk walk;
+    if (arguments(OF_SEARCH, 1, given, count, names, asked) || walk_begin(&walk, self, for_all, asked))
+        return NULL;
+    PyObject *all = listed(&walk, PY_SSIZE_T_MAX);
     walk_end(&walk);
     return all;
 }
@@ -154,18 +160,24 @@ static PyObject *search_find_overlapping(PyObject *self, PyObject *const *given,
 }
 
 /* How many matches a walk finds. */
+static PyObject *counted(Walk *walk) {
+    size_t matches = 0;
+    while (walk_next(walk)) {
+        matches += 1 + walk->written - walk->given;
+        walk->given = walk->written;
+    }
+    return PyErr_Occurred() ? NULL : PyLong_FromSize_t(matches);
+}
+
+/* How many are found in a text. */
 static PyObject *count_of(Prepared *self, PyObject *const *given, Py_ssize_t count, PyObject *names, bool for_all) {
     PyObject *asked[3];
     Walk walk;
-    size_t matches = 0;
     if (arguments(OF_SEARCH, 1, given, count, names, asked) || walk_begin(&walk, self, for_all, asked))
         return NULL;
-    while (walk_next(&walk)) {
-        matches += 1 + walk.written - walk.given;
-        walk.given = walk.written;
-    }
+    PyObject *answer = counted(&walk);
     walk_end(&walk);
-    return PyErr_Occurred() ? NULL : PyLong_FromSize_t(matches);
+    return answer;
 }
 
 PyDoc_STRVAR(count_doc, "count($self, /, text, start=0, end=None)\n--\n\n"
@@ -275,6 +287,42 @@ static PyObject *search_split(PyObject *self, PyObject *const *given, Py_ssize_t
     parts = split_up(&walk, most);
     walk_end(&walk);
     return parts;
+}
+
+/* What is wanted of a part of a text, as _stream.py says. */
+enum { MATCHES, COUNT, REPLACED };
+
+static PyObject *wanted_of(Walk *walk, int wanted, PyObject *replacement) {
+    if (wanted == MATCHES)
+        return listed(walk, LARGEST_PAGE);
+    if (wanted == COUNT)
+        return counted(walk);
+    PyObject *by = replacements(walk->search, replacement, walk->text.is_str);
+    PyObject *answer = by ? part_replaced(walk, by) : NULL;
+    Py_XDECREF(by);
+    return answer;
+}
+
+PyDoc_STRVAR(so_far_doc, "_so_far($self, part, start, before, more, wanted, replacement, /)\n--\n\n"
+"What is known of part[start:], where so much of the text came before the part, and more may follow: what is wanted,\n"
+"up to which offset in the part that is so, and whether no more is known. Of matches it lists some thousands at once.");
+
+static PyObject *search_so_far(PyObject *of, PyObject *given) {
+    PyObject *part, *start, *replacement, *answer;
+    Py_ssize_t before;
+    int more, wanted;
+    Walk walk;
+    if (!PyArg_ParseTuple(given, "OOnpiO:_so_far", &part, &start, &before, &more, &wanted, &replacement) ||
+        walk_begin(&walk, (Prepared *)of, false, (PyObject *const[3]){part, start}))
+        return NULL;
+    walk.is_part = true;
+    walk.more = more;
+    walk.before = (size_t)before;
+    answer = wanted_of(&walk, wanted, replacement);
+    if (answer)
+        answer = Py_BuildValue("(NnO)", answer, (Py_ssize_t)searched_to(&walk), walk.is_done ? Py_True : Py_False);
+    walk_end(&walk);
+    return answer;
 }
 
 /* ---- The iterator ---- */
@@ -434,6 +482,7 @@ static PyMethodDef search_methods[] = {
     CALL(subn),
     CALL(split),
     {"_prepare", search_prepare, METH_VARARGS, prepare_doc},
+    {"_so_far", search_so_far, METH_VARARGS, so_far_doc},
     {"__class_getitem__", Py_GenericAlias, METH_O | METH_CLASS, "Search[str] and Search[bytes], for annotations."},
     {0},
 };

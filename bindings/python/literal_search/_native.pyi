@@ -119,6 +119,9 @@ class Prepared(Generic[AnyStr]):
     def split(self: Prepared[str], text: str, maxsplit: SupportsIndex = 0) -> List[str]: ...
     @overload
     def split(self: Prepared[bytes], text: ReadableBuffer, maxsplit: SupportsIndex = 0) -> List[bytes]: ...
+    def _so_far(
+        self, part: AnyStr, start: int, before: int, more: bool, wanted: int, replacement: Any, /
+    ) -> Tuple[Any, int, bool]: ...
     def _prepare(
         self,
         patterns: Tuple[AnyStr, ...],

@@ -141,6 +141,12 @@ static PyObject *whole_of(const Text *text) {
     return part_of(text, (Place){0, 0}, end);
 }
 
+/* What was written, as str or bytes. */
+static PyObject *written(const Out *out, bool is_str) {
+    return is_str ? PyUnicode_DecodeUTF8((const char *)out->bytes, (Py_ssize_t)out->len, "surrogatepass")
+                  : PyBytes_FromStringAndSize((const char *)out->bytes, (Py_ssize_t)out->len);
+}
+
 /* The text of a walk with at most so many matches replaced, from the left. */
 static PyObject *replaced(Walk *walk, PyObject *by, size_t most, size_t *done) {
     Out out;
@@ -157,9 +163,25 @@ static PyObject *replaced(Walk *walk, PyObject *by, size_t most, size_t *done) {
         if (*done == 0)
             answer = whole_of(&walk->text);
         else if (!out_add(&out, walk->text.bytes + at, walk->text.len - at))
-            answer = walk->text.is_str
-                         ? PyUnicode_DecodeUTF8((const char *)out.bytes, (Py_ssize_t)out.len, "surrogatepass")
-                         : PyBytes_FromStringAndSize((const char *)out.bytes, (Py_ssize_t)out.len);
+            answer = written(&out, walk->text.is_str);
+    }
+    out_end(&out);
+    return answer;
+}
+
+/* What is searched of a part of a text, with all matches replaced. */
+static PyObject *part_replaced(Walk *walk, PyObject *by) {
+    Out out;
+    size_t at = walk->start;
+    const literal_match *found = NULL;
+    PyObject *answer = NULL;
+    out_begin(&out);
+    while ((found = walk_next(walk)) && !replace_one(&out, walk, by, at, found))
+        at = found->end;
+    if (!PyErr_Occurred()) {
+        searched_to(walk);
+        if (!out_add(&out, walk->text.bytes + at, walk->place.byte - at))
+            answer = written(&out, walk->text.is_str);
     }
     out_end(&out);
     return answer;

@@ -26,6 +26,8 @@ typedef struct {
     Prepared *search;
     Text text;
     bool for_all, is_done; /* (done: nothing is left to be searched) */
+    bool is_part, more;    /* whether the text is a part of one that is read; whether more may follow it */
+    size_t before;         /* how much came before this part, as offsets count */
     size_t start, at, end;
     Place place; /* how far offsets are counted */
     literal_match *matches, first[FIRST_PAGE];
@@ -40,13 +42,11 @@ static size_t piece_len(const Prepared *search) {
     return search->pieces.longest / 4 > PIECE ? search->pieces.longest / 4 : PIECE;
 }
 
-/* Cuts the next piece from the bytes between `at` and `end`. Every occurrence that begins before the cut ends within
- * the piece. So the matches of the piece that begin there are right; what follows is searched again from the cut on. */
-static size_t cut_piece(const Prepared *search, size_t at, size_t end, size_t *piece_end) {
-    size_t len = piece_len(search);
-    size_t cut = end - at > len ? at + len : end;
-    *piece_end = end - cut > search->pieces.longest ? cut + search->pieces.longest : end;
-    return *piece_end == end ? end : cut;
+/* Where the next piece of the bytes between `at` and `end` ends. What is found in it is what the whole text has, since
+ * the library is told that more follows. */
+static size_t end_of_piece(const Prepared *search, size_t at, size_t end) {
+    size_t len = piece_len(search) + search->pieces.longest;
+    return end - at > len ? at + len : end;
 }
 
 /* How many matches to find at once. With a long pattern they are fewer, since behind each match the library may look as
@@ -56,34 +56,31 @@ static size_t most_matches(const Prepared *search, size_t wanted) {
     return most < 2 ? 1 : most < wanted ? most : wanted;
 }
 
-/* Whether matches lie one after another between two places. It is so, unless the prepared search is damaged. */
-static bool are_in_order(const literal_match *matches, size_t count, size_t at, size_t end) {
-    for (size_t i = 0; i < count; i++) {
-        if (matches[i].start < at || matches[i].end <= matches[i].start || matches[i].end > end)
-            return false;
-        at = matches[i].end;
-    }
-    return true;
+/* Whether nothing is found: 0, or -1 with an error. No search keeps as many bytes as the longest pattern has, unless it
+ * is damaged: then it might never come to an end. */
+static int none_found(const Prepared *search, int32_t status, size_t kept) {
+    if (status == LITERAL_NONE && kept > 0 && kept >= search->pieces.longest)
+        status = LITERAL_DAMAGED;
+    return status == LITERAL_NONE ? 0 : refuse(status);
 }
 
 /* ---- One match ---- */
 
 /* Finds the first match between two places: 1, or 0 if there is none, or -1 with an error. */
 static int find_first(const Prepared *search, const Text *text, size_t at, size_t end, literal_match *found) {
-    size_t words_len, piece_end, cut;
+    size_t words_len;
     const uint32_t *words = words_of(search->prepared, &words_len);
-    for (;; at = cut) {
-        cut = cut_piece(search, at, end, &piece_end);
+    for (;;) {
+        size_t piece_end = end_of_piece(search, at, end);
         PyThreadState *state = let_others_run(piece_end - at);
-        int32_t status = literal_find_in(words, words_len, text->bytes, text->len, at, piece_end, found);
+        int32_t status = literal_find_so_far_in(words, words_len, text->bytes, piece_end, at, piece_end < end, found,
+                                                &at);
         come_back(state);
-        if (status != LITERAL_OK && status != LITERAL_NONE)
-            return refuse(status);
-        if (status == LITERAL_OK && !are_in_order(found, 1, at, piece_end))
-            return refuse(LITERAL_DAMAGED);
-        if (status == LITERAL_OK && found->start < cut)
+        if (status == LITERAL_OK)
             return 1;
-        if (cut == end)
+        if (none_found(search, status, piece_end - at))
+            return -1;
+        if (piece_end == end)
             return 0;
         if (PyErr_CheckSignals())
             return -1;
@@ -127,6 +124,8 @@ static int walk_begin(Walk *walk, Prepared *search, bool for_all, PyObject *cons
     }
     walk->search = (Prepared *)Py_NewRef((PyObject *)search);
     walk->for_all = for_all;
+    walk->is_part = walk->more = false;
+    walk->before = 0;
     walk->start = walk->at = walk->place.byte;
     walk->is_done = walk->at == walk->end;
     walk->matches = walk->first;
@@ -159,46 +158,28 @@ static int walk_widen(Walk *walk) {
     return 0;
 }
 
-/* Takes over what the library wrote of a piece, up to the cut. */
-static int take_page(Walk *walk, const literal_page *page, size_t cut, size_t piece_end) {
-    size_t count = page->written, at = walk->at;
-    if (count > walk->room || (count == 0 && !page->is_last) ||
-        !are_in_order(walk->matches, count, at, piece_end))
-        return refuse(LITERAL_DAMAGED);
-    while (count > 0 && walk->matches[count - 1].start >= cut)
-        count--;
-    if (count > 0)
-        at = walk->matches[count - 1].end;
-    if ((page->is_last || count < page->written) && at < cut)
-        at = cut;
+/* Finds the matches of the next piece, as many as there is room for. */
+static int page_of_matches(Walk *walk) {
+    size_t words_len, at = walk->at, count = 0, piece_end = end_of_piece(walk->search, at, walk->end);
+    const uint32_t *words = words_of(walk->search->prepared, &words_len);
+    bool more = walk->more || piece_end < walk->end;
+    int32_t status = LITERAL_OK;
+    PyThreadState *state = let_others_run(piece_end - at);
+    while (count < walk->room && status == LITERAL_OK) {
+        status = literal_find_so_far_in(words, words_len, walk->text.bytes, piece_end, at, more, &walk->matches[count],
+                                        &at);
+        count += status == LITERAL_OK;
+    }
+    come_back(state);
+    if (status != LITERAL_OK && none_found(walk->search, status, piece_end - at))
+        return -1;
     walk->at = at;
-    walk->is_done = page->is_last && cut == walk->end;
+    walk->is_done = status == LITERAL_NONE && piece_end == walk->end;
     walk->written = count;
     walk->given = 0;
     if (count > 0 && walk->room < LARGEST_PAGE)
         walk->wanted = most_matches(walk->search, LARGEST_PAGE);
     return 0;
-}
-
-/* Finds the matches of the next piece, as many as there is room for. A page of one looks no further: else each search
- * would be made twice. */
-static int page_of_matches(Walk *walk) {
-    size_t words_len, piece_end, cut = cut_piece(walk->search, walk->at, walk->end, &piece_end);
-    const uint32_t *words = words_of(walk->search->prepared, &words_len);
-    const Text *text = &walk->text;
-    literal_page page;
-    int32_t status;
-    PyThreadState *state = let_others_run(piece_end - walk->at);
-    if (walk->room > 1) {
-        status = literal_find_all_in(words, words_len, text->bytes, text->len, walk->at, piece_end, walk->matches,
-                                     walk->room, &page);
-    } else {
-        status = literal_find_in(words, words_len, text->bytes, text->len, walk->at, piece_end, walk->matches);
-        page = (literal_page){status == LITERAL_OK, 0, status == LITERAL_NONE};
-        status = status == LITERAL_NONE ? LITERAL_OK : status;
-    }
-    come_back(state);
-    return status == LITERAL_OK ? take_page(walk, &page, cut, piece_end) : refuse(status);
 }
 
 /* Takes over what ends behind `at`, and is whole: where there was not room for all, what ends with the last that was
@@ -285,8 +266,30 @@ static PyObject *match_at(const Prepared *search, const Text *text, Place *place
                      search->leads_on || leads_on(text));
 }
 
+/* The same of a part of a text. It is not held, so the match has a copy of what was matched. */
+static PyObject *match_of_part(Walk *walk, const literal_match *found) {
+    PyObject *of = walk->search->values ? walk->search->values : walk->search->patterns;
+    Place start = walk->place;
+    offset_of(&walk->text, &start, found->start);
+    walk->place = start;
+    offset_of(&walk->text, &walk->place, found->end);
+    PyObject *group = part_of(&walk->text, start, walk->place);
+    size_t shown[SHOWN] = {found->pattern, walk->before + start.offset, walk->before + walk->place.offset};
+    PyObject *match = group ? match_of_its_own(shown, group, PyTuple_GET_ITEM(of, (Py_ssize_t)found->pattern)) : NULL;
+    Py_XDECREF(group);
+    return match;
+}
+
 static PyObject *walk_match(Walk *walk, const literal_match *found) {
-    return match_at(walk->search, &walk->text, &walk->place, found);
+    return walk->is_part ? match_of_part(walk, found) : match_at(walk->search, &walk->text, &walk->place, found);
+}
+
+/* Up to where a part is searched, as offsets count: where a character begins. */
+static size_t searched_to(Walk *walk) {
+    size_t at = walk->at;
+    while (walk->text.is_wide && at > walk->place.byte && at < walk->text.len && (walk->text.bytes[at] & 0xC0) == 0x80)
+        at--;
+    return offset_of(&walk->text, &walk->place, at);
 }
 
 #endif

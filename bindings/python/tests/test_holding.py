@@ -15,6 +15,7 @@ import weakref
 from collections import deque
 from concurrent.futures import ThreadPoolExecutor
 from contextlib import contextmanager, suppress
+from io import BytesIO, StringIO
 from itertools import islice
 
 from literal_search import Match, Search
@@ -41,6 +42,14 @@ def calls_of(searcher):
     yield lambda text: searcher.sub(b"-", text)
     yield lambda text: searcher.find_each([text])
     yield lambda text: searcher.findall_each([text])
+
+
+def streams_of(searcher):
+    """Each call that takes a file, by what it gives."""
+    file_of = lambda text: StringIO(text) if isinstance(text, str) else BytesIO(text)
+    yield lambda text: list(searcher.finditer_stream(file_of(text)))
+    yield lambda text: searcher.count_stream(file_of(text))
+    yield lambda text: searcher.sub_stream(file_of(text), BytesIO(), lambda it: it.group())
 
 
 @contextmanager
@@ -128,6 +137,7 @@ class Leaks(unittest.TestCase):
     def test_no_call_keeps_memory(self):
         """Neither one that answers, nor one that refuses what it is given."""
         calls = [*calls_of(Search(WORDS)), *calls_of(Search(["apple", "ä"]))]
+        calls += [*streams_of(Search(WORDS)), *streams_of(Search(["apple", "ä"]))]
         calls.append(lambda it: Search([it, b"b"]).find_overlapping(b"ab"))
         texts = [TEXT, bytearray(TEXT * 3), TEXT.decode(), "ä" + TEXT.decode() + "äppleä"]
         texts += [memoryview(TEXT)[::2], "\ud800", 5]

@@ -1,6 +1,7 @@
 """Calls for mypy --strict to judge. Where `type: ignore` stands, the call has a wrong type, and mypy says so; a comment
 that it finds needless would be an error too."""
 from array import array
+from io import BytesIO, StringIO
 from pathlib import Path
 from typing import Iterator, List, Optional, Tuple
 
@@ -19,6 +20,9 @@ matched: str = every[0].group()
 pattern, start, end = every[0]
 of_a_mapping: "Search[str]" = Search({"a": 1})
 value: int = of_a_mapping.findall("text")[0].value
+streamed: Iterator[Match[bytes]] = of_bytes.finditer_stream(BytesIO(b"text"))
+in_stream: int = of_str.count_stream(StringIO("text"))
+of_bytes.sub_stream(BytesIO(b"text"), BytesIO(), lambda match: match.group())
 number: int = of_bytes.count(bytearray(b"text")) + of_str.count_overlapping("text")
 parts: List[str] = of_str.split("text")
 text: str = of_str.sub(lambda match: match.group() + str(match.start), "text")
@@ -41,6 +45,8 @@ of_str.count("text", "0")  # type: ignore
 of_bytes.sub("x", b"text")  # type: ignore
 of_str.sub(lambda match: match.start, "text")  # type: ignore
 of_bytes.split("text")  # type: ignore
+of_bytes.finditer_stream(StringIO("text"))  # type: ignore
+of_str.sub_stream(StringIO("text"), StringIO(), b"x")  # type: ignore
 of_bytes.find_each(["text"])  # type: ignore
 Search([1])  # type: ignore
 Search(b"ab")  # type: ignore

@@ -1,8 +1,10 @@
 //! The searcher, and how it is built.
 use crate::library::Prepared;
 use crate::pieces::Pieces;
+use crate::stream::{Room, StreamFindIter, Window, MOST};
 use crate::{BuildError, FindIter, FindOverlappingIter, Input, Match, MatchKind};
 use std::fmt;
+use std::io::{self, Read, Write};
 use std::sync::Arc;
 
 /// Searches for any number of patterns.
@@ -230,6 +232,106 @@ impl AhoCorasick {
             }
         }
         dst.extend_from_slice(&haystack[at..]);
+    }
+
+    /// All matches in what a reader gives, as [`AhoCorasick::find_iter`] gives them of all of it, whatever pieces it
+    /// comes in, with offsets in the whole. Of the text are kept fewer bytes than twice the longest pattern has, and a
+    /// block of 64 KiB. By a leftmost kind a match is given once the longest pattern would fit in behind its start, and
+    /// by the standard one once it is read.
+    ///
+    /// An error of the reader comes behind all matches that are known from what was read, and is the last; one of the
+    /// kind [`Interrupted`](std::io::ErrorKind::Interrupted) is passed over. A program ends where memory for the text
+    /// is refused.
+    ///
+    /// ```
+    /// use literal_search::AhoCorasick;
+    ///
+    /// let searcher = AhoCorasick::new(["cat", "dog"])?;
+    /// let mut starts = Vec::new();
+    /// for found in searcher.stream_find_iter("dog, cat, dog".as_bytes()) {
+    ///     starts.push(found?.start());
+    /// }
+    /// assert_eq!(starts, [0, 5, 10]);
+    /// # Ok::<(), Box<dyn std::error::Error>>(())
+    /// ```
+    pub fn stream_find_iter<R: Read>(&self, rdr: R) -> StreamFindIter<'_, R> {
+        StreamFindIter::new(self, rdr)
+    }
+
+    /// Writes what a reader gives, with each match replaced by what the list has at the number of its pattern. It keeps
+    /// as much as [`AhoCorasick::stream_find_iter`], and does not flush the writer.
+    ///
+    /// # Errors
+    ///
+    /// Those of the reader and the writer, behind what is known by then.
+    ///
+    /// # Panics
+    ///
+    /// Where the list has not as many replacements as there are patterns.
+    ///
+    /// ```
+    /// use literal_search::AhoCorasick;
+    ///
+    /// let (searcher, mut out) = (AhoCorasick::new(["cat", "dog"])?, Vec::new());
+    /// searcher.stream_replace_all("dog and cat".as_bytes(), &mut out, &["dog", "cat"])?;
+    /// assert_eq!(out, b"cat and dog");
+    /// # Ok::<(), Box<dyn std::error::Error>>(())
+    /// ```
+    pub fn stream_replace_all<R, W, B>(&self, rdr: R, wtr: W, replace_with: &[B]) -> io::Result<()>
+    where
+        R: Read,
+        W: Write,
+        B: AsRef<[u8]>,
+    {
+        self.assert_one_for_each(replace_with);
+        self.stream_replace_all_with(rdr, wtr, |found, _, to| to.write_all(replace_with[found.pattern()].as_ref()))
+    }
+
+    /// As [`AhoCorasick::stream_replace_all`], with what the function writes in the place of each match. It is given
+    /// the match, by its offsets in the whole, the bytes there, and the writer.
+    ///
+    /// # Errors
+    ///
+    /// Those of the reader, the writer and the function, behind what is known by then.
+    pub fn stream_replace_all_with<R, W, F>(&self, rdr: R, mut wtr: W, mut replace_with: F) -> io::Result<()>
+    where
+        R: Read,
+        W: Write,
+        F: FnMut(&Match, &[u8], &mut W) -> io::Result<()>,
+    {
+        let (mut window, mut at) = (Window::new(rdr), 0);
+        loop {
+            match window.search(self) {
+                Some(it) => {
+                    wtr.write_all(&window.held()[at..it.start()])?;
+                    at = it.end();
+                    replace_with(&it.offset(window.before()), &window.held()[it.range()], &mut wtr)?;
+                }
+                None => {
+                    wtr.write_all(&window.held()[at..window.at()])?;
+                    at = 0;
+                    if !window.read_on()? {
+                        return Ok(());
+                    }
+                }
+            }
+        }
+    }
+
+    /// Finds the first matches from a place on that are known, whatever follows the haystack, or where nothing does, as
+    /// many as are wanted. Answers from which place on a search goes on, and whether no more are known.
+    pub(crate) fn find_so_far(&self, haystack: &[u8], at: usize, more: bool, room: &mut Room) -> (usize, bool) {
+        if self.parts.kind != MatchKind::Standard {
+            return self.parts.prepared.find_so_far(haystack, at, more, room);
+        }
+        // (what ends first does so whatever follows)
+        room.extend(self.find_iter(Input::new(haystack).range(at..)).take(MOST));
+        let next = room.last().map_or(at, |it| it.end());
+        let kept = if more { self.parts.longest.saturating_sub(1) } else { 0 };
+        match room.len() {
+            MOST => (next, false),
+            _ => (next.max(haystack.len().saturating_sub(kept)), true),
+        }
     }
 
     /// Which of the occurrences is a match.

@@ -3,3 +3,4 @@ pub mod Arguments
 pub mod Inside
 pub mod Overlapping
 pub mod Pieces
+pub mod SoFar

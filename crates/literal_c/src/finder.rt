@@ -36,6 +36,7 @@ impl Finder for Search {
 
     ghost patterns = { λ search. length search.query.patterns };
 
+    #[inline(always)]
     fn find_in(&self, haystack: &[u8], span: Span) -> Result<Option<Match>, Damaged> {
         Ok(Search::find_in(self, haystack, span))
     }
@@ -49,6 +50,7 @@ impl Finder for Prepared<'_> {
 
     ghost patterns = { λ numbers. slice_index numbers 3 };
 
+    #[inline(always)]
     fn find_in(&self, haystack: &[u8], span: Span) -> Result<Option<Match>, Damaged> {
         Prepared::find_in(self, haystack, span)
     }

@@ -23,6 +23,7 @@ ghost use Rattle.literal_c.specs.Arguments.{Agree, IsOverlappingStatusBy, IsStat
 ghost use Rattle.literal_c.specs.Arguments.{argument_query};
 ghost use Rattle.literal_c.specs.Overlapping.{IsOverlappingPage, all_that_occurs, overlapping_for};
 ghost use Rattle.literal_c.specs.Pieces.{AreEnds, pieces};
+ghost use Rattle.literal_c.specs.SoFar.{TellsSoFar};
 
 mod answers;
 mod arguments;
@@ -31,6 +32,7 @@ pub mod laws;
 mod pieces;
 #[cfg(test)]
 mod prepared_tests;
+mod so_far;
 #[cfg(test)]
 mod tests;
 
@@ -38,6 +40,7 @@ use answers::{answer_each, count_matches, match_for_c, write_overlapping, write_
 use arguments::{can_be_searched, search_for, search_for_all};
 use literal_search::{Damaged, PrepareError, Prepared, PreparedOverlapping, Span};
 use pieces::{Pieces, are_ends};
+use so_far::{find_so_far, tell_so_far};
 use std::alloc::Global;
 
 /// Status: what was asked for is done.
@@ -427,6 +430,43 @@ pub extern "C" fn literal_find_in(
             *found = match_for_c(&it);
             LITERAL_OK
         }
+    }
+}
+
+/// The leftmost match from `start` on in a text that comes in pieces, by a search that [`literal_prepare`] wrote. The
+/// haystack is what is held of the text; `more` says whether anything may follow. [`LITERAL_OK`] says that the match in
+/// `found` is the one, whatever follows, and `next` is its end. [`LITERAL_NONE`] says that none begins before `next`,
+/// whatever follows: nobody needs the bytes before that any more, and a search goes on from there once more bytes have
+/// come, or that there are no more. With `more` a match is told once the longest pattern would fit in between its start
+/// and the end of the haystack, and `next` is before that end by one byte less than that pattern has, or `start` if
+/// that is behind; without, it is the end. [`LITERAL_BAD_ARGUMENTS`] comes where `start` is above the haystack's
+/// length, and [`LITERAL_DAMAGED`] as from [`literal_find_in`], with which is known of any array the same. After any
+/// status but these two what was lent is as it was, and after [`LITERAL_NONE`] `found` too.
+#[unsafe(no_mangle)]
+pub extern "C" fn literal_find_so_far_in(
+    prepared: &[u32],
+    haystack: &[u8],
+    start: usize,
+    more: bool,
+    found: &mut LiteralMatch,
+    next: &mut usize,
+) -> i32
+    ensures status { IsStatusBy prepared.now (start ≤ length haystack.now)
+        (λ status. (status ≡ LITERAL_OK) ⊎ (status ≡ LITERAL_NONE)) result }
+    ensures told { (result ≡ LITERAL_OK) ⊎ (result ≡ LITERAL_NONE)
+        → TellsSoFar prepared.now haystack.now start more result found.new next.new }
+    ensures as_before { (result ≡ LITERAL_OK) ⊎ (found.new ≡ found.old) }
+    ensures next_as_before { ((result ≡ LITERAL_OK) ⊎ (result ≡ LITERAL_NONE)) ⊎ (next.new ≡ next.old) }
+{
+    if start > haystack.len() {
+        return LITERAL_BAD_ARGUMENTS;
+    }
+    let Ok(search) = Prepared::new(prepared) else {
+        return LITERAL_DAMAGED;
+    };
+    match find_so_far(&search, haystack, start, more) {
+        Err(Damaged) => LITERAL_DAMAGED,
+        Ok(answer) => tell_so_far(answer, found, next),
     }
 }
 

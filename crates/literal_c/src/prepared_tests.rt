@@ -4,7 +4,7 @@ use crate::{
     LITERAL_NO_SEARCHER, LITERAL_NONE, LITERAL_OK, LITERAL_TOO_SHORT, LiteralAnswer, LiteralMatch,
     LiteralPage, literal_check_overlapping, literal_check_prepared, literal_count_in,
     literal_find_all_in, literal_find_each_in, literal_find_in, literal_find_overlapping_in,
-    literal_prepare, literal_prepare_overlapping,
+    literal_find_so_far_in, literal_prepare, literal_prepare_overlapping,
 };
 use std::alloc::Global;
 use std::process::Abort;
@@ -279,5 +279,27 @@ fn finds_all_that_occurs_by_an_array(rt: HostRuntime) -> Result<(), Fail> {
         prepared[place] = before;
     }
     assert!(rt; is_noticed);
+    Ok(())
+}
+
+#[test]
+fn finds_so_far(rt: HostRuntime) -> Result<(), Fail> {
+    let array = search_for_words(rt.alloc(), LITERAL_LEFTMOST_FIRST, false)?;
+    let (mut found, mut next) = (BEFORE, 7);
+    let status = literal_find_so_far_in(&array, &TEXT[..19], 0, true, &mut found, &mut next);
+    assert!(rt; status == LITERAL_NONE && next == 13);
+    let status = literal_find_so_far_in(&array, &TEXT[..20], 21, true, &mut found, &mut next);
+    assert!(rt; status == LITERAL_BAD_ARGUMENTS && next == 13);
+    assert_match(&rt, &found, (7, 8, 9));
+    let status = literal_find_so_far_in(&array, &TEXT[..20], 13, true, &mut found, &mut next);
+    assert!(rt; status == LITERAL_OK && next == 18);
+    assert_match(&rt, &found, (1, 13, 18));
+    let status = literal_find_so_far_in(&array, TEXT, 34, false, &mut found, &mut next);
+    assert!(rt; status == LITERAL_OK && next == 50);
+    let status = literal_find_so_far_in(&array, TEXT, 50, false, &mut found, &mut next);
+    assert!(rt; status == LITERAL_NONE && next == 51);
+    assert_match(&rt, &found, (2, 43, 50));
+    let status = literal_find_so_far_in(&[], TEXT, 0, true, &mut found, &mut next);
+    assert!(rt; status == LITERAL_DAMAGED && next == 51);
     Ok(())
 }

@@ -2,7 +2,7 @@
 use literal_base::count::Tally;
 use literal_search::{
     Match, MatchKind, Overlapping, PrepareError, Prepared, PreparedOverlapping,
-    PreparedOverlappingMatches, Search, Span,
+    PreparedOverlappingMatches, Search, SoFar, Span,
 };
 use std::alloc::Global;
 use std::process::Abort;
@@ -20,6 +20,19 @@ fn filled(alloc: Global) -> Result<Vec<u32>, Fail> {
         return Err(Fail::from("another number of places is filled"));
     }
     Ok(array)
+}
+
+#[test]
+fn tells_what_is_known_so_far(rt: HostRuntime) -> Result<(), Fail> {
+    let array = filled(rt.alloc())?;
+    let prepared = Prepared::new(&array)?;
+    assert!(rt; prepared.max_pattern_len() == 8);
+    assert!(rt; prepared.find_so_far(b"A SECRET,", 0)? == SoFar::NoneBefore(2));
+    let found = Match::must(1, Span { start: 2, end: 8 });
+    assert!(rt; prepared.find_so_far(b"A SECRET, ", 1)? == SoFar::Found(found));
+    let tally = &mut Tally::new();
+    assert!(rt; prepared.find_so_far_counted(b"A SECRET, ", 3, tally)? == SoFar::NoneBefore(3));
+    Ok(())
 }
 
 /// What all calls answer by the array, each in its own case.

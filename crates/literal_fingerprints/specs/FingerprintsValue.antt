@@ -1,5 +1,6 @@
 -- Fingerprints of patterns, and what a scan by them passes over.
 use Rattle.std.specs.Prelude.{◌≡◌, ◌≢◌, ℕ, ◌+◌, ◌/◌, ◌%◌, ◌<◌, Bool, true, List, length, slice_index, bit_and}
+use Rattle.std.specs.Prelude.{slice_range}
 use Rattle.std.specs.List.{All}
 use Rattle.literal_base.specs.declared.search.Span.{Span}
 use Rattle.literal_base.specs.Occurs.{Occurs, same_byte}
@@ -16,6 +17,19 @@ pub record FingerprintsValue : Type 0 where
   pub second : HalfTable
   pub third : HalfTable
   pub fourth : HalfTable
+
+-- the table in 32 bytes from a place on, its lower halves first
+abbrev pub table_in : List ℕ → ℕ → HalfTable
+table_in bytes at = record { low = slice_range bytes at (at + 16); high = slice_range bytes (at + 16) (at + 32) }
+
+-- the fingerprints in 128 bytes: the tables one behind another
+abbrev pub fingerprints_in : List ℕ → FingerprintsValue
+fingerprints_in bytes = record {
+  first = table_in bytes 0;
+  second = table_in bytes 32;
+  third = table_in bytes 64;
+  fourth = table_in bytes 96;
+}
 
 -- the buckets of a byte by a table, as bits of a number: those that its lower half has, and its upper half too
 abbrev pub buckets_of : HalfTable → ℕ → ℕ

@@ -1,15 +1,17 @@
 //! Tables of the bytes with which patterns begin, and the scan by them.
 ghost use Rattle.std.specs.Prelude.{◌≡◌, ◌⊎◌, ℕ, ◌+◌, ◌-◌, ◌*◌, ◌<◌, ◌≤◌, List, IfSome, IsTrue};
-ghost use Rattle.std.specs.Prelude.{length, map, slice_index};
+ghost use Rattle.std.specs.Prelude.{[], length, map, slice_index, slice_index_or};
 ghost use Rattle.literal_base.specs.Occurs.{IsValidSpan};
 ghost use Rattle.literal_fingerprints.specs.FingerprintsValue.{AllPass, LetsPass, NoneBegins, PassesAt};
+ghost use Rattle.literal_fingerprints.specs.FingerprintsValue.{fingerprints_in};
 ghost use Rattle.literal_fingerprints.specs.Inside.Lanes.{HasLanes};
+ghost use Rattle.literal_fingerprints.specs.Inside.Nibbles.{halves_of};
 ghost use Rattle.literal_fingerprints.specs.Inside.Scan.{IsLookedUp};
 
 use crate::buckets::{Buckets, LOOKED_AT};
 use crate::lanes::{LANES, load, look_up, zeros_before};
 use crate::looked_up::LookedUp;
-use crate::nibbles::Nibbles;
+use crate::nibbles::{HALVES, Nibbles};
 use literal_base::Span;
 use literal_base::count::Tally;
 use std::marker::Model;
@@ -17,6 +19,9 @@ use std::simd::prelude::*;
 
 /// For how many patterns there are fingerprints.
 const MOST_PATTERNS: usize = 64;
+
+/// How many bytes fingerprints take.
+pub const BYTES: usize = 8 * HALVES;
 
 /// The fingerprints of a list of patterns: by the first four bytes of each, or all of a shorter one, a scan tells at
 /// which places of a haystack one of them may begin. Contracts see the tables.
@@ -73,6 +78,46 @@ impl Fingerprints {
             Some(made)
         } else {
             None
+        }
+    }
+
+    /// These as bytes, by which [`Fingerprints::from_bytes`] makes them again.
+    pub fn to_bytes(&self) -> [u8; BYTES]
+        ensures { fingerprints_in result ≡ self.now }
+    {
+        let mut bytes = [0; BYTES];
+        for at in 0..BYTES {
+            bytes[at] = self.half(at / HALVES)[at % HALVES];
+        }
+        bytes
+    }
+
+    /// Those of these bytes, whatever they are: the halves of each table, one behind another.
+    pub fn from_bytes(bytes: &[u8; BYTES]) -> Fingerprints
+        ensures { result ≡ fingerprints_in bytes.now }
+    {
+        Fingerprints {
+            first: Nibbles::from_bytes(bytes, 0),
+            second: Nibbles::from_bytes(bytes, 2 * HALVES),
+            third: Nibbles::from_bytes(bytes, 4 * HALVES),
+            fourth: Nibbles::from_bytes(bytes, 6 * HALVES),
+        }
+    }
+
+    /// One of the eight halves of the tables.
+    fn half(&self, number: usize) -> &[u8; HALVES]
+        requires { number < 8 }
+        ensures { result.now ≡ slice_index_or (halves_of self.now) number [] }
+    {
+        match number {
+            0 => &self.first.low,
+            1 => &self.first.high,
+            2 => &self.second.low,
+            3 => &self.second.high,
+            4 => &self.third.low,
+            5 => &self.third.high,
+            6 => &self.fourth.low,
+            _ => &self.fourth.high,
         }
     }
 

@@ -9,4 +9,4 @@ pub mod laws;
 mod looked_up;
 mod nibbles;
 
-pub use fingerprints::Fingerprints;
+pub use fingerprints::{BYTES, Fingerprints};

@@ -1,19 +1,33 @@
 //! The buckets of bytes, by the two halves of each.
-ghost use Rattle.std.specs.Prelude.{◌≡◌, ◌⊎◌, ℕ, ◌<◌, bit_and, length, slice_index, true};
+ghost use Rattle.std.specs.Prelude.{◌≡◌, ◌⊎◌, ℕ, ◌+◌, ◌<◌, ◌≤◌, bit_and, length, slice_index, true};
 ghost use Rattle.literal_base.specs.Occurs.{same_byte};
-ghost use Rattle.literal_fingerprints.specs.FingerprintsValue.{buckets_of};
+ghost use Rattle.literal_fingerprints.specs.FingerprintsValue.{buckets_of, table_in};
 ghost use Rattle.literal_fingerprints.specs.Inside.Nibbles.{table_of};
 
 use literal_base::alphabet::opposite_ascii_case;
 
+/// How many halves of bytes there are.
+pub const HALVES: usize = 16;
+
 /// For each half of a byte a set of eight buckets, as bits. A byte is in the buckets that both of its halves are in.
 #[derive(Clone, Copy)]
 pub struct Nibbles {
-    pub low: [u8; 16],
-    pub high: [u8; 16],
+    pub low: [u8; HALVES],
+    pub high: [u8; HALVES],
 }
 
 impl Nibbles {
+    /// Those in 32 of these bytes, from a place on.
+    pub fn from_bytes(bytes: &[u8], at: usize) -> Nibbles
+        requires { at + 32 ≤ length bytes.now }
+        ensures { table_of result ≡ table_in bytes.now at }
+    {
+        let (mut low, mut high) = ([0; HALVES], [0; HALVES]);
+        low.copy_from_slice(&bytes[at..at + HALVES]);
+        high.copy_from_slice(&bytes[at + HALVES..at + 2 * HALVES]);
+        Nibbles { low, high }
+    }
+
     /// The buckets of a byte.
     pub fn buckets(&self, byte: u8) -> u8
         ensures { result ≡ buckets_of (table_of self.now) byte }

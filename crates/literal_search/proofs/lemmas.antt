@@ -32,6 +32,7 @@ pub mod Replaced
 pub mod Rewriting
 pub mod Rows
 pub mod Scan
+pub mod SoFar
 pub mod Standard
 pub mod Standing
 pub mod States

@@ -7,15 +7,17 @@ use Rattle.literal_base.specs.Kinds.{root_kind_of}
 use Rattle.literal_base.specs.MatchValue.{MatchValue}
 use Rattle.literal_base.specs.Query.{Query}
 use Rattle.literal_base.specs.declared.search.Span.{Span}
+use Rattle.literal_fingerprints.specs.FingerprintsValue.{AllPass, FingerprintsValue, fingerprints_in}
 use Rattle.literal_ids.specs.declared.primitives.pattern_id.TheConstants.PatternID
-use Rattle.literal_search.specs.SearchValue.{CanBeKept, HoldsInClasses, longest_of}
+use Rattle.literal_search.specs.SearchValue.{CanBeKept, HoldsInClasses, NoneIsShorter, longest_of}
 use Rattle.literal_search.specs.Inside.Classes.{AreClasses, Tells, symbols_in}
 use Rattle.literal_search.specs.States.{IsRowsLength}
 use Rattle.literal_search.specs.Table.{Recognises}
 use Rattle.literal_search.specs.declared.prepared.PrepareError.{PrepareError}
 use Rattle.literal_search.specs.declared.prepared.PrepareError.TheVariants.{ArrayTooShort, ListsTooLong}
 use Rattle.literal_search.specs.declared.prepared.PrepareError.TheVariants.{PatternTooLong}
-use Rattle.literal_search.specs.declared.prepared.TheConstants.{CLASSES_AT, LENGTHS_AT, PREPARED_VERSION}
+use Rattle.literal_search.specs.declared.prepared.TheConstants.{CLASSES_AT, FINGERPRINTS_LEN, LENGTHS_AT}
+use Rattle.literal_search.specs.declared.prepared.TheConstants.{PREPARED_VERSION}
 
 -- how many classes of bytes there are, by the third number
 abbrev pub width_in : List ℕ → ℕ
@@ -25,9 +27,13 @@ width_in numbers = slice_index numbers 2
 abbrev pub rows_at : List ℕ → ℕ
 rows_at numbers = LENGTHS_AT + slice_index numbers 3
 
--- how many numbers are those of the search; the fifth says how long the rows are
-abbrev pub prepared_len : List ℕ → ℕ
-prepared_len numbers = rows_at numbers + slice_index numbers 4
+-- where the rows end; the fifth number says how long they are
+abbrev pub rows_end : List ℕ → ℕ
+rows_end numbers = rows_at numbers + slice_index numbers 4
+
+-- how long the longest pattern is, by the sixth number
+abbrev pub longest_in : List ℕ → ℕ
+longest_in numbers = slice_index numbers 5
 
 -- the classes of all bytes
 abbrev pub classes_in : List ℕ → List ℕ
@@ -39,7 +45,23 @@ lengths_in numbers = slice_range numbers LENGTHS_AT (rows_at numbers)
 
 -- the rows
 abbrev pub rows_in : List ℕ → List ℕ
-rows_in numbers = slice_range numbers (rows_at numbers) (prepared_len numbers)
+rows_in numbers = slice_range numbers (rows_at numbers) (rows_end numbers)
+
+-- how many numbers are those of a search for the leftmost match: behind its rows stand the numbers of its fingerprints
+abbrev pub prepared_len : List ℕ → ℕ
+prepared_len numbers = rows_end numbers + FINGERPRINTS_LEN
+
+-- these numbers
+abbrev pub prints_in : List ℕ → List ℕ
+prints_in numbers = slice_range numbers (rows_end numbers) (prepared_len numbers)
+
+-- the first of them: where there are fingerprints a length that no pattern is below, and else 0
+abbrev pub shortest_by : List ℕ → ℕ
+shortest_by prints = slice_index prints 0
+
+-- the fingerprints: each number behind it stands for the byte that its last eight bits are
+abbrev pub fingerprints_by : List ℕ → FingerprintsValue
+fingerprints_by prints = fingerprints_in (map (λ number. number % 256) (drop 1 prints))
 
 -- a number of 32 bits, stirred so that no other becomes the same: its upper half is xored into its lower one, and then
 -- it is multiplied by an odd factor, in 32 bits
@@ -54,23 +76,31 @@ check_of numbers = fold (λ check number. stirred ((check + number) % 2 ^ 32)) 2
 pub record HasParts (version : ℕ) (numbers : List ℕ) : Type 0 where
   pub version_is : slice_index numbers 0 ≡ version
   pub few : slice_index numbers 3 ≤ PatternID.LIMIT
-  pub fits : prepared_len numbers ≤ length numbers
+  pub fits : rows_end numbers ≤ length numbers
 
--- the array has the parts of a search for the leftmost match, and the second number is the check over those behind it
-pub record IsWhole (numbers : List ℕ) : Type 0 where
+-- the array has the parts of a search for the leftmost match, and is long enough for fingerprints
+pub record HasAllParts (numbers : List ℕ) : Type 0 where
   pub parts : HasParts PREPARED_VERSION numbers
+  pub long : prepared_len numbers ≤ length numbers
+
+-- the same, and the second number is the check over those behind it
+pub record IsWhole (numbers : List ℕ) : Type 0 where
+  pub all : HasAllParts numbers
   pub check : slice_index numbers 1 ≡ check_of (slice_range numbers 2 (prepared_len numbers))
 
 -- the array begins with a whole search for the patterns: the length of the longest, classes that tell their bytes, the
--- length of each, and rows that recognise their texts in these classes
+-- length of each, rows that recognise their texts in these classes, and fingerprints that let all of them pass, if any
 pub record IsPrepared (query : Query) (ignore_case : Bool) (numbers : List ℕ) : Type 0 where
   pub whole : IsWhole numbers
-  pub longest : slice_index numbers 5 ≡ longest_of query.patterns
+  pub longest : longest_in numbers ≡ longest_of query.patterns
   pub classes : AreClasses (classes_in numbers) (width_in numbers)
   pub tells : Tells ignore_case (classes_in numbers) query.patterns
   pub lengths : lengths_in numbers ≡ map (λ bytes. length bytes) query.patterns
   pub recognises : Recognises (root_kind_of query.kind) (map (symbols_in (classes_in numbers)) query.patterns)
       (width_in numbers) (rows_in numbers)
+  pub shortest : NoneIsShorter (shortest_by (prints_in numbers)) query.patterns
+  pub fingerprints : 0 < shortest_by (prints_in numbers)
+      → AllPass (fingerprints_by (prints_in numbers)) ignore_case query.patterns
   pub kept : CanBeKept query.patterns
 
 -- what holds of whatever an array is prepared for
@@ -78,11 +108,11 @@ abbrev pub ForPrepared : List ℕ → (Query → Bool → Type 0) → Type 0
 ForPrepared numbers P =
     (query : Query) (ignore_case : Bool) → IsPrepared query ignore_case numbers → P query ignore_case
 
--- how many places a search takes: those in front, one for each pattern, and the rows of all states
+-- how many places a search takes: those in front, one for each pattern, the rows of all states, and the fingerprints
 unfoldable pub TakesPlaces : Query → Bool → ℕ → Type 0
 TakesPlaces query ignore_case needed =
     HoldsInClasses (λ texts width. (rows : ℕ) × IsRowsLength (root_kind_of query.kind) texts width rows
-    × (needed ≡ LENGTHS_AT + length query.patterns + rows)) ignore_case query.patterns
+    × (needed ≡ LENGTHS_AT + length query.patterns + rows + FINGERPRINTS_LEN)) ignore_case query.patterns
 
 -- numbers that are for a search are written into the first places of an array, as many as it takes, and the others stay
 -- as they were

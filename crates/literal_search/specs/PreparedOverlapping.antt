@@ -8,7 +8,7 @@ use Rattle.literal_search.specs.Inside.Lists.{AreLists}
 use Rattle.literal_search.specs.Overlapping.{OverlappingValue}
 use Rattle.literal_search.specs.OverlappingMatchesValue.{OverlappingMatchesValue}
 use Rattle.literal_search.specs.Prepared.{HasParts, RefusesNumbers, WritesNumbers, check_of, classes_in}
-use Rattle.literal_search.specs.Prepared.{lengths_in, prepared_len, rows_in, width_in}
+use Rattle.literal_search.specs.Prepared.{lengths_in, rows_end, rows_in, width_in}
 use Rattle.literal_search.specs.States.{IsRowsLength}
 use Rattle.literal_search.specs.Table.{Recognises}
 use Rattle.literal_search.specs.declared.prepared.PrepareError.{PrepareError}
@@ -45,15 +45,15 @@ pub record AreSized (t : Tables) : Type 0 where
 
 -- where the lists begin, behind a number for each pattern that says where its list does, and one more
 abbrev pub ends_at : List ℕ → ℕ
-ends_at numbers = prepared_len numbers + slice_index numbers 3 + 1
+ends_at numbers = rows_end numbers + slice_index numbers 3 + 1
 
 -- how many numbers are those of the search; the last of these says how long the lists are
 abbrev pub listed_len : List ℕ → ℕ
-listed_len numbers = ends_at numbers + slice_index numbers (prepared_len numbers + slice_index numbers 3)
+listed_len numbers = ends_at numbers + slice_index numbers (rows_end numbers + slice_index numbers 3)
 
 -- where each list begins, and the last ends
 abbrev pub starts_in : List ℕ → List ℕ
-starts_in numbers = slice_range numbers (prepared_len numbers) (ends_at numbers)
+starts_in numbers = slice_range numbers (rows_end numbers) (ends_at numbers)
 
 -- the lists
 abbrev pub ends_in : List ℕ → List ℕ

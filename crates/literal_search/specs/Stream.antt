@@ -23,12 +23,21 @@ AnswersSoFar query ignore_case text at (Found found) =
 AnswersSoFar query ignore_case text at (NoneBefore place) =
     (i p : ℕ) → Occurs query.patterns ignore_case text (rest_from text at) i p → place ≤ p
 
--- when it is known: the match, which is not empty and lies in what is known, where the longest pattern would fit in
--- between its start and the end of that, and else the first place at which a pattern may begin that goes on behind
+-- when it is known, by how long the longest pattern is: the match, which is not empty and lies in what is known, where
+-- that pattern would fit in between its start and the end of that, and else the first place at which a pattern may
+-- begin that goes on behind
+abbrev pub IsKnownBy : ℕ → ℕ → ℕ → SoFar → Type 0
+IsKnownBy longest len at (Found found) = (found.start < found.end) × (found.end ≤ len) × (found.start + longest ≤ len)
+IsKnownBy longest len at (NoneBefore place) = place ≡ max at (len - (longest - 1))
+
+-- the same by the longest of some patterns
 abbrev pub IsKnownSoFar : List (List ℕ) → ℕ → ℕ → SoFar → Type 0
-IsKnownSoFar patterns len at (Found found) =
-    (found.start < found.end) × (found.end ≤ len) × (found.start + longest_of patterns ≤ len)
-IsKnownSoFar patterns len at (NoneBefore place) = place ≡ max at (len - (longest_of patterns - 1))
+IsKnownSoFar patterns = IsKnownBy (longest_of patterns)
+
+-- what is known of it by any array: a match begins at the place or behind it, and names one of so many patterns
+abbrev pub MayBeKnown : ℕ → ℕ → SoFar → Type 0
+MayBeKnown patterns at (Found found) = (at ≤ found.start) × (found.pattern < patterns)
+MayBeKnown patterns at (NoneBefore place) = at ≤ place
 
 -- up to which byte it is told: the match's end, or the place
 abbrev pub told_to : SoFar → ℕ

@@ -14,10 +14,10 @@ ghost use Rattle.literal_fingerprints.specs.FingerprintsValue.{AllPass};
 ghost use Rattle.literal_base.specs.Given.{CanBeTaken};
 ghost use Rattle.literal_search.specs.At.{IsMatchAt, ScansAt};
 ghost use Rattle.literal_search.specs.SearchValue.{BuildsSearch, CanBeKept, GivesAll, NeedFewStates};
-ghost use Rattle.literal_search.specs.SearchValue.{NeedTooManyStates, RefusesSearch};
+ghost use Rattle.literal_search.specs.SearchValue.{NeedTooManyStates, NoneIsShorter, RefusesSearch};
 ghost use Rattle.literal_search.specs.SearchValue.{ScansWithin, ScansListAtMost, ScansOnce, longest_of, shortest_of};
 ghost use Rattle.literal_search.specs.Earliest.{IsEarliestEnd, ScansToEnd, ScansToEndWithin};
-ghost use Rattle.literal_search.specs.Inside.Scan.{IsTableOf, NoneIsShorter, match_by};
+ghost use Rattle.literal_search.specs.Inside.Scan.{IsTableOf, match_by};
 ghost use Rattle.literal_search.specs.Inside.Search.{IsShortestOf};
 ghost use Rattle.literal_search.specs.Linear.{IsGreedyIn};
 ghost use Rattle.literal_search.specs.MatchesValue.{GivesMatch, most_to_come};
@@ -35,6 +35,7 @@ mod linear;
 mod overlapping;
 mod prepared;
 mod prepared_overlapping;
+mod prepared_so_far;
 mod reading;
 mod replace;
 mod replace_stream;
@@ -211,6 +212,7 @@ impl Search {
     /// that begins first, and of those that begin there the one that the match kind prefers. Offsets, in the answer
     /// too, are in bytes of the whole haystack. The span has to be valid: its `start` at most its `end`, and that at
     /// most the haystack's length.
+    #[inline(always)]
     pub fn find_in(&self, haystack: &[u8], span: Span) -> Option<Match>
         requires { IsValidSpan haystack.now span }
         ensures leftmost { IsLeftmost self.now.query self.now.ignore_case haystack.now span result }
@@ -222,6 +224,7 @@ impl Search {
     /// Answers as [`Search::find_in`], and adds each byte that it looks up to a tally, as scanned: at least as many as
     /// the span has, or with a match as there are up to its end; at most three times the bytes of the span, and with a
     /// match three times those up to its end, and once those of the longest pattern.
+    #[inline(always)]
     pub fn find_in_counted(&self, haystack: &[u8], span: Span, tally: &mut Tally) -> Option<Match>
         requires { IsValidSpan haystack.now span }
         ensures leftmost { IsLeftmost self.now.query self.now.ignore_case haystack.now span result }
@@ -291,6 +294,7 @@ impl Search {
     }
 
     /// The numbers by which it searches.
+    #[inline(always)]
     fn table(&self) -> Table<'_>
         ensures { IsTableOf result self.now.query self.now.ignore_case }
     {
@@ -459,13 +463,14 @@ impl Search {
         ensures as_before { OnErr result (array.new ≡ array.old) }
     {
         let version = prepared::PREPARED_VERSION;
+        let prints = prepared::prints(self.shortest, self.fingerprints());
         prepared::write(
             version,
             &self.classes,
             &self.patterns,
             self.rows.as_slice(),
             &[],
-            &[],
+            &prints,
             array,
         )
     }
@@ -483,7 +488,7 @@ impl Search {
             return Err(PrepareError::PatternTooLong);
         }
         let rows = self.rows.as_slice();
-        Ok(prepared::LENGTHS_AT + self.patterns.len() + rows.len())
+        Ok(prepared::LENGTHS_AT + self.patterns.len() + rows.len() + prepared::FINGERPRINTS_LEN)
     }
 
     /// Which of the patterns that match at one place is taken.

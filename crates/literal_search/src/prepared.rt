@@ -2,26 +2,29 @@
 //! own. A search does not trust the array: where a number leads out of it, the search says so.
 ghost use Rattle.std.specs.Prelude.{◌≡◌, ◌+◌, ◌-◌, ◌*◌, ◌<◌, ◌≤◌, ◌^◌, ◌↔◌, length, map};
 ghost use Rattle.std.specs.Prelude.{ℕ, IfErr, IfOk, IfSome, IsTrue, MatchResult, OnErr};
-ghost use Rattle.std.specs.Prelude.{slice_index, slice_range};
+ghost use Rattle.std.specs.Prelude.{IsSomeAnd, slice_index, slice_range};
 ghost use Rattle.std.specs.Result.{IsOkAnd};
 ghost use Rattle.literal_base.specs.Occurs.{IsValidSpan};
 ghost use Rattle.literal_base.specs.Leftmost.{IsLeftmost};
-ghost use Rattle.literal_search.specs.Prepared.{AreShort, ForPrepared, HasParts, IsWhole, LiesIn, check_of};
+ghost use Rattle.literal_search.specs.Prepared.{AreShort, ForPrepared, HasAllParts, HasParts, IsWhole, LiesIn};
+ghost use Rattle.literal_search.specs.Prepared.{check_of, fingerprints_by, longest_in, shortest_by};
 ghost use Rattle.literal_search.specs.SearchValue.{ScansWithin};
 ghost use Rattle.literal_search.specs.Inside.Prepared.{IsFront, Puts, RefusesArray, numbers_for, table_of};
+ghost use Rattle.literal_search.specs.Inside.Scan.{IsTableOf};
 
 use crate::classes::ClassNumbers;
 use crate::longest_len;
 use crate::walk::Table;
 use literal_base::count::Tally;
 use literal_base::{Match, Span};
+use literal_fingerprints::{BYTES, Fingerprints};
 use literal_ids::PatternID;
 use std::error::Error;
 use std::fmt;
 use std::marker::Model;
 
 /// What the first number of a prepared search for the leftmost match is.
-pub const PREPARED_VERSION: u32 = 0x4C50_0003;
+pub const PREPARED_VERSION: u32 = 0x4C50_0004;
 
 /// What that of one for everything that occurs is.
 pub const OVERLAPPING_VERSION: u32 = 0x4C4F_0003;
@@ -32,6 +35,10 @@ pub const CLASSES_AT: usize = 6;
 
 /// Where the lengths of the patterns begin. Behind them stand the rows.
 pub const LENGTHS_AT: usize = CLASSES_AT + 256;
+
+/// How many numbers fingerprints take, behind the rows: a length that no pattern is below, or 0 where there are no
+/// fingerprints, and one for each of their bytes.
+pub const FINGERPRINTS_LEN: usize = 1 + BYTES;
 
 /// What a check over no numbers is. It is not zero, so that no zeros lead to a check of zero.
 const CHECK_START: u32 = 2_166_136_261;
@@ -97,17 +104,18 @@ pub struct Front<'p> {
 }
 
 impl<'p> Front<'p> {
-    /// What a walk reads of them.
-    pub fn table(&self) -> Table<'p>
-        ensures { result ≡ table_of self.now }
+    /// What a walk reads of them. By fingerprints go searches for the leftmost match alone.
+    #[inline(always)]
+    pub fn table<'t>(&'t self, shortest: usize, fingerprints: Option<&'t Fingerprints>) -> Table<'t>
+        ensures { result ≡ record (table_of self.now) { shortest = shortest; fingerprints = fingerprints.entry } }
     {
         Table {
             classes: self.classes,
             width: self.width,
             rows: self.rows,
             longest: self.longest,
-            shortest: 0,
-            fingerprints: None,
+            shortest,
+            fingerprints,
         }
     }
 }
@@ -151,29 +159,54 @@ pub fn is_checked(numbers: &[u32], end: usize) -> bool
 #[derive(Drop)]
 pub struct Prepared<'p> {
     front: Front<'p>,
+    shortest: usize,
+    fingerprints: Option<Fingerprints>,
 }
 
 impl<'p> Model for Prepared<'p> {
     ghost use Rattle.std.specs.Prelude.{List, ℕ};
-    ghost use Rattle.literal_search.specs.Inside.Prepared.{IsFront};
-    ghost use Rattle.literal_search.specs.declared.prepared.TheConstants.{PREPARED_VERSION};
+    ghost use Rattle.literal_search.specs.Inside.Prepared.{IsLent};
 
     ghost Value = { List ℕ };
 
     ghost view = { λ p. p.front.numbers.now };
 
-    ghost invariant = { λ p. IsFront PREPARED_VERSION p.front };
+    ghost invariant = { IsLent };
 }
 
 impl<'p> Prepared<'p> {
     /// The search by the numbers in an array, where its first numbers say that it is one and as long as it has to be.
-    /// No more of it is read: [`Prepared::is_whole`] goes over all of it.
+    /// Its fingerprints are read, and no more of it: [`Prepared::is_whole`] goes over all of it.
     pub fn new(numbers: &'p [u32]) -> Result<Prepared<'p>, Damaged>
-        ensures { MatchResult result (λ prepared. (prepared ≡ numbers.now) × HasParts PREPARED_VERSION numbers.now)
-            (λ _. ¬ HasParts PREPARED_VERSION numbers.now) }
+        ensures { MatchResult result (λ prepared. (prepared ≡ numbers.now) × HasAllParts numbers.now)
+            (λ _. ¬ HasAllParts numbers.now) }
     {
         let front = split(numbers, PREPARED_VERSION)?;
-        Ok(Prepared { front })
+        let end = LENGTHS_AT + front.lengths.len() + front.rows.len();
+        if numbers.len() - end < FINGERPRINTS_LEN {
+            return Err(Damaged);
+        }
+        let prints = &numbers[end..end + FINGERPRINTS_LEN];
+        let shortest = prints[0] as usize;
+        let fingerprints = if shortest > 0 {
+            Some(fingerprints_by(prints))
+        } else {
+            None
+        };
+        Ok(Prepared {
+            front,
+            shortest,
+            fingerprints,
+        })
+    }
+
+    /// What a walk reads.
+    #[inline(always)]
+    fn table(&self) -> Table<'_>
+        ensures classes { length result.classes.now ≡ 256 }
+        ensures prepared { ForPrepared self.now (λ query ignore_case. IsTableOf result query ignore_case) }
+    {
+        self.front.table(self.shortest, self.fingerprints.as_ref())
     }
 
     /// Whether the check over all numbers of the search is right. It finds each change of one number, unless that
@@ -183,13 +216,21 @@ impl<'p> Prepared<'p> {
     pub fn is_whole(&self) -> bool
         ensures { IsTrue result ↔ IsWhole self.now }
     {
-        let end = LENGTHS_AT + self.front.lengths.len() + self.front.rows.len();
+        let end = LENGTHS_AT + self.front.lengths.len() + self.front.rows.len() + FINGERPRINTS_LEN;
         is_checked(self.front.numbers, end)
+    }
+
+    /// How many bytes the longest pattern has, by the numbers.
+    pub fn max_pattern_len(&self) -> usize
+        ensures { result ≡ longest_in self.now }
+    {
+        self.front.longest
     }
 
     /// The leftmost match in a span of the haystack, for which the same holds as for
     /// [`Search::find_in`](crate::Search::find_in). With numbers that were changed it may be another, or [`Damaged`];
     /// but it lies in the span, is not empty, and names one of the patterns.
+    #[inline(always)]
     pub fn find_in(&self, haystack: &[u8], span: Span) -> Result<Option<Match>, Damaged>
         requires { IsValidSpan haystack.now span }
         ensures prepared { ForPrepared self.now (λ query ignore_case. IsOkAnd result
@@ -204,6 +245,7 @@ impl<'p> Prepared<'p> {
     /// Answers as [`Prepared::find_in`], and adds each byte that it looks up to a tally, as scanned: at most three
     /// times the bytes of the span, whatever the numbers are, and with those that were prepared as
     /// [`Search::find_in_counted`](crate::Search::find_in_counted).
+    #[inline(always)]
     pub fn find_in_counted(
         &self,
         haystack: &[u8],
@@ -222,7 +264,7 @@ impl<'p> Prepared<'p> {
         ensures most { tally.new.scanned ≤ tally.old.scanned + 3 * (span.end - span.start) }
     {
         let front = &self.front;
-        let ended = front.table().search(haystack, span, false, false, tally)?;
+        let ended = self.table().search(haystack, span, false, false, tally)?;
         let Some(ended) = ended else {
             return Ok(None);
         };
@@ -239,8 +281,37 @@ impl<'p> Prepared<'p> {
     }
 }
 
-/// Writes a search of a version into the first places of an array, and answers how many these are. There may be lists,
-/// of which `starts` says where each begins.
+/// The numbers of fingerprints, if there are any.
+pub fn prints(shortest: usize, fingerprints: Option<&Fingerprints>) -> [u32; FINGERPRINTS_LEN]
+    ensures least { shortest_by result ≤ shortest }
+    ensures bytes { 0 < shortest_by result → IsSomeAnd fingerprints.entry (λ f. fingerprints_by result ≡ f.now) }
+{
+    let mut numbers = [0; FINGERPRINTS_LEN];
+    let Some(fingerprints) = fingerprints else {
+        return numbers;
+    };
+    numbers[0] = shortest.min(u32::MAX as usize) as u32;
+    let bytes = fingerprints.to_bytes();
+    for at in 0..BYTES {
+        numbers[1 + at] = u32::from(bytes[at]);
+    }
+    numbers
+}
+
+/// The fingerprints by such numbers.
+fn fingerprints_by(prints: &[u32]) -> Fingerprints
+    requires { length prints.now ≡ FINGERPRINTS_LEN }
+    ensures { result ≡ fingerprints_by prints.now }
+{
+    let mut bytes = [0; BYTES];
+    for at in 0..BYTES {
+        bytes[at] = (prints[1 + at] % 256) as u8;
+    }
+    Fingerprints::from_bytes(&bytes)
+}
+
+/// Writes a search of a version into the first places of an array, and answers how many these are. Behind its rows
+/// may stand lists, of which `starts` says where each begins, or the numbers of fingerprints alone.
 pub fn write(
     version: u32,
     classes: &ClassNumbers,

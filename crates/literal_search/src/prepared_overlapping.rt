@@ -212,7 +212,7 @@ impl<'p> LentTables<'p> {
             start: standing.at,
             end: span.end,
         };
-        let table = self.front.table();
+        let table = self.front.table(0, None);
         let Some(stop) = table.first_ended(haystack, standing.place, rest, false, tally)? else {
             return Ok(None);
         };

@@ -88,7 +88,7 @@ impl<'t> Table<'t> {
         let passes = self.can_pass(end - start);
         while passes && 3 * near <= end - start {
             let rest = Span { start, end };
-            match self.walk(haystack, rest, start + near, is_earliest, fits, tally)? {
+            match self.walk_apart(haystack, rest, start + near, is_earliest, fits, tally)? {
                 Walked::Known(answer) => return Ok(answer),
                 Walked::Anew(at) => {
                     let later = Span { start: at, end };
@@ -124,7 +124,7 @@ impl<'t> Table<'t> {
         ensures first { IfOk result (λ answer. IfSome answer (λ e. is_earliest ≡ true
             → tally.new.scanned + span.start ≡ tally.old.scanned + e.end)) }
     {
-        match self.walk(haystack, span, usize::MAX, is_earliest, fits, tally)? {
+        match self.walk_apart(haystack, span, usize::MAX, is_earliest, fits, tally)? {
             Walked::Known(answer) => Ok(answer),
             Walked::Anew(_) => Ok(None),
         }
@@ -161,8 +161,9 @@ impl<'t> Table<'t> {
     }
 
     /// A place in a span before which nothing begins: its start where the classes have to fit and do not, which is
-    /// looked for here, since where a match is near it takes longer than that.
-    #[inline(always)]
+    /// looked for here, since where a match is near it takes longer than that. It is called, and not put in its place,
+    /// so that what calls it keeps what it needs in registers.
+    #[inline(never)]
     fn pass_over(
         &self,
         haystack: &[u8],

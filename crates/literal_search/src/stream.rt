@@ -1,10 +1,12 @@
 //! Searches in texts of which more may follow, and in texts that are read piece by piece.
-ghost use Rattle.std.specs.Prelude.{◌≡◌, ◌+◌, ◌-◌, ◌<◌, ◌≤◌, ◌++◌, ℕ, List, drop, length, false, true, IfOk, IfSome};
-ghost use Rattle.std.specs.Prelude.{MatchOption, MatchResult};
+ghost use Rattle.std.specs.Prelude.{◌≡◌, ◌+◌, ◌-◌, ◌<◌, ◌≤◌, ◌++◌, ℕ, Bool, List, drop, length, false, true};
+ghost use Rattle.std.specs.Prelude.{IfOk, IfSome, MatchOption, MatchResult};
 ghost use Rattle.literal_base.specs.Leftmost.{IsLeftmost};
 ghost use Rattle.literal_base.specs.Occurs.{between, whole_of};
+ghost use Rattle.literal_base.specs.Query.{Query};
+ghost use Rattle.literal_search.specs.Prepared.{LiesIn};
 ghost use Rattle.literal_search.specs.SearchValue.{longest_of};
-ghost use Rattle.literal_search.specs.Stream.{AnswersSoFar, EndsFailed, EndsWhole, GoesBehind, IsKnownSoFar};
+ghost use Rattle.literal_search.specs.Stream.{AnswersSoFar, EndsFailed, EndsWhole, GoesBehind, IsKnownBy, IsKnownSoFar};
 ghost use Rattle.literal_search.specs.Stream.{ScansSoFar, stream_of};
 ghost use Rattle.literal_search.specs.declared.stream.SoFar.TheVariants.{Found, NoneBefore};
 ghost use Rattle.literal_search.specs.Inside.Stream.{IsSoundStream, IsWindow, TellsOf, held, shifted, stream_value};
@@ -70,14 +72,7 @@ impl Search {
         ensures known { IsKnownSoFar self.now.query.patterns (length haystack.now) at result }
         ensures told { TellsOf leftmost result }
     {
-        let end = haystack.len();
-        let longest = self.max_pattern_len();
-        if let Some(found) = leftmost {
-            if end - found.start() >= longest {
-                return SoFar::Found(found);
-            }
-        }
-        SoFar::NoneBefore(at.max(end.saturating_sub(longest.saturating_sub(1))))
+        so_far(haystack, at, self.max_pattern_len(), leftmost)
     }
 
     /// All matches in what a reader gives, from the left, none of which overlaps another, as those of
@@ -110,6 +105,26 @@ impl Search {
             is_over: false,
         })
     }
+}
+
+/// What the leftmost match from a place on tells, where more may follow, and the longest pattern is so long.
+pub fn so_far(haystack: &[u8], at: usize, longest: usize, leftmost: Option<Match>) -> SoFar
+    requires within { at ≤ length haystack.now }
+    requires inside { IfSome leftmost (LiesIn (between at (length haystack.now))) }
+    ensures whatever_follows { (query : Query) (ignore_case : Bool) (more : List ℕ)
+        → longest ≡ longest_of query.patterns
+        → IsLeftmost query ignore_case haystack.now (between at (length haystack.now)) leftmost
+        → AnswersSoFar query ignore_case (haystack.now ++ more) at result }
+    ensures known { IsKnownBy longest (length haystack.now) at result }
+    ensures told { TellsOf leftmost result }
+{
+    let end = haystack.len();
+    if let Some(found) = leftmost {
+        if end - found.start() >= longest {
+            return SoFar::Found(found);
+        }
+    }
+    SoFar::NoneBefore(at.max(end.saturating_sub(longest.saturating_sub(1))))
 }
 
 /// What [`Search::find_stream`] goes over. Contracts see the search, the bytes ahead that were read, those that are

@@ -6,8 +6,7 @@ ghost use Rattle.std.specs.Result.{IsOkAnd};
 ghost use Rattle.literal_base.specs.Occurs.{IsValidSpan};
 ghost use Rattle.literal_search.specs.Inside.Classes.{AreClasses};
 ghost use Rattle.literal_search.specs.Inside.Walk.{ClassesFit, FindsEnd, IsRow, IsTable, LiesWithin, NoneInFour};
-ghost use Rattle.literal_search.specs.Inside.Walk.{StopsBy};
-ghost use Rattle.literal_search.specs.Inside.Walk.{Walks, WalksFar};
+ghost use Rattle.literal_search.specs.Inside.Walk.{IsWalked, StopsBy, Walks, WalksFar};
 
 use crate::prepared::Damaged;
 use literal_base::Span;
@@ -128,7 +127,7 @@ impl<'t> Table<'t> {
     /// from state to state until no more bytes matter, and answers the last pattern that ended. It ends too where it
     /// comes back to the first state, from the least place on.
     #[inline(always)]
-    pub fn walk(
+    fn walk(
         &self,
         haystack: &[u8],
         span: Span,
@@ -176,6 +175,65 @@ impl<'t> Table<'t> {
             }
         }
         Ok(Walked::Known(last))
+    }
+
+    /// As [`Table::walk`], by code of its own for numbers that fit and for others: the loop has nothing beside it that
+    /// takes registers, and no test that it can do without.
+    #[inline(always)]
+    pub fn walk_apart(
+        &self,
+        haystack: &[u8],
+        span: Span,
+        least: usize,
+        is_earliest: bool,
+        fits: bool,
+        tally: &mut Tally,
+    ) -> Result<Walked, Damaged>
+        requires classes { length self.now.classes.now ≡ 256 }
+        requires valid { IsValidSpan haystack.now span }
+        requires fits { fits ≡ true → ClassesFit self.now }
+        ensures { IsWalked self.now haystack.now span least is_earliest tally.old tally.new result }
+    {
+        if fits {
+            self.walk_fitting(haystack, span, least, is_earliest, tally)
+        } else {
+            self.walk_tested(haystack, span, least, is_earliest, tally)
+        }
+    }
+
+    /// Where the classes fit.
+    #[inline(never)]
+    fn walk_fitting(
+        &self,
+        haystack: &[u8],
+        span: Span,
+        least: usize,
+        is_earliest: bool,
+        tally: &mut Tally,
+    ) -> Result<Walked, Damaged>
+        requires classes { length self.now.classes.now ≡ 256 }
+        requires valid { IsValidSpan haystack.now span }
+        requires fits { ClassesFit self.now }
+        ensures { IsWalked self.now haystack.now span least is_earliest tally.old tally.new result }
+    {
+        self.walk(haystack, span, least, is_earliest, true, tally)
+    }
+
+    /// Where each class is tested.
+    #[inline(never)]
+    fn walk_tested(
+        &self,
+        haystack: &[u8],
+        span: Span,
+        least: usize,
+        is_earliest: bool,
+        tally: &mut Tally,
+    ) -> Result<Walked, Damaged>
+        requires classes { length self.now.classes.now ≡ 256 }
+        requires valid { IsValidSpan haystack.now span }
+        ensures { IsWalked self.now haystack.now span least is_earliest tally.old tally.new result }
+    {
+        self.walk(haystack, span, least, is_earliest, false, tally)
     }
 
     /// The first place in a span behind which a match ends, and the row there. The walk stands at a row as it begins to

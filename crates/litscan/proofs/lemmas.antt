@@ -1,6 +1,5 @@
 -- Lemmas that several proofs share, by topic.
 pub mod Lines
-pub mod Options
 pub mod Printing
 pub mod Reading
 pub mod Refused

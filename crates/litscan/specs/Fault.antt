@@ -11,8 +11,8 @@ use Rattle.literal_search.specs.SearchValue.{NeedTooManyStates}
 use Rattle.literal_search.specs.declared.BuildError.{BuildError}
 use Rattle.literal_search.specs.declared.BuildError.TheVariants as build
 use Rattle.litscan.specs.declared.fault.Fault.{Fault}
-use Rattle.litscan.specs.declared.fault.Fault.TheVariants.{EmptyWord, NoFile, NoText, OutOfMemory, ReadFailed}
-use Rattle.litscan.specs.declared.fault.Fault.TheVariants.{TooManyWords, Unread, Usage, WriteFailed}
+use Rattle.litscan.specs.declared.fault.Fault.TheVariants.{EmptyWord, NoText, OutOfMemory, ReadFailed}
+use Rattle.litscan.specs.declared.fault.Fault.TheVariants.{Told, TooManyWords, Unread, Usage, WriteFailed}
 
 -- the fault of a command line whose words cannot be had, with an error of this kind
 abbrev pub args_fault : ErrorKind → Fault
@@ -56,12 +56,12 @@ RefusesWords ignore_case words _ = ⊥
 
 -- the line, without the line feed
 abbrev pub fault_text : Fault → List ℕ
-fault_text Usage = codes "usage: litscan [-bcinov] [-f FILE] [WORD...] < TEXT"
+fault_text Usage = codes "usage: litscan [OPTION...] WORDS [FILE...]"
 fault_text (EmptyWord number) = codes "litscan: word " ++ decimal number ++ codes " is empty"
-fault_text NoText = codes "litscan: a word is not UTF-8"
+fault_text NoText = codes "litscan: an argument is not UTF-8"
 fault_text TooManyWords = codes "litscan: too many words"
-fault_text NoFile = codes "litscan: no file of words"
 fault_text OutOfMemory = codes "litscan: out of memory"
 fault_text ReadFailed = codes "litscan: read failed"
+fault_text Told = codes "litscan: no words"
 fault_text Unread = codes "litscan: nobody reads"
 fault_text WriteFailed = codes "litscan: write failed"

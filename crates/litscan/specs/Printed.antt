@@ -1,9 +1,10 @@
 -- What is read, and what is printed of it.
-use Rattle.std.specs.Prelude.{◌≡◌, ◌≤◌, ◌⊎◌, ℕ, ◌+◌, ◌^◌, ◌++◌, Bool, true, false, List, [], ◌∷◌, length, Option, Some}
-use Rattle.std.specs.Prelude.{None, ⊤, codes, if◌then◌else◌, not}
+use Rattle.std.specs.Prelude.{◌≡◌, ◌≤◌, ◌⊎◌, ℕ, ◌+◌, ◌^◌, ◌++◌, ◌||◌, Bool, true, false, List, [], ◌∷◌, length}
+use Rattle.std.specs.Prelude.{Option, Some, None, ⊤, codes, if◌then◌else◌, nat_lt, not, unwrap_or, ◌&&◌}
 use Rattle.std.specs.Fmt.{decimal}
 use Rattle.std.specs.Io.KnownBytes.{Consumes}
 use Rattle.std.specs.List.{count_by, flat_map, slice_range}
+use Rattle.std.specs.Option.{IsSome}
 use Rattle.literal_base.specs.Greedy.{IsGreedy}
 use Rattle.literal_base.specs.MatchValue.{MatchValue}
 use Rattle.literal_base.specs.Occurs.{one_occurs}
@@ -11,9 +12,11 @@ use Rattle.literal_search.specs.SearchValue.{SearchValue}
 use Rattle.std.specs.declared.io.ErrorKind.{ErrorKind}
 use Rattle.litscan.specs.Fault.{IsReadFault, IsWriteFault}
 use Rattle.litscan.specs.Lines.{lines_of, with_feed}
+use Rattle.litscan.specs.Options.{is_enough, is_silent, limit_of}
 use Rattle.litscan.specs.declared.fault.Fault.{Fault}
-use Rattle.litscan.specs.declared.fault.Fault.TheVariants.{ReadFailed}
-use Rattle.litscan.specs.declared.request.Options.{Options}
+use Rattle.litscan.specs.declared.fault.Fault.TheVariants.{OutOfMemory}
+use Rattle.litscan.specs.declared.options.Options.{Options}
+use Rattle.litscan.specs.declared.scan.Scanned.{Scanned}
 
 -- known bytes were all of these, and none is left
 abbrev pub ReadsAll : Option (List ℕ) → Option (List ℕ) → List ℕ → Type 0
@@ -24,10 +27,29 @@ ReadsAll (Some bytes) new text = (bytes ≡ text) × (new ≡ Some [])
 abbrev pub ReadsTooMany : Option (List ℕ) → Option (List ℕ) → Type 0
 ReadsTooMany old new = (text : List ℕ) × Consumes old new text × (2 ^ 64 ≤ length text + 2)
 
--- why a text is not scanned: a read failed, or the text is too long, or a write failed
-abbrev pub StopsScan : Option ErrorKind → Type 0 → Option ErrorKind → Fault → Type 0
-StopsScan read_failure IsTooLong write_failure fault =
-    IsReadFault read_failure fault ⊎ (IsTooLong × (fault ≡ ReadFailed)) ⊎ IsWriteFault write_failure fault
+-- known bytes begin with these
+abbrev pub BeginsWith : Option (List ℕ) → List ℕ → Type 0
+BeginsWith None text = ⊤
+BeginsWith (Some bytes) text = (rest : List ℕ) × (bytes ≡ text ++ rest)
+
+-- known bytes were all of these, and none is left; or where the reading stopped they begin with these
+abbrev pub Reads : Bool → Option (List ℕ) → Option (List ℕ) → List ℕ → Type 0
+Reads false old new text = ReadsAll old new text
+Reads true old new text = BeginsWith old text
+
+-- whether the reading of a text stopped: no more of it could be read, or enough lines count
+abbrev pub stops : Options → Scanned → Bool
+stops options scanned = scanned.failed || is_enough (limit_of options) scanned.count
+
+-- why no more of a text could be read: a read failed, or the text is too long
+abbrev pub CannotRead : Option ErrorKind → Type 0 → Bool → Type 0
+CannotRead failure IsTooLong false = ⊤
+CannotRead failure IsTooLong true = IsSome failure ⊎ IsTooLong
+
+-- why a text is not scanned: there was no memory for a line, or a write failed
+abbrev pub StopsScan : Option ErrorKind → Option ErrorKind → Fault → Type 0
+StopsScan read_failure write_failure fault =
+    (IsReadFault read_failure fault × (fault ≡ OutOfMemory)) ⊎ IsWriteFault write_failure fault
 
 -- whether a line counts: a pattern occurs in it, or none where the others are asked for
 abbrev pub counts : SearchValue → Bool → List ℕ → Bool
@@ -35,44 +57,64 @@ counts search others line =
     if others then not (one_occurs search.query.patterns search.ignore_case line)
     else one_occurs search.query.patterns search.ignore_case line
 
--- bytes as they are printed: in front the number of their line, and their offset in the text, where these are asked
--- for, each with a colon, and a line feed behind
-abbrev pub printed_part : Options → ℕ → ℕ → List ℕ → List ℕ
-printed_part options number offset bytes =
-    (if options.numbers then decimal number ++ codes ":" else [])
+-- what stands in front of what is printed of a file of this name: the name and a colon, if that is asked for
+abbrev pub printed_name : Options → List ℕ → List ℕ
+printed_name options name = if unwrap_or options.named false then name ++ codes ":" else []
+
+-- bytes as they are printed: in front the name of their file, the number of their line, and their offset in the text,
+-- where these are asked for, each with a colon, and a line feed behind
+abbrev pub printed_part : Options → List ℕ → ℕ → ℕ → List ℕ → List ℕ
+printed_part options name number offset bytes =
+    printed_name options name ++ (if options.numbers then decimal number ++ codes ":" else [])
     ++ (if options.offsets then decimal offset ++ codes ":" else []) ++ with_feed bytes
 
 -- matches in a line of this number, which begins at this offset of the text, as they are printed
-abbrev pub printed_matches : Options → ℕ → ℕ → List ℕ → List MatchValue → List ℕ
-printed_matches options number offset line all =
-    flat_map (λ found. printed_part options number (offset + found.start) (slice_range line found.start found.end)) all
+abbrev pub printed_matches : Options → List ℕ → ℕ → ℕ → List ℕ → List MatchValue → List ℕ
+printed_matches options name number offset line all =
+    flat_map
+    (λ found. printed_part options name number (offset + found.start) (slice_range line found.start found.end))
+    all
 
 -- what is printed of a line that counts: all of it, or its matches from the left that do not overlap
-abbrev pub PrintsFound : Bool → SearchValue → Options → ℕ → ℕ → List ℕ → List ℕ → Type 0
-PrintsFound false search options number offset line out = out ≡ printed_part options number offset line
-PrintsFound true search options number offset line out = (all : List MatchValue)
-    × IsGreedy search.query search.ignore_case line 0 all × (out ≡ printed_matches options number offset line all)
+abbrev pub PrintsFound : Bool → SearchValue → Options → List ℕ → ℕ → ℕ → List ℕ → List ℕ → Type 0
+PrintsFound false search options name number offset line out = out ≡ printed_part options name number offset line
+PrintsFound true search options name number offset line out = (all : List MatchValue)
+    × IsGreedy search.query search.ignore_case line 0 all
+    × (out ≡ printed_matches options name number offset line all)
 
 -- what is printed of a line, by whether it counts
-abbrev pub PrintsLine : Bool → SearchValue → Options → ℕ → ℕ → List ℕ → List ℕ → Type 0
-PrintsLine false search options number offset line out = out ≡ []
-PrintsLine true search options number offset line out =
-    PrintsFound options.only search options number offset line out
+abbrev pub PrintsLine : Bool → SearchValue → Options → List ℕ → ℕ → ℕ → List ℕ → List ℕ → Type 0
+PrintsLine false search options name number offset line out = out ≡ []
+PrintsLine true search options name number offset line out =
+    PrintsFound options.only search options name number offset line out
 
 -- what is printed of lines one after another, of which the first has this number and begins at this offset
-abbrev pub PrintsLines : SearchValue → Options → ℕ → ℕ → List (List ℕ) → List ℕ → Type 0
-PrintsLines search options number offset [] out = out ≡ []
-PrintsLines search options number offset (line ∷ more) out = (first rest : List ℕ)
-    × PrintsLine (counts search options.others line) search options number offset line first
-    × PrintsLines search options (number + 1) (offset + length line + 1) more rest × (out ≡ first ++ rest)
+abbrev pub PrintsLines : SearchValue → Options → List ℕ → ℕ → ℕ → List (List ℕ) → List ℕ → Type 0
+PrintsLines search options name number offset [] out = out ≡ []
+PrintsLines search options name number offset (line ∷ more) out = (first rest : List ℕ)
+    × PrintsLine (counts search options.others line) search options name number offset line first
+    × PrintsLines search options name (number + 1) (offset + length line + 1) more rest × (out ≡ first ++ rest)
 
--- nothing is printed of lines where only their number is asked for
-abbrev pub PrintsUnlessCounted : Bool → SearchValue → Options → ℕ → ℕ → List (List ℕ) → List ℕ → Type 0
-PrintsUnlessCounted true search options number offset lines out = out ≡ []
-PrintsUnlessCounted false search options number offset lines out = PrintsLines search options number offset lines out
+-- nothing is printed of lines where only their number, names of files, or nothing is asked for
+abbrev pub PrintsUnlessSilent : Bool → SearchValue → Options → List ℕ → ℕ → ℕ → List (List ℕ) → List ℕ → Type 0
+PrintsUnlessSilent true search options name number offset lines out = out ≡ []
+PrintsUnlessSilent false search options name number offset lines out =
+    PrintsLines search options name number offset lines out
 
--- what is printed of a text: how many of its lines count, or else these lines or their matches
-abbrev pub Prints : Bool → SearchValue → Options → List ℕ → List ℕ → Type 0
-Prints true search options text out =
-    out ≡ with_feed (decimal (count_by (counts search options.others) (lines_of text)))
-Prints false search options text out = PrintsLines search options 1 0 (lines_of text) out
+-- the name of a file as a line, where a line counts and such files are asked for, or where none does and others are
+abbrev pub printed_listed : Bool → List ℕ → ℕ → List ℕ
+printed_listed true name count = if nat_lt 0 count then with_feed name else []
+printed_listed false name count = if nat_lt 0 count then [] else with_feed name
+
+-- what is printed behind the lines of a file, so many of which count: nothing, its name, or this number
+abbrev pub printed_behind : Option Bool → Options → List ℕ → ℕ → List ℕ
+printed_behind (Some found) options name count = if options.quiet then [] else printed_listed found name count
+printed_behind None options name count =
+    if options.count && not options.quiet then printed_name options name ++ with_feed (decimal count) else []
+
+-- what is printed of a file of this name that has this text
+abbrev pub Prints : SearchValue → Options → List ℕ → List ℕ → List ℕ → Type 0
+Prints search options name text out = (lines : List ℕ)
+    × PrintsUnlessSilent (is_silent options) search options name 1 0 (lines_of text) lines
+    × (out ≡ lines
+    ++ printed_behind options.listed options name (count_by (counts search options.others) (lines_of text)))

@@ -40,6 +40,13 @@ impl<D> Device<D> {
         }
     }
 
+    /// Of what kind the error of the call was that failed last, if one did.
+    pub fn failure(&self) -> Option<ErrorKind>
+        ensures { result ≡ self.now.failure }
+    {
+        self.failure
+    }
+
     /// What a write answers that ended so.
     fn after_write(&mut self, written: io::Result<()>) -> Result<(), Fault>
         ensures inner { self.new.inner ≡ self.old.inner }

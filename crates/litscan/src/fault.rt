@@ -10,20 +10,20 @@ use std::io::{self, ErrorKind};
 /// Why not all was read and printed.
 #[derive(Clone, Copy, Debug, PartialEq, Eq)]
 pub enum Fault {
-    /// There is no word, or an option is none, or help was asked for.
+    /// There is no word, or an option is none, or has no argument that it needs.
     Usage,
     /// The word of this number, from 0 up, is empty.
     EmptyWord(usize),
-    /// A word is no text.
+    /// An argument is no text.
     NoText,
     /// The words need a table that is too large.
     TooManyWords,
-    /// The file of words could not be opened.
-    NoFile,
     /// A request for memory was refused.
     OutOfMemory,
-    /// Standard input, or the file of words, could not be read.
+    /// A file could not be read.
     ReadFailed,
+    /// A file of words could not be opened or read, which is told already.
+    Told,
     /// Nobody reads standard output any more.
     Unread,
     /// Standard output could not be written.
@@ -73,7 +73,7 @@ impl Fault {
     }
 }
 
-/// What is printed of it, but for `Unread`, of which nothing is.
+/// What is printed of it, but for `Unread` and `Told`, of which nothing is.
 impl fmt::Display for Fault {
     ghost use Rattle.std.specs.Prelude.{Some};
     ghost use Rattle.litscan.specs.Fault.{fault_text};
@@ -82,13 +82,13 @@ impl fmt::Display for Fault {
 
     fn fmt<W: fmt::Write>(&self, f: &mut fmt::Formatter<W>) -> fmt::Result {
         match self {
-            Fault::Usage => write!(f, "usage: litscan [-bcinov] [-f FILE] [WORD...] < TEXT"),
+            Fault::Usage => write!(f, "usage: litscan [OPTION...] WORDS [FILE...]"),
             Fault::EmptyWord(number) => write!(f, "litscan: word {number} is empty"),
-            Fault::NoText => write!(f, "litscan: a word is not UTF-8"),
+            Fault::NoText => write!(f, "litscan: an argument is not UTF-8"),
             Fault::TooManyWords => write!(f, "litscan: too many words"),
-            Fault::NoFile => write!(f, "litscan: no file of words"),
             Fault::OutOfMemory => write!(f, "litscan: out of memory"),
             Fault::ReadFailed => write!(f, "litscan: read failed"),
+            Fault::Told => write!(f, "litscan: no words"),
             Fault::Unread => write!(f, "litscan: nobody reads"),
             Fault::WriteFailed => write!(f, "litscan: write failed"),
         }

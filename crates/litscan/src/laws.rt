@@ -4,7 +4,7 @@ ghost use Rattle.std.specs.List.{flat_map};
 ghost use Rattle.literal_search.specs.SearchValue.{SearchValue};
 ghost use Rattle.litscan.specs.Lines.{AreLinesOf, lines_of, with_feed};
 ghost use Rattle.litscan.specs.Printed.{PrintsLine, PrintsLines, counts};
-ghost use Rattle.litscan.specs.declared.request.Options.{Options};
+ghost use Rattle.litscan.specs.declared.options.Options.{Options};
 
 /// The lines of a text, each with a line feed behind it, are the text, whose last line feed may be missing; no line
 /// holds a line feed; and no other list is so.
@@ -16,10 +16,10 @@ pub fn lines_make_the_text()
 /// What is printed of a line stands behind what is printed of the lines in front of it, with a number that is one more
 /// than these are, and at an offset that is the length of these with their line feeds.
 pub fn lines_are_printed_in_turn()
-    ensures { (search : SearchValue) (options : Options) (front more : List (List ℕ)) (line out : List ℕ)
-        → PrintsLines search options 1 0 (front ++ line ∷ more) out
+    ensures { (search : SearchValue) (options : Options) (front more : List (List ℕ))
+        (name line out : List ℕ) → PrintsLines search options name 1 0 (front ++ line ∷ more) out
         → (before part after : List ℕ) × (out ≡ before ++ (part ++ after))
-        × PrintsLines search options 1 0 front before
-        × PrintsLine (counts search options.others line) search options (length front + 1)
+        × PrintsLines search options name 1 0 front before
+        × PrintsLine (counts search options.others line) search options name (length front + 1)
         (length (flat_map with_feed front)) line part }
 {}

@@ -1,31 +1,65 @@
-//! Prints the lines of standard input in which a word stands, or its matches: `litscan [-bcinov] [-f FILE] [WORD...]`.
+//! Prints the lines of files in which a word stands, or its matches: `litscan [OPTION...] WORDS [FILE...]`.
 #![tactic(auto)]
 
 mod device;
 mod fault;
+mod files;
+mod input;
 mod laws;
 mod lines;
+mod options;
 mod request;
 mod scan;
 mod words;
 
 use device::Device;
 use fault::Fault;
-use literal_search::Search;
-use request::{Options, Request};
-use scan::scan;
-use std::io::{BufReader, BufWriter, IsTerminal};
+use files::scan_files;
+use request::Request;
+use std::env;
+use std::io::{BufWriter, IsTerminal};
 use std::process::ExitCode;
-use std::{env, fs};
-use words::{bytes_of, search_for, search_with_lines};
+use words::{search_for, words_of};
 
-/// How many bytes are read, and written, at once.
+/// How many bytes are written at once.
 const BLOCK: usize = 65536;
+
+/// What `--version` prints.
+const VERSION: &str = "litscan 0.1.0\n";
+
+/// What `--help` prints.
+const HELP: &str = "usage: litscan [OPTION...] WORDS [FILE...]
+       litscan [OPTION...] (-e WORDS | -f FILE)... [FILE...]
+Prints the lines of each FILE in which one of the words occurs, as grep -F does. Each line of WORDS, and of the FILE of
+-f, is a word. A FILE that is -, or none at all, is standard input.
+
+  -e, --regexp=WORDS            look for these words
+  -f, --file=FILE               look for the words in this file
+  -i, -y, --ignore-case         ignore ASCII case
+  -v, --invert-match            take the lines in which no word occurs
+  -m, --max-count=N             read no more of a file once N lines count
+  -b, --byte-offset             print the offset of each line, or match, in the file
+  -n, --line-number             print the number of each line
+  -H, --with-filename           print the name of the file in front of each line
+  -h, --no-filename             print no name of a file
+  -o, --only-matching           print the matches in these lines
+  -c, --count                   print how many lines count
+  -l, --files-with-matches      print the names of the files in which a line counts
+  -L, --files-without-match     print the names of the files in which none does
+  -q, --quiet, --silent         print nothing
+  -s, --no-messages             say nothing of files that cannot be read
+  -a, -F, --text, --fixed-strings  change nothing
+  -V, --version                 print the version of litscan
+  --help                        print this
+
+The status is 0 if a line counts, 1 if none does, and 2 after a failure.
+";
 
 fn main(rt: HostRuntime) -> ExitCode {
     match run(&rt) {
-        Ok(0) => ExitCode::from(1),
-        Ok(_) | Err(Fault::Unread) => ExitCode::from(0),
+        Ok(status) => ExitCode::from(status),
+        Err(Fault::Unread) => ExitCode::from(0),
+        Err(Fault::Told) => ExitCode::from(2),
         Err(fault) => {
             let _ = eprintln!(rt; "{fault}");
             ExitCode::from(2)
@@ -33,40 +67,45 @@ fn main(rt: HostRuntime) -> ExitCode {
     }
 }
 
-/// Does what the words of the command line ask for, and says how many lines count.
-fn run(rt: &HostRuntime) -> Result<u64, Fault> {
+/// Does what the words of the command line ask for, and gives the status.
+fn run(rt: &HostRuntime) -> Result<u8, Fault> {
     let args = env::args(rt).map_err(|error| Fault::of_args(error))?;
     let args = args
         .skip(1)
         .collect::<Vec<String>>(rt.alloc())
         .or(Err(Fault::OutOfMemory))?;
-    let request = Request::of(args.as_slice())?;
-    let search = search_of(rt, &request)?;
-    scan_input(rt, &search, request.options)
+    let request = Request::of(rt.alloc(), args.as_slice())?;
+    if request.options.help {
+        return explain(rt, HELP);
+    }
+    if request.options.version {
+        return explain(rt, VERSION);
+    }
+    search_files(rt, &request)
 }
 
-/// The search for the words of the command line, and for each line of the file.
-fn search_of(rt: &HostRuntime, request: &Request<'_>) -> Result<Search, Fault> {
-    let ignore_case = request.options.ignore_case;
-    let Some(name) = request.file else {
-        let words = bytes_of(rt.alloc(), request.words).or(Err(Fault::OutOfMemory))?;
-        return search_for(rt.alloc(), ignore_case, words.as_slice());
-    };
-    let file = fs::open(rt, name).or(Err(Fault::NoFile))?;
-    let reader = BufReader::with_capacity(rt.alloc(), BLOCK, file).or(Err(Fault::OutOfMemory))?;
-    let mut reader = Device::new(reader);
-    search_with_lines(rt.alloc(), ignore_case, request.words, &mut reader)
+/// Prints a text.
+fn explain(rt: &HostRuntime, text: &str) -> Result<u8, Fault> {
+    let mut writer = Device::new(rt.stdout());
+    writer.write_all(text.as_bytes())?;
+    Ok(0)
 }
 
-/// Scans standard input. What is printed is kept until a block is full, but on a terminal.
-fn scan_input(rt: &HostRuntime, search: &Search, options: Options) -> Result<u64, Fault> {
+/// Searches the files, and gives the status. What is printed is kept until a block is full, but on a terminal.
+fn search_files(rt: &HostRuntime, request: &Request) -> Result<u8, Fault> {
+    let words = words_of(rt, request.sources.as_slice())?;
+    let search = search_for(rt.alloc(), request.options.ignore_case, words.as_slice())?;
     let room = if rt.stdout().is_terminal() { 0 } else { BLOCK };
-    let reader = BufReader::with_capacity(rt.alloc(), BLOCK, rt.stdin()).or(Err(
-        Fault::OutOfMemory,
-    ))?;
     let writer = BufWriter::with_capacity(rt.alloc(), room, rt.stdout()).or(Err(
         Fault::OutOfMemory,
     ))?;
-    let (mut reader, mut writer) = (Device::new(reader), Device::new(writer));
-    scan(rt.alloc(), search, options, &mut reader, &mut writer)
+    let mut writer = Device::new(writer);
+    let found = scan_files(
+        rt,
+        &search,
+        request.options,
+        request.files.as_slice(),
+        &mut writer,
+    )?;
+    Ok(found.status(request.options.quiet))
 }

@@ -1,140 +1,235 @@
 //! What the words of the command line ask for.
-ghost use Rattle.std.specs.Prelude.{◌≡◌, ◌≤◌, None, Some, MatchResult, length, map, string_bytes};
-ghost use Rattle.std.specs.Io.BufRead.{ends_with_byte, strip_last};
-ghost use Rattle.litscan.specs.Request.{asked_behind, asked_by, if_searched, is_option, no_options, request_of};
-ghost use Rattle.litscan.specs.Request.{value_of_request, with_letter, with_letters};
-ghost use Rattle.litscan.specs.declared.fault.Fault.TheVariants.{Usage};
+ghost use Rattle.std.specs.Prelude.{◌≡◌, ◌⊎◌, None, Some, MatchResult, map, string_bytes};
+ghost use Rattle.litscan.specs.Request.{Becomes, asked_by, completed, is_long, is_option, no_request, request_of};
+ghost use Rattle.litscan.specs.Request.{value_of_request, value_of_source, with_any, with_argument, with_behind};
+ghost use Rattle.litscan.specs.Request.{with_file, with_files, with_letters, with_long, with_source, with_word};
+ghost use Rattle.litscan.specs.Request.{with_words};
 
 use crate::fault::Fault;
+use crate::options::{Options, letter_named, number_of, takes_argument};
+use std::alloc::Global;
 
-/// What is asked for of each line.
-#[derive(Clone, Copy)]
-pub struct Options {
-    /// `-i`: whether ASCII case is ignored.
-    pub ignore_case: bool,
-    /// `-v`: whether the lines without a word count.
-    pub others: bool,
-    /// `-c`: whether the number of the lines that count is printed in place of these.
-    pub count: bool,
-    /// `-n`: whether the number of its line is printed in front of what is printed.
-    pub numbers: bool,
-    /// `-b`: whether the offset in the text is printed in front of what is printed.
-    pub offsets: bool,
-    /// `-o`: whether the matches in a line are printed in place of it.
-    pub only: bool,
+/// Where words come from.
+#[derive(Drop)]
+pub enum Source {
+    /// Each line of these bytes is a word, and of nothing the empty one.
+    Words(Vec<u8>),
+    /// Each line of the file of this name is a word.
+    File(Vec<u8>),
 }
 
-impl Options {
-    /// With no option given.
-    fn none() -> Options
-        ensures { result ≡ no_options }
-    {
-        Options {
-            ignore_case: false,
-            others: false,
-            count: false,
-            numbers: false,
-            offsets: false,
-            only: false,
-        }
-    }
-
-    /// With what this letter asks for, if it is one of an option.
-    fn with_letter(self, letter: u8) -> Option<Options>
-        ensures { result ≡ with_letter self letter }
-    {
-        let mut options = self;
-        match letter {
-            b'b' => options.offsets = true,
-            b'c' => options.count = true,
-            b'i' => options.ignore_case = true,
-            b'n' => options.numbers = true,
-            b'o' => options.only = true,
-            b'v' => options.others = true,
-            _ => return None,
-        }
-        Some(options)
-    }
-
-    /// With what these letters ask for, if each is one of an option.
-    fn with_letters(self, letters: &[u8]) -> Option<Options>
-        ensures { result ≡ with_letters self letters.now }
-    {
-        let mut options = self;
-        for letter in letters {
-            options = options.with_letter(*letter)?;
-        }
-        Some(options)
-    }
+/// What the next word of the command line is.
+#[derive(Clone, Copy)]
+pub enum Next {
+    /// An option, or the name of a file.
+    Any,
+    /// The argument of the option of this letter.
+    Argument(u8),
+    /// The name of a file, whatever it is.
+    File,
 }
 
-/// What is asked for.
-#[derive(Clone, Copy)]
-pub struct Request<'w> {
-    /// The options.
+/// What is asked for, by the words of the command line up to some place.
+#[derive(Drop)]
+pub struct Request {
+    /// What is asked for of each file.
     pub options: Options,
-    /// `-f`: the name of a file, each line of which is a word.
-    pub file: Option<&'w str>,
-    /// The words of the command line.
-    pub words: &'w [String],
+    /// Where the words to look for come from.
+    pub sources: Vec<Source>,
+    /// The names of the files, of which `-` is standard input.
+    pub files: Vec<Vec<u8>>,
+    /// What the word behind these is.
+    pub next: Next,
 }
 
-impl<'w> Request<'w> {
-    /// What these words ask for: options in front, of which `--` is the last, and then the words to look for, of which
-    /// there is none only where there is a file.
-    pub fn of(args: &'w [String]) -> Result<Request<'w>, Fault>
+impl Request {
+    /// What these words ask for: options, and the names of files, in front of which stand the words to look for where
+    /// no option gives any. Behind `--` there is no option.
+    pub fn of(alloc: Global, args: &[String]) -> Result<Request, Fault>
         ensures { MatchResult result
             (λ request. request_of (map string_bytes args.now) ≡ Some (value_of_request request))
-            (λ fault. (fault ≡ Usage) × (request_of (map string_bytes args.now) ≡ None)) }
+            (λ fault. ((fault ≡ Fault.Usage) × (request_of (map string_bytes args.now) ≡ None))
+            ⊎ (fault ≡ Fault.OutOfMemory)) }
     {
-        let mut request = Request {
-            options: Options::none(),
-            file: None,
-            words: args,
-        };
-        request.take_options()?;
-        if request.words.is_empty() && request.file.is_none() {
-            return Err(Fault::Usage);
-        }
+        let mut request = Request::none(alloc);
+        request.take_words(alloc, args)?;
+        request.complete(alloc)?;
         Ok(request)
     }
 
-    /// Takes the options in front, of which `--` is the last.
-    fn take_options(&mut self) -> Result<(), Fault>
-        ensures { MatchResult result
-            (λ done. asked_by (value_of_request self.old) ≡ if_searched (value_of_request self.new))
-            (λ fault. (fault ≡ Usage) × (asked_by (value_of_request self.old) ≡ None)) }
+    /// Nothing is asked for.
+    fn none(alloc: Global) -> Request
+        ensures { value_of_request result ≡ no_request }
     {
-        while let Some((first, others)) = self.words.split_first() {
-            let word = first.as_bytes();
-            if !is_option(word) {
-                return Ok(());
-            }
-            self.words = others;
-            if first.as_str() == "--" {
-                return Ok(());
-            }
-            self.take_letters(&word[1..])?;
+        Request {
+            options: Options::none(),
+            sources: Vec::new(alloc),
+            files: Vec::new(alloc),
+            next: Next::Any,
+        }
+    }
+
+    /// Takes words of the command line.
+    fn take_words(&mut self, alloc: Global, words: &[String]) -> Result<(), Fault>
+        ensures { Becomes result (asked_by (map string_bytes words.now) (value_of_request self.old))
+            (value_of_request self.new) }
+    {
+        for word in words {
+            self.take_word(alloc, word.as_str())?;
         }
         Ok(())
     }
 
-    /// Takes what the letters of a word ask for, and the next word where the last of them is `f`.
-    fn take_letters(&mut self, letters: &[u8]) -> Result<(), Fault>
-        ensures shorter { length self.new.words.now ≤ length self.old.words.now }
-        ensures taken { MatchResult result
-            (λ done. asked_behind letters.now (value_of_request self.old) ≡ asked_by (value_of_request self.new))
-            (λ fault. (fault ≡ Usage) × (asked_behind letters.now (value_of_request self.old) ≡ None)) }
+    /// Takes a word of the command line.
+    fn take_word(&mut self, alloc: Global, word: &str) -> Result<(), Fault>
+        ensures { Becomes result (with_word word.now (value_of_request self.old)) (value_of_request self.new) }
     {
-        let (flags, names_file) = flags_of(letters);
-        self.options = self.options.with_letters(flags).ok_or(Fault::Usage)?;
-        if names_file {
-            let (file, others) = self.words.split_first().ok_or(Fault::Usage)?;
-            self.file = Some(file.as_str());
-            self.words = others;
+        match self.next {
+            Next::Any => self.take_any(alloc, word),
+            Next::Argument(letter) => {
+                self.next = Next::Any;
+                self.take_argument(alloc, letter, word.as_bytes())
+            }
+            Next::File => self.add_file(alloc, word.as_bytes()),
+        }
+    }
+
+    /// Takes a word that may be an option.
+    fn take_any(&mut self, alloc: Global, word: &str) -> Result<(), Fault>
+        ensures { Becomes result (with_any word.now (value_of_request self.old)) (value_of_request self.new) }
+    {
+        let bytes = word.as_bytes();
+        if word == "--" {
+            self.next = Next::File;
+            return Ok(());
+        }
+        if is_long(bytes) {
+            return self.take_long(alloc, word);
+        }
+        if is_option(bytes) {
+            return self.take_letters(alloc, &bytes[1..]);
+        }
+        self.add_file(alloc, bytes)
+    }
+
+    /// Takes an option by its long name, behind which its argument may stand, with an equals sign in front.
+    fn take_long(&mut self, alloc: Global, word: &str) -> Result<(), Fault>
+        ensures { Becomes result (with_long word.now (value_of_request self.old)) (value_of_request self.new) }
+    {
+        let Some((name, argument)) = word.split_once('=') else {
+            let letter = letter_named(word).ok_or(Fault::Usage)?;
+            return self.take_letters(alloc, &[letter]);
+        };
+        let letter = letter_named(name).ok_or(Fault::Usage)?;
+        if !takes_argument(letter) {
+            return Err(Fault::Usage);
+        }
+        self.take_argument(alloc, letter, argument.as_bytes())
+    }
+
+    /// Takes the letters of options, behind the last of which its argument may stand.
+    fn take_letters(&mut self, alloc: Global, letters: &[u8]) -> Result<(), Fault>
+        ensures { Becomes result (with_letters letters.now (value_of_request self.old)) (value_of_request self.new) }
+    {
+        for (i, letter) in letters.iter().enumerate() {
+            if takes_argument(*letter) {
+                return self.take_behind(alloc, *letter, &letters[i + 1..]);
+            }
+            self.options = self.options.with_letter(*letter).ok_or(Fault::Usage)?;
         }
         Ok(())
     }
+
+    /// Takes what stands behind the letter of an option as its argument, and if there is nothing, the next word.
+    fn take_behind(&mut self, alloc: Global, letter: u8, behind: &[u8]) -> Result<(), Fault>
+        ensures { Becomes result (with_behind letter behind.now (value_of_request self.old))
+            (value_of_request self.new) }
+    {
+        if behind.is_empty() {
+            self.next = Next::Argument(letter);
+            return Ok(());
+        }
+        self.take_argument(alloc, letter, behind)
+    }
+
+    /// Takes the argument of an option.
+    fn take_argument(&mut self, alloc: Global, letter: u8, argument: &[u8]) -> Result<(), Fault>
+        ensures { Becomes result (with_argument letter argument.now (value_of_request self.old))
+            (value_of_request self.new) }
+    {
+        if letter == b'm' {
+            self.options.most = Some(number_of(argument).ok_or(Fault::Usage)?);
+            return Ok(());
+        }
+        let argument = copy_of(alloc, argument)?;
+        if letter == b'e' {
+            return self.add_source(Source::Words(argument));
+        }
+        self.add_source(Source::File(argument))
+    }
+
+    /// Adds a source of words.
+    fn add_source(&mut self, source: Source) -> Result<(), Fault>
+        ensures { Becomes result (Some (with_source (value_of_source source) (value_of_request self.old)))
+            (value_of_request self.new) }
+    {
+        self.sources.push(source).or(Err(Fault::OutOfMemory))
+    }
+
+    /// Adds the name of a file.
+    fn add_file(&mut self, alloc: Global, name: &[u8]) -> Result<(), Fault>
+        ensures { Becomes result (Some (with_file name.now (value_of_request self.old))) (value_of_request self.new) }
+    {
+        let name = copy_of(alloc, name)?;
+        self.files.push(name).or(Err(Fault::OutOfMemory))
+    }
+
+    /// Completes what is asked for by all words of the command line.
+    fn complete(&mut self, alloc: Global) -> Result<(), Fault>
+        ensures { Becomes result (completed (value_of_request self.old)) (value_of_request self.new) }
+    {
+        if let Next::Argument(_) = self.next {
+            return Err(Fault::Usage);
+        }
+        if self.options.help || self.options.version {
+            return Ok(());
+        }
+        self.find_words()?;
+        self.find_files(alloc)
+    }
+
+    /// Takes the first file as words where there are no others.
+    fn find_words(&mut self) -> Result<(), Fault>
+        ensures { Becomes result (with_words (value_of_request self.old)) (value_of_request self.new) }
+    {
+        if !self.sources.is_empty() {
+            return Ok(());
+        }
+        if self.files.is_empty() {
+            return Err(Fault::Usage);
+        }
+        let words = self.files.remove(0);
+        self.add_source(Source::Words(words))
+    }
+
+    /// Takes standard input where there is no file, and names where there are several.
+    fn find_files(&mut self, alloc: Global) -> Result<(), Fault>
+        ensures { Becomes result (Some (with_files (value_of_request self.old))) (value_of_request self.new) }
+    {
+        let several = self.files.len() > 1;
+        self.options.named = Some(self.options.named.unwrap_or(several));
+        if self.files.is_empty() {
+            return self.add_file(alloc, b"-");
+        }
+        Ok(())
+    }
+}
+
+/// A copy of these bytes.
+fn copy_of(alloc: Global, bytes: &[u8]) -> Result<Vec<u8>, Fault>
+    ensures { MatchResult result (λ copy. copy.items ≡ bytes.now) (λ fault. fault ≡ Fault.OutOfMemory) }
+{
+    Vec::from_slice(alloc, bytes).or(Err(Fault::OutOfMemory))
 }
 
 /// Whether a word is an option: a dash, and something behind it.
@@ -144,13 +239,9 @@ fn is_option(word: &[u8]) -> bool
     word.len() > 1 && word[0] == b'-'
 }
 
-/// The letters without an `f` at their end, and whether there is one.
-fn flags_of(letters: &[u8]) -> (&[u8], bool)
-    ensures flags { result.0.now ≡ strip_last 102 letters.now }
-    ensures names_file { result.1 ≡ ends_with_byte 102 letters.now }
+/// Whether a word is an option by its long name: two dashes in front.
+fn is_long(word: &[u8]) -> bool
+    ensures { result ≡ is_long word.now }
 {
-    match letters {
-        [flags @ .., b'f'] => (flags, true),
-        _ => (letters, false),
-    }
+    word.len() > 1 && word[0] == b'-' && word[1] == b'-'
 }

@@ -1,107 +1,212 @@
 //! Which lines count, and what is printed of them.
-ghost use Rattle.std.specs.Prelude.{◌≡◌, ◌<◌, ◌≤◌, ◌+◌, ◌^◌, ◌&&◌, ◌||◌, ℕ, List, ◌∷◌, [], length, min, if◌then◌else◌};
-ghost use Rattle.std.specs.Prelude.{IfErr, IfOk, OnOk};
-ghost use Rattle.std.specs.Fmt.{decimal};
+ghost use Rattle.std.specs.Prelude.{◌≡◌, ◌<◌, ◌≤◌, ◌+◌, ◌^◌, ◌&&◌, ◌||◌, ℕ, List, ◌∷◌, [], length, min, true};
+ghost use Rattle.std.specs.Prelude.{IfErr, IfOk, MatchOption, MatchResult, OnOk};
 ghost use Rattle.std.specs.List.{count_by};
 ghost use Rattle.std.specs.Io.KnownBytes.{Appends};
 ghost use Rattle.literal_base.specs.Greedy.{IsGreedy};
 ghost use Rattle.literal_base.specs.MatchValue.{MatchValue};
 ghost use Rattle.litscan.specs.Fault.{IsWriteFault};
-ghost use Rattle.litscan.specs.Lines.{last_line, lines_of, with_feed};
-ghost use Rattle.litscan.specs.Printed.{Prints, PrintsUnlessCounted, ReadsAll, ReadsTooMany, StopsScan, counts};
-ghost use Rattle.litscan.specs.Printed.{printed_matches, printed_part};
-ghost use Rattle.litscan.specs.declared.fault.Fault.TheVariants.{ReadFailed};
+ghost use Rattle.litscan.specs.Lines.{last_line, lines_of};
+ghost use Rattle.litscan.specs.Options.{is_silent};
+ghost use Rattle.litscan.specs.Printed.{CannotRead, Prints, PrintsUnlessSilent, Reads, ReadsTooMany, StopsScan, counts};
+ghost use Rattle.litscan.specs.Printed.{printed_behind, printed_listed, printed_matches, printed_name, printed_part};
+ghost use Rattle.litscan.specs.Printed.{stops};
 
 use crate::device::Device;
 use crate::fault::Fault;
-use crate::request::Options;
+use crate::options::{Options, is_enough};
 use literal_search::Search;
 use std::alloc::Global;
 use std::io::{BufRead, Write};
 
-/// Reads a text, prints what is asked for, and says how many of its lines count.
+/// What a scan of a text found.
+#[derive(Clone, Copy)]
+pub struct Scanned {
+    /// How many of the lines that were read count.
+    pub count: u64,
+    /// Whether not all of the text could be read.
+    pub failed: bool,
+}
+
+/// Reads a text, prints what is asked for under this name, and says how many of its lines count. No more is read once
+/// enough count. Where a read fails, what was read before is scanned.
 pub fn scan<R: BufRead, W: Write>(
     alloc: Global,
     search: &Search,
     options: Options,
+    name: &[u8],
     reader: &mut Device<R>,
     writer: &mut Device<W>,
-) -> Result<u64, Fault>
-    ensures scanned { IfOk result (λ count. (text out : List ℕ)
-        × ReadsAll (R.remaining reader.old.inner) (R.remaining reader.new.inner) text
+) -> Result<Scanned, Fault>
+    ensures scanned { IfOk result (λ scanned. (text out : List ℕ)
+        × Reads (stops options scanned) (R.remaining reader.old.inner) (R.remaining reader.new.inner) text
         × Appends (W.contents writer.old.inner) (W.contents writer.new.inner) out
-        × Prints options.count search.now options text out
-        × (count ≡ count_by (counts search.now options.others) (lines_of text))) }
-    ensures error { IfErr result (StopsScan reader.new.failure
-        (ReadsTooMany (R.remaining reader.old.inner) (R.remaining reader.new.inner)) writer.new.failure) }
+        × Prints search.now options name.now text out
+        × (scanned.count ≡ count_by (counts search.now options.others) (lines_of text))) }
+    ensures failed { IfOk result (λ scanned. CannotRead reader.new.failure
+        (ReadsTooMany (R.remaining reader.old.inner) (R.remaining reader.new.inner)) scanned.failed) }
+    ensures error { IfErr result (StopsScan reader.new.failure writer.new.failure) }
 {
-    let count = scan_lines(alloc, search, options, reader, writer)?;
-    print_count(options, count, writer)?;
-    writer.flush()?;
-    Ok(count)
+    let scanned = scan_lines(alloc, search, options, name, reader, writer)?;
+    print_behind(options, name, scanned.count, writer)?;
+    Ok(scanned)
 }
 
-/// Prints how many lines count, if that is asked for.
-fn print_count<W: Write>(options: Options, count: u64, writer: &mut Device<W>) -> Result<(), Fault>
+/// Prints what is asked for behind the lines: how many count, or the name of the file.
+fn print_behind<W: Write>(
+    options: Options,
+    name: &[u8],
+    count: u64,
+    writer: &mut Device<W>,
+) -> Result<(), Fault>
     ensures printed { OnOk result (Appends (W.contents writer.old.inner) (W.contents writer.new.inner)
-        (if options.count then with_feed (decimal count) else [])) }
+        (printed_behind options.listed options name.now count)) }
     ensures error { IfErr result (IsWriteFault writer.new.failure) }
 {
+    if options.quiet {
+        return Ok(());
+    }
+    if let Some(found) = options.listed {
+        return print_listed(found, name, count, writer);
+    }
     if options.count {
+        print_name(options, name, writer)?;
         writeln!(writer, "{count}")?;
     }
     Ok(())
 }
 
-/// Reads a text, prints what is asked for of its lines that count, unless only their number is, and says how many
-/// these are.
+/// Prints the name of a file as a line, where a line counts, or where none does.
+fn print_listed<W: Write>(
+    found: bool,
+    name: &[u8],
+    count: u64,
+    writer: &mut Device<W>,
+) -> Result<(), Fault>
+    ensures printed { OnOk result (Appends (W.contents writer.old.inner) (W.contents writer.new.inner)
+        (printed_listed found name.now count)) }
+    ensures error { IfErr result (IsWriteFault writer.new.failure) }
+{
+    if found != (count > 0) {
+        return Ok(());
+    }
+    writer.write_all(name)?;
+    writer.write_all(b"\n")
+}
+
+/// Prints the name of a file and a colon, where that is asked for.
+fn print_name<W: Write>(options: Options, name: &[u8], writer: &mut Device<W>) -> Result<(), Fault>
+    ensures printed { OnOk result (Appends (W.contents writer.old.inner) (W.contents writer.new.inner)
+        (printed_name options name.now)) }
+    ensures error { IfErr result (IsWriteFault writer.new.failure) }
+{
+    if !options.named.unwrap_or(false) {
+        return Ok(());
+    }
+    writer.write_all(name)?;
+    writer.write_all(b":")
+}
+
+/// Reads a text until enough lines count, prints what is asked for of those that do, and says how many these are.
 fn scan_lines<R: BufRead, W: Write>(
     alloc: Global,
     search: &Search,
     options: Options,
+    name: &[u8],
     reader: &mut Device<R>,
     writer: &mut Device<W>,
-) -> Result<u64, Fault>
-    ensures scanned { IfOk result (λ count. (text out : List ℕ)
-        × ReadsAll (R.remaining reader.old.inner) (R.remaining reader.new.inner) text
+) -> Result<Scanned, Fault>
+    ensures scanned { IfOk result (λ scanned. (text out : List ℕ)
+        × Reads (stops options scanned) (R.remaining reader.old.inner) (R.remaining reader.new.inner) text
         × Appends (W.contents writer.old.inner) (W.contents writer.new.inner) out
-        × PrintsUnlessCounted options.count search.now options 1 0 (lines_of text) out
-        × (count ≡ count_by (counts search.now options.others) (lines_of text))) }
-    ensures error { IfErr result (StopsScan reader.new.failure
-        (ReadsTooMany (R.remaining reader.old.inner) (R.remaining reader.new.inner)) writer.new.failure) }
+        × PrintsUnlessSilent (is_silent options) search.now options name.now 1 0 (lines_of text) out
+        × (scanned.count ≡ count_by (counts search.now options.others) (lines_of text))) }
+    ensures failed { IfOk result (λ scanned. CannotRead reader.new.failure
+        (ReadsTooMany (R.remaining reader.old.inner) (R.remaining reader.new.inner)) scanned.failed) }
+    ensures error { IfErr result (StopsScan reader.new.failure writer.new.failure) }
 {
     let mut line = Vec::new(alloc);
     let mut count = 0;
     let mut offset = 0;
     for number in 1..u64::MAX {
-        let fed = reader.read_line(&mut line)?;
-        let next = offset_behind(offset, line.as_slice())?;
-        if !fed {
-            let last = take_last(search, options, number, offset, line.as_slice(), writer)?;
-            return Ok(count + last);
+        if is_enough(options.limit(), count) {
+            return Ok(Scanned {
+                count,
+                failed: false,
+            });
         }
-        let one = take_line(search, options, number, offset, line.as_slice(), writer)?;
+        let fed = match reader.read_line(&mut line) {
+            Ok(fed) => fed,
+            Err(fault) => return failed_behind(count, fault),
+        };
+        let Some(next) = offset_behind(offset, line.as_slice()) else {
+            return Ok(Scanned {
+                count,
+                failed: true,
+            });
+        };
+        if !fed {
+            let last = take_last(
+                search,
+                options,
+                name,
+                number,
+                offset,
+                line.as_slice(),
+                writer,
+            )?;
+            return Ok(Scanned {
+                count: count + last,
+                failed: false,
+            });
+        }
+        let one = take_line(
+            search,
+            options,
+            name,
+            number,
+            offset,
+            line.as_slice(),
+            writer,
+        )?;
         count += one;
         offset = next;
     }
-    Err(Fault::ReadFailed)
+    Ok(Scanned {
+        count,
+        failed: true,
+    })
 }
 
-/// The offset in the text behind a line and its line feed. A text longer than a number counts is not read.
-fn offset_behind(offset: u64, line: &[u8]) -> Result<u64, Fault>
-    ensures next { IfOk result (λ next. next ≡ offset + length line.now + 1) }
-    ensures error { IfErr result (λ fault. (fault ≡ ReadFailed) × (2 ^ 64 ≤ offset + length line.now + 1)) }
+/// What a scan found whose read failed so. Memory that is refused ends all.
+fn failed_behind(count: u64, fault: Fault) -> Result<Scanned, Fault>
+    ensures { MatchResult result (λ scanned. scanned ≡ record { count = count; failed = true })
+        (λ error. (error ≡ fault) × (fault ≡ Fault.OutOfMemory)) }
+{
+    match fault {
+        Fault::OutOfMemory => Err(fault),
+        _ => Ok(Scanned {
+            count,
+            failed: true,
+        }),
+    }
+}
+
+/// The offset in the text behind a line and its line feed, if it is below 2^64.
+fn offset_behind(offset: u64, line: &[u8]) -> Option<u64>
+    ensures { MatchOption result (2 ^ 64 ≤ offset + length line.now + 1)
+        (λ next. next ≡ offset + length line.now + 1) }
 {
     offset
         .checked_add(line.len() as u64)
         .and_then(|end| end.checked_add(1))
-        .ok_or(Fault::ReadFailed)
 }
 
 /// Takes what stands behind the last line feed, if it is not empty.
 fn take_last<W: Write>(
     search: &Search,
     options: Options,
+    name: &[u8],
     number: u64,
     offset: u64,
     last: &[u8],
@@ -113,20 +218,21 @@ fn take_last<W: Write>(
         count ≡ count_by (counts search.now options.others) (last_line last.now)) }
     ensures printed { OnOk result ((out : List ℕ)
         × Appends (W.contents writer.old.inner) (W.contents writer.new.inner) out
-        × PrintsUnlessCounted options.count search.now options number offset (last_line last.now) out) }
+        × PrintsUnlessSilent (is_silent options) search.now options name.now number offset (last_line last.now) out) }
     ensures error { IfErr result (IsWriteFault writer.new.failure) }
 {
     if last.is_empty() {
         return Ok(0);
     }
-    take_line(search, options, number, offset, last, writer)
+    take_line(search, options, name, number, offset, last, writer)
 }
 
-/// Prints what is asked for of a line if it counts, unless only the number of such lines is. Answers 1 if it counts,
+/// Prints what is asked for of a line if it counts, unless no line is printed. Answers 1 if it counts,
 /// and else 0.
 fn take_line<W: Write>(
     search: &Search,
     options: Options,
+    name: &[u8],
     number: u64,
     offset: u64,
     line: &[u8],
@@ -138,27 +244,27 @@ fn take_line<W: Write>(
         count ≡ count_by (counts search.now options.others) (line.now ∷ [])) }
     ensures printed { OnOk result ((out : List ℕ)
         × Appends (W.contents writer.old.inner) (W.contents writer.new.inner) out
-        × PrintsUnlessCounted options.count search.now options number offset (line.now ∷ []) out) }
+        × PrintsUnlessSilent (is_silent options) search.now options name.now number offset (line.now ∷ []) out) }
     ensures error { IfErr result (IsWriteFault writer.new.failure) }
 {
     if prints_nothing(options) {
         return Ok(u64::from(counts(search, options, line)));
     }
     if options.only {
-        return print_matches(search, options, number, offset, line, writer);
+        return print_matches(search, options, name, number, offset, line, writer);
     }
     if !counts(search, options, line) {
         return Ok(0);
     }
-    print_part(options, number, offset, line, writer)?;
+    print_part(options, name, number, offset, line, writer)?;
     Ok(1)
 }
 
-/// Whether nothing is printed of any line: only the number of lines is asked for, or the matches of lines without one.
+/// Whether nothing is printed of any line: no line is asked for, or the matches of lines without one.
 fn prints_nothing(options: Options) -> bool
-    ensures { result ≡ (options.count || (options.only && options.others)) }
+    ensures { result ≡ (is_silent options || (options.only && options.others)) }
 {
-    options.count || options.only && options.others
+    options.is_silent() || options.only && options.others
 }
 
 /// Whether a line counts.
@@ -172,6 +278,7 @@ fn counts(search: &Search, options: Options, line: &[u8]) -> bool
 fn print_matches<W: Write>(
     search: &Search,
     options: Options,
+    name: &[u8],
     number: u64,
     offset: u64,
     line: &[u8],
@@ -181,13 +288,13 @@ fn print_matches<W: Write>(
     ensures printed { IfOk result (λ count. (all : List MatchValue)
         × IsGreedy search.now.query search.now.ignore_case line.now 0 all
         × Appends (W.contents writer.old.inner) (W.contents writer.new.inner)
-        (printed_matches options number offset line.now all) × (count ≡ min 1 (length all))) }
+        (printed_matches options name.now number offset line.now all) × (count ≡ min 1 (length all))) }
     ensures error { IfErr result (IsWriteFault writer.new.failure) }
 {
     let mut count = 0;
     for found in search.find_iter(line) {
         let start = offset + found.start() as u64;
-        print_part(options, number, start, found.span().of(line), writer)?;
+        print_part(options, name, number, start, found.span().of(line), writer)?;
         count = 1;
     }
     Ok(count)
@@ -196,15 +303,17 @@ fn print_matches<W: Write>(
 /// Prints a line, or a match in it.
 fn print_part<W: Write>(
     options: Options,
+    name: &[u8],
     number: u64,
     offset: u64,
     bytes: &[u8],
     writer: &mut Device<W>,
 ) -> Result<(), Fault>
     ensures printed { OnOk result (Appends (W.contents writer.old.inner) (W.contents writer.new.inner)
-        (printed_part options number offset bytes.now)) }
+        (printed_part options name.now number offset bytes.now)) }
     ensures error { IfErr result (IsWriteFault writer.new.failure) }
 {
+    print_name(options, name, writer)?;
     if options.numbers {
         write!(writer, "{number}:")?;
     }

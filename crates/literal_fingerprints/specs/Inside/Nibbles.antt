@@ -1,7 +1,14 @@
 -- The tables as they are kept.
-use Rattle.literal_fingerprints.specs.FingerprintsValue.{HalfTable}
+use Rattle.std.specs.Prelude.{ℕ, List, [], ◌∷◌}
+use Rattle.literal_fingerprints.specs.FingerprintsValue.{FingerprintsValue, HalfTable}
 use Rattle.literal_fingerprints.specs.declared.nibbles.Nibbles.{Nibbles}
 
 -- what contracts see of a table
 abbrev pub table_of : Nibbles → HalfTable
 table_of nibbles = record { low = nibbles.low; high = nibbles.high }
+
+-- the eight halves of the tables
+abbrev pub halves_of : FingerprintsValue → List (List ℕ)
+halves_of f =
+    f.first.low ∷ f.first.high ∷ f.second.low ∷ f.second.high ∷ f.third.low ∷ f.third.high ∷ f.fourth.low
+    ∷ f.fourth.high ∷ []

@@ -8,7 +8,7 @@ use Rattle.literal_fingerprints.specs.FingerprintsValue.{AllPass}
 use Rattle.literal_search.specs.SearchValue.{CanBeKept, longest_of, width_for}
 use Rattle.literal_search.specs.Inside.Classes.{Tells, symbols_in}
 use Rattle.literal_search.specs.Inside.Rows.{rows_in}
-use Rattle.literal_search.specs.Inside.Scan.{NoneIsShorter}
+use Rattle.literal_search.specs.SearchValue.{NoneIsShorter}
 use Rattle.literal_search.specs.Inside.Search.{IsShortestOf, IsSound, patterns_in}
 use Rattle.literal_search.specs.States.{IsRowsLength}
 use Rattle.literal_search.specs.Table.{Recognises}

@@ -17,7 +17,7 @@ use Rattle.literal_search.specs.PreparedOverlapping.{AreSized, AreTables, HasLon
 use Rattle.literal_search.specs.PreparedOverlapping.{IsPreparedOverlapping, RefusesOverlapping, Tables}
 use Rattle.literal_search.specs.PreparedOverlapping.{TakesListedPlaces, WritesOverlapping, ends_at, ends_in}
 use Rattle.literal_search.specs.PreparedOverlapping.{listed_len, starts_in, texts_in}
-use Rattle.literal_search.specs.Prepared.{prepared_len, rows_at}
+use Rattle.literal_search.specs.Prepared.{rows_end, rows_at}
 use Rattle.literal_search.specs.States.{IsRowsLength}
 use Rattle.literal_search.specs.declared.prepared.Front.{Front}
 use Rattle.literal_search.specs.declared.prepared.PrepareError.{PrepareError}
@@ -81,7 +81,7 @@ are_for p lent search prepared = record {
 
 -- where the rows end, and how many lengths there are, by the parts of an array
 pub parts_end : {version : ℕ} (f : Front) (numbers : List ℕ) → f.numbers.now ≡ numbers → IsFront version f
-    → (262 + length f.lengths.now + length f.rows.now ≡ prepared_len numbers)
+    → (262 + length f.lengths.now + length f.rows.now ≡ rows_end numbers)
     × (length f.lengths.now ≡ get_or numbers 3 0)
 parts_end {version} f numbers same front =
     let own = f.numbers.now in
@@ -89,8 +89,8 @@ parts_end {version} f numbers same front =
     let lengths = ap (λ (l : List ℕ). length l) front.lengths_are
     ∙ length_part own 262 (rows_at own) (omega arith) (omega arith) in
     let rows = ap (λ (l : List ℕ). length l) front.rows_are
-    ∙ length_part own (rows_at own) (prepared_len own) (omega arith) (omega arith) in
-    subst (λ (n : List ℕ). (262 + length f.lengths.now + length f.rows.now ≡ prepared_len n)
+    ∙ length_part own (rows_at own) (rows_end own) (omega arith) (omega arith) in
+    subst (λ (n : List ℕ). (262 + length f.lengths.now + length f.rows.now ≡ rows_end n)
     × (length f.lengths.now ≡ get_or n 3 0)) same (omega (arith, lengths, rows), omega (arith, lengths))
 
 -- there are as many lengths as the fourth number says
@@ -225,29 +225,29 @@ module _ (t : Tables) (tables : AreTables t) where
   size : length all_of ≡ 262 + length t.patterns + length t.rows + length t.starts + length t.ends
   size = numbers_long OVERLAPPING_VERSION t.classes t.width t.patterns t.rows t.starts t.ends tables.classes.each
 
-  ends_at_is : ends_at all_of ≡ prepared_len all_of + length t.starts
+  ends_at_is : ends_at all_of ≡ rows_end all_of + length t.starts
   ends_at_is = omega (arith, long)
 
   starts_are : starts_in all_of ≡ t.starts
   starts_are =
-      ap (slice_range all_of (prepared_len all_of)) ends_at_is
+      ap (slice_range all_of (rows_end all_of)) ends_at_is
       ∙ starts_written OVERLAPPING_VERSION t.classes t.width t.patterns t.rows t.starts t.ends tables.classes.each
 
   -- the last of the numbers that say where lists begin is how many numbers are in these
-  last_is : get_or all_of (prepared_len all_of + length t.patterns) 0 ≡ length t.ends
+  last_is : get_or all_of (rows_end all_of + length t.patterns) 0 ≡ length t.ends
   last_is =
-      sym (get_or-drop (prepared_len all_of) all_of (length t.patterns) 0)
-      ∙ (sym (get_or-take (ends_at all_of - prepared_len all_of) (drop (prepared_len all_of) all_of)
+      sym (get_or-drop (rows_end all_of) all_of (length t.patterns) 0)
+      ∙ (sym (get_or-take (ends_at all_of - rows_end all_of) (drop (rows_end all_of) all_of)
       (length t.patterns) 0 (omega arith))
       ∙ (ap (λ (l : List ℕ). get_or l (length t.patterns) 0) starts_are ∙ tables.lists.last))
 
-  listed_is : listed_len all_of ≡ prepared_len all_of + length t.starts + length t.ends
+  listed_is : listed_len all_of ≡ rows_end all_of + length t.starts + length t.ends
   listed_is = omega (arith, last_is, ends_at_is)
 
   ends_are : ends_in all_of ≡ t.ends
   ends_are =
       ap (λ from. slice_range all_of from (listed_len all_of)) ends_at_is
-      ∙ (ap (slice_range all_of (prepared_len all_of + length t.starts)) listed_is
+      ∙ (ap (slice_range all_of (rows_end all_of + length t.starts)) listed_is
       ∙ ends_written OVERLAPPING_VERSION t.classes t.width t.patterns t.rows t.starts t.ends tables.classes.each)
 
   pub prepared_all : IsPreparedOverlapping (overlapping_value t) all_of

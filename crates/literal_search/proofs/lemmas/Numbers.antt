@@ -7,7 +7,7 @@ use Rattle.std.specs.List.{slice_range}
 use Rattle.literal_search.specs.Inside.Prepared.{Puts, RefusesArray, numbers_for}
 use Rattle.literal_search.specs.SearchValue.{longest_of}
 use Rattle.literal_search.specs.Prepared.{RefusesNumbers, WritesNumbers, check_of, classes_in, lengths_in}
-use Rattle.literal_search.specs.Prepared.{prepared_len, rows_in}
+use Rattle.literal_search.specs.Prepared.{rows_end, rows_in}
 use Rattle.literal_search.specs.declared.prepared.PrepareError.{PrepareError}
 use Rattle.literal_search.specs.declared.prepared.PrepareError.TheVariants.{ArrayTooShort, ListsTooLong}
 use Rattle.literal_search.specs.declared.prepared.PrepareError.TheVariants.{PatternTooLong}
@@ -81,20 +81,20 @@ module _ (version : ℕ) (classes : List ℕ) (width : ℕ) (patterns : List (Li
         (262 + length patterns + length rows) (ap (λ l. head ++ l) behind_lengths) (omega (arith, upto_rows))
         (omega arith)
 
-    upto_starts : length (((head ++ classes) ++ lengths) ++ rows) ≡ prepared_len numbers
+    upto_starts : length (((head ++ classes) ++ lengths) ++ rows) ≡ rows_end numbers
     upto_starts = omega (arith, length-append ((head ++ classes) ++ lengths) rows, upto_rows)
 
-    pub starts_written : slice_range numbers (prepared_len numbers) (prepared_len numbers + length starts) ≡ starts
+    pub starts_written : slice_range numbers (rows_end numbers) (rows_end numbers + length starts) ≡ starts
     starts_written =
-        part_at numbers (((head ++ classes) ++ lengths) ++ rows) starts ends (prepared_len numbers)
-        (prepared_len numbers + length starts)
+        part_at numbers (((head ++ classes) ++ lengths) ++ rows) starts ends (rows_end numbers)
+        (rows_end numbers + length starts)
         (ap (λ l. head ++ l) (append_assoc ((classes ++ lengths) ++ rows) starts ends)) (sym upto_starts) refl
 
-    pub ends_written : slice_range numbers (prepared_len numbers + length starts)
-        (prepared_len numbers + length starts + length ends) ≡ ends
+    pub ends_written : slice_range numbers (rows_end numbers + length starts)
+        (rows_end numbers + length starts + length ends) ≡ ends
     ends_written =
         part_at numbers ((((head ++ classes) ++ lengths) ++ rows) ++ starts) ends []
-        (prepared_len numbers + length starts) (prepared_len numbers + length starts + length ends)
+        (rows_end numbers + length starts) (rows_end numbers + length starts + length ends)
         (ap (λ l. ((((head ++ classes) ++ lengths) ++ rows) ++ starts) ++ l) (sym (append-nil ends)))
         (omega (arith, length-append (((head ++ classes) ++ lengths) ++ rows) starts, upto_starts)) refl
 

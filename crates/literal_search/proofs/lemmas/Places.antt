@@ -5,9 +5,11 @@ use Rattle.std.proofs.lemmas.List.{drop-take, get_or-take, length-take, take-tak
 use Rattle.std.specs.List.{slice_range}
 use Rattle.literal_base.specs.Kinds.{root_kind_of}
 use Rattle.literal_base.specs.Query.{Query}
+use Rattle.literal_fingerprints.specs.FingerprintsValue.{AllPass}
 use Rattle.literal_search.specs.Inside.Classes.{AreClasses, Tells, symbols_in}
-use Rattle.literal_search.specs.Prepared.{IsPrepared, IsWhole, check_of, classes_in, lengths_in}
-use Rattle.literal_search.specs.Prepared.{prepared_len, rows_at, rows_in, width_in}
+use Rattle.literal_search.specs.Prepared.{IsPrepared, IsWhole, check_of, classes_in, fingerprints_by, lengths_in}
+use Rattle.literal_search.specs.Prepared.{prepared_len, prints_in, rows_at, rows_end, rows_in, shortest_by, width_in}
+use Rattle.literal_search.specs.SearchValue.{NoneIsShorter}
 use Rattle.literal_search.specs.Overlapping.{OverlappingValue}
 use Rattle.literal_search.specs.PreparedOverlapping.{IsPreparedOverlapping, ends_at, listed_len}
 use Rattle.literal_search.specs.Table.{Recognises}
@@ -32,15 +34,21 @@ module _ (query : Query) (ignore_case : Bool) (old new : List ℕ)
     rows_same : rows_at new ≡ rows_at old
     rows_same = let is = same 3 (omega arith) in omega arith
 
+    end_same : rows_end new ≡ rows_end old
+    end_same = let is = same 4 (omega arith) in omega (arith, is, rows_same)
+
     len_same : prepared_len new ≡ prepared_len old
-    len_same = let is = same 4 (omega arith) in omega (arith, is, rows_same)
+    len_same = omega (arith, end_same)
 
     is_whole : IsWhole old → IsWhole new
     is_whole whole = record {
-      parts = record {
-        version_is = same 0 (omega arith) ∙ whole.parts.version_is;
-        few = let is = same 3 (omega arith) in let few = whole.parts.few in omega arith;
-        fits = omega (arith, len_same, fits);
+      all = record {
+        parts = record {
+          version_is = same 0 (omega arith) ∙ whole.all.parts.version_is;
+          few = let is = same 3 (omega arith) in let few = whole.all.parts.few in omega arith;
+          fits = omega (arith, end_same, fits);
+        };
+        long = omega (arith, end_same, fits);
       };
       check = same 1 (omega arith)
           ∙ (whole.check
@@ -56,9 +64,13 @@ module _ (query : Query) (ignore_case : Bool) (old new : List ℕ)
         let lengths_same : lengths_in new ≡ lengths_in old =
         ap (slice_range new 262) rows_same ∙ parts 262 (rows_at old) (omega arith) (omega arith) in
         let rows_are : rows_in new ≡ rows_in old =
-        ap (λ from. slice_range new from (prepared_len new)) rows_same
-        ∙ (ap (slice_range new (rows_at old)) len_same
-        ∙ parts (rows_at old) (prepared_len old) (omega arith) (omega arith)) in
+        ap (λ from. slice_range new from (rows_end new)) rows_same
+        ∙ (ap (slice_range new (rows_at old)) end_same
+        ∙ parts (rows_at old) (rows_end old) (omega arith) (omega arith)) in
+        let prints_are : prints_in new ≡ prints_in old =
+        ap (λ from. slice_range new from (prepared_len new)) end_same
+        ∙ (ap (slice_range new (rows_end old)) len_same
+        ∙ parts (rows_end old) (prepared_len old) (omega arith) (omega arith)) in
         record {
           whole = is_whole prepared.whole;
           longest = same 5 (omega arith) ∙ prepared.longest;
@@ -73,6 +85,10 @@ module _ (query : Query) (ignore_case : Bool) (old new : List ℕ)
               (subst (λ (r : List ℕ). Recognises (root_kind_of query.kind)
               (map (symbols_in (classes_in old)) query.patterns) (width_in old) r) (sym rows_are)
               prepared.recognises));
+          shortest = subst (λ (p : List ℕ). NoneIsShorter (shortest_by p) query.patterns) (sym prints_are)
+              prepared.shortest;
+          fingerprints = subst (λ (p : List ℕ). 0 < shortest_by p
+              → AllPass (fingerprints_by p) ignore_case query.patterns) (sym prints_are) prepared.fingerprints;
           kept = prepared.kept;
         }
 
@@ -80,7 +96,7 @@ module _ (query : Query) (ignore_case : Bool) (numbers : List ℕ) (n : ℕ) whe
   -- what is prepared in the first places is so in all
   pub longer : IsPrepared query ignore_case (take n numbers) → IsPrepared query ignore_case numbers
   longer prepared =
-      let fits = prepared.whole.parts.fits in
+      let fits = prepared.whole.all.long in
       let long = length-take n numbers in
       prepared_as query ignore_case (take n numbers) numbers
       (λ k below. sym (get_or-take n numbers k 0 (omega arith)))
@@ -91,7 +107,7 @@ module _ (query : Query) (ignore_case : Bool) (numbers : List ℕ) (n : ℕ) whe
   pub shorter : IsPrepared query ignore_case numbers → prepared_len numbers ≤ n
       → IsPrepared query ignore_case (take n numbers)
   shorter prepared enough =
-      let fits = prepared.whole.parts.fits in
+      let fits = prepared.whole.all.long in
       let long = length-take n numbers in
       prepared_as query ignore_case numbers (take n numbers) (λ k below. get_or-take n numbers k 0 (omega arith))
       (λ from to ordered inside. part_of_first n numbers from to ordered (omega arith)) (omega arith) prepared
@@ -102,7 +118,7 @@ module _ (search : OverlappingValue) (old new : List ℕ)
     (parts : (from to : ℕ) → from ≤ to → to ≤ listed_len old → slice_range new from to ≡ slice_range old from to)
     (fits : listed_len old ≤ length new)
   where
-    len_is : prepared_len new ≡ prepared_len old
+    len_is : rows_end new ≡ rows_end old
     len_is = omega (arith, same 3 (omega arith), same 4 (omega arith))
 
     ends_is : ends_at new ≡ ends_at old
@@ -110,13 +126,13 @@ module _ (search : OverlappingValue) (old new : List ℕ)
 
     listed_is : listed_len new ≡ listed_len old
     listed_is =
-        let last : prepared_len new + get_or new 3 0 ≡ prepared_len old + get_or old 3 0 =
+        let last : rows_end new + get_or new 3 0 ≡ rows_end old + get_or old 3 0 =
         omega (arith, same 3 (omega arith), len_is) in
         omega (
           arith,
           ends_is,
           ap (λ k. get_or new k 0) last,
-          same (prepared_len old + get_or old 3 0) (omega arith),
+          same (rows_end old + get_or old 3 0) (omega arith),
         )
 
     -- a part that lies at the same places is the same
@@ -145,11 +161,11 @@ module _ (search : OverlappingValue) (old new : List ℕ)
           };
           tables = same_tables search _ _ _ _ _ _ _ _ _ _ (sym (parts 6 262 (omega arith) (omega arith)))
               (sym (same 2 (omega arith)))
-              (sym (part_is (rows_at old) (prepared_len old) (rows_at new) (prepared_len new) rows_is len_is
+              (sym (part_is (rows_at old) (rows_end old) (rows_at new) (rows_end new) rows_is len_is
               (omega arith) (omega arith)))
               (sym (part_is (ends_at old) (listed_len old) (ends_at new) (listed_len new) ends_is listed_is
               (omega arith) (omega arith)))
-              (sym (part_is (prepared_len old) (ends_at old) (prepared_len new) (ends_at new) len_is ends_is
+              (sym (part_is (rows_end old) (ends_at old) (rows_end new) (ends_at new) len_is ends_is
               (omega arith) (omega arith))) prepared.tables;
           lengths = part_is 262 (rows_at old) 262 (rows_at new) refl rows_is (omega arith) (omega arith)
               ∙ prepared.lengths;

@@ -1,8 +1,8 @@
 -- Searches by an array that is lent.
 use Rattle.std.proofs.Common.{◌≡◌, ℕ, ◌+◌, ◌-◌, ◌<◌, ◌≤◌, ◌^◌, Bool, List, [], drop, length, get_or, map}
-use Rattle.std.proofs.Common.{Err, IfErr, IfOk, Ok, Result, refl}
+use Rattle.std.proofs.Common.{Bor, Err, IfErr, IfOk, IfSome, IsSomeAnd, None, Ok, Option, Result, Some, refl, ◌%◌}
 use Rattle.std.proofs.Common.{sym, ap, subst, ◌∙◌, arith}
-use Rattle.std.proofs.lemmas.List.{get_or-map, length-drop, length-map, length-take}
+use Rattle.std.proofs.lemmas.List.{ext_get_or, get_or-drop, get_or-map, length-drop, length-map, length-take}
 use Rattle.std.specs.List.{slice_range}
 use Rattle.literal_base.specs.Kinds.{root_kind_of}
 use Rattle.literal_base.specs.Leftmost.{IsLeftmostMatch}
@@ -10,17 +10,19 @@ use Rattle.literal_base.specs.Occurs.{pattern_at}
 use Rattle.literal_base.specs.Query.{Query}
 use Rattle.literal_base.specs.declared.packed.MatchKind.{MatchKind}
 use Rattle.literal_base.specs.declared.search.Span.{Span}
-use Rattle.literal_search.specs.SearchValue.{CanBeKept}
+use Rattle.literal_fingerprints.specs.FingerprintsValue.{AllPass, FingerprintsValue}
+use Rattle.literal_search.specs.SearchValue.{CanBeKept, NoneIsShorter, SearchValue}
 use Rattle.literal_search.specs.Inside.Classes.{AreClasses, Tells, symbols_in}
 use Rattle.literal_search.specs.Inside.Scan.{IsTableOf, match_by}
-use Rattle.literal_search.specs.Inside.Prepared.{IsFront, IsSplit, table_of}
+use Rattle.literal_search.specs.Inside.Prepared.{IsFront, IsLent, IsSplit, table_of}
 use Rattle.literal_search.specs.declared.prepared.Front.{Front}
-use Rattle.literal_search.specs.declared.walk.Table.{Table}
 use Rattle.literal_base.specs.MatchValue.{MatchValue}
 use Rattle.literal_search.specs.Inside.Prepared.{Puts, RefusesArray, numbers_for}
-use Rattle.literal_search.specs.Inside.Search.{IsSound, patterns_in}
+use Rattle.literal_search.specs.Inside.Search.{IsSound, patterns_in, search_value}
 use Rattle.literal_search.specs.Prepared.{IsPrepared, RefusesToPrepare, TakesPlaces, WritesPrepared, classes_in}
-use Rattle.literal_search.specs.Prepared.{prepared_len, rows_in, width_in}
+use Rattle.literal_search.specs.Prepared.{fingerprints_by, prepared_len, prints_in, rows_end, rows_in, shortest_by}
+use Rattle.literal_search.specs.Prepared.{width_in}
+use Rattle.literal_search.specs.declared.prepared.Prepared.TheInside.{Inside as Lent}
 use Rattle.literal_search.specs.declared.prepared.TheConstants.{PREPARED_VERSION}
 use Rattle.literal_search.specs.States.{IsRowsLength}
 use Rattle.literal_search.specs.Table.{Recognises}
@@ -28,13 +30,25 @@ use Rattle.literal_search.specs.declared.Search.TheInside.{Inside}
 use Rattle.literal_search.specs.declared.prepared.PrepareError.{PrepareError}
 use Rattle.literal_search.specs.declared.walk.Ended.{Ended}
 use Rattle.literal_search.proofs.lemmas.Numbers.{check_written, classes_written, lengths_written, numbers_long}
-use Rattle.literal_search.proofs.lemmas.Numbers.{numbers_refused, numbers_written, rows_written}
+use Rattle.literal_search.proofs.lemmas.Numbers.{ends_written, numbers_refused, numbers_written, rows_written}
 
 -- the length of a part of a list
 pub length_part : (numbers : List ℕ) (from to : ℕ) → from ≤ to → to ≤ length numbers
     → length (slice_range numbers from to) ≡ to - from
 length_part numbers from to ordered inside =
     omega (arith, length-take (to - from) (drop from numbers), length-drop from numbers)
+
+-- bytes for which numbers stand, behind the first of these
+pub bytes_read : (numbers bytes : List ℕ) → length numbers ≡ length bytes + 1
+    → ((k : ℕ) → k < length bytes → get_or bytes k 0 ≡ get_or numbers (1 + k) 0 % 256)
+    → bytes ≡ map (λ number. number % 256) (drop 1 numbers)
+bytes_read numbers bytes size each =
+    let others = drop 1 numbers in
+    let long : length others ≡ length bytes = omega (arith, length-drop 1 numbers) in
+    ext_get_or 0 bytes (map (λ (n : ℕ). n % 256) others)
+    (omega (arith, long, length-map others (λ (n : ℕ). n % 256))) (λ k below.
+    each k below ∙ (ap (λ n. n % 256) (sym (get_or-drop 1 numbers k 0))
+    ∙ sym (get_or-map (λ (n : ℕ). n % 256) others k 0 0 (omega (arith, long, below)))))
 
 -- there is a class for each byte
 pub classes_long : {version : ℕ} {numbers classes : List ℕ} {width : ℕ} {lengths rows : List ℕ} {longest : ℕ}
@@ -80,22 +94,28 @@ module _ {version : ℕ} {numbers classes : List ℕ} {width : ℕ} {lengths row
         ∙ get_or-map (λ (bytes : List ℕ). length bytes) query.patterns i [] 0 below
 
 -- so are those of a lent array by which a walk goes
-pub table_for : {version : ℕ} (f : Front) → IsFront version f → (query : Query) (ignore_case : Bool)
-    → IsPrepared query ignore_case f.numbers.now → IsTableOf (table_of f) query ignore_case
-table_for f split query ignore_case prepared = record {
-  classes = are_classes split prepared;
-  tells = tells split prepared;
-  recognises = recognises split prepared;
-  some = prepared.kept.some;
-  longest = split.longest_is ∙ prepared.longest;
-  shortest = λ i below. omega arith;
-  fingerprints = tt;
-}
+module _ (p : Lent) (lent : IsLent p) (fingerprints : Option (Bor FingerprintsValue)) (query : Query)
+    (ignore_case : Bool) (prepared : IsPrepared query ignore_case p.front.numbers.now)
+  where
+    all_pass : (o : Option FingerprintsValue)
+        → IfSome o (λ f. (0 < p.shortest) × (f ≡ fingerprints_by (prints_in p.front.numbers.now)))
+        → IfSome o (λ f. AllPass f ignore_case query.patterns)
+    all_pass None are = tt
+    all_pass (Some f) (some, is) =
+        subst (λ f. AllPass f ignore_case query.patterns) (sym is)
+        (prepared.fingerprints (omega (arith, some, lent.shortest)))
 
-pub is_for : {version : ℕ} (f : Front) → IsFront version f → (t : Table) → t ≡ table_of f → (query : Query)
-    (ignore_case : Bool) → IsPrepared query ignore_case f.numbers.now → IsTableOf t query ignore_case
-is_for f split t same query ignore_case prepared =
-    subst (λ t. IsTableOf t query ignore_case) (sym same) (table_for f split query ignore_case prepared)
+    pub table_for : ((P : FingerprintsValue → Type 0) → IfSome p.fingerprints P → IfSome fingerprints (λ f. P f.now))
+        → IsTableOf (record (table_of p.front) { shortest = p.shortest; fingerprints = fingerprints }) query ignore_case
+    table_for behind = record {
+      classes = are_classes lent.front prepared;
+      tells = tells lent.front prepared;
+      recognises = recognises lent.front prepared;
+      some = prepared.kept.some;
+      longest = lent.front.longest_is ∙ prepared.longest;
+      shortest = subst (λ n. NoneIsShorter n query.patterns) (sym lent.shortest) prepared.shortest;
+      fingerprints = behind (λ f. AllPass f ignore_case query.patterns) (all_pass p.fingerprints lent.fingerprints);
+    }
 
 -- what is found by it is the match with the length that the array has
 module _ {version : ℕ} (f : Front) (split : IsFront version f) (query : Query) (ignore_case : Bool)
@@ -128,82 +148,111 @@ module _ {version : ℕ} (f : Front) (split : IsFront version f) (query : Query)
 module _ (classes : List ℕ) (width : ℕ) (kind : MatchKind) (ignore_case : Bool) (patterns : List (List ℕ))
     (rows : List ℕ) (are : AreClasses classes width) (told : Tells ignore_case classes patterns)
     (recognised : Recognises (root_kind_of kind) (map (symbols_in classes) patterns) width rows)
-    (kept : CanBeKept patterns)
+    (kept : CanBeKept patterns) (prints : List ℕ) (size : length prints ≡ 129)
+    (least : NoneIsShorter (shortest_by prints) patterns)
+    (pass : 0 < shortest_by prints → AllPass (fingerprints_by prints) ignore_case patterns)
   where
     abbrev numbers : List ℕ
-    numbers = numbers_for PREPARED_VERSION classes width patterns rows [] []
+    numbers = numbers_for PREPARED_VERSION classes width patterns rows [] prints
+
+    prints_written : prints_in numbers ≡ prints
+    prints_written =
+        let from : rows_end numbers ≡ rows_end numbers + 0 = omega arith in
+        let to : prepared_len numbers ≡ rows_end numbers + 0 + length prints = omega (arith, size) in
+        ap (λ k. slice_range numbers k (prepared_len numbers)) from
+        ∙ (ap (slice_range numbers (rows_end numbers + 0)) to
+        ∙ ends_written PREPARED_VERSION classes width patterns rows [] prints are.each)
 
     pub prepared_numbers : IsPrepared (record { kind = kind; patterns = patterns }) ignore_case numbers
     prepared_numbers =
-        let long = numbers_long PREPARED_VERSION classes width patterns rows [] [] are.each in
-        let first = classes_written PREPARED_VERSION classes width patterns rows [] [] are.each in
+        let long = numbers_long PREPARED_VERSION classes width patterns rows [] prints are.each in
+        let first = classes_written PREPARED_VERSION classes width patterns rows [] prints are.each in
         record {
           whole = record {
-            parts = record {
-              version_is = refl;
-              few = kept.few;
-              fits = omega (arith, long);
+            all = record {
+              parts = record { version_is = refl; few = kept.few; fits = omega (arith, long) };
+              long = omega (arith, long, size);
             };
-            check = check_written PREPARED_VERSION classes width patterns rows [] [] are.each (prepared_len numbers)
-                (omega (arith, long));
+            check = check_written PREPARED_VERSION classes width patterns rows [] prints are.each
+                (prepared_len numbers) (omega (arith, long, size));
           };
           longest = refl;
           classes = subst (λ (c : List ℕ). AreClasses c width) (sym first) are;
           tells = subst (λ (c : List ℕ). Tells ignore_case c patterns) (sym first) told;
-          lengths = lengths_written PREPARED_VERSION classes width patterns rows [] [] are.each;
+          lengths = lengths_written PREPARED_VERSION classes width patterns rows [] prints are.each;
           recognises = subst (λ (c : List ℕ). Recognises (root_kind_of kind) (map (symbols_in c) patterns) width
               (rows_in numbers)) (sym first)
               (subst (λ (r : List ℕ). Recognises (root_kind_of kind) (map (symbols_in classes) patterns) width r)
-              (sym (rows_written PREPARED_VERSION classes width patterns rows [] [] are.each)) recognised);
+              (sym (rows_written PREPARED_VERSION classes width patterns rows [] prints are.each)) recognised);
+          shortest = subst (λ (p : List ℕ). NoneIsShorter (shortest_by p) patterns) (sym prints_written) least;
+          fingerprints = subst (λ (p : List ℕ). 0 < shortest_by p → AllPass (fingerprints_by p) ignore_case patterns)
+              (sym prints_written) pass;
           kept = kept;
         }
 
--- what `write` answers for the parts of a `Search`
-module _ (a : Inside) (sound : IsSound a) (old new : List ℕ) where
-  abbrev query : Query
-  query = record { kind = a.kind; patterns = patterns_in a }
+-- what the fingerprints of a `Search` let pass, those by their numbers do
+pub prints_pass : (a : Inside) (value : SearchValue) (prints : List ℕ) (o : Option (Bor FingerprintsValue))
+    → search_value a ≡ value → IfSome o (λ f. AllPass f.now value.ignore_case value.query.patterns)
+    → (0 < shortest_by prints → IsSomeAnd o (λ f. fingerprints_by prints ≡ f.now)) → 0 < shortest_by prints
+    → AllPass (fingerprints_by prints) a.ignore_case (patterns_in a)
+prints_pass a value prints None view pass is some = absurd (is some)
+prints_pass a value prints (Some f) view pass is some =
+    subst (λ p. AllPass p a.ignore_case (patterns_in a)) (sym (is some))
+    (subst (λ (v : SearchValue). AllPass f.now v.ignore_case v.query.patterns) (sym view) pass)
 
-  abbrev all : List ℕ
-  all = numbers_for PREPARED_VERSION a.classes.table a.classes.width (patterns_in a) a.rows [] []
+-- so many places are those in front, one for each pattern, the rows, and the fingerprints
+pub takes_places : (a : Inside) → IsSound a → (needed : ℕ)
+    → needed ≡ 262 + length (patterns_in a) + length a.rows + 129
+    → TakesPlaces (let q : Query = record { kind = a.kind; patterns = patterns_in a } in q) a.ignore_case needed
+unfolding TakesPlaces
+takes_places a sound needed is = (
+  a.classes.table,
+  subst (AreClasses a.classes.table) sound.width sound.classes,
+  sound.tells,
+  (
+    length a.rows,
+    subst (λ width. IsRowsLength (root_kind_of a.kind) (map (symbols_in a.classes.table) (patterns_in a)) width
+        (length a.rows)) sound.width sound.rows,
+    is,
+  ),
+)
 
-  is_prepared : IsPrepared query a.ignore_case all
-  is_prepared =
-      prepared_numbers a.classes.table a.classes.width a.kind a.ignore_case (patterns_in a) a.rows sound.classes
-      sound.tells sound.recognises sound.kept
+-- what `write` answers for the parts of a `Search`, and the numbers of its fingerprints
+module _ (a : Inside) (sound : IsSound a) (old new prints : List ℕ) (size : length prints ≡ 129)
+    (least : shortest_by prints ≤ a.shortest)
+    (pass : 0 < shortest_by prints → AllPass (fingerprints_by prints) a.ignore_case (patterns_in a))
+  where
+    abbrev query : Query
+    query = record { kind = a.kind; patterns = patterns_in a }
 
-  -- so many places are those in front, one for each pattern, and the rows
-  pub takes_places : (needed : ℕ) → needed ≡ 262 + length (patterns_in a) + length a.rows
-      → TakesPlaces query a.ignore_case needed
-  unfolding TakesPlaces
-  takes_places needed is = (
-    a.classes.table,
-    subst (AreClasses a.classes.table) sound.width sound.classes,
-    sound.tells,
-    (
-      length a.rows,
-      subst (λ width. IsRowsLength (root_kind_of a.kind) (map (symbols_in a.classes.table) (patterns_in a)) width
-          (length a.rows)) sound.width sound.rows,
-      is,
-    ),
-  )
+    abbrev all : List ℕ
+    all = numbers_for PREPARED_VERSION a.classes.table a.classes.width (patterns_in a) a.rows [] prints
 
-  takes : TakesPlaces query a.ignore_case (length all)
-  takes = takes_places (length all) (omega (
-    arith,
-    numbers_long PREPARED_VERSION a.classes.table a.classes.width (patterns_in a) a.rows [] [] sound.classes.each,
-  ))
+    is_prepared : IsPrepared query a.ignore_case all
+    is_prepared =
+        prepared_numbers a.classes.table a.classes.width a.kind a.ignore_case (patterns_in a) a.rows sound.classes
+        sound.tells sound.recognises sound.kept prints size
+        (λ i below. let all = sound.shortest i below in omega (arith, all, least)) pass
 
-  pub prepare_ok : (result : Result ℕ PrepareError)
-      → IfOk result (λ needed. (needed ≤ length old) × (0 < 2 ^ 32) × Puts 0 all old new × (needed ≡ length all))
-      → IfOk result (WritesPrepared query a.ignore_case old new)
-  prepare_ok (Err error) ok = tt
-  prepare_ok (Ok needed) ok =
-      numbers_written (IsPrepared query a.ignore_case) (TakesPlaces query a.ignore_case) all old new needed is_prepared
-      takes ok.0 ok.2 ok.3
+    takes : TakesPlaces query a.ignore_case (length all)
+    takes = takes_places a sound (length all) (omega (
+      arith,
+      numbers_long PREPARED_VERSION a.classes.table a.classes.width (patterns_in a) a.rows [] prints sound.classes.each,
+      size,
+    ))
 
-  pub prepare_refused : (result : Result ℕ PrepareError) → IfErr result (RefusesArray (patterns_in a) [] all old)
-      → IfErr result (RefusesToPrepare query a.ignore_case old)
-  prepare_refused (Ok needed) refused = tt
-  prepare_refused (Err error) refused =
-      numbers_refused (patterns_in a) ⊥ (IsPrepared query a.ignore_case) (TakesPlaces query a.ignore_case) [] all old
-      is_prepared takes (λ long. omega arith) error refused
+    pub prepare_ok : (result : Result ℕ PrepareError)
+        → IfOk result (λ needed. (needed ≤ length old) × (length prints < 2 ^ 32) × Puts 0 all old new
+        × (needed ≡ length all))
+        → IfOk result (WritesPrepared query a.ignore_case old new)
+    prepare_ok (Err error) ok = tt
+    prepare_ok (Ok needed) ok =
+        numbers_written (IsPrepared query a.ignore_case) (TakesPlaces query a.ignore_case) all old new needed
+        is_prepared takes ok.0 ok.2 ok.3
+
+    pub prepare_refused : (result : Result ℕ PrepareError) → IfErr result (RefusesArray (patterns_in a) prints all old)
+        → IfErr result (RefusesToPrepare query a.ignore_case old)
+    prepare_refused (Ok needed) refused = tt
+    prepare_refused (Err error) refused =
+        numbers_refused (patterns_in a) ⊥ (IsPrepared query a.ignore_case) (TakesPlaces query a.ignore_case) prints
+        all old is_prepared takes (λ long. omega (arith, long, size)) error refused

@@ -1,10 +1,13 @@
 -- The parts of a prepared search, and how they are written.
-use Rattle.std.specs.Prelude.{◌≡◌, ◌+◌, ◌<◌, ◌≤◌, ◌^◌, ℕ, List, ◌∷◌, ◌++◌, length, map, None, slice_index}
+use Rattle.std.specs.Prelude.{◌≡◌, ◌+◌, ◌<◌, ◌≤◌, ◌^◌, ℕ, List, ◌∷◌, ◌++◌, IfSome, None}
+use Rattle.std.specs.Prelude.{length, map, slice_index}
 use Rattle.std.specs.List.{splice}
 use Rattle.literal_search.specs.SearchValue.{longest_of}
-use Rattle.literal_search.specs.Prepared.{AreShort, HasParts, check_of, classes_in, lengths_in, rows_in}
-use Rattle.literal_search.specs.Prepared.{width_in}
+use Rattle.literal_search.specs.Prepared.{AreShort, HasAllParts, HasParts, check_of, classes_in, fingerprints_by}
+use Rattle.literal_search.specs.Prepared.{lengths_in, prints_in, rows_in, shortest_by, width_in}
 use Rattle.literal_search.specs.declared.prepared.Front.{Front}
+use Rattle.literal_search.specs.declared.prepared.Prepared.TheInside.{Inside}
+use Rattle.literal_search.specs.declared.prepared.TheConstants.{PREPARED_VERSION}
 use Rattle.literal_search.specs.declared.walk.Table.{Table}
 use Rattle.literal_search.specs.declared.prepared.PrepareError.{PrepareError}
 use Rattle.literal_search.specs.declared.prepared.PrepareError.TheVariants.{ArrayTooShort, ListsTooLong}
@@ -25,7 +28,7 @@ pub record IsSplit (version : ℕ) (numbers classes : List ℕ) (width : ℕ) (l
 abbrev pub IsFront : ℕ → Front → Type 0
 IsFront version f = IsSplit version f.numbers.now f.classes.now f.width f.lengths.now f.rows.now f.longest
 
--- what a walk reads of them
+-- what a walk reads of them that goes by no fingerprints
 abbrev pub table_of : Front → Table
 table_of f =
     record {
@@ -36,6 +39,14 @@ table_of f =
       shortest = 0;
       fingerprints = None;
     }
+
+-- the fields of a `Prepared`: the parts of an array, and its fingerprints where it has some
+pub record IsLent (p : Inside) : Type 0 where
+  pub front : IsFront PREPARED_VERSION p.front
+  pub all : HasAllParts p.front.numbers.now
+  pub shortest : p.shortest ≡ shortest_by (prints_in p.front.numbers.now)
+  pub fingerprints : IfSome p.fingerprints
+      (λ f. (0 < p.shortest) × (f ≡ fingerprints_by (prints_in p.front.numbers.now)))
 
 -- numbers stand in a list from a place on, and the rest of it is as it was
 abbrev pub Puts : ℕ → List ℕ → List ℕ → List ℕ → Type 0

@@ -1,5 +1,5 @@
 -- What a search by the numbers of an automaton answers.
-use Rattle.std.specs.Prelude.{◌≡◌, ℕ, ◌+◌, ◌-◌, ◌*◌, ◌<◌, ◌≤◌, Bool, true, false, List, Option, None, Some, length, map}
+use Rattle.std.specs.Prelude.{◌≡◌, ℕ, ◌+◌, ◌-◌, ◌*◌, ◌≤◌, Bool, true, false, List, Option, None, Some, length, map}
 use Rattle.std.specs.Prelude.{IfSome}
 use Rattle.literal_base.specs.Kinds.{root_kind_of}
 use Rattle.literal_base.specs.Leftmost.{IsLeftmostMatch}
@@ -8,7 +8,7 @@ use Rattle.literal_base.specs.Occurs.{NoneIsEmpty, NothingOccurs, Occurs, patter
 use Rattle.literal_base.specs.Query.{Query}
 use Rattle.literal_base.specs.declared.search.Span.{Span}
 use Rattle.literal_fingerprints.specs.FingerprintsValue.{AllPass}
-use Rattle.literal_search.specs.SearchValue.{longest_of}
+use Rattle.literal_search.specs.SearchValue.{NoneIsShorter, longest_of}
 use Rattle.literal_search.specs.Earliest.{EndsEarliest}
 use Rattle.literal_search.specs.Inside.Classes.{AreClasses, Tells, symbols_in}
 use Rattle.literal_search.specs.Table.{Recognises}
@@ -16,10 +16,6 @@ use Rattle.literal_search.specs.declared.scan.TheConstants.{LONGEST}
 use Rattle.literal_search.specs.declared.scan.Nearest.{Nearest}
 use Rattle.literal_search.specs.declared.walk.Ended.{Ended}
 use Rattle.literal_search.specs.declared.walk.Table.{Table}
-
--- no pattern is shorter than so many bytes
-abbrev pub NoneIsShorter : ℕ → List (List ℕ) → Type 0
-NoneIsShorter n patterns = (i : ℕ) → i < length patterns → n ≤ length (pattern_at patterns i)
 
 -- the numbers are those of an automaton for patterns, none empty: classes that tell their bytes, rows that recognise
 -- their texts in these, the length of the longest, a length that none is below, and fingerprints that let all pass

@@ -6,7 +6,7 @@ use Rattle.literal_fingerprints.specs.FingerprintsValue.{AllPass}
 use Rattle.literal_search.specs.SearchValue.{CanBeKept, SearchValue, search_by, longest_of, shortest_of}
 use Rattle.literal_search.specs.SearchValue.{width_for}
 use Rattle.literal_search.specs.Inside.Classes.{AreClasses, Tells, symbols_in}
-use Rattle.literal_search.specs.Inside.Scan.{NoneIsShorter}
+use Rattle.literal_search.specs.SearchValue.{NoneIsShorter}
 use Rattle.literal_search.specs.States.{IsRowsLength}
 use Rattle.literal_search.specs.Table.{Recognises}
 use Rattle.literal_search.specs.declared.BuildError.{BuildError}

@@ -1,18 +1,21 @@
 -- What a walk through the rows of an automaton finds.
 use Rattle.std.specs.Prelude.{◌≡◌, ℕ, ◌+◌, ◌*◌, ◌-◌, ◌<◌, ◌≤◌, ◌⊎◌, ◌^◌, Bool, true, false, List, [], ◌∷◌, ◌++◌}
 use Rattle.std.specs.Prelude.{⊤, Option, None, Some}
-use Rattle.std.specs.Prelude.{MatchOption, IfSome, IsSome, length}
+use Rattle.std.specs.Prelude.{MatchOption, IfOk, IfSome, IsSome, Result, length}
 use Rattle.std.specs.Prelude.{if◌then◌else◌, nat_eq, nat_lt, slice_index, slice_range}
 use Rattle.std.specs.List.{starts_with}
+use Rattle.std.specs.Result.{IsOkAnd}
+use Rattle.literal_base.specs.Counts.{Counts}
 use Rattle.literal_base.specs.declared.packed.MatchKind.{MatchKind}
 use Rattle.literal_base.specs.declared.search.MatchKind as search
 use Rattle.literal_base.specs.declared.search.Span.{Span}
 use Rattle.literal_base.specs.Kinds.{root_kind_of}
 use Rattle.literal_base.specs.Leftmost.{IsBetter}
 use Rattle.literal_base.specs.Occurs.{NoneIsEmpty, between, pattern_at}
-use Rattle.literal_search.specs.Inside.Classes.{symbols_in}
+use Rattle.literal_search.specs.Inside.Classes.{AreClasses, symbols_in}
 use Rattle.literal_search.specs.Table.{Recognises, nothing, stride_of}
 use Rattle.literal_search.specs.Words.{ending, held, one_stands, word_of}
+use Rattle.literal_search.specs.declared.prepared.Damaged.{Damaged}
 use Rattle.literal_search.specs.declared.walk.Ended.{Ended}
 use Rattle.literal_search.specs.declared.walk.Stop.{Stop}
 use Rattle.literal_search.specs.declared.walk.Table.{Table}
@@ -201,3 +204,16 @@ abbrev pub NoneInFour : Table → List ℕ → ℕ → ℕ → ℕ → Type 0
 NoneInFour t haystack at block len =
     (k : ℕ) → k < 4 → FindsIn t.width t.rows.now (at + k * block)
     (text_in t haystack (at + k * block) (at + k * block + len)) None
+
+-- what a walk through a span answers, and how many steps it takes: the contract of `Table::walk`, for its two copies
+pub record IsWalked (t : Table) (haystack : List ℕ) (span : Span) (least : ℕ) (is_earliest : Bool) (old new : Counts)
+    (result : Result Walked Damaged) : Type 0 where
+  pub found : AreClasses t.classes.now t.width → IsTable t.width t.rows.now
+      → IsOkAnd result (Walks t haystack span is_earliest)
+  pub near : AreClasses t.classes.now t.width → IsTable t.width t.rows.now
+      → IsOkAnd result (StopsBy t span (new.scanned - old.scanned))
+  pub inside : IfOk result (LiesWithin span least)
+  pub others : new ≡ record old { scanned = new.scanned }
+  pub grows : old.scanned ≤ new.scanned
+  pub once : new.scanned ≤ old.scanned + (span.end - span.start)
+  pub counted : IfOk result (WalksFar span is_earliest (new.scanned - old.scanned))

@@ -1,5 +1,6 @@
 -- The lines of a text, from its front, and that no others are.
-use Rattle.std.proofs.Common.{◌≡◌, ◌≢◌, ◌==◌, ℕ, List, [], ◌∷◌, ◌++◌, refl, sym, ap, ◌∙◌, append_assoc, inl, inr}
+use Rattle.std.proofs.Common.{◌≡◌, ◌≢◌, ◌==◌, ℕ, List, [], ◌∷◌, ◌++◌, refl, sym, ap, ◌∙◌, append-nil, append_assoc}
+use Rattle.std.proofs.Common.{inl, inr}
 use Rattle.std.proofs.lemmas.Bool.{cases_eq, cond-false, cond-true, eq-eqb, ne_eqb}
 use Rattle.std.proofs.lemmas.List.Elements.{All-cons, All-head, All-nil, All-tail}
 use Rattle.std.specs.List.{All, flat_map, onto_first}
@@ -36,6 +37,12 @@ lines_of-split (line ∷ more) last whole last_whole =
     ap lines_of (append_assoc (with_feed line) (flat_map with_feed more) last)
     ∙ (lines_of-line line (flat_map with_feed more ++ last) (All-head HasNoFeed line more whole)
     ∙ ap (λ lines. line ∷ lines) (lines_of-split more last (All-tail HasNoFeed line more whole) last_whole))
+
+-- lines that have no line feed are those of the text that they make
+pub lines_of-feeds : (lines : List (List ℕ)) → All HasNoFeed lines → lines_of (flat_map with_feed lines) ≡ lines
+lines_of-feeds lines whole =
+    ap lines_of (sym (append-nil (flat_map with_feed lines))) ∙ lines_of-split lines [] whole (All-nil Other)
+    ∙ append-nil lines
 
 pub only_lines : (text : List ℕ) (lines : List (List ℕ)) → AreLinesOf text lines → lines ≡ lines_of text
 only_lines text lines are =

@@ -2,7 +2,6 @@
 use Rattle.std.proofs.Common.{◌≡◌, ◌+◌, ◌&&◌, ◌||◌, ℕ, Bool, true, false, List, [], ◌∷◌, ◌++◌, length, cond, min, not}
 use Rattle.std.proofs.Common.{Option, None, Some, inl, inr}
 use Rattle.std.proofs.Common.{refl, sym, ap, ◌∙◌, arith, subst, append_assoc, append-nil, length-append}
-use Rattle.std.specs.Fmt.{decimal}
 use Rattle.std.specs.List.{count_by, flat_map}
 use Rattle.std.proofs.lemmas.Bool.{cases_Bool}
 use Rattle.std.proofs.lemmas.List.Sums.{sum_by-append}
@@ -12,10 +11,11 @@ use Rattle.literal_base.specs.MatchValue.{MatchValue}
 use Rattle.literal_base.specs.Occurs.{one_occurs}
 use Rattle.literal_base.proofs.lemmas.Met.{is_some_where_one_occurs, one_occurs_if}
 use Rattle.literal_search.specs.SearchValue.{SearchValue}
-use Rattle.litscan.specs.Lines.{lines_of, with_feed}
-use Rattle.litscan.specs.Printed.{Prints, PrintsFound, PrintsLine, PrintsLines, PrintsUnlessCounted, counts}
-use Rattle.litscan.specs.Printed.{printed_matches, printed_part}
-use Rattle.litscan.specs.declared.request.Options.{Options}
+use Rattle.litscan.specs.Lines.{with_feed}
+use Rattle.litscan.specs.Options.{is_silent}
+use Rattle.litscan.specs.Printed.{PrintsFound, PrintsLine, PrintsLines, PrintsUnlessSilent, counts, printed_matches}
+use Rattle.litscan.specs.Printed.{printed_part}
+use Rattle.litscan.specs.declared.options.Options.{Options}
 
 -- the first match, if there is one
 abbrev first_of : List MatchValue → Option MatchValue
@@ -47,17 +47,17 @@ length-feeds line more =
     length-append (with_feed line) (flat_map with_feed more)
     ∙ ap (λ n. n + length (flat_map with_feed more)) (length-append line (10 ∷ []))
 
-module _ (search : SearchValue) (options : Options) where
+module _ (search : SearchValue) (options : Options) (name : List ℕ) where
   -- one list of lines behind another
   prints-append : (number offset at behind : ℕ) (seen more : List (List ℕ)) (front out : List ℕ)
       → at ≡ length seen + number → behind ≡ length (flat_map with_feed seen) + offset
-      → PrintsLines search options number offset seen front → PrintsLines search options at behind more out
-      → PrintsLines search options number offset (seen ++ more) (front ++ out)
+      → PrintsLines search options name number offset seen front → PrintsLines search options name at behind more out
+      → PrintsLines search options name number offset (seen ++ more) (front ++ out)
   prints-append number offset at behind [] more front out at_is behind_is before after =
       let number_is : at ≡ number = omega arith in
       let offset_is : behind ≡ offset = omega arith in
-      rw before (subst (λ n. PrintsLines search options number n more out) offset_is
-      (subst (λ n. PrintsLines search options n behind more out) number_is after))
+      rw before (subst (λ n. PrintsLines search options name number n more out) offset_is
+      (subst (λ n. PrintsLines search options name n behind more out) number_is after))
   prints-append number offset at behind (line ∷ seen) more front out at_is behind_is before after =
       let first = before.0 in
       let rest = before.1 in
@@ -73,10 +73,10 @@ module _ (search : SearchValue) (options : Options) where
   -- one line among others
   pub prints_in_turn : (number offset at behind : ℕ) (front more : List (List ℕ)) (line out : List ℕ)
       → at ≡ length front + number → behind ≡ length (flat_map with_feed front) + offset
-      → PrintsLines search options number offset (front ++ line ∷ more) out
+      → PrintsLines search options name number offset (front ++ line ∷ more) out
       → (before part after : List ℕ) × (out ≡ before ++ (part ++ after))
-      × PrintsLines search options number offset front before
-      × PrintsLine (counts search options.others line) search options at behind line part
+      × PrintsLines search options name number offset front before
+      × PrintsLine (counts search options.others line) search options name at behind line part
   prints_in_turn number offset at behind [] more line out at_is behind_is printed =
       let number_is : number ≡ at = omega arith in
       let offset_is : offset ≡ behind = omega arith in
@@ -86,8 +86,8 @@ module _ (search : SearchValue) (options : Options) where
         printed.1,
         printed.4,
         refl,
-        subst (λ n. PrintsLine test search options at n line printed.0) offset_is
-            (subst (λ n. PrintsLine test search options n offset line printed.0) number_is printed.2),
+        subst (λ n. PrintsLine test search options name at n line printed.0) offset_is
+            (subst (λ n. PrintsLine test search options name n offset line printed.0) number_is printed.2),
       )
   prints_in_turn number offset at behind (first ∷ front) more line out at_is behind_is printed =
       let size = length-feeds first front in
@@ -105,16 +105,16 @@ module _ (search : SearchValue) (options : Options) where
   -- the same, where nothing may be printed of lines
   pub prints_more : (silent : Bool) (number offset at behind : ℕ) (seen more : List (List ℕ)) (front out : List ℕ)
       → at ≡ length seen + number → behind ≡ length (flat_map with_feed seen) + offset
-      → PrintsUnlessCounted silent search options number offset seen front
-      → PrintsUnlessCounted silent search options at behind more out
-      → PrintsUnlessCounted silent search options number offset (seen ++ more) (front ++ out)
+      → PrintsUnlessSilent silent search options name number offset seen front
+      → PrintsUnlessSilent silent search options name at behind more out
+      → PrintsUnlessSilent silent search options name number offset (seen ++ more) (front ++ out)
   prints_more true number offset at behind seen more front out at_is behind_is before after = rw (before, after) refl
   prints_more false number offset at behind seen more front out at_is behind_is before after =
       prints-append number offset at behind seen more front out at_is behind_is before after
 
   -- no line
   pub prints_none : (silent : Bool) (number offset : ℕ)
-      → PrintsUnlessCounted silent search options number offset [] []
+      → PrintsUnlessSilent silent search options name number offset [] []
   prints_none true number offset = refl
   prints_none false number offset = refl
 
@@ -137,90 +137,85 @@ module _ (search : SearchValue) (options : Options) where
       (sym (ap (λ o. counts search o line) others) ∙ counted)
 
   -- one line, of which something may be printed
-  one_line : (number offset : ℕ) (line out : List ℕ) → options.count ≡ false
-      → PrintsLine (counts search options.others line) search options number offset line out
-      → PrintsUnlessCounted options.count search options number offset (line ∷ []) out
+  one_line : (number offset : ℕ) (line out : List ℕ) → is_silent options ≡ false
+      → PrintsLine (counts search options.others line) search options name number offset line out
+      → PrintsUnlessSilent (is_silent options) search options name number offset (line ∷ []) out
   one_line number offset line out loud printed =
-      subst (λ silent. PrintsUnlessCounted silent search options number offset (line ∷ []) out) (sym loud)
+      subst (λ silent. PrintsUnlessSilent silent search options name number offset (line ∷ []) out) (sym loud)
       (out, [], printed, refl, sym (append-nil out))
 
   -- the matches in a line
   pub prints_matches : (number offset : ℕ) (line : List ℕ) (all : List MatchValue)
-      → (options.count || (options.only && options.others)) ≡ false → options.only ≡ true
+      → (is_silent options || (options.only && options.others)) ≡ false → options.only ≡ true
       → IsGreedy search.query search.ignore_case line 0 all
-      → PrintsUnlessCounted options.count search options number offset (line ∷ [])
-      (printed_matches options number offset line all)
+      → PrintsUnlessSilent (is_silent options) search options name number offset (line ∷ [])
+      (printed_matches options name number offset line all)
   prints_matches number offset line all loud only greedy =
-      let asked = not_asked options.count options.only options.others loud in
-      let out = printed_matches options number offset line all in
+      let asked = not_asked (is_silent options) options.only options.others loud in
+      let out = printed_matches options name number offset line all in
       one_line number offset line out asked.0 (by (asked.1 only) all greedy)
     where
       by : options.others ≡ false → (all : List MatchValue) → IsGreedy search.query search.ignore_case line 0 all
-          → PrintsLine (counts search options.others line) search options number offset line
-          (printed_matches options number offset line all)
+          → PrintsLine (counts search options.others line) search options name number offset line
+          (printed_matches options name number offset line all)
       by kept [] greedy =
-          subst (λ b. PrintsLine b search options number offset line []) (sym (counts_matched line [] kept greedy)) refl
+          subst (λ b. PrintsLine b search options name number offset line [])
+          (sym (counts_matched line [] kept greedy)) refl
       by kept (found ∷ more) greedy =
-          subst (λ b. PrintsLine b search options number offset line
-          (printed_matches options number offset line (found ∷ more)))
+          subst (λ b. PrintsLine b search options name number offset line
+          (printed_matches options name number offset line (found ∷ more)))
           (sym (counts_matched line (found ∷ more) kept greedy))
-          (subst (λ b. PrintsFound b search options number offset line
-          (printed_matches options number offset line (found ∷ more))) (sym only) (found ∷ more, greedy, refl))
+          (subst (λ b. PrintsFound b search options name number offset line
+          (printed_matches options name number offset line (found ∷ more))) (sym only) (found ∷ more, greedy, refl))
 
   -- a line counts once if it has a match
   pub counts_once : (line : List ℕ) (all : List MatchValue) (count : ℕ)
-      → (options.count || (options.only && options.others)) ≡ false → options.only ≡ true
+      → (is_silent options || (options.only && options.others)) ≡ false → options.only ≡ true
       → IsGreedy search.query search.ignore_case line 0 all → count ≡ min 1 (length all)
       → count ≡ count_by (counts search options.others) (line ∷ [])
   counts_once line [] count loud only greedy is =
-      let kept = (not_asked options.count options.only options.others loud).1 only in
+      let kept = (not_asked (is_silent options) options.only options.others loud).1 only in
       is ∙ sym (ap (λ b. 0 + cond b 1 0) (counts_matched line [] kept greedy))
   counts_once line (found ∷ more) count loud only greedy is =
-      let kept = (not_asked options.count options.only options.others loud).1 only in
+      let kept = (not_asked (is_silent options) options.only options.others loud).1 only in
       let one : min 1 (length (found ∷ more)) ≡ 1 = omega arith in
       is ∙ one ∙ sym (ap (λ b. 0 + cond b 1 0) (counts_matched line (found ∷ more) kept greedy))
 
   -- a whole line
-  pub prints_whole : (number offset : ℕ) (line : List ℕ) → (options.count || (options.only && options.others)) ≡ false
-      → options.only ≡ false → counts search options.others line ≡ true
-      → PrintsUnlessCounted options.count search options number offset (line ∷ [])
-      (printed_part options number offset line)
+  pub prints_whole : (number offset : ℕ) (line : List ℕ)
+      → (is_silent options || (options.only && options.others)) ≡ false → options.only ≡ false
+      → counts search options.others line ≡ true
+      → PrintsUnlessSilent (is_silent options) search options name number offset (line ∷ [])
+      (printed_part options name number offset line)
   prints_whole number offset line loud all counted =
-      let out = printed_part options number offset line in
-      one_line number offset line out (not_asked options.count options.only options.others loud).0
-      (subst (λ b. PrintsLine b search options number offset line out) (sym counted)
-      (subst (λ b. PrintsFound b search options number offset line out) (sym all) refl))
+      let out = printed_part options name number offset line in
+      one_line number offset line out (not_asked (is_silent options) options.only options.others loud).0
+      (subst (λ b. PrintsLine b search options name number offset line out) (sym counted)
+      (subst (λ b. PrintsFound b search options name number offset line out) (sym all) refl))
 
   -- nothing of a line
-  pub prints_nothing : (number offset : ℕ) (line : List ℕ) → (options.count || (options.only && options.others)) ≡ true
-      → PrintsUnlessCounted options.count search options number offset (line ∷ []) []
+  pub prints_nothing : (number offset : ℕ) (line : List ℕ)
+      → (is_silent options || (options.only && options.others)) ≡ true
+      → PrintsUnlessSilent (is_silent options) search options name number offset (line ∷ []) []
   prints_nothing number offset line quiet =
-      elim (cases_Bool options.count) [
-        | inl silent ↦ subst (λ b. PrintsUnlessCounted b search options number offset (line ∷ []) []) (sym silent) refl
+      elim (cases_Bool (is_silent options)) [
+        | inl silent ↦
+            subst (λ b. PrintsUnlessSilent b search options name number offset (line ∷ []) []) (sym silent) refl
         | inr loud ↦
-            let both = both_asked options.count options.only options.others quiet loud in
+            let both = both_asked (is_silent options) options.only options.others quiet loud in
             one_line number offset line [] loud (by both.0 both.1)
       ]
     where
       by : options.only ≡ true → options.others ≡ true
-          → PrintsLine (counts search options.others line) search options number offset line []
+          → PrintsLine (counts search options.others line) search options name number offset line []
       by only others =
           elim (cases_Bool (counts search options.others line)) [
             | inl counted ↦
-                subst (λ b. PrintsLine b search options number offset line []) (sym counted)
-                (subst (λ b. PrintsFound b search options number offset line []) (sym only)
+                subst (λ b. PrintsLine b search options name number offset line []) (sym counted)
+                (subst (λ b. PrintsFound b search options name number offset line []) (sym only)
                 ([], nothing_matched line others counted, refl))
-            | inr passed ↦ subst (λ b. PrintsLine b search options number offset line []) (sym passed) refl
+            | inr passed ↦ subst (λ b. PrintsLine b search options name number offset line []) (sym passed) refl
           ]
-
-  -- all lines, or their number
-  pub prints_all : (silent : Bool) (text out : List ℕ) (count : ℕ)
-      → count ≡ count_by (counts search options.others) (lines_of text)
-      → PrintsUnlessCounted silent search options 1 0 (lines_of text) out
-      → Prints silent search options text (out ++ cond silent (with_feed (decimal count)) [])
-  prints_all true text out count count_is printed = rw (printed, count_is) refl
-  prints_all false text out count count_is printed =
-      subst (PrintsLines search options 1 0 (lines_of text)) (sym (append-nil out)) printed
 
 -- the count goes on
 pub count-append : {X : Type 0} (p : X → Bool) (seen more : List X) (count one : ℕ) → count ≡ count_by p seen

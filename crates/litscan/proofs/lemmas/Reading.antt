@@ -1,19 +1,18 @@
 -- What is read line by line is the text, and its lines are those that were read. For `lines` and `scan`.
 use Rattle.std.proofs.Common.{◌≡◌, ◌==◌, ℕ, Bool, true, false, List, [], ◌∷◌, ◌++◌, cond}
-use Rattle.std.proofs.Common.{◌+◌, ◌≤◌, ◌^◌, Option, None, Some, Result, Ok, Err, IfErr, arith, length, length-append}
+use Rattle.std.proofs.Common.{◌+◌, ◌≤◌, ◌^◌, Option, None, Some, Result, Ok, Err, IfOk, MatchResult, arith, length}
+use Rattle.std.proofs.Common.{length-append}
 use Rattle.std.proofs.Common.{refl, sym, ap, ◌∙◌, inl, inr, subst}
 use Rattle.std.specs.Io.BufRead.{DropsThrough, drop_through, take_through}
 use Rattle.std.specs.Io.KnownBytes.{Consumes, IsAtEnd}
 use Rattle.std.specs.List.{flat_map}
 use Rattle.std.specs.Option.{IfSome, OnSome}
-use Rattle.std.specs.Result.{IsErrAnd}
 use Rattle.std.proofs.KnownBytes.{Consumes-trans}
 use Rattle.std.proofs.lemmas.Bool.{cases_eq, cond-false, cond-true, eq-eqb, ne_eqb}
 use Rattle.std.proofs.lemmas.List.{append-nil, flat_map_more}
 use Rattle.std.proofs.lemmas.List.Elements.{All-head, All-tail}
 use Rattle.litscan.specs.Lines.{HasNoFeed, with_feed}
-use Rattle.litscan.specs.Printed.{ReadsAll, ReadsTooMany}
-use Rattle.litscan.specs.declared.fault.Fault.{Fault}
+use Rattle.litscan.specs.Printed.{BeginsWith, Reads, ReadsAll, ReadsTooMany}
 use Rattle.litscan.proofs.lemmas.Lines.{Other}
 
 -- what is read up to a line feed, and has none, is all
@@ -42,6 +41,25 @@ at_end (Some bytes) new had has line fed empty is drops split unfed whole =
     ∙ ap (λ front. front ++ take_through 10 bytes) empty in
     let none : new ≡ Some [] = drops ∙ ap Some (through_all bytes (subst HasNoFeed same whole)) in
     subst IsAtEnd (sym none) refl
+
+-- what was read is a front of what is there
+pub begins_with : (old new : Option (List ℕ)) (text : List ℕ) → Consumes old new text → BeginsWith old text
+begins_with None new text read = tt
+begins_with (Some bytes) None text read = absurd read
+begins_with (Some bytes) (Some left) text read = (left, read)
+
+-- a text that was read up to where the reading stopped
+pub reads_front : (stopped : Bool) (old mid new : Option (List ℕ)) (text : List ℕ) → stopped ≡ true
+    → Consumes old mid text → Reads stopped old new text
+reads_front true old mid new text is read = begins_with old mid text read
+reads_front false old mid new text is read = absurd (cc)
+
+-- a text that was read to its end, whether enough lines count or not
+pub reads_any : (stopped : Bool) (old new : Option (List ℕ)) (text : List ℕ) → ReadsAll old new text
+    → Reads stopped old new text
+reads_any false old new text all = all
+reads_any true None new text all = tt
+reads_any true (Some bytes) new text all = ([], all.0 ∙ sym (append-nil text))
 
 -- one line more
 pub read_more : (a b c : Option (List ℕ)) (seen : List (List ℕ)) (line : List ℕ) (fed : Bool) → fed ≡ true
@@ -86,8 +104,8 @@ too_many_with a b c front line fed before last many = (
     by true = omega (arith, length-append line (10 ∷ []))
     by false = omega arith
 
--- a fault that is handed on
-pub err_gives : {A : Type 0} (P : Fault → Type 0) (result : Result A Fault) (fault : Fault)
-    → IsErrAnd result (λ e. e ≡ fault) → P fault → IfErr result P
-err_gives P (Err e) fault same holds = subst P (sym same) holds
-err_gives P (Ok done) fault same holds = tt
+-- what holds of a result that is handed on
+pub ok_gives : {A E : Type 0} (P Q : A → Type 0) (F : E → Type 0) (result : Result A E) → MatchResult result P F
+    → ((a : A) → P a → Q a) → IfOk result Q
+ok_gives P Q F (Ok a) has gives = gives a has
+ok_gives P Q F (Err e) has gives = tt

@@ -7,7 +7,7 @@ use Rattle.literal_fingerprints.specs.FingerprintsValue.{AllPass}
 use Rattle.literal_search.specs.SearchValue.{NeedTooManyStates, longest_of, width_for}
 use Rattle.literal_search.specs.Inside.Classes.{Tells}
 use Rattle.literal_search.specs.Inside.Search.{IsShortestOf, IsSound}
-use Rattle.literal_search.specs.Inside.Scan.{NoneIsShorter}
+use Rattle.literal_search.specs.SearchValue.{NoneIsShorter}
 use Rattle.literal_search.specs.declared.Search.TheInside.{Inside}
 use Rattle.literal_search.specs.declared.classes.ClassNumbers.{ClassNumbers}
 use Rattle.literal_search.specs.States.{HasTooManyStates, IsRowsLength}

@@ -1,10 +1,10 @@
-use Rattle.std.proofs.Common.{◌≡◌, ◌<◌, ◌≤◌, ◌^◌, ℕ, IfErr, IfOk, List, [], length, map, subst}
+use Rattle.std.proofs.Common.{◌≡◌, ◌<◌, ◌≤◌, ◌^◌, ℕ, IfErr, IfOk, List, [], arith, length, map, subst}
 use Rattle.std.specs.Global.{Vec}
 use Rattle.literal_search.specs.SearchValue.{SearchValue}
 use Rattle.literal_search.specs.Inside.Prepared.{Puts, RefusesArray, numbers_for}
 use Rattle.literal_search.specs.Prepared.{RefusesToPrepare, WritesPrepared}
 use Rattle.literal_search.specs.declared.prepared.TheConstants.{PREPARED_VERSION}
-use Rattle.literal_search.proofs.lemmas.Prepared.{prepare_ok, prepare_refused}
+use Rattle.literal_search.proofs.lemmas.Prepared.{prepare_ok, prepare_refused, prints_pass}
 use Rattle.literal_search.proofs.Search.prepare.Goals as goal
 
 pub returns-clause-ok : goal.returns-clause-ok
@@ -12,26 +12,34 @@ returns-clause-ok c =
     let a = c.self.inside in
     let old = c.args.array.now in
     let new = c.write.new.array in
+    let prints = c.prints-prints.result in
+    let pass = prints_pass a _ prints c.fingerprints.result c.self.view_is c.fingerprints.ensures
+    c.prints-prints.ensures.bytes in
     let Writes : List (Vec ℕ) → List ℕ → Type 0 = λ patterns rows. IfOk c.write.result (λ needed.
-    (needed ≤ length old) × (0 < 2 ^ 32)
+    (needed ≤ length old) × (length prints < 2 ^ 32)
     × Puts 0 (numbers_for PREPARED_VERSION a.classes.table a.classes.width
-    (map (λ pattern. pattern.items) patterns) rows [] []) old new
+    (map (λ pattern. pattern.items) patterns) rows [] prints) old new
     × (needed ≡ length (numbers_for PREPARED_VERSION a.classes.table a.classes.width
-    (map (λ pattern. pattern.items) patterns) rows [] []))) in
+    (map (λ pattern. pattern.items) patterns) rows [] prints))) in
     let written = subst (λ (patterns : List (Vec ℕ)). Writes patterns a.rows) c.deref.ensures.value
     (subst (λ (rows : List ℕ). Writes c.deref.result.now rows) c.as_slice.ensures c.write.ensures.ok) in
     subst (λ (v : SearchValue). IfOk c.write.result (WritesPrepared v.query v.ignore_case old new)) c.self.view_is
-    (prepare_ok a c.self.invariant old new c.write.result written)
+    (prepare_ok a c.self.invariant old new prints (omega arith) c.prints-prints.ensures.least pass c.write.result
+    written)
 
 pub returns-clause-error : goal.returns-clause-error
 returns-clause-error c =
     let a = c.self.inside in
     let old = c.args.array.now in
+    let prints = c.prints-prints.result in
+    let pass = prints_pass a _ prints c.fingerprints.result c.self.view_is c.fingerprints.ensures
+    c.prints-prints.ensures.bytes in
     let Refuses : List (Vec ℕ) → List ℕ → Type 0 = λ patterns rows. IfErr c.write.result
-    (RefusesArray (map (λ pattern. pattern.items) patterns) []
-    (numbers_for PREPARED_VERSION a.classes.table a.classes.width (map (λ pattern. pattern.items) patterns) rows [] [])
-    old) in
+    (RefusesArray (map (λ pattern. pattern.items) patterns) prints
+    (numbers_for PREPARED_VERSION a.classes.table a.classes.width (map (λ pattern. pattern.items) patterns) rows []
+    prints) old) in
     let refused = subst (λ (patterns : List (Vec ℕ)). Refuses patterns a.rows) c.deref.ensures.value
     (subst (λ (rows : List ℕ). Refuses c.deref.result.now rows) c.as_slice.ensures c.write.ensures.error) in
     subst (λ (v : SearchValue). IfErr c.write.result (RefusesToPrepare v.query v.ignore_case old)) c.self.view_is
-    (prepare_refused a c.self.invariant old c.write.new.array c.write.result refused)
+    (prepare_refused a c.self.invariant old c.write.new.array prints (omega arith) c.prints-prints.ensures.least pass
+    c.write.result refused)

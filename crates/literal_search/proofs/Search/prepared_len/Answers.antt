@@ -1,4 +1,4 @@
-use Rattle.std.proofs.Common.{◌+◌, ◌^◌, ℕ, List, [], ap, arith, length, refl, subst}
+use Rattle.std.proofs.Common.{◌+◌, ◌^◌, ℕ, List, ap, arith, length, refl, subst}
 use Rattle.std.proofs.lemmas.List.{length-map}
 use Rattle.std.specs.Global.{Vec}
 use Rattle.literal_search.specs.Prepared.{AreShort, TakesPlaces}
@@ -20,10 +20,10 @@ returns-then-self-clause-error c =
 pub returns-clause-ok : goal.returns-clause-ok
 returns-clause-ok c =
     let a = c.self.inside in
-    let needed = 262 + c.len.result + length c.as_slice-rows.result.now in
+    let needed = 262 + c.len.result + length c.as_slice-rows.result.now + 129 in
     subst (λ (v : SearchValue). AreShort v.query.patterns × TakesPlaces v.query v.ignore_case needed) c.self.view_is (
       all_short (patterns_in a) (2 ^ 32) (omega (arith, c.self.invariant.longest, c.if-self.false)),
-      takes_places a c.self.invariant [] [] needed (omega (
+      takes_places a c.self.invariant needed (omega (
         arith,
         c.len.ensures,
         length-map a.patterns.items (λ (pattern : Vec ℕ). pattern.items),

@@ -5,6 +5,6 @@ use Rattle.litscan.proofs.lemmas.Printing.{prints_in_turn}
 use Rattle.litscan.proofs.laws.lines_are_printed_in_turn.Goals as goal
 
 pub returns : goal.returns
-returns c = λ search options front more line out printed.
-    prints_in_turn search options 1 0 (length front + 1) (length (flat_map with_feed front)) front more line out
+returns c = λ search options front more name line out printed.
+    prints_in_turn search options name 1 0 (length front + 1) (length (flat_map with_feed front)) front more line out
     (omega arith) (omega arith) printed

@@ -9,6 +9,6 @@ invariant-loop-found g l = record {
   search_is : l.found-iterator.search ≡ l.search;
   haystack_is : l.found-iterator.haystack ≡ l.line;
   written : Appends (g.W.Write.contents l.fn.writer.inner) (g.W.Write.contents l.writer.inner)
-      (printed_matches l.options l.number l.offset l.line l.yielded);
+      (printed_matches l.options l.name l.number l.offset l.line l.yielded);
   counted : l.count ≡ min 1 (length l.yielded);
 }

@@ -1,19 +1,21 @@
-use Rattle.std.proofs.Common.{◌++◌, [], cond, rules}
+use Rattle.std.proofs.Common.{◌++◌, ap, rules}
 use Rattle.std.proofs.KnownBytes.{Appends-trans}
-use Rattle.std.specs.Fmt.{decimal}
-use Rattle.litscan.specs.Lines.{with_feed}
-use Rattle.litscan.proofs.lemmas.Printing.{prints_all}
+use Rattle.litscan.specs.Printed.{printed_behind}
 use Rattle.litscan.proofs.scan.scan.Goals as goal
 
 pub returns-clause-scanned : goal.returns-clause-scanned
 returns-clause-scanned g c =
-    let lines = c.in_ok-count.ensures.scanned in
+    let read = c.in_ok-scanned.ensures.scanned in
     let options = c.args.options in
-    let shown = cond options.count (with_feed (decimal c.in_ok-count.count)) [] in (
-      lines.0,
-      lines.1 ++ shown,
-      lines.2,
-      search (rules, Appends-trans _ _ _ lines.1 shown lines.3 c.in_ok-print_count.ensures.printed),
-      prints_all c.args.search.now options options.count lines.0 lines.1 c.in_ok-count.count lines.5 lines.4,
-      lines.5,
+    let behind = printed_behind options.listed options c.args.name.now c.in_ok-scanned.scanned.count in (
+      read.0,
+      read.1 ++ behind,
+      read.2,
+      search (rules, Appends-trans _ _ _ read.1 behind read.3 c.in_ok-print_behind.ensures.printed),
+      (
+        read.1,
+        read.4,
+        ap (λ count. read.1 ++ printed_behind options.listed options c.args.name.now count) read.5,
+      ),
+      read.5,
     )

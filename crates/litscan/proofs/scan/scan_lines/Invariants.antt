@@ -2,7 +2,8 @@ use Rattle.std.proofs.Common.{◌≡◌, ◌+◌, ℕ, List, length}
 use Rattle.std.specs.Io.KnownBytes.{Appends, Consumes}
 use Rattle.std.specs.List.{All, count_by, flat_map}
 use Rattle.litscan.specs.Lines.{HasNoFeed, with_feed}
-use Rattle.litscan.specs.Printed.{PrintsUnlessCounted, counts}
+use Rattle.litscan.specs.Options.{is_silent}
+use Rattle.litscan.specs.Printed.{PrintsUnlessSilent, counts}
 use Rattle.litscan.proofs.scan.scan_lines.Given as goal
 
 -- the lines that were read so far are counted, and printed
@@ -16,5 +17,5 @@ invariant-loop-number g l = record {
   offset : l.offset ≡ length (flat_map with_feed seen) + 0;
   counted : l.count ≡ count_by (counts l.search l.options.others) seen;
   written : Appends (g.W.Write.contents l.fn.writer.inner) (g.W.Write.contents l.writer.inner) out;
-  printed : PrintsUnlessCounted l.options.count l.search l.options 1 0 seen out;
+  printed : PrintsUnlessSilent (is_silent l.options) l.search l.options l.name 1 0 seen out;
 }

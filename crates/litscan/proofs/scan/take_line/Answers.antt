@@ -9,7 +9,7 @@ pub returns-then-prints_nothing-clause-printed : goal.returns-then-prints_nothin
 returns-then-prints_nothing-clause-printed g c = (
   [],
   Appends-nil _,
-  prints_nothing c.args.search.now c.args.options c.args.number c.args.offset c.args.line.now
+  prints_nothing c.args.search.now c.args.options c.args.name.now c.args.number c.args.offset c.args.line.now
       (sym c.prints_nothing.ensures ∙ c.if-prints_nothing.true),
 )
 
@@ -17,7 +17,7 @@ pub returns-then-options-clause-counted : goal.returns-then-options-clause-count
 returns-then-options-clause-counted g c =
     IfOk-weaker c.print_matches.result _ _
     (λ count found.
-    counts_once c.args.search.now c.args.options c.args.line.now found.0 count
+    counts_once c.args.search.now c.args.options c.args.name.now c.args.line.now found.0 count
     (sym c.prints_nothing.ensures ∙ c.if-prints_nothing.false) c.if-options.true found.1 found.3)
     c.print_matches.ensures.printed
 
@@ -26,9 +26,9 @@ returns-then-options-clause-printed g c =
     let line = c.args.line.now in
     IfOk-weaker c.print_matches.result _ _
     (λ count found. (
-      printed_matches c.args.options c.args.number c.args.offset line found.0,
+      printed_matches c.args.options c.args.name.now c.args.number c.args.offset line found.0,
       found.2,
-      prints_matches c.args.search.now c.args.options c.args.number c.args.offset line found.0
+      prints_matches c.args.search.now c.args.options c.args.name.now c.args.number c.args.offset line found.0
           (sym c.prints_nothing.ensures ∙ c.if-prints_nothing.false) c.if-options.true found.1,
     ))
     c.print_matches.ensures.printed
@@ -36,9 +36,9 @@ returns-then-options-clause-printed g c =
 pub returns-clause-printed : goal.returns-clause-printed
 returns-clause-printed g c =
     let line = c.args.line.now in (
-      printed_part c.args.options c.args.number c.args.offset line,
+      printed_part c.args.options c.args.name.now c.args.number c.args.offset line,
       c.in_ok-print_part.ensures.printed,
-      prints_whole c.args.search.now c.args.options c.args.number c.args.offset line
+      prints_whole c.args.search.now c.args.options c.args.name.now c.args.number c.args.offset line
           (sym c.prints_nothing.ensures ∙ c.if-prints_nothing.false) c.if-options.false
           (sym c.counts-2.ensures ∙ c.if-not-counts.false),
     )

@@ -1,6 +1,6 @@
 use Rattle.std.proofs.Common.{◌≡◌, ◌+◌, ◌∙◌, ap, arith, get_or, length, subst, sym}
 use Rattle.std.specs.List.{slice_range}
-use Rattle.literal_search.specs.Prepared.{prepared_len}
+use Rattle.literal_search.specs.Prepared.{rows_end}
 use Rattle.literal_search.specs.PreparedOverlapping.{HasLists, ends_at, ends_in, listed_len, starts_in}
 use Rattle.literal_search.proofs.lemmas.LentTables.{parts_end}
 use Rattle.literal_search.proofs.prepared_overlapping.PreparedOverlapping.new.Goals as goal
@@ -12,7 +12,7 @@ returns-then-numbers-ends_at c = λ lists.
     let known = parts_end f numbers c.in_ok-front.ensures.0 c.in_ok-front.ensures.2 in
     let fits = lists.fits in
     let last : 262 + length f.lengths.now + length f.rows.now + length f.lengths.now
-    ≡ prepared_len numbers + get_or numbers 3 0 = omega (arith, known.0, known.1) in
+    ≡ rows_end numbers + get_or numbers 3 0 = omega (arith, known.0, known.1) in
     omega (arith, known.0, known.1, fits, ap (λ k. get_or numbers k 0) last, c.if-numbers-ends_at.true)
 
 pub invariant_of-result : goal.invariant_of-result
@@ -22,7 +22,7 @@ invariant_of-result c =
     let same = c.in_ok-front.ensures.0 in
     let known = parts_end f numbers same c.in_ok-front.ensures.2 in
     let last : 262 + length f.lengths.now + length f.rows.now + length f.lengths.now
-    ≡ prepared_len numbers + get_or numbers 3 0 = omega (arith, known.0, known.1) in
+    ≡ rows_end numbers + get_or numbers 3 0 = omega (arith, known.0, known.1) in
     let ends : 262 + length f.lengths.now + length f.rows.now + length f.lengths.now + 1 ≡ ends_at numbers =
     omega (arith, last) in
     let listed : 262 + length f.lengths.now + length f.rows.now + length f.lengths.now + 1
@@ -36,7 +36,7 @@ invariant_of-result c =
       });
       starts_are = ap (λ from. slice_range numbers from
           (262 + length f.lengths.now + length f.rows.now + length f.lengths.now + 1)) known.0
-          ∙ (ap (slice_range numbers (prepared_len numbers)) ends ∙ ap starts_in (sym same));
+          ∙ (ap (slice_range numbers (rows_end numbers)) ends ∙ ap starts_in (sym same));
       ends_are = ap (λ from. slice_range numbers from
           (262 + length f.lengths.now + length f.rows.now + length f.lengths.now + 1
           + get_or numbers (262 + length f.lengths.now + length f.rows.now + length f.lengths.now) 0)) ends
@@ -49,7 +49,7 @@ returns c =
     let f = c.in_ok-front.front in
     let known = parts_end f numbers c.in_ok-front.ensures.0 c.in_ok-front.ensures.2 in
     let last : 262 + length f.lengths.now + length f.rows.now + length f.lengths.now
-    ≡ prepared_len numbers + get_or numbers 3 0 = omega (arith, known.0, known.1) in (
+    ≡ rows_end numbers + get_or numbers 3 0 = omega (arith, known.0, known.1) in (
       c.in_ok-front.ensures.0,
       record {
         parts = c.in_ok-front.ensures.1;

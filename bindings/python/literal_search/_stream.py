@@ -1,0 +1,52 @@
+"""Texts that are read from a file, a block at a time."""
+from errno import EAGAIN
+from typing import TYPE_CHECKING, Any, Iterator, List, Optional, Tuple
+
+if TYPE_CHECKING:
+    from ._native import Prepared
+
+BLOCK = 1 << 17
+
+# What is wanted of each part of a text: its matches, how many they are, or the part with each replaced.
+MATCHES, COUNT, REPLACED = range(3)
+
+
+def read(file: Any) -> Tuple[Any, Optional[Exception]]:
+    """What a file gives next, as str or bytes, and at its end nothing; or why it gives none."""
+    try:
+        piece = file.read(BLOCK)
+        if piece is None:
+            raise BlockingIOError(EAGAIN, "the file has nothing to be read yet, and does not wait")
+        return piece if isinstance(piece, (str, bytes)) else bytes(memoryview(piece)), None
+    except Exception as why:
+        return None, why
+
+
+def searched(searcher: "Prepared[Any]", file: Any, wanted: int, by: Any = None) -> Iterator[Any]:
+    """What is wanted of each part of a text, up to its end. Of a part there is kept where a match may begin that ends
+    behind it. Then as much is read as was kept, at least: so nothing is searched more than twice. Where the file fails,
+    what was read is searched first."""
+    pieces: List[Any] = []
+    kept = length = before = 0
+    more = True
+    while more:
+        piece, failure = read(file)
+        if failure is None:
+            more = len(piece) > 0
+            pieces.append(piece)
+            length += len(piece)
+            if more and length < 2 * kept:
+                continue
+        held = pieces[0] if len(pieces) == 1 else pieces[0][:0].join(pieces) if pieces else None
+        start, is_done = 0, held is None
+        while not is_done:
+            answer, start, is_done = searcher._so_far(held, start, before, more, wanted, by)
+            yield answer
+        if failure is not None:
+            try:
+                raise failure
+            finally:
+                del failure  # (which has this frame)
+        before += start
+        kept = length = len(held) - start
+        pieces = [held[start:]] if kept else []

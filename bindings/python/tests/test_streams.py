@@ -1,0 +1,158 @@
+"""Searches in files: in pieces of any size, in files that fail or do not wait, and how much of a text is kept."""
+import io
+import random
+import unittest
+
+from literal_search import Kind, Match, Search, _stream
+
+import plain
+
+
+class Pieces:
+    """A file that gives a text in pieces of a size, and behind them what it is told to: an error, None or a piece."""
+
+    def __init__(self, text, size, *then):
+        self.text, self.size, self.at, self.then = text, size, 0, [*then]
+
+    def read(self, most):
+        piece = self.text[self.at : self.at + min(self.size, most)]
+        self.at += len(piece)
+        if piece or not self.then:
+            return piece
+        last = self.then.pop(0)
+        if isinstance(last, Exception):
+            raise last
+        return last
+
+
+class Watched(Search):
+    """A searcher that keeps how long each part was that it searched."""
+
+    def _so_far(self, part, *given):
+        self.__dict__.setdefault("parts", []).append(len(part))
+        return super()._so_far(part, *given)
+
+
+def replaced(searcher, by, text, size):
+    """What sub_stream writes."""
+    out = io.StringIO() if isinstance(text, str) else io.BytesIO()
+    searcher.sub_stream(Pieces(text, size), out, by)
+    return out.getvalue()
+
+
+class Files(unittest.TestCase):
+    def cases(self, letters, between):
+        chance = random.Random(6)
+        for _ in range(400):
+            words = [between.join(chance.choices(letters, k=chance.randint(1, 6))) for _ in range(chance.randint(1, 4))]
+            text = between.join(chance.choices(letters, k=chance.randint(0, 60)))
+            kind, ignore_case = chance.choice(list(Kind)), chance.random() < 0.5
+            searcher = Search({word: i + 7 for i, word in enumerate(words)}, kind, ignore_case)
+            wanted = plain.find_all(list(searcher.patterns), kind, ignore_case, text, 0, len(text))
+            whole = searcher.sub(lambda it: it.group() + it.group(), text)
+            for size in (1, 2, 3, 7, 61):
+                found = list(searcher.finditer_stream(Pieces(text, size)))
+                self.assertEqual(found, wanted, (words, text, size))
+                self.assertEqual([(it.group(), it.value) for it in found],
+                                 [(text[start:end], searcher._values[pattern]) for pattern, start, end in wanted])
+                self.assertEqual(searcher.count_stream(Pieces(text, size)), len(wanted))
+                self.assertEqual(replaced(searcher, lambda it: it.group() + it.group(), text, size), whole)
+
+    def test_bytes(self):
+        self.cases([b"a", b"b", b"A"], b"")
+
+    def test_str(self):
+        self.cases(["a", "A", "ä", "€", "🐍"], "")
+
+    def test_many_matches(self):
+        text, searcher = "äb" * 200000, Search(["b"])
+        found = searcher.finditer_stream(io.StringIO(text))
+        self.assertEqual([it.start for it in found], list(range(1, 400000, 2)))
+        self.assertEqual(searcher.count_stream(io.StringIO(text)), 200000)
+        self.assertEqual(replaced(searcher, "", text, 1 << 20), "ä" * 200000)
+
+    def test_other_pieces(self):
+        for give in (bytearray, memoryview):
+            text = give(b"a needle, a needle")
+            found = list(Search([b"needle"]).finditer_stream(Pieces(text, 5)))
+            self.assertEqual([(type(it.group()), it.span()) for it in found], [(bytes, (2, 8)), (bytes, (12, 18))])
+
+    def test_no_patterns(self):
+        for text in (b"text", "text"):
+            self.assertEqual(list(Search([]).finditer_stream(Pieces(text, 2))), [])
+            self.assertEqual(replaced(Search([]), text, text, 3), text)
+
+    def test_by_the_pattern(self):
+        searcher = Search([b"cat", b"dog"])
+        self.assertEqual(replaced(searcher, [b"dog", b"cat"], b"cat and dog", 2), b"dog and cat")
+        self.assertEqual(replaced(searcher, b"", b"cat and dog", 2), b" and ")
+
+    def test_what_is_searched_and_kept(self):
+        """A character at a time, with patterns that are far longer: no byte more than twice, and no more than fits."""
+        for word, letter in ((b"a" * 5000 + b"b", b"a"), ("🐍" * 5000, "a"), (b"needle", b"x")):
+            searcher, longest = Watched([word]), len(word if isinstance(word, bytes) else word.encode())
+            self.assertEqual(searcher.count_stream(Pieces(letter * 60000, 1)), 0)
+            self.assertLess(sum(searcher.parts), 2 * 60000 + 2 * longest)
+            self.assertLess(max(searcher.parts), 2 * longest)
+            searcher.parts.clear()
+            self.assertEqual(searcher.count_stream(Pieces(letter * 900000, 1 << 30)), 0)
+            self.assertLess(max(searcher.parts), 2 * longest + _stream.BLOCK)
+
+    def test_a_match_is_given_once_it_is_known(self):
+        file = Pieces(b"needle, and" + b" much more" * 10, 1)
+        self.assertEqual(next(Search([b"needle"]).finditer_stream(file)), (0, 0, 6))
+        self.assertLess(file.at, 12)
+
+
+class Refusals(unittest.TestCase):
+    def assert_ends(self, searcher, file, error, wanted):
+        """What is known from what was read comes before the error, and behind it nothing."""
+        matches, found = searcher.finditer_stream(file), []
+        with self.assertRaises(error) as raised:
+            for match in matches:
+                found.append(match)
+        self.assertEqual((found, list(matches)), (wanted, []))
+        return raised.exception
+
+    def test_a_file_that_fails(self):
+        searcher, why = Search([b"a", b"bcd"]), OSError(5, "broken")
+        for size in (1, 2, 40):
+            file = Pieces(b"a bc a....bc", size, why, b"d")
+            self.assertIs(self.assert_ends(searcher, file, OSError, [(0, 0, 1), (0, 5, 6)]), why)
+        # (the last byte makes it known, and is not searched before reading fails)
+        file = Pieces(b"axxxxxxx", 7, why)
+        self.assert_ends(Search([b"a", b"bcdefghi"]), file, OSError, [(0, 0, 1)])
+        out = io.BytesIO()
+        with self.assertRaises(OSError):
+            searcher.sub_stream(Pieces(b"a bc a....bc", 1, why), out, b"-")
+        self.assertTrue(b"- bc -....bc".startswith(out.getvalue()) and out.getvalue().startswith(b"- bc -"))
+        with self.assertRaises(OSError):
+            searcher.count_stream(Pieces(b"a", 1, why))
+
+    def test_a_file_that_does_not_wait(self):
+        searcher = Search([b"a"])
+        self.assertEqual(self.assert_ends(searcher, Pieces(b"xaxx", 9, None), BlockingIOError, [(0, 1, 2)]).errno, 11)
+        self.assertRaises(BlockingIOError, searcher.count_stream, Pieces(b"xaxx", 9, None))
+
+    def test_what_is_no_text(self):
+        for words, file in (([b"a"], Pieces("a", 1)), (["a"], Pieces(b"a", 1)), ([b"a"], Pieces(b"", 1, 5)),
+                            ([b"a"], b"a"), ([b"a"], None)):
+            with self.assertRaises((TypeError, AttributeError)):
+                list(Search(words).finditer_stream(file))
+        with self.assertRaises(ValueError):
+            list(Search(["a"]).finditer_stream(Pieces("\ud800", 1)))
+
+    def test_what_replaces_nothing(self):
+        searcher, out = Search([b"a"]), io.BytesIO()
+        for by, error in ((None, TypeError), (True, TypeError), ("b", TypeError), ([], ValueError),
+                          (lambda it: 1 // 0, ZeroDivisionError), (lambda it: "b", TypeError)):
+            self.assertRaises(error, searcher.sub_stream, Pieces(b"xa", 1), out, by)
+        self.assertRaises(AttributeError, searcher.sub_stream, Pieces(b"xa", 1), None, b"b")
+
+    def test_matches_are_plain(self):
+        match = next(Search([b"a"]).finditer_stream(Pieces(b"xa", 1)))
+        self.assertEqual((type(match), match.group(), match.value), (Match, b"a", b"a"))
+
+
+if __name__ == "__main__":
+    unittest.main()

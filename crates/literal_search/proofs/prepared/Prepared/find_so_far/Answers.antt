@@ -1,0 +1,11 @@
+use Rattle.std.proofs.Common.{◌∙◌}
+use Rattle.literal_search.proofs.prepared.Prepared.find_so_far.Goals as goal
+
+pub returns-in_err-found-clause-whatever_follows : goal.returns-in_err-found-clause-whatever_follows
+returns-in_err-found-clause-whatever_follows c = λ query ignore_case is more.
+    absurd (c.in_err-found.ensures.prepared query ignore_case is)
+
+pub returns-clause-whatever_follows : goal.returns-clause-whatever_follows
+returns-clause-whatever_follows c = λ query ignore_case is more.
+    c.so_far.ensures.whatever_follows query ignore_case more (c.max_pattern_len.ensures ∙ is.longest)
+    (c.in_ok-found.ensures.prepared query ignore_case is)

@@ -1,0 +1,53 @@
+//! Searches by a lent array in texts of which more may follow.
+ghost use Rattle.std.specs.Prelude.{◌≡◌, ◌+◌, ◌-◌, ◌*◌, ◌≤◌, ◌++◌, ℕ, List, IfOk, length, slice_index};
+ghost use Rattle.std.specs.Result.{IsOkAnd};
+ghost use Rattle.literal_search.specs.Prepared.{ForPrepared, longest_in};
+ghost use Rattle.literal_search.specs.Stream.{AnswersSoFar, IsKnownBy, MayBeKnown, ScansSoFar};
+
+use crate::prepared::{Damaged, Prepared};
+use crate::stream::{SoFar, so_far};
+use literal_base::Span;
+use literal_base::count::Tally;
+
+impl<'p> Prepared<'p> {
+    /// What is known of the leftmost match in a text, from a place on, where the haystack is its beginning and anything
+    /// may follow, as [`Search::find_so_far`](crate::Search::find_so_far) tells it. With numbers that were changed it
+    /// may be something else, or [`Damaged`]; but a match lies in the haystack from that place on, is not empty, and
+    /// names one of the patterns, and a place lies there too. The place from which it searches has to be at most the
+    /// haystack's length.
+    pub fn find_so_far(&self, haystack: &[u8], at: usize) -> Result<SoFar, Damaged>
+        requires { at ≤ length haystack.now }
+        ensures whatever_follows { ForPrepared self.now (λ query ignore_case. (more : List ℕ) → IsOkAnd result
+            (AnswersSoFar query ignore_case (haystack.now ++ more) at)) }
+        ensures known { IfOk result (IsKnownBy (longest_in self.now) (length haystack.now) at) }
+        ensures inside { IfOk result (MayBeKnown (slice_index self.now 3) at) }
+    {
+        let end = haystack.len();
+        let found = self.find_in(haystack, Span { start: at, end })?;
+        Ok(so_far(haystack, at, self.max_pattern_len(), found))
+    }
+
+    /// Answers as [`Prepared::find_so_far`], and adds each byte that it looks up to a tally, as scanned: at most three
+    /// times as many as there are from where it begins, whatever the numbers are, and with those that were prepared as
+    /// [`Search::find_so_far_counted`](crate::Search::find_so_far_counted).
+    pub fn find_so_far_counted(
+        &self,
+        haystack: &[u8],
+        at: usize,
+        tally: &mut Tally,
+    ) -> Result<SoFar, Damaged>
+        requires { at ≤ length haystack.now }
+        ensures whatever_follows { ForPrepared self.now (λ query ignore_case. (more : List ℕ) → IsOkAnd result
+            (AnswersSoFar query ignore_case (haystack.now ++ more) at)) }
+        ensures known { IfOk result (IsKnownBy (longest_in self.now) (length haystack.now) at) }
+        ensures inside { IfOk result (MayBeKnown (slice_index self.now 3) at) }
+        ensures bounded { ForPrepared self.now (λ query ignore_case. IfOk result
+            (λ answer. ScansSoFar query.patterns (length haystack.now) at answer tally.old tally.new)) }
+        ensures others { tally.new ≡ record tally.old { scanned = tally.new.scanned } }
+        ensures most { tally.new.scanned ≤ tally.old.scanned + 3 * (length haystack.now - at) }
+    {
+        let end = haystack.len();
+        let found = self.find_in_counted(haystack, Span { start: at, end }, tally)?;
+        Ok(so_far(haystack, at, self.max_pattern_len(), found))
+    }
+}

@@ -1,0 +1,33 @@
+use Rattle.std.proofs.Common.{◌≡◌, ◌∙◌, Some, codes, subst, sym}
+use Rattle.std.proofs.lemmas.Bool.{cond-false, cond-true}
+use Rattle.std.proofs.lemmas.Result.{IfOk-weaker}
+use Rattle.litscan.specs.Files.{PrintsText, input_name, is_input}
+use Rattle.litscan.proofs.files.scan_file.Goals as goal
+
+pub returns-then-is_input-clause-printed : goal.returns-then-is_input-clause-printed
+returns-then-is_input-clause-printed g c =
+    let name = c.args.name.now in
+    let shown : input_name name ≡ codes "(standard input)" =
+    cond-true (is_input name) (codes "(standard input)") name (sym c.is_input.ensures ∙ c.if-is_input.true) in
+    IfOk-weaker c.scan_told.result _ _
+    (λ scanned found. (
+      Some found.0,
+      found.1,
+      subst (λ name. PrintsText c.args.search.now c.args.options name found.0 scanned found.1) (sym shown) found.2,
+      found.3,
+    ))
+    c.scan_told.ensures.printed
+
+pub returns-in_ok-reader-in-Ok-clause-printed : goal.returns-in_ok-reader-in-Ok-clause-printed
+returns-in_ok-reader-in-Ok-clause-printed g c =
+    let name = c.args.name.now in
+    let shown : input_name name ≡ name =
+    cond-false (is_input name) (codes "(standard input)") name (sym c.is_input.ensures ∙ c.if-is_input.false) in
+    IfOk-weaker c.scan_told-in-Ok.result _ _
+    (λ scanned found. (
+      Some found.0,
+      found.1,
+      subst (λ name. PrintsText c.args.search.now c.args.options name found.0 scanned found.1) (sym shown) found.2,
+      found.3,
+    ))
+    c.scan_told-in-Ok.ensures.printed

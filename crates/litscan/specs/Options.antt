@@ -1,0 +1,106 @@
+-- What letters, long names and numbers of a command line ask for.
+use Rattle.std.specs.Prelude.{ℕ, ◌+◌, ◌-◌, ◌*◌, ◌^◌, ◌==◌, ◌&&◌, ◌||◌, Bool, true, false, List, [], ◌∷◌, Option, Some}
+use Rattle.std.specs.Prelude.{None, codes, if◌then◌else◌, min, nat_lt, option_and_then, unwrap_or}
+use Rattle.std.specs.Char.{is_ascii_digit}
+use Rattle.std.specs.Str.{bytes_eq}
+use Rattle.std.specs.Option.{is_some}
+use Rattle.litscan.specs.declared.options.Options.{Options}
+
+-- no option is given
+abbrev pub no_options : Options
+no_options = record {
+  ignore_case = false;
+  others = false;
+  count = false;
+  numbers = false;
+  offsets = false;
+  only = false;
+  named = None;
+  listed = None;
+  quiet = false;
+  untold = false;
+  most = None;
+  help = false;
+  version = false;
+}
+
+-- the options with what a letter asks for, and None if it is no option without argument. The letters are in turn: b, c,
+-- h, H, i and y, l, L, n, o, q, s, v, V, ?, and a and F, which change nothing
+abbrev pub with_letter : Options → ℕ → Option Options
+with_letter options letter =
+    if letter == 98 then Some (record options { offsets = true })
+    else if letter == 99 then Some (record options { count = true })
+    else if letter == 104 then Some (record options { named = Some false })
+    else if letter == 72 then Some (record options { named = Some true })
+    else if letter == 105 || letter == 121 then Some (record options { ignore_case = true })
+    else if letter == 108 then Some (record options { listed = Some true })
+    else if letter == 76 then Some (record options { listed = Some false })
+    else if letter == 110 then Some (record options { numbers = true })
+    else if letter == 111 then Some (record options { only = true })
+    else if letter == 113 then Some (record options { quiet = true })
+    else if letter == 115 then Some (record options { untold = true })
+    else if letter == 118 then Some (record options { others = true })
+    else if letter == 86 then Some (record options { version = true })
+    else if letter == 63 then Some (record options { help = true })
+    else if letter == 97 || letter == 70 then Some options
+    else None
+
+-- whether no line is printed: only their number, the names of files, or nothing is asked for
+abbrev pub is_silent : Options → Bool
+is_silent options = options.count || options.quiet || is_some options.listed
+
+-- how many lines of a file have to count until no more is read, if any number is enough: as many as are asked for, and
+-- one at most where it does not matter how many there are
+abbrev pub limit_of : Options → Option ℕ
+limit_of options =
+    if options.quiet || is_some options.listed then Some (min (unwrap_or options.most 1) 1) else options.most
+
+-- whether so many lines are enough
+abbrev pub is_enough : Option ℕ → ℕ → Bool
+is_enough None count = false
+is_enough (Some most) count = count == most
+
+-- whether an option of this letter takes an argument: e, f and m do
+abbrev pub takes_argument : ℕ → Bool
+takes_argument letter = letter == 101 || letter == 102 || letter == 109
+
+-- the letter of the option with this long name
+abbrev pub letter_named : List ℕ → Option ℕ
+letter_named name =
+    if bytes_eq name (codes "--byte-offset") then Some 98
+    else if bytes_eq name (codes "--count") then Some 99
+    else if bytes_eq name (codes "--file") then Some 102
+    else if bytes_eq name (codes "--files-with-matches") then Some 108
+    else if bytes_eq name (codes "--files-without-match") then Some 76
+    else if bytes_eq name (codes "--fixed-strings") then Some 70
+    else if bytes_eq name (codes "--help") then Some 63
+    else if bytes_eq name (codes "--ignore-case") then Some 105
+    else if bytes_eq name (codes "--invert-match") then Some 118
+    else if bytes_eq name (codes "--line-number") then Some 110
+    else if bytes_eq name (codes "--max-count") then Some 109
+    else if bytes_eq name (codes "--no-filename") then Some 104
+    else if bytes_eq name (codes "--no-messages") then Some 115
+    else if bytes_eq name (codes "--only-matching") then Some 111
+    else if bytes_eq name (codes "--quiet") then Some 113
+    else if bytes_eq name (codes "--regexp") then Some 101
+    else if bytes_eq name (codes "--silent") then Some 113
+    else if bytes_eq name (codes "--text") then Some 97
+    else if bytes_eq name (codes "--version") then Some 86
+    else if bytes_eq name (codes "--with-filename") then Some 72
+    else None
+
+-- the number with a digit more behind it, if it is one and the number stays below 2^64
+abbrev pub with_digit : ℕ → ℕ → Option ℕ
+with_digit number digit =
+    let next = number * 10 + (digit - 48) in
+    if is_ascii_digit digit && nat_lt next (2 ^ 64) then Some next else None
+
+-- the number with these digits behind it
+abbrev pub number_from : ℕ → List ℕ → Option ℕ
+number_from number [] = Some number
+number_from number (digit ∷ more) = option_and_then (λ next. number_from next more) (with_digit number digit)
+
+-- the number that these digits write, if there is one, and it is below 2^64
+abbrev pub number_of : List ℕ → Option ℕ
+number_of [] = None
+number_of (digit ∷ more) = number_from 0 (digit ∷ more)

@@ -1,0 +1,145 @@
+//! The files that are searched, one after another.
+ghost use Rattle.std.specs.Prelude.{◌≡◌, ◌⊎◌, ◌||◌, ℕ, List, Option, IfErr, IfOk, map, nat_lt, true};
+ghost use Rattle.std.specs.Io.KnownBytes.{Appends};
+ghost use Rattle.std.specs.List.{flat_map};
+ghost use Rattle.litscan.specs.Fault.{IsWriteFault};
+ghost use Rattle.litscan.specs.Files.{AreSearched, PrintsFile, PrintsText, Searched, input_name, status_for};
+ghost use Rattle.litscan.specs.declared.fault.Fault.TheVariants.{OutOfMemory};
+
+use crate::device::Device;
+use crate::fault::Fault;
+use crate::input::{buffered, is_input, open, tell};
+use crate::options::Options;
+use crate::scan::{Scanned, scan};
+use literal_search::Search;
+use std::io::{BufRead, ErrorKind, Write};
+
+/// What the search of some files found.
+#[derive(Clone, Copy)]
+pub struct Found {
+    /// Whether a line of one counts.
+    pub any: bool,
+    /// Whether one could not be opened, or not all of it be read.
+    pub failed: bool,
+}
+
+impl Found {
+    /// With what the scan of one more file found.
+    fn with(self, scanned: Scanned) -> Found
+        ensures { result ≡ record {
+          any = self.any || nat_lt 0 scanned.count;
+          failed = self.failed || scanned.failed;
+        } }
+    {
+        Found {
+            any: self.any || scanned.count > 0,
+            failed: self.failed || scanned.failed,
+        }
+    }
+
+    /// The status of the program: 0 if a line counts, 1 if none does, and 2 if a file could not be read, but for a line
+    /// that counts where nothing is printed.
+    pub fn status(self, quiet: bool) -> u8
+        ensures { result ≡ status_for quiet self }
+    {
+        if self.any && (quiet || !self.failed) {
+            return 0;
+        }
+        if self.failed { 2 } else { 1 }
+    }
+}
+
+/// Searches the files of these names in turn, and prints what is asked for. Where nothing is printed, no file is read
+/// behind the first in which a line counts.
+pub fn scan_files<W: Write>(
+    rt: &HostRuntime,
+    search: &Search,
+    options: Options,
+    names: &[Vec<u8>],
+    writer: &mut Device<W>,
+) -> Result<Found, Fault>
+    ensures searched { IfOk result (λ found. (all : List Searched)
+        × AreSearched search.now options (map (λ name. name.items) names.now) found all
+        × Appends (W.contents writer.old.inner) (W.contents writer.new.inner) (flat_map (λ one. one.out) all)) }
+    ensures error { IfErr result (λ fault. IsWriteFault writer.new.failure fault ⊎ (fault ≡ OutOfMemory)) }
+{
+    let mut found = Found {
+        any: false,
+        failed: false,
+    };
+    for name in names {
+        if options.quiet && found.any {
+            return Ok(found);
+        }
+        let scanned = scan_file(rt, search, options, name.as_slice(), writer)?;
+        found = found.with(scanned);
+    }
+    writer.flush()?;
+    Ok(found)
+}
+
+/// Searches the file of this name, or standard input. One that cannot be opened is told of.
+fn scan_file<W: Write>(
+    rt: &HostRuntime,
+    search: &Search,
+    options: Options,
+    name: &[u8],
+    writer: &mut Device<W>,
+) -> Result<Scanned, Fault>
+    ensures printed { IfOk result (λ scanned. (text : Option (List ℕ)) × (out : List ℕ)
+        × PrintsFile search.now options name.now text scanned out
+        × Appends (W.contents writer.old.inner) (W.contents writer.new.inner) out) }
+    ensures error { IfErr result (λ fault. IsWriteFault writer.new.failure fault ⊎ (fault ≡ OutOfMemory)) }
+{
+    if is_input(name) {
+        let reader = buffered(rt.alloc(), rt.stdin())?;
+        return scan_told(rt, search, options, b"(standard input)", reader, writer);
+    }
+    match open(rt, name) {
+        Ok(file) => {
+            let reader = buffered(rt.alloc(), file)?;
+            scan_told(rt, search, options, name, reader, writer)
+        }
+        Err(ErrorKind::OutOfMemory) => Err(Fault::OutOfMemory),
+        Err(kind) => Ok(not_opened(rt, options, name, kind)),
+    }
+}
+
+/// Searches a text. If it cannot be read to its end that is told of, but for `-s`.
+fn scan_told<R: BufRead + Drop, W: Write>(
+    rt: &HostRuntime,
+    search: &Search,
+    options: Options,
+    name: &[u8],
+    reader: Device<R>,
+    writer: &mut Device<W>,
+) -> Result<Scanned, Fault>
+    ensures printed { IfOk result (λ scanned. (text out : List ℕ)
+        × PrintsText search.now options name.now text scanned out
+        × Appends (W.contents writer.old.inner) (W.contents writer.new.inner) out) }
+    ensures error { IfErr result (λ fault. IsWriteFault writer.new.failure fault ⊎ (fault ≡ OutOfMemory)) }
+{
+    let mut reader = reader;
+    let scanned = scan(rt.alloc(), search, options, name, &mut reader, writer)?;
+    if scanned.failed && !options.untold {
+        tell(
+            rt,
+            name,
+            reader.failure().unwrap_or(ErrorKind::FileTooLarge),
+        );
+    }
+    Ok(scanned)
+}
+
+/// What is found in a file that cannot be opened. That is told, but for `-s`.
+fn not_opened(rt: &HostRuntime, options: Options, name: &[u8], kind: ErrorKind) -> Scanned
+    ensures { result ≡ record { count = 0; failed = true } }
+{
+    if !options.untold {
+        tell(rt, name, kind);
+    }
+    Scanned {
+        count: 0,
+        failed: true,
+    }
+}

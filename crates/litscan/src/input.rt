@@ -1,0 +1,60 @@
+//! Files and standard input as readers, and what is told of files that cannot be read.
+ghost use Rattle.std.specs.Prelude.{◌≡◌, None, OnErr, IfOk};
+ghost use Rattle.litscan.specs.Files.{cause_text, is_input};
+
+use crate::device::Device;
+use crate::fault::Fault;
+use std::alloc::Global;
+use std::fs::{self, File};
+use std::io::{BufReader, ErrorKind, Read};
+use std::str;
+
+/// How many bytes are read at once.
+const BLOCK: usize = 65536;
+
+/// Opens the file of this name.
+pub fn open(rt: &HostRuntime, name: &[u8]) -> Result<File, ErrorKind> {
+    let path = str::from_utf8(name).or(Err(ErrorKind::InvalidFilename))?;
+    fs::open(rt, path).map_err(|error| error.kind())
+}
+
+/// A reader that reads block by block.
+pub fn buffered<R: Read + Drop>(alloc: Global, reader: R) -> Result<Device<BufReader<R>>, Fault>
+    ensures new { IfOk result (λ device. device.failure ≡ None) }
+    ensures error { OnErr result (result ≡ Err Fault.OutOfMemory) }
+{
+    match BufReader::with_capacity(alloc, BLOCK, reader) {
+        Ok(reader) => Ok(Device::new(reader)),
+        Err(_) => Err(Fault::OutOfMemory),
+    }
+}
+
+/// Whether this is the name of standard input.
+pub fn is_input(name: &[u8]) -> bool
+    ensures { result ≡ is_input name.now }
+{
+    name.len() == 1 && name[0] == b'-'
+}
+
+/// Tells on standard error why a file cannot be opened or read.
+pub fn tell(rt: &HostRuntime, name: &[u8], kind: ErrorKind) {
+    let name = str::from_utf8(name).unwrap_or("?");
+    let cause = cause_of(kind);
+    let _ = eprintln!(rt; "litscan: {name}: {cause}");
+}
+
+/// What is told of an error of this kind.
+fn cause_of(kind: ErrorKind) -> &'static str
+    ensures { result.now ≡ cause_text kind }
+{
+    match kind {
+        ErrorKind::NotFound => "No such file or directory",
+        ErrorKind::PermissionDenied => "Permission denied",
+        ErrorKind::IsADirectory => "Is a directory",
+        ErrorKind::NotADirectory => "Not a directory",
+        ErrorKind::InvalidFilename => "File name too long",
+        ErrorKind::FilesystemLoop => "Too many levels of symbolic links",
+        ErrorKind::FileTooLarge => "File too large",
+        _ => "cannot be read",
+    }
+}
