@@ -49,6 +49,15 @@ static size_t end_of_piece(const Prepared *search, size_t at, size_t end) {
     return end - at > len ? at + len : end;
 }
 
+/* Cuts the next piece from the bytes between `at` and `end`. Every occurrence that begins before the cut ends within
+ * the piece. So the matches of the piece that begin there are right; what follows is searched again from the cut on. */
+static size_t cut_piece(const Prepared *search, size_t at, size_t end, size_t *piece_end) {
+    size_t len = piece_len(search);
+    size_t cut = end - at > len ? at + len : end;
+    *piece_end = end - cut > search->pieces.longest ? cut + search->pieces.longest : end;
+    return *piece_end == end ? end : cut;
+}
+
 /* How many matches to find at once. With a long pattern they are fewer, since behind each match the library may look as
  * far ahead. */
 static size_t most_matches(const Prepared *search, size_t wanted) {
@@ -62,6 +71,16 @@ static int none_found(const Prepared *search, int32_t status, size_t kept) {
     if (status == LITERAL_NONE && kept > 0 && kept >= search->pieces.longest)
         status = LITERAL_DAMAGED;
     return status == LITERAL_NONE ? 0 : refuse(status);
+}
+
+/* Whether matches lie one after another between two places. It is so, unless the prepared search is damaged. */
+static bool are_in_order(const literal_match *matches, size_t count, size_t at, size_t end) {
+    for (size_t i = 0; i < count; i++) {
+        if (matches[i].start < at || matches[i].end <= matches[i].start || matches[i].end > end)
+            return false;
+        at = matches[i].end;
+    }
+    return true;
 }
 
 /* ---- One match ---- */
@@ -158,8 +177,48 @@ static int walk_widen(Walk *walk) {
     return 0;
 }
 
-/* Finds the matches of the next piece, as many as there is room for. */
-static int page_of_matches(Walk *walk) {
+/* Takes over so many matches, behind which the search goes on at a place. */
+static void take_matches(Walk *walk, size_t count, size_t at, bool is_done) {
+    walk->at = at;
+    walk->is_done = is_done;
+    walk->written = count;
+    walk->given = 0;
+    if (count > 0 && walk->room < LARGEST_PAGE)
+        walk->wanted = most_matches(walk->search, LARGEST_PAGE);
+}
+
+/* Takes over what the library wrote of a piece, up to the cut. */
+static int take_page(Walk *walk, const literal_page *page, size_t cut, size_t piece_end) {
+    size_t count = page->written, at = walk->at;
+    if (count > walk->room || (count == 0 && !page->is_last) ||
+        !are_in_order(walk->matches, count, at, piece_end))
+        return refuse(LITERAL_DAMAGED);
+    while (count > 0 && walk->matches[count - 1].start >= cut)
+        count--;
+    if (count > 0)
+        at = walk->matches[count - 1].end;
+    if ((page->is_last || count < page->written) && at < cut)
+        at = cut;
+    take_matches(walk, count, at, page->is_last && cut == walk->end);
+    return 0;
+}
+
+/* Finds the matches of the next piece of a text, as many as there is room for, in one call. */
+static int matches_of_piece(Walk *walk) {
+    size_t words_len, piece_end, cut = cut_piece(walk->search, walk->at, walk->end, &piece_end);
+    const uint32_t *words = words_of(walk->search->prepared, &words_len);
+    const Text *text = &walk->text;
+    literal_page page;
+    PyThreadState *state = let_others_run(piece_end - walk->at);
+    int32_t status = literal_find_all_in(words, words_len, text->bytes, text->len, walk->at, piece_end, walk->matches,
+                                         walk->room, &page);
+    come_back(state);
+    return status == LITERAL_OK ? take_page(walk, &page, cut, piece_end) : refuse(status);
+}
+
+/* The same one after another: of a text that is read, of which the library tells what stands whatever follows; and
+ * where there is room for one, since a page of one would look for the next too, and find it again. */
+static int matches_one_by_one(Walk *walk) {
     size_t words_len, at = walk->at, count = 0, piece_end = end_of_piece(walk->search, at, walk->end);
     const uint32_t *words = words_of(walk->search->prepared, &words_len);
     bool more = walk->more || piece_end < walk->end;
@@ -173,13 +232,13 @@ static int page_of_matches(Walk *walk) {
     come_back(state);
     if (status != LITERAL_OK && none_found(walk->search, status, piece_end - at))
         return -1;
-    walk->at = at;
-    walk->is_done = status == LITERAL_NONE && piece_end == walk->end;
-    walk->written = count;
-    walk->given = 0;
-    if (count > 0 && walk->room < LARGEST_PAGE)
-        walk->wanted = most_matches(walk->search, LARGEST_PAGE);
+    take_matches(walk, count, at, status == LITERAL_NONE && piece_end == walk->end);
     return 0;
+}
+
+/* Finds the matches of the next piece. */
+static int page_of_matches(Walk *walk) {
+    return walk->is_part || walk->room == 1 ? matches_one_by_one(walk) : matches_of_piece(walk);
 }
 
 /* Takes over what ends behind `at`, and is whole: where there was not room for all, what ends with the last that was
