@@ -76,7 +76,11 @@ pub fn rows_for(
 
 /// A copy of the rows of some patterns, and those of no pattern where there is none. Memory is asked for only where
 /// there is a pattern.
-pub(crate) fn copy_of_rows(alloc: Global, patterns: &[Vec<u8>], rows: &Rows) -> Result<Rows, AllocError>
+pub(crate) fn copy_of_rows(
+    alloc: Global,
+    patterns: &[Vec<u8>],
+    rows: &Rows,
+) -> Result<Rows, AllocError>
     ensures same { 0 < length patterns.now → IfOk result (λ copy. copy ≡ rows.now) }
     ensures none { length patterns.now ≡ 0 → IfOk result (λ copy. copy ≡ rows_in []) }
     ensures no_memory { OnErr result (0 < length patterns.now) }
