@@ -75,6 +75,8 @@ fn scans_for_words(rt: HostRuntime) -> Result<(), Fail> {
     assert!(rt; scan.next(haystack, behind, tally) == 38);
     let short = Span { start: 20, end: 35 };
     assert!(rt; scan.next(haystack, short, tally) == 20);
+    let same = Fingerprints::from_bytes(&scan.to_bytes());
+    assert!(rt; same.next(haystack, behind, tally) == 38);
     Ok(())
 }
 

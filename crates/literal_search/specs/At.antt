@@ -1,5 +1,5 @@
 -- A match at one place.
-use Rattle.std.specs.Prelude.{◌≡◌, ℕ, ◌+◌, ◌≤◌, Bool, IfSome, List, MatchOption, Option}
+use Rattle.std.specs.Prelude.{◌≡◌, ℕ, ◌+◌, ◌≤◌, Bool, List, MatchOption, Option}
 use Rattle.literal_base.specs.Counts.{Counts}
 use Rattle.literal_base.specs.Leftmost.{IsLeftmostMatch}
 use Rattle.literal_base.specs.MatchValue.{MatchValue}
@@ -18,4 +18,4 @@ IsMatchAt query ignore_case haystack at answer = MatchOption answer
 pub record ScansAt (patterns : List (List ℕ)) (at : ℕ) (answer : Option MatchValue) (old new : Counts) : Type 0 where
   pub others : new ≡ record old { scanned = new.scanned }
   pub most : new.scanned ≤ old.scanned + longest_of patterns
-  pub least : IfSome answer (λ found. old.scanned + found.end ≤ new.scanned + at)
+  pub least : MatchOption answer (old.scanned ≤ new.scanned) (λ found. old.scanned + found.end ≤ new.scanned + at)

@@ -51,15 +51,15 @@ rows_in numbers = slice_range numbers (rows_at numbers) (rows_end numbers)
 abbrev pub prepared_len : List ℕ → ℕ
 prepared_len numbers = rows_end numbers + FINGERPRINTS_LEN
 
--- these numbers
-abbrev pub prints_in : List ℕ → List ℕ
-prints_in numbers = slice_range numbers (rows_end numbers) (prepared_len numbers)
+-- the numbers of its fingerprints
+abbrev pub fingerprints_part : List ℕ → List ℕ
+fingerprints_part numbers = slice_range numbers (rows_end numbers) (prepared_len numbers)
 
--- the first of them: where there are fingerprints a length that no pattern is below, and else 0
+-- the first of such numbers: where there are fingerprints a length that no pattern is below, and else 0
 abbrev pub shortest_by : List ℕ → ℕ
 shortest_by prints = slice_index prints 0
 
--- the fingerprints: each number behind it stands for the byte that its last eight bits are
+-- the fingerprints by such numbers: each behind the first stands for the byte that its last eight bits are
 abbrev pub fingerprints_by : List ℕ → FingerprintsValue
 fingerprints_by prints = fingerprints_in (map (λ number. number % 256) (drop 1 prints))
 
@@ -83,7 +83,7 @@ pub record HasAllParts (numbers : List ℕ) : Type 0 where
   pub parts : HasParts PREPARED_VERSION numbers
   pub long : prepared_len numbers ≤ length numbers
 
--- the same, and the second number is the check over those behind it
+-- the array has the parts of a search for the leftmost match, and its second number is the check over those behind it
 pub record IsWhole (numbers : List ℕ) : Type 0 where
   pub all : HasAllParts numbers
   pub check : slice_index numbers 1 ≡ check_of (slice_range numbers 2 (prepared_len numbers))
@@ -98,9 +98,9 @@ pub record IsPrepared (query : Query) (ignore_case : Bool) (numbers : List ℕ) 
   pub lengths : lengths_in numbers ≡ map (λ bytes. length bytes) query.patterns
   pub recognises : Recognises (root_kind_of query.kind) (map (symbols_in (classes_in numbers)) query.patterns)
       (width_in numbers) (rows_in numbers)
-  pub shortest : NoneIsShorter (shortest_by (prints_in numbers)) query.patterns
-  pub fingerprints : 0 < shortest_by (prints_in numbers)
-      → AllPass (fingerprints_by (prints_in numbers)) ignore_case query.patterns
+  pub shortest : NoneIsShorter (shortest_by (fingerprints_part numbers)) query.patterns
+  pub fingerprints : 0 < shortest_by (fingerprints_part numbers)
+      → AllPass (fingerprints_by (fingerprints_part numbers)) ignore_case query.patterns
   pub kept : CanBeKept query.patterns
 
 -- what holds of whatever an array is prepared for

@@ -463,7 +463,7 @@ impl Search {
         ensures as_before { OnErr result (array.new ≡ array.old) }
     {
         let version = prepared::PREPARED_VERSION;
-        let prints = prepared::prints(self.shortest, self.fingerprints());
+        let prints = prepared::fingerprint_numbers(self.shortest, self.fingerprints());
         prepared::write(
             version,
             &self.classes,

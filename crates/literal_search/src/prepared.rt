@@ -1,8 +1,8 @@
 //! A search as numbers in an array that its caller lends: written once, and then searched by, with no memory of its
 //! own. A search does not trust the array: where a number leads out of it, the search says so.
 ghost use Rattle.std.specs.Prelude.{◌≡◌, ◌+◌, ◌-◌, ◌*◌, ◌<◌, ◌≤◌, ◌^◌, ◌↔◌, length, map};
-ghost use Rattle.std.specs.Prelude.{ℕ, IfErr, IfOk, IfSome, IsTrue, MatchResult, OnErr};
-ghost use Rattle.std.specs.Prelude.{IsSomeAnd, slice_index, slice_range};
+ghost use Rattle.std.specs.Prelude.{ℕ, IfErr, IfOk, IfSome, IsTrue, MatchOption, MatchResult, OnErr};
+ghost use Rattle.std.specs.Prelude.{min, slice_index, slice_range};
 ghost use Rattle.std.specs.Result.{IsOkAnd};
 ghost use Rattle.literal_base.specs.Occurs.{IsValidSpan};
 ghost use Rattle.literal_base.specs.Leftmost.{IsLeftmost};
@@ -282,9 +282,12 @@ impl<'p> Prepared<'p> {
 }
 
 /// The numbers of fingerprints, if there are any.
-pub fn prints(shortest: usize, fingerprints: Option<&Fingerprints>) -> [u32; FINGERPRINTS_LEN]
-    ensures least { shortest_by result ≤ shortest }
-    ensures bytes { 0 < shortest_by result → IsSomeAnd fingerprints.entry (λ f. fingerprints_by result ≡ f.now) }
+pub fn fingerprint_numbers(
+    shortest: usize,
+    fingerprints: Option<&Fingerprints>,
+) -> [u32; FINGERPRINTS_LEN]
+    ensures { MatchOption fingerprints.entry (shortest_by result ≡ 0)
+        (λ f. (shortest_by result ≡ min shortest (2 ^ 32 - 1)) × (fingerprints_by result ≡ f.now)) }
 {
     let mut numbers = [0; FINGERPRINTS_LEN];
     let Some(fingerprints) = fingerprints else {

@@ -8,7 +8,7 @@ use Rattle.literal_base.specs.Query.{Query}
 use Rattle.literal_fingerprints.specs.FingerprintsValue.{AllPass}
 use Rattle.literal_search.specs.Inside.Classes.{AreClasses, Tells, symbols_in}
 use Rattle.literal_search.specs.Prepared.{IsPrepared, IsWhole, check_of, classes_in, fingerprints_by, lengths_in}
-use Rattle.literal_search.specs.Prepared.{prepared_len, prints_in, rows_at, rows_end, rows_in, shortest_by, width_in}
+use Rattle.literal_search.specs.Prepared.{prepared_len, fingerprints_part, rows_at, rows_end, rows_in, shortest_by, width_in}
 use Rattle.literal_search.specs.SearchValue.{NoneIsShorter}
 use Rattle.literal_search.specs.Overlapping.{OverlappingValue}
 use Rattle.literal_search.specs.PreparedOverlapping.{IsPreparedOverlapping, ends_at, listed_len}
@@ -67,7 +67,7 @@ module _ (query : Query) (ignore_case : Bool) (old new : List ℕ)
         ap (λ from. slice_range new from (rows_end new)) rows_same
         ∙ (ap (slice_range new (rows_at old)) end_same
         ∙ parts (rows_at old) (rows_end old) (omega arith) (omega arith)) in
-        let prints_are : prints_in new ≡ prints_in old =
+        let prints_are : fingerprints_part new ≡ fingerprints_part old =
         ap (λ from. slice_range new from (prepared_len new)) end_same
         ∙ (ap (slice_range new (rows_end old)) len_same
         ∙ parts (rows_end old) (prepared_len old) (omega arith) (omega arith)) in

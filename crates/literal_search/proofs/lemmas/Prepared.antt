@@ -1,6 +1,6 @@
 -- Searches by an array that is lent.
 use Rattle.std.proofs.Common.{◌≡◌, ℕ, ◌+◌, ◌-◌, ◌<◌, ◌≤◌, ◌^◌, Bool, List, [], drop, length, get_or, map}
-use Rattle.std.proofs.Common.{Bor, Err, IfErr, IfOk, IfSome, IsSomeAnd, None, Ok, Option, Result, Some, refl, ◌%◌}
+use Rattle.std.proofs.Common.{Bor, Err, IfErr, IfOk, IfSome, MatchOption, None, Ok, Option, Result, Some, min, refl, ◌%◌}
 use Rattle.std.proofs.Common.{sym, ap, subst, ◌∙◌, arith}
 use Rattle.std.proofs.lemmas.List.{ext_get_or, get_or-drop, get_or-map, length-drop, length-map, length-take}
 use Rattle.std.specs.List.{slice_range}
@@ -20,7 +20,7 @@ use Rattle.literal_base.specs.MatchValue.{MatchValue}
 use Rattle.literal_search.specs.Inside.Prepared.{Puts, RefusesArray, numbers_for}
 use Rattle.literal_search.specs.Inside.Search.{IsSound, patterns_in, search_value}
 use Rattle.literal_search.specs.Prepared.{IsPrepared, RefusesToPrepare, TakesPlaces, WritesPrepared, classes_in}
-use Rattle.literal_search.specs.Prepared.{fingerprints_by, prepared_len, prints_in, rows_end, rows_in, shortest_by}
+use Rattle.literal_search.specs.Prepared.{fingerprints_by, prepared_len, fingerprints_part, rows_end, rows_in, shortest_by}
 use Rattle.literal_search.specs.Prepared.{width_in}
 use Rattle.literal_search.specs.declared.prepared.Prepared.TheInside.{Inside as Lent}
 use Rattle.literal_search.specs.declared.prepared.TheConstants.{PREPARED_VERSION}
@@ -98,7 +98,7 @@ module _ (p : Lent) (lent : IsLent p) (fingerprints : Option (Bor FingerprintsVa
     (ignore_case : Bool) (prepared : IsPrepared query ignore_case p.front.numbers.now)
   where
     all_pass : (o : Option FingerprintsValue)
-        → IfSome o (λ f. (0 < p.shortest) × (f ≡ fingerprints_by (prints_in p.front.numbers.now)))
+        → IfSome o (λ f. (0 < p.shortest) × (f ≡ fingerprints_by (fingerprints_part p.front.numbers.now)))
         → IfSome o (λ f. AllPass f ignore_case query.patterns)
     all_pass None are = tt
     all_pass (Some f) (some, is) =
@@ -155,7 +155,7 @@ module _ (classes : List ℕ) (width : ℕ) (kind : MatchKind) (ignore_case : Bo
     abbrev numbers : List ℕ
     numbers = numbers_for PREPARED_VERSION classes width patterns rows [] prints
 
-    prints_written : prints_in numbers ≡ prints
+    prints_written : fingerprints_part numbers ≡ prints
     prints_written =
         let from : rows_end numbers ≡ rows_end numbers + 0 = omega arith in
         let to : prepared_len numbers ≡ rows_end numbers + 0 + length prints = omega (arith, size) in
@@ -190,14 +190,24 @@ module _ (classes : List ℕ) (width : ℕ) (kind : MatchKind) (ignore_case : Bo
           kept = kept;
         }
 
+-- the numbers of fingerprints are those of none, or of these
+abbrev AreNumbersOf : ℕ → Option (Bor FingerprintsValue) → List ℕ → Type 0
+AreNumbersOf shortest o prints = MatchOption o (shortest_by prints ≡ 0)
+    (λ f. (shortest_by prints ≡ min shortest (2 ^ 32 - 1)) × (fingerprints_by prints ≡ f.now))
+
+pub prints_least : (shortest : ℕ) (o : Option (Bor FingerprintsValue)) (prints : List ℕ)
+    → AreNumbersOf shortest o prints → shortest_by prints ≤ shortest
+prints_least shortest None prints are = omega (arith, are)
+prints_least shortest (Some f) prints are = omega (arith, are.0)
+
 -- what the fingerprints of a `Search` let pass, those by their numbers do
-pub prints_pass : (a : Inside) (value : SearchValue) (prints : List ℕ) (o : Option (Bor FingerprintsValue))
+pub prints_pass : (a : Inside) (value : SearchValue) (o : Option (Bor FingerprintsValue)) (prints : List ℕ)
     → search_value a ≡ value → IfSome o (λ f. AllPass f.now value.ignore_case value.query.patterns)
-    → (0 < shortest_by prints → IsSomeAnd o (λ f. fingerprints_by prints ≡ f.now)) → 0 < shortest_by prints
+    → AreNumbersOf a.shortest o prints → 0 < shortest_by prints
     → AllPass (fingerprints_by prints) a.ignore_case (patterns_in a)
-prints_pass a value prints None view pass is some = absurd (is some)
-prints_pass a value prints (Some f) view pass is some =
-    subst (λ p. AllPass p a.ignore_case (patterns_in a)) (sym (is some))
+prints_pass a value None prints view pass are some = absurd (omega (arith, are, some))
+prints_pass a value (Some f) prints view pass are some =
+    subst (λ p. AllPass p a.ignore_case (patterns_in a)) (sym are.1)
     (subst (λ (v : SearchValue). AllPass f.now v.ignore_case v.query.patterns) (sym view) pass)
 
 -- so many places are those in front, one for each pattern, the rows, and the fingerprints

@@ -4,7 +4,7 @@ use Rattle.std.specs.Prelude.{length, map, slice_index}
 use Rattle.std.specs.List.{splice}
 use Rattle.literal_search.specs.SearchValue.{longest_of}
 use Rattle.literal_search.specs.Prepared.{AreShort, HasAllParts, HasParts, check_of, classes_in, fingerprints_by}
-use Rattle.literal_search.specs.Prepared.{lengths_in, prints_in, rows_in, shortest_by, width_in}
+use Rattle.literal_search.specs.Prepared.{lengths_in, fingerprints_part, rows_in, shortest_by, width_in}
 use Rattle.literal_search.specs.declared.prepared.Front.{Front}
 use Rattle.literal_search.specs.declared.prepared.Prepared.TheInside.{Inside}
 use Rattle.literal_search.specs.declared.prepared.TheConstants.{PREPARED_VERSION}
@@ -44,9 +44,9 @@ table_of f =
 pub record IsLent (p : Inside) : Type 0 where
   pub front : IsFront PREPARED_VERSION p.front
   pub all : HasAllParts p.front.numbers.now
-  pub shortest : p.shortest ≡ shortest_by (prints_in p.front.numbers.now)
+  pub shortest : p.shortest ≡ shortest_by (fingerprints_part p.front.numbers.now)
   pub fingerprints : IfSome p.fingerprints
-      (λ f. (0 < p.shortest) × (f ≡ fingerprints_by (prints_in p.front.numbers.now)))
+      (λ f. (0 < p.shortest) × (f ≡ fingerprints_by (fingerprints_part p.front.numbers.now)))
 
 -- numbers stand in a list from a place on, and the rest of it is as it was
 abbrev pub Puts : ℕ → List ℕ → List ℕ → List ℕ → Type 0

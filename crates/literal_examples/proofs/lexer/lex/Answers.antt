@@ -3,6 +3,7 @@ use Rattle.std.proofs.Common.{refl, subst, sym}
 use Rattle.std.proofs.lemmas.List.{length_push}
 use Rattle.literal_base.specs.MatchValue.{MatchValue}
 use Rattle.literal_search.specs.SearchValue.{longest_of}
+use Rattle.literal_search.proofs.lemmas.Iterations.{scanned_on}
 use Rattle.literal_examples.specs.Lexed.{IsLexed}
 use Rattle.literal_examples.proofs.lexer.lex.Goals as goal
 
@@ -31,6 +32,15 @@ loop-found-preserved c =
             c.in-Some.ensures.at,
             subst (λ at. IsLexed words text at more last) end_is is,
           )));
+      each = omega (
+        arith,
+        so_far.each,
+        c.in-Some.ensures.bounded.least,
+        end_is,
+        leftmost.occurs.after_start,
+      );
+      others = scanned_on c.args.tally.now c.loop-found.tally c.match_at_counted.new.tally so_far.others
+      c.in-Some.ensures.bounded.others;
       linear = omega (
         arith,
         so_far.linear,
@@ -54,3 +64,6 @@ returns-clause-linear c =
       c.in_default.ensures.bounded.most,
       one_more (length c.loop-found.tokens.items) (longest_of c.args.words.now.query.patterns),
     )
+
+pub returns-clause-each : goal.returns-clause-each
+returns-clause-each c = omega (arith, c.loop-found.invariant.each, c.in_default.ensures.bounded.least)

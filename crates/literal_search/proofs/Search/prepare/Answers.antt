@@ -4,7 +4,7 @@ use Rattle.literal_search.specs.SearchValue.{SearchValue}
 use Rattle.literal_search.specs.Inside.Prepared.{Puts, RefusesArray, numbers_for}
 use Rattle.literal_search.specs.Prepared.{RefusesToPrepare, WritesPrepared}
 use Rattle.literal_search.specs.declared.prepared.TheConstants.{PREPARED_VERSION}
-use Rattle.literal_search.proofs.lemmas.Prepared.{prepare_ok, prepare_refused, prints_pass}
+use Rattle.literal_search.proofs.lemmas.Prepared.{prepare_ok, prepare_refused, prints_least, prints_pass}
 use Rattle.literal_search.proofs.Search.prepare.Goals as goal
 
 pub returns-clause-ok : goal.returns-clause-ok
@@ -12,9 +12,10 @@ returns-clause-ok c =
     let a = c.self.inside in
     let old = c.args.array.now in
     let new = c.write.new.array in
-    let prints = c.prints-prints.result in
-    let pass = prints_pass a _ prints c.fingerprints.result c.self.view_is c.fingerprints.ensures
-    c.prints-prints.ensures.bytes in
+    let prints = c.fingerprint_numbers-prints.result in
+    let are = c.fingerprint_numbers-prints.ensures in
+    let least = prints_least a.shortest c.fingerprints.result prints are in
+    let pass = prints_pass a _ c.fingerprints.result prints c.self.view_is c.fingerprints.ensures are in
     let Writes : List (Vec ℕ) → List ℕ → Type 0 = λ patterns rows. IfOk c.write.result (λ needed.
     (needed ≤ length old) × (length prints < 2 ^ 32)
     × Puts 0 (numbers_for PREPARED_VERSION a.classes.table a.classes.width
@@ -24,16 +25,17 @@ returns-clause-ok c =
     let written = subst (λ (patterns : List (Vec ℕ)). Writes patterns a.rows) c.deref.ensures.value
     (subst (λ (rows : List ℕ). Writes c.deref.result.now rows) c.as_slice.ensures c.write.ensures.ok) in
     subst (λ (v : SearchValue). IfOk c.write.result (WritesPrepared v.query v.ignore_case old new)) c.self.view_is
-    (prepare_ok a c.self.invariant old new prints (omega arith) c.prints-prints.ensures.least pass c.write.result
+    (prepare_ok a c.self.invariant old new prints (omega arith) least pass c.write.result
     written)
 
 pub returns-clause-error : goal.returns-clause-error
 returns-clause-error c =
     let a = c.self.inside in
     let old = c.args.array.now in
-    let prints = c.prints-prints.result in
-    let pass = prints_pass a _ prints c.fingerprints.result c.self.view_is c.fingerprints.ensures
-    c.prints-prints.ensures.bytes in
+    let prints = c.fingerprint_numbers-prints.result in
+    let are = c.fingerprint_numbers-prints.ensures in
+    let least = prints_least a.shortest c.fingerprints.result prints are in
+    let pass = prints_pass a _ c.fingerprints.result prints c.self.view_is c.fingerprints.ensures are in
     let Refuses : List (Vec ℕ) → List ℕ → Type 0 = λ patterns rows. IfErr c.write.result
     (RefusesArray (map (λ pattern. pattern.items) patterns) prints
     (numbers_for PREPARED_VERSION a.classes.table a.classes.width (map (λ pattern. pattern.items) patterns) rows []
@@ -41,5 +43,5 @@ returns-clause-error c =
     let refused = subst (λ (patterns : List (Vec ℕ)). Refuses patterns a.rows) c.deref.ensures.value
     (subst (λ (rows : List ℕ). Refuses c.deref.result.now rows) c.as_slice.ensures c.write.ensures.error) in
     subst (λ (v : SearchValue). IfErr c.write.result (RefusesToPrepare v.query v.ignore_case old)) c.self.view_is
-    (prepare_refused a c.self.invariant old c.write.new.array prints (omega arith) c.prints-prints.ensures.least pass
+    (prepare_refused a c.self.invariant old c.write.new.array prints (omega arith) least pass
     c.write.result refused)

@@ -2,7 +2,7 @@ use Rattle.std.proofs.Common.{◌≡◌, ◌+◌, ◌-◌, ◌<◌, ◌≤◌, �
 use Rattle.std.specs.List.{slice_range}
 use Rattle.literal_fingerprints.specs.FingerprintsValue.{FingerprintsValue}
 use Rattle.literal_search.specs.Inside.Prepared.{IsFront}
-use Rattle.literal_search.specs.Prepared.{HasAllParts, HasParts, fingerprints_by, prints_in, rows_end}
+use Rattle.literal_search.specs.Prepared.{HasAllParts, HasParts, fingerprints_by, fingerprints_part, rows_end}
 use Rattle.literal_search.specs.Prepared.{shortest_by}
 use Rattle.literal_search.specs.declared.prepared.Front.{Front}
 use Rattle.literal_search.specs.declared.prepared.TheConstants.{PREPARED_VERSION}
@@ -25,10 +25,10 @@ module _ (f : Front) (numbers : List ℕ) (same : f.numbers.now ≡ numbers) (fr
         let fits = parts.fits in
         record { parts = parts; long = omega (arith, long, end_is, fits) }
 
-    prints_are : slice_range numbers (end f) (end f + 129) ≡ prints_in f.numbers.now
+    prints_are : slice_range numbers (end f) (end f + 129) ≡ fingerprints_part f.numbers.now
     prints_are =
         ap (λ from. slice_range numbers from (end f + 129)) end_is
-        ∙ (ap (λ from. slice_range numbers (rows_end numbers) (from + 129)) end_is ∙ ap prints_in (sym same))
+        ∙ (ap (λ from. slice_range numbers (rows_end numbers) (from + 129)) end_is ∙ ap fingerprints_part (sym same))
 
 pub invariant_of-result : goal.invariant_of-result
 invariant_of-result c =
@@ -38,7 +38,7 @@ invariant_of-result c =
     let prints = prints_are f numbers told.0 told.2 told.1 in
     let Has : Option FingerprintsValue → Type 0 = λ o. IfSome o (λ print.
     (0 < shortest_by (slice_range numbers (end f) (end f + 129)))
-    × (print ≡ fingerprints_by (prints_in f.numbers.now))) in
+    × (print ≡ fingerprints_by (fingerprints_part f.numbers.now))) in
     record {
       front = told.2;
       all = subst HasAllParts (sym told.0) (has_all f numbers told.0 told.2 told.1
