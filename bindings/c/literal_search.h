@@ -203,13 +203,13 @@ int32_t literal_prepare(uint32_t kind, bool ignore_case, const uint8_t *patterns
                         const size_t *ends, size_t ends_len, uint32_t *prepared, size_t prepared_len, size_t *needed);
 
 /* The same for literal_find_overlapping_in. The array has one number more for each pattern, and one for each pattern
- * that is an end of it, or equals it.
+ * that is a suffix of it, or equals it.
  *
  * LITERAL_OK             prepared and needed are written
  * LITERAL_TOO_SHORT      the array has fewer than *needed places, and stays as it was
  * LITERAL_NO_SEARCHER    the patterns can't be searched for
  * LITERAL_OUT_OF_MEMORY  there is not enough memory for building the search
- * LITERAL_TOO_LARGE      as from literal_prepare; or only where 2^32 times or more a pattern is an end of another
+ * LITERAL_TOO_LARGE      as from literal_prepare; or only where 2^32 times or more a pattern is a suffix of another
  * LITERAL_BAD_ARGUMENTS  the ends fall or pass the buffer */
 int32_t literal_prepare_overlapping(bool ignore_case, const uint8_t *patterns, size_t patterns_len, const size_t *ends,
                                     size_t ends_len, uint32_t *prepared, size_t prepared_len, size_t *needed);

@@ -323,9 +323,9 @@ pub extern "C" fn literal_prepare(
 }
 
 /// The same for everything that occurs: a search by which [`literal_find_overlapping_in`] searches. The statuses come
-/// as from [`literal_prepare`], and [`LITERAL_TOO_LARGE`] also where the lists of the patterns that are an end of
+/// as from [`literal_prepare`], and [`LITERAL_TOO_LARGE`] also where the lists of the patterns that are a suffix of
 /// another have 2^32 numbers or more. The array takes one place more for each pattern, and in lists one for each that
-/// is an end of it.
+/// is a suffix of it.
 #[unsafe(no_mangle)]
 pub extern "C" fn literal_prepare_overlapping(
     alloc: Global,

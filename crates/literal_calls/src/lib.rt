@@ -1,11 +1,13 @@
 //! Each public call made once with ample memory, at each of its paths, and what rows of data can't say of it: copies,
-//! configurations, iterations that have ended, texts. Worked cases are rows of data.
+//! configurations, iterations that have ended, texts; and the examples. Worked cases are rows of data.
 #![tactic(auto)]
 
 #[cfg(test)]
 mod builders;
 #[cfg(test)]
 mod callers;
+#[cfg(test)]
+mod examples;
 #[cfg(test)]
 mod fingerprints;
 #[cfg(test)]

@@ -3,24 +3,28 @@
 //! Want of memory and the size of the table aside, exactly the lists without an empty pattern build a
 //! `Search`, whose answer on every valid span is the leftmost whole occurrence under the tie rule;
 //! `find_iter` is the greedy list of these, and `Overlapping` gives each occurrence once; a search looks up
-//! at most three times the bytes of its span, and a whole iteration at most three times those of the haystack
-//! and for each match those of the longest pattern; `Linear` lists the same matches, looking up at most
-//! twice the bytes of the haystack.
+//! at most three times the bytes of its span, and a whole iteration at most three times those of the
+//! haystack and for each match those of the longest pattern; `Linear` lists the same matches, looking up at
+//! most twice the bytes of the haystack; and a search by an array into which the `Search` is written answers
+//! as it does.
 //!
 //! The contract of [`search_any_list`] says all of this.
-ghost use Rattle.std.specs.Prelude.{◌≡◌, ◌+◌, ◌<◌, ◌≤◌, IfErr, IfOk, OnErr, length};
+ghost use Rattle.std.specs.Prelude.{◌≡◌, ◌+◌, ◌<◌, ◌≤◌, IfErr, IfOk, MatchResult, OnErr, length};
 ghost use Rattle.literal_base.specs.Greedy.{IsGreedy};
 ghost use Rattle.literal_base.specs.Leftmost.{IsLeftmost};
 ghost use Rattle.literal_base.specs.Occurs.{IsValidSpan, whole_of};
 ghost use Rattle.literal_search.specs.Earliest.{IsEarliestEnd};
 ghost use Rattle.literal_search.specs.Linear.{ScansTwice};
 ghost use Rattle.literal_search.specs.Overlapping.{IsOverlapping};
+ghost use Rattle.literal_search.specs.Prepared.{RefusesToPrepare};
 ghost use Rattle.literal_search.specs.SearchValue.{CanBeKept, ScansWithin, ScansListAtMost};
 ghost use Rattle.literal_promise.specs.AnyList.{RefusesAnyList, searched_for};
 
 use literal_base::laws::greedy_is_unique;
 use literal_search::laws::{iterations_give_each_occurrence_once, iterations_scan_at_most};
-use literal_search::{BuildError, Linear, Match, MatchKind, Overlapping, Search, Span, Tally};
+use literal_search::{
+    BuildError, Linear, Match, MatchKind, Overlapping, PrepareError, Prepared, Search, Span, Tally,
+};
 use std::alloc::{AllocError, Global};
 
 /// Patterns, and how they are searched for.
@@ -43,6 +47,8 @@ pub struct Searched {
     pub earliest: Option<usize>,
     /// By [`Search::find_iter`], up to its first `None`.
     pub all: Vec<Match>,
+    /// By [`Prepared::find_in`], in the span, if the array is long enough.
+    pub by_array: Result<Option<Match>, PrepareError>,
 }
 
 /// What all searches for a list find.
@@ -57,12 +63,13 @@ pub struct AnyFound {
 
 /// Searches for a list of patterns by a `Search`, an `Overlapping` and a `Linear`, each made for it. It refuses as they
 /// do. Memory is asked for only where there is a pattern. Of the tallies the first is for the search of the span, the
-/// second for the iteration, and the third for the list of `Linear`.
+/// second for the iteration, and the third for the list of `Linear`. Into the array the `Search` is written.
 pub fn search_any_list(
     alloc: Global,
     asked: &AnySearch<'_>,
     haystack: &[u8],
     span: Span,
+    array: &mut [u32],
     once: &mut Tally,
     iterated: &mut Tally,
     listed: &mut Tally,
@@ -84,11 +91,14 @@ pub fn search_any_list(
         asked.now.ignore_case haystack.now span any.occurring.items) }
     ensures same_list { IfOk result (λ any. any.linear.items ≡ any.searched.all.items) }
     ensures twice { IfOk result (λ _. ScansTwice (whole_of haystack.now) listed.old listed.new) }
+    ensures by_array { IfOk result (λ any. MatchResult any.searched.by_array
+        (IsLeftmost (searched_for asked.now).query asked.now.ignore_case haystack.now span)
+        (RefusesToPrepare (searched_for asked.now).query asked.now.ignore_case array.old)) }
     ensures listed_each { IfOk result (λ _. listed.old.scanned + length haystack.now ≤ listed.new.scanned) }
     ensures iterated_each { IfOk result (λ _. iterated.old.scanned + length haystack.now ≤ iterated.new.scanned) }
 {
     greedy_is_unique();
-    let searched = search(alloc, asked, haystack, span, once, iterated)?;
+    let searched = search(alloc, asked, haystack, span, array, once, iterated)?;
     let occurring = all_that_occurs(alloc, asked, haystack, span)?;
     let linear = list(alloc, asked, haystack, listed)?;
     Ok(AnyFound {
@@ -103,6 +113,7 @@ fn search(
     asked: &AnySearch<'_>,
     haystack: &[u8],
     span: Span,
+    array: &mut [u32],
     once: &mut Tally,
     iterated: &mut Tally,
 ) -> Result<Searched, BuildError>
@@ -120,15 +131,20 @@ fn search(
     ensures iteration { IfOk result (λ searched. ScansListAtMost (searched_for asked.now).query.patterns
         (length haystack.now) (length searched.all.items) iterated.old iterated.new) }
     ensures each { IfOk result (λ _. iterated.old.scanned + length haystack.now ≤ iterated.new.scanned) }
+    ensures by_array { IfOk result (λ searched. MatchResult searched.by_array
+        (IsLeftmost (searched_for asked.now).query asked.now.ignore_case haystack.now span)
+        (RefusesToPrepare (searched_for asked.now).query asked.now.ignore_case array.old)) }
 {
     let search = search_for(alloc, asked)?;
     let found = search.find_in_counted(haystack, span, once);
     let earliest = search.earliest_end(haystack, span);
     let all = taken_in_turn(alloc, &search, haystack, iterated)?;
+    let by_array = by_array(&search, array, haystack, span);
     Ok(Searched {
         found,
         earliest,
         all,
+        by_array,
     })
 }
 
@@ -168,6 +184,27 @@ fn taken_in_turn(
         matches.push(found)?;
     }
     Ok(matches)
+}
+
+/// The leftmost match in a span by an array, into which the search is written.
+fn by_array(
+    search: &Search,
+    array: &mut [u32],
+    haystack: &[u8],
+    span: Span,
+) -> Result<Option<Match>, PrepareError>
+    requires { IsValidSpan haystack.now span }
+    ensures { MatchResult result (IsLeftmost search.now.query search.now.ignore_case haystack.now span)
+        (RefusesToPrepare search.now.query search.now.ignore_case array.old) }
+{
+    let places = search.prepare(array)?;
+    let Ok(prepared) = Prepared::new(&array[..places]) else {
+        unreachable!()
+    };
+    let Ok(found) = prepared.find_in(haystack, span) else {
+        unreachable!()
+    };
+    Ok(found)
 }
 
 fn all_that_occurs(

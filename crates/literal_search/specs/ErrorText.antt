@@ -22,7 +22,7 @@ build_error_text TooManyStates = codes "the patterns need too many states"
 -- what is printed of why a search is not written into an array
 abbrev pub prepare_error_text : PrepareError → List ℕ
 prepare_error_text PatternTooLong = codes "a pattern is too long"
-prepare_error_text ListsTooLong = codes "too many patterns are an end of another"
+prepare_error_text ListsTooLong = codes "too many patterns are a suffix of another"
 prepare_error_text (ArrayTooShort needed) = codes "the array needs " ++ decimal needed ++ codes " places"
 
 -- what is printed of why matches are not replaced

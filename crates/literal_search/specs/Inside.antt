@@ -2,7 +2,7 @@
 pub mod Best
 pub mod Classes
 pub mod Search
-pub mod Ends
+pub mod Suffixes
 pub mod Growing
 pub mod Grown
 pub mod LentTables

@@ -108,7 +108,7 @@ abbrev pub ForPrepared : List ℕ → (Query → Bool → Type 0) → Type 0
 ForPrepared numbers P =
     (query : Query) (ignore_case : Bool) → IsPrepared query ignore_case numbers → P query ignore_case
 
--- how many places a search takes: those in front, one for each pattern, the rows of all states, and the fingerprints
+-- how many places a search takes: the header, one for each pattern, the rows of all states, and the fingerprints
 unfoldable pub TakesPlaces : Query → Bool → ℕ → Type 0
 TakesPlaces query ignore_case needed =
     HoldsInClasses (λ texts width. (rows : ℕ) × IsRowsLength (root_kind_of query.kind) texts width rows

@@ -15,7 +15,7 @@ use Rattle.literal_search.specs.declared.prepared.PrepareError.{PrepareError}
 use Rattle.literal_search.specs.declared.prepared.TheConstants.{LENGTHS_AT, OVERLAPPING_VERSION}
 
 -- what a search for everything that occurs of patterns reads: classes of bytes, rows, and lists of the patterns that
--- are an end of each, one behind another, and where each begins
+-- are a suffix of each, one behind another, and where each begins
 pub record Tables : Type 0 where
   pub patterns : List (List ℕ)
   pub ignore_case : Bool
@@ -30,7 +30,7 @@ abbrev pub texts_in : Tables → List (List ℕ)
 texts_in t = map (symbols_in t.classes) t.patterns
 
 -- each byte has a class, by which those of the patterns are told from others; the rows are for all that occurs, by
--- these classes, and the lists are those of the patterns that are an end of one; none is empty
+-- these classes, and the lists are those of the patterns that are a suffix of one; none is empty
 pub record AreTables (t : Tables) : Type 0 where
   pub classes : AreClasses t.classes t.width
   pub tells : Tells t.ignore_case t.classes t.patterns
@@ -98,7 +98,7 @@ HaveTables search P =
     × (ends : List ℕ) × (starts : List ℕ) × AreLists texts ends starts (length search.patterns) × P rows ends starts)
     search.ignore_case search.patterns
 
--- how many places a search takes: those in front, one for each pattern, the rows of all states, and the lists with the
+-- how many places a search takes: the header, one for each pattern, the rows of all states, and the lists with the
 -- places where these begin
 unfoldable pub TakesListedPlaces : OverlappingValue → ℕ → Type 0
 TakesListedPlaces search needed = HaveTables search (λ rows ends starts. needed

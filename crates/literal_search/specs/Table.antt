@@ -4,7 +4,7 @@ use Rattle.std.specs.Prelude.{MatchOption}
 use Rattle.std.specs.Prelude.{length, slice_index}
 use Rattle.std.specs.Option.{unwrap_or}
 use Rattle.literal_base.specs.declared.search.MatchKind.{MatchKind}
-use Rattle.literal_search.specs.Words.{ending, held, word_of}
+use Rattle.literal_search.specs.Words.{ending, live_suffix, word_of}
 
 -- what stands in a row where there is no state, or no pattern
 abbrev pub nothing : ℕ
@@ -19,20 +19,20 @@ abbrev pub code_of : ℕ → Option ℕ → ℕ
 code_of place None = place
 code_of place (Some pattern) = place + 2 ^ 31
 
--- the number in a row leads to the state whose word is the held end of a text
+-- the number in a row leads to the state whose word is the live suffix of a text
 pub record LeadsTo (kind : MatchKind) (patterns words : List (List ℕ)) (width code : ℕ) (word : List ℕ) : Type 0 where
   pub state : ℕ
   pub is_state : state < length words
   pub word_is : word_of words state ≡ word
   pub code_is : code ≡ code_of (state * stride_of width) (ending kind patterns word)
 
--- the same, where an end is held, and else there is no state
+-- the same, where there is a live suffix, and else there is no state
 abbrev pub Leads : MatchKind → List (List ℕ) → List (List ℕ) → ℕ → ℕ → List ℕ → Type 0
 Leads kind patterns words width code text =
-    MatchOption (held kind patterns text) (code ≡ nothing) (LeadsTo kind patterns words width code)
+    MatchOption (live_suffix kind patterns text) (code ≡ nothing) (LeadsTo kind patterns words width code)
 
--- the rows are those of states with words, the first of which is empty: from each word each symbol leads to the held
--- end of both, and behind these stands the pattern that ends with the word
+-- the rows are those of states with words, the first of which is empty: from each word each symbol leads to the live
+-- suffix of both, and behind these stands the pattern that ends with the word
 pub record Recognises (kind : MatchKind) (patterns : List (List ℕ)) (width : ℕ) (rows : List ℕ) : Type 0 where
   pub words : List (List ℕ)
   pub some : 0 < length words

@@ -1,35 +1,35 @@
-//! The best of the patterns that are an end of a pattern.
+//! The best of the patterns that are a suffix of a pattern.
 ghost use Rattle.std.specs.Prelude.{◌≡◌, ◌<◌, IfOk, OnErr, Some, length};
 ghost use Rattle.literal_base.specs.Occurs.{pattern_at};
 ghost use Rattle.literal_base.specs.declared.search.MatchKind.TheVariants.{Standard};
-ghost use Rattle.literal_search.specs.Inside.Best.{AreBest, AreShorter, IsBestEnd};
+ghost use Rattle.literal_search.specs.Inside.Best.{AreBest, AreShorter, IsBestSuffix};
 ghost use Rattle.literal_search.specs.Inside.Lists.{Recognise, symbols_of};
 ghost use Rattle.literal_search.specs.Words.{ending};
 
-use crate::ends::Recognised;
+use crate::suffixes::Recognised;
 use crate::walk::NOTHING;
 use literal_base::packed::MatchKind;
 use std::alloc::{AllocError, Global};
 
 impl<'p> Recognised<'p> {
-    /// For each pattern the best, by a kind of match, of those that are an end of it. Where there is no pattern, no
+    /// For each pattern the best, by a kind of match, of those that are a suffix of it. Where there is no pattern, no
     /// memory is asked for.
-    pub(crate) fn best_ends(&self, alloc: Global, kind: MatchKind) -> Result<Vec<u32>, AllocError>
+    pub(crate) fn best_suffixes(&self, alloc: Global, kind: MatchKind) -> Result<Vec<u32>, AllocError>
         requires { Recognise self.now }
         ensures best { IfOk result (λ best. AreBest kind (symbols_of self.now) best.items
             (length self.now.patterns.now)) }
         ensures not_empty { OnErr result (0 < length self.now.patterns.now) }
     {
-        let shorter = self.shorter_ends(alloc)?;
+        let shorter = self.shorter_suffixes(alloc)?;
         let mut best = Vec::new(alloc);
         for pattern in 0..self.patterns.len() {
-            best.push(self.best_end(kind, &shorter, pattern))?;
+            best.push(self.best_suffix(kind, &shorter, pattern))?;
         }
         Ok(best)
     }
 
-    /// For each pattern the longest of those that are an end of it and shorter, and of equals the first.
-    fn shorter_ends(&self, alloc: Global) -> Result<Vec<u32>, AllocError>
+    /// For each pattern the longest of those that are a suffix of it and shorter, and of equals the first.
+    fn shorter_suffixes(&self, alloc: Global) -> Result<Vec<u32>, AllocError>
         requires { Recognise self.now }
         ensures shorter { IfOk result (λ shorter. AreShorter (symbols_of self.now) shorter.items
             (length self.now.patterns.now)) }
@@ -37,33 +37,34 @@ impl<'p> Recognised<'p> {
     {
         let mut shorter = Vec::new(alloc);
         for pattern in 0..self.patterns.len() {
-            shorter.push(self.longest_end(pattern, 1))?;
+            shorter.push(self.longest_suffix(pattern, 1))?;
         }
         Ok(shorter)
     }
 
-    /// The best of the patterns that are an end of a pattern: the longest of them, or the one with the smallest number.
-    fn best_end(&self, kind: MatchKind, shorter: &[u32], pattern: usize) -> u32
+    /// The best of the patterns that are a suffix of a pattern: the longest of them, or the one with the smallest
+    /// number.
+    fn best_suffix(&self, kind: MatchKind, shorter: &[u32], pattern: usize) -> u32
         requires recognise { Recognise self.now }
         requires shorter { AreShorter (symbols_of self.now) shorter.now (length self.now.patterns.now) }
         requires is_pattern { pattern < length self.now.patterns.now }
-        ensures { IsBestEnd kind (symbols_of self.now) (pattern_at (symbols_of self.now) pattern) result }
+        ensures { IsBestSuffix kind (symbols_of self.now) (pattern_at (symbols_of self.now) pattern) result }
     {
-        let longest = self.longest_end(pattern, 0);
+        let longest = self.longest_suffix(pattern, 0);
         match kind {
-            MatchKind::LeftmostFirst => self.smallest_end(shorter, longest),
+            MatchKind::LeftmostFirst => self.smallest_suffix(shorter, longest),
             MatchKind::LeftmostLongest => longest,
         }
     }
 
-    /// The smallest number of a pattern that is an end of one, which is the first of its equals.
-    fn smallest_end(&self, shorter: &[u32], pattern: u32) -> u32
+    /// The smallest number of a pattern that is a suffix of one, which is the first of its equals.
+    fn smallest_suffix(&self, shorter: &[u32], pattern: u32) -> u32
         requires recognise { Recognise self.now }
         requires shorter { AreShorter (symbols_of self.now) shorter.now (length self.now.patterns.now) }
         requires is_pattern { pattern < length self.now.patterns.now }
         requires first { ending Standard (symbols_of self.now) (pattern_at (symbols_of self.now) pattern)
             ≡ Some pattern }
-        ensures { IsBestEnd MatchKind.LeftmostFirst (symbols_of self.now)
+        ensures { IsBestSuffix MatchKind.LeftmostFirst (symbols_of self.now)
             (pattern_at (symbols_of self.now) pattern) result }
     {
         let _ = self.width;

@@ -8,7 +8,7 @@ ghost use Rattle.literal_base.specs.Occurs.{NoneIsEmpty, pattern_at};
 ghost use Rattle.literal_search.specs.Table.{Leads, LeadsTo, Recognises, code_of, nothing, stride_of};
 ghost use Rattle.literal_search.specs.Words.{first_equal, word_of};
 ghost use Rattle.literal_search.specs.Inside.Classes.{AreClasses, symbols_in};
-ghost use Rattle.literal_search.specs.Inside.Grown.{AreWords, IsLonger, LeadsBy, ending_held, goes_on, held_else};
+ghost use Rattle.literal_search.specs.Inside.Grown.{AreWords, IsLonger, LeadsBy, ending_live, goes_on, fallback};
 ghost use Rattle.literal_search.specs.Inside.Grown.{list_for, up_to_whole};
 ghost use Rattle.literal_search.specs.States.{AreStates, HasTooManyStates, IsRowsLength};
 ghost use Rattle.literal_search.specs.Inside.Growing.{AreTexts, Grows, IsCode, IsState, list_in, texts_of};
@@ -70,7 +70,7 @@ impl<'p> Texts<'p> {
         self.patterns[pattern as usize].len() == depth as usize + 1
     }
 
-    /// Whether the rows of the fronts of a pattern are too long.
+    /// Whether the rows of the prefixes of a pattern are too long.
     fn is_too_long(&self, pattern: usize) -> bool
         requires texts { AreTexts self.now }
         requires is_pattern { pattern < length self.now.patterns.now }
@@ -80,7 +80,7 @@ impl<'p> Texts<'p> {
         self.patterns[pattern].len() >= LIMIT / (self.width + 1)
     }
 
-    /// Whether one pattern alone makes the rows too long, of those of which every front has a state.
+    /// Whether one pattern alone makes the rows too long, of those of which every prefix has a state.
     fn has_too_long(&self) -> bool
         requires { AreTexts self.now }
         ensures { result ≡ true → HasTooManyStates self.now.kind (texts_of self.now) self.now.width }
@@ -97,7 +97,7 @@ impl<'p> Texts<'p> {
     }
 }
 
-/// A state. Its word is the front of a pattern, and its list the patterns that begin with the word and may still win.
+/// A state. Its word is a prefix of a pattern, and its list the patterns that begin with the word and may still win.
 #[derive(Clone, Copy)]
 pub struct State {
     /// A pattern that begins with the word.
@@ -107,8 +107,8 @@ pub struct State {
     /// Where in all lists its own begins and ends.
     pub start: usize,
     pub end: usize,
-    /// The number in a row for the state of what is held behind the word's first symbol.
-    pub link: u32,
+    /// The number in a row for the state of the live suffix behind the word's first symbol.
+    pub failure: u32,
     /// The pattern that ends with the word.
     pub ending: u32,
 }
@@ -219,23 +219,23 @@ impl<'p> Growing<'p> {
         Ok(whole)
     }
 
-    /// The number in a row for what is held behind a state and a class, where no pattern goes on with it.
+    /// The number in a row for the live suffix behind a state and a class, where no pattern goes on with it.
     fn behind_link(&self, state: usize, class: u8) -> u32
         requires grows { Grows self.now }
         requires is_state { state < length self.now.states.items }
         requires is_class { class < self.now.texts.width }
         requires filled { state * stride_of self.now.texts.width ≤ length self.now.rows.items }
         ensures { LeadsBy self.now.texts.kind (texts_of self.now.texts) (words_of self.now) self.now.texts.width result
-            (held_else self.now.texts.kind (texts_of self.now.texts) (word_of (words_of self.now) state) class) }
+            (fallback self.now.texts.kind (texts_of self.now.texts) (word_of (words_of self.now) state) class) }
     {
         if state == 0 {
             return 0;
         }
-        let link = self.states[state].link;
-        if link == NOTHING {
+        let failure = self.states[state].failure;
+        if failure == NOTHING {
             return NOTHING;
         }
-        self.rows[place_of(link) + class as usize]
+        self.rows[place_of(failure) + class as usize]
     }
 
     /// The ending of the state to which a number in a row leads.
@@ -244,7 +244,7 @@ impl<'p> Growing<'p> {
         requires leads { IsCode self.now code }
         ensures { (word : Option (List ℕ)) → LeadsBy self.now.texts.kind (texts_of self.now.texts) (words_of self.now)
             self.now.texts.width code word
-            → result ≡ unwrap_or (ending_held self.now.texts.kind (texts_of self.now.texts) word) nothing }
+            → result ≡ unwrap_or (ending_live self.now.texts.kind (texts_of self.now.texts) word) nothing }
     {
         if code == NOTHING {
             return NOTHING;
@@ -253,7 +253,7 @@ impl<'p> Growing<'p> {
     }
 
     /// The state behind a state and a class whose list begins at a place, where the first pattern that ends there and
-    /// the number for what is held otherwise are known.
+    /// the number for the live suffix otherwise are known.
     fn state_behind(
         &self,
         state: usize,
@@ -270,27 +270,27 @@ impl<'p> Growing<'p> {
         requires whole { whole ≡ first_equal self.now.texts.kind (texts_of self.now.texts)
             (word_of (words_of self.now) state ++ class ∷ []) }
         requires behind { LeadsBy self.now.texts.kind (texts_of self.now.texts) (words_of self.now) self.now.texts.width
-            behind (held_else self.now.texts.kind (texts_of self.now.texts) (word_of (words_of self.now) state) class) }
+            behind (fallback self.now.texts.kind (texts_of self.now.texts) (word_of (words_of self.now) state) class) }
         ensures word { word_in (texts_of self.now.texts) result ≡ word_of (words_of self.now) state ++ class ∷ [] }
         ensures state { IsState self.now.texts.kind (texts_of self.now.texts) (words_of self.now) self.now.texts.width
             self.now.lists.items (length self.now.states.items) result }
     {
         let _ = class; // (its contract names it)
-        let link = if whole.is_some() && self.texts.kind != MatchKind::Standard {
+        let failure = if whole.is_some() && self.texts.kind != MatchKind::Standard {
             NOTHING
         } else {
             behind
         };
         let ending = match whole {
             Some(pattern) => pattern,
-            None => self.ending_of(link),
+            None => self.ending_of(failure),
         };
         State {
             pattern: self.lists[start],
             depth: self.states[state].depth + 1,
             start,
             end: self.lists.len(),
-            link,
+            failure,
             ending,
         }
     }
@@ -526,7 +526,7 @@ fn start<'p>(alloc: Global, texts: Texts<'p>) -> Result<Growing<'p>, AllocError>
         depth: 0,
         start: 0,
         end: lists.len(),
-        link: NOTHING,
+        failure: NOTHING,
         ending: NOTHING,
     })?;
     Ok(Growing {

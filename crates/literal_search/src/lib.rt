@@ -28,7 +28,7 @@ mod best;
 mod builder;
 mod classes;
 mod copied;
-mod ends;
+mod suffixes;
 mod grow;
 pub mod laws;
 mod linear;
@@ -132,7 +132,7 @@ impl From<GrowError> for BuildError {
 /// ASCII case is ignored.
 ///
 /// A search looks up three times as many bytes as there are at most, however many patterns, and stops as soon as
-/// the match is known. The automaton has a state for each front of a pattern, and a row of numbers for each state: one
+/// the match is known. The automaton has a state for each prefix of a pattern, and a row of numbers for each state: one
 /// for each byte that stands in a pattern, and two more.
 ///
 /// ```rust

@@ -13,7 +13,7 @@ ghost use Rattle.literal_search.specs.Inside.Linear.{AreMarked, AreMarks, ArePar
 ghost use Rattle.literal_search.specs.Inside.Linear.{NoneFrom, best_by, linear_value, patterns_of};
 
 use crate::classes::{ClassNumbers, classes_for};
-use crate::ends::Recognised;
+use crate::suffixes::Recognised;
 use crate::rows::{Rows, rows_for};
 use crate::walk::{ENDS, Table};
 use crate::{BuildError, copies, longest_len};
@@ -53,7 +53,7 @@ struct Parts {
     classes: ClassNumbers,
     /// Those of an automaton for all that occurs of the reversed patterns.
     rows: Rows,
-    /// For each pattern the best of those that stand in front of it.
+    /// For each pattern the best of those that are prefixes of it.
     best: Vec<u32>,
     longest: usize,
 }
@@ -113,7 +113,7 @@ impl Linear {
             rows: rows.as_slice(),
             patterns: &backward,
         };
-        let best = recognised.best_ends(alloc, kind)?;
+        let best = recognised.best_suffixes(alloc, kind)?;
         let longest = longest_len(&patterns);
         let parts = Parts {
             kind,

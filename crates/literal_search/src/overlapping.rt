@@ -17,7 +17,7 @@ ghost use Rattle.literal_search.specs.Inside.Standing.{HaveSameToCome, IsStandin
 ghost use Rattle.literal_search.specs.Inside.Standing.{overlapping_value, standing_at, standing_value, tables_of};
 
 use crate::classes::{ClassNumbers, classes_for};
-use crate::ends::{Lists, Recognised};
+use crate::suffixes::{Lists, Recognised};
 use crate::prepared::{OVERLAPPING_VERSION, PrepareError, write};
 use crate::rows::{Rows, rows_for};
 use crate::standing::Standing;
@@ -33,7 +33,7 @@ use std::marker::Model;
 /// others, too. Contracts see the patterns, and whether ASCII case is ignored.
 ///
 /// An iteration looks up each byte at most once ([`OverlappingMatches::next_counted`]). The search has the states of
-/// an automaton, and for each pattern the list of those that are an end of it.
+/// an automaton, and for each pattern the list of those that are a suffix of it.
 ///
 /// ```rust
 /// let search = Overlapping::new(alloc, false, [b"append".as_slice(), b"app", b"end"])?;

@@ -9,7 +9,7 @@ ghost use Rattle.literal_base.specs.Leftmost.{IsLeftmost};
 ghost use Rattle.literal_search.specs.Prepared.{AreShort, ForPrepared, HasAllParts, HasParts, IsWhole, LiesIn};
 ghost use Rattle.literal_search.specs.Prepared.{check_of, fingerprints_by, longest_in, shortest_by};
 ghost use Rattle.literal_search.specs.SearchValue.{ScansWithin};
-ghost use Rattle.literal_search.specs.Inside.Prepared.{IsFront, Puts, RefusesArray, numbers_for, table_of};
+ghost use Rattle.literal_search.specs.Inside.Prepared.{IsHeader, Puts, RefusesArray, numbers_for, table_of};
 ghost use Rattle.literal_search.specs.Inside.Scan.{IsTableOf};
 
 use crate::classes::ClassNumbers;
@@ -51,7 +51,7 @@ const CHECK_FACTOR: u32 = 16_777_619;
 pub enum PrepareError {
     /// A pattern has 2^32 bytes or more.
     PatternTooLong,
-    /// The lists of the patterns that are an end of another have 2^32 numbers or more.
+    /// The lists of the patterns that are a suffix of another have 2^32 numbers or more.
     ListsTooLong,
     /// The array has to have this many places.
     ArrayTooShort(usize),
@@ -67,7 +67,7 @@ impl fmt::Display for PrepareError {
     fn fmt<W: fmt::Write>(&self, f: &mut fmt::Formatter<W>) -> fmt::Result {
         match self {
             PrepareError::PatternTooLong => write!(f, "a pattern is too long"),
-            PrepareError::ListsTooLong => write!(f, "too many patterns are an end of another"),
+            PrepareError::ListsTooLong => write!(f, "too many patterns are a suffix of another"),
             PrepareError::ArrayTooShort(needed) => write!(f, "the array needs {needed} places"),
         }
     }
@@ -94,7 +94,7 @@ impl Error for Damaged {}
 
 /// An array that begins as a prepared search, in its parts.
 #[derive(Clone, Copy)]
-pub struct Front<'p> {
+pub struct Header<'p> {
     pub numbers: &'p [u32],
     pub classes: &'p [u32],
     pub width: usize,
@@ -103,7 +103,7 @@ pub struct Front<'p> {
     pub longest: usize,
 }
 
-impl<'p> Front<'p> {
+impl<'p> Header<'p> {
     /// What a walk reads of them. By fingerprints go searches for the leftmost match alone.
     #[inline(always)]
     pub fn table<'t>(&'t self, shortest: usize, fingerprints: Option<&'t Fingerprints>) -> Table<'t>
@@ -122,9 +122,9 @@ impl<'p> Front<'p> {
 
 /// Where these parts lie, where the first numbers say that they are those of a search of a version, and that the array
 /// is as long as it has to be.
-pub fn split<'p>(numbers: &'p [u32], version: u32) -> Result<Front<'p>, Damaged>
+pub fn split<'p>(numbers: &'p [u32], version: u32) -> Result<Header<'p>, Damaged>
     ensures { MatchResult result
-        (λ front. (front.numbers.now ≡ numbers.now) × HasParts version numbers.now × IsFront version front)
+        (λ header. (header.numbers.now ≡ numbers.now) × HasParts version numbers.now × IsHeader version header)
         (λ _. ¬ HasParts version numbers.now) }
 {
     if numbers.len() < LENGTHS_AT || numbers[0] != version {
@@ -135,7 +135,7 @@ pub fn split<'p>(numbers: &'p [u32], version: u32) -> Result<Front<'p>, Damaged>
         return Err(Damaged);
     }
     let rows_at = LENGTHS_AT + patterns;
-    Ok(Front {
+    Ok(Header {
         numbers,
         classes: &numbers[CLASSES_AT..LENGTHS_AT],
         width: numbers[2] as usize,
@@ -158,7 +158,7 @@ pub fn is_checked(numbers: &[u32], end: usize) -> bool
 /// Contracts see the array.
 #[derive(Drop)]
 pub struct Prepared<'p> {
-    front: Front<'p>,
+    header: Header<'p>,
     shortest: usize,
     fingerprints: Option<Fingerprints>,
 }
@@ -169,7 +169,7 @@ impl<'p> Model for Prepared<'p> {
 
     ghost Value = { List ℕ };
 
-    ghost view = { λ p. p.front.numbers.now };
+    ghost view = { λ p. p.header.numbers.now };
 
     ghost invariant = { IsLent };
 }
@@ -181,8 +181,8 @@ impl<'p> Prepared<'p> {
         ensures { MatchResult result (λ prepared. (prepared ≡ numbers.now) × HasAllParts numbers.now)
             (λ _. ¬ HasAllParts numbers.now) }
     {
-        let front = split(numbers, PREPARED_VERSION)?;
-        let end = LENGTHS_AT + front.lengths.len() + front.rows.len();
+        let header = split(numbers, PREPARED_VERSION)?;
+        let end = LENGTHS_AT + header.lengths.len() + header.rows.len();
         if numbers.len() - end < FINGERPRINTS_LEN {
             return Err(Damaged);
         }
@@ -194,7 +194,7 @@ impl<'p> Prepared<'p> {
             None
         };
         Ok(Prepared {
-            front,
+            header,
             shortest,
             fingerprints,
         })
@@ -206,7 +206,7 @@ impl<'p> Prepared<'p> {
         ensures classes { length result.classes.now ≡ 256 }
         ensures prepared { ForPrepared self.now (λ query ignore_case. IsTableOf result query ignore_case) }
     {
-        self.front.table(self.shortest, self.fingerprints.as_ref())
+        self.header.table(self.shortest, self.fingerprints.as_ref())
     }
 
     /// Whether the check over all numbers of the search is right. It finds each change of one number, unless that
@@ -216,15 +216,15 @@ impl<'p> Prepared<'p> {
     pub fn is_whole(&self) -> bool
         ensures { IsTrue result ↔ IsWhole self.now }
     {
-        let end = LENGTHS_AT + self.front.lengths.len() + self.front.rows.len() + FINGERPRINTS_LEN;
-        is_checked(self.front.numbers, end)
+        let end = LENGTHS_AT + self.header.lengths.len() + self.header.rows.len() + FINGERPRINTS_LEN;
+        is_checked(self.header.numbers, end)
     }
 
     /// How many bytes the longest pattern has, by the numbers.
     pub fn max_pattern_len(&self) -> usize
         ensures { result ≡ longest_in self.now }
     {
-        self.front.longest
+        self.header.longest
     }
 
     /// The leftmost match in a span of the haystack, for which the same holds as for
@@ -263,16 +263,16 @@ impl<'p> Prepared<'p> {
         ensures others { tally.new ≡ record tally.old { scanned = tally.new.scanned } }
         ensures most { tally.new.scanned ≤ tally.old.scanned + 3 * (span.end - span.start) }
     {
-        let front = &self.front;
+        let header = &self.header;
         let ended = self.table().search(haystack, span, false, false, tally)?;
         let Some(ended) = ended else {
             return Ok(None);
         };
         let pattern = ended.pattern as usize;
-        if pattern >= front.lengths.len() {
+        if pattern >= header.lengths.len() {
             return Err(Damaged);
         }
-        let len = front.lengths[pattern] as usize;
+        let len = header.lengths[pattern] as usize;
         if len == 0 || len > ended.end - span.start {
             return Err(Damaged);
         }

@@ -15,7 +15,7 @@ ghost use Rattle.literal_search.specs.Inside.LentTables.{StandsBy, tables_by};
 ghost use Rattle.literal_search.specs.Inside.Standing.{IsStanding, longest_at, standing_at, standing_value};
 ghost use Rattle.literal_search.specs.declared.standing.Standing.{Standing};
 
-use crate::prepared::{Damaged, Front, LENGTHS_AT, OVERLAPPING_VERSION, is_checked, split};
+use crate::prepared::{Damaged, Header, LENGTHS_AT, OVERLAPPING_VERSION, is_checked, split};
 use crate::standing::Standing;
 use crate::walk::Stop;
 use literal_base::count::Tally;
@@ -32,7 +32,7 @@ pub struct PreparedOverlapping<'p> {
 /// The numbers in an array, in their parts.
 #[derive(Clone, Copy)]
 struct LentTables<'p> {
-    front: Front<'p>,
+    header: Header<'p>,
     /// Where the list of each pattern begins, and the last ends.
     starts: &'p [u32],
     ends: &'p [u32],
@@ -44,7 +44,7 @@ impl<'p> Model for PreparedOverlapping<'p> {
 
     ghost Value = { List ℕ };
 
-    ghost view = { λ p. p.lent.front.numbers.now };
+    ghost view = { λ p. p.lent.header.numbers.now };
 
     ghost invariant = { λ p. AreLent p.lent };
 }
@@ -56,9 +56,9 @@ impl<'p> PreparedOverlapping<'p> {
         ensures { MatchResult result (λ prepared. (prepared ≡ numbers.now) × HasLists numbers.now)
             (λ _. ¬ HasLists numbers.now) }
     {
-        let front = split(numbers, OVERLAPPING_VERSION)?;
-        let starts_at = LENGTHS_AT + front.lengths.len() + front.rows.len();
-        let last = starts_at + front.lengths.len();
+        let header = split(numbers, OVERLAPPING_VERSION)?;
+        let starts_at = LENGTHS_AT + header.lengths.len() + header.rows.len();
+        let last = starts_at + header.lengths.len();
         if numbers.len() <= last {
             return Err(Damaged);
         }
@@ -67,7 +67,7 @@ impl<'p> PreparedOverlapping<'p> {
             return Err(Damaged);
         }
         let lent = LentTables {
-            front,
+            header,
             starts: &numbers[starts_at..ends_at],
             ends: &numbers[ends_at..ends_at + listed],
         };
@@ -80,12 +80,12 @@ impl<'p> PreparedOverlapping<'p> {
         ensures { IsTrue result ↔ IsWholeOverlapping self.now }
     {
         let LentTables {
-            front,
+            header,
             starts,
             ends,
         } = &self.lent;
-        let end = LENGTHS_AT + front.lengths.len() + front.rows.len() + starts.len() + ends.len();
-        is_checked(front.numbers, end)
+        let end = LENGTHS_AT + header.lengths.len() + header.rows.len() + starts.len() + ends.len();
+        is_checked(header.numbers, end)
     }
 
     /// Every occurrence in a span of the haystack, for which the same holds as for
@@ -138,7 +138,7 @@ impl<'p> LentTables<'p> {
         requires lent { AreLent self.now }
         requires valid { IsValidSpan haystack.now span }
         ensures at { result.at ≡ span.end }
-        ensures last { result.pattern ≡ slice_index self.now.front.numbers.now 3 }
+        ensures last { result.pattern ≡ slice_index self.now.header.numbers.now 3 }
         ensures pattern { (search : OverlappingValue) → AreFor search self.now
             → result.pattern ≡ length search.patterns }
         ensures lies { LiesAt span result }
@@ -148,7 +148,7 @@ impl<'p> LentTables<'p> {
         Standing {
             at: span.end,
             place: 0,
-            pattern: self.front.lengths.len(),
+            pattern: self.header.lengths.len(),
             next: 0,
             end: 0,
         }
@@ -156,18 +156,18 @@ impl<'p> LentTables<'p> {
 
     /// Where a walk stands that stopped where a pattern ends: before all patterns that end there.
     fn standing_at(&self, stop: Stop) -> Result<Standing, Damaged>
-        requires width { self.now.front.width < 2 ^ 32 }
+        requires width { self.now.header.width < 2 ^ 32 }
         requires small { stop.place < 2 ^ 32 }
         ensures prepared { (search : OverlappingValue)
-            → stop.place + self.now.front.width < length self.now.front.rows.now
+            → stop.place + self.now.header.width < length self.now.header.rows.now
             → longest_at (tables_by search self.now) stop + 1 < length self.now.starts.now
             → IsOkAnd result (λ s. s ≡ standing_at (tables_by search self.now) stop) }
         ensures at { IfOk result (λ s. (s.at ≡ stop.end) × (s.place ≡ stop.place)) }
     {
         let longest = *self
-            .front
+            .header
             .rows
-            .get(stop.place + self.front.width)
+            .get(stop.place + self.header.width)
             .ok_or(Damaged)? as usize;
         let next = *self.starts.get(longest).ok_or(Damaged)? as usize;
         let end = *self.starts.get(longest + 1).ok_or(Damaged)? as usize;
@@ -212,7 +212,7 @@ impl<'p> LentTables<'p> {
             start: standing.at,
             end: span.end,
         };
-        let table = self.front.table(0, None);
+        let table = self.header.table(0, None);
         let Some(stop) = table.first_ended(haystack, standing.place, rest, false, tally)? else {
             return Ok(None);
         };
@@ -233,7 +233,7 @@ impl<'p> LentTables<'p> {
             → IsStanding (tables_by search self.now) haystack.now span here → here.next < here.end
             → IsOkAnd result (λ r. IsNextBy (tables_by search self.now) haystack.now span here r.0 r.1) }
         ensures inside { IfOk result (λ r. EndsAt span r.0 r.1 × (r.0.end ≡ here.at)) }
-        ensures pattern { IfOk result (λ r. r.0.pattern < length self.now.front.lengths.now) }
+        ensures pattern { IfOk result (λ r. r.0.pattern < length self.now.header.lengths.now) }
         ensures ordered { IfOk result (λ r. (here.pattern ≤ r.0.pattern) × (r.1.pattern ≡ r.0.pattern + 1)) }
     {
         prove!(span.end <= haystack.len());
@@ -241,7 +241,7 @@ impl<'p> LentTables<'p> {
         if pattern < here.pattern {
             return Err(Damaged);
         }
-        let len = *self.front.lengths.get(pattern).ok_or(Damaged)? as usize;
+        let len = *self.header.lengths.get(pattern).ok_or(Damaged)? as usize;
         if len == 0 || len > here.at - span.start {
             return Err(Damaged);
         }
@@ -274,7 +274,7 @@ impl<'p> LentTables<'p> {
             (λ r. IsNextBy (tables_by search self.now) haystack.now span standing r.0 r.1)) }
         ensures inside { IfOk result (λ answer. IfSome answer (λ r. EndsAt span r.0 r.1)) }
         ensures pattern { IfOk result (λ answer. IfSome answer
-            (λ r. r.0.pattern < length self.now.front.lengths.now)) }
+            (λ r. r.0.pattern < length self.now.header.lengths.now)) }
         ensures ordered { IfOk result (λ answer. IfSome answer
             (λ r. IsNotBefore r.0.end r.0.pattern standing.at standing.pattern
             × (r.1.pattern ≡ r.0.pattern + 1))) }
@@ -309,7 +309,7 @@ impl<'s, 'p, 'h> Model for PreparedOverlappingMatches<'s, 'p, 'h> {
     ghost Value = { PreparedOverlappingMatchesValue };
 
     ghost view = { λ m. record {
-      numbers = m.lent.now.front.numbers.now;
+      numbers = m.lent.now.header.numbers.now;
       haystack = m.haystack.now;
       span = m.span;
       end = m.standing.at;
@@ -381,6 +381,6 @@ impl<'s, 'p, 'h> PreparedOverlappingMatches<'s, 'p, 'h> {
         ensures { IsTrue result ↔ HasEnded self.now }
     {
         let lent = self.lent;
-        self.standing.at == self.span.end && self.standing.pattern == lent.front.lengths.len()
+        self.standing.at == self.span.end && self.standing.pattern == lent.header.lengths.len()
     }
 }

@@ -5,7 +5,7 @@ ghost use Rattle.std.specs.Io.KnownBytes.{Appends, Consumes};
 ghost use Rattle.literal_search.specs.Replaced.{RewritesAll, StopsRewriting};
 ghost use Rattle.literal_search.specs.SearchValue.{longest_of};
 ghost use Rattle.literal_search.specs.Stream.{AnswersSoFar};
-ghost use Rattle.literal_search.specs.Inside.Rewriting.{IsFrontOf, IsOfWriting, WritesOn, kept_back};
+ghost use Rattle.literal_search.specs.Inside.Rewriting.{IsFirstKnown, IsOfWriting, WritesOn, kept_back};
 ghost use Rattle.literal_search.specs.Inside.Stream.{HasRoom, IsOpen, IsSoundReading, IsWindow, held};
 
 use crate::reading::Reading;
@@ -181,7 +181,7 @@ fn write_next<W: Write>(
         ≡ window.old.offset + (length (held window.old) - kept_back search.now.query.patterns is_whole)) }
     ensures error { IfErr result IsOfWriting }
 {
-    match front(search, window.held(), is_whole) {
+    match first_known(search, window.held(), is_whole) {
         SoFar::Found(found) => {
             put(writer, &window.held()[..found.start()])?;
             put(writer, replacements[found.pattern().as_usize()])?;
@@ -197,10 +197,10 @@ fn write_next<W: Write>(
 }
 
 /// What is known of the leftmost match in the last bytes of a text, or, where that goes on, in bytes of it.
-fn front(search: &Search, haystack: &[u8], is_whole: bool) -> SoFar
+fn first_known(search: &Search, haystack: &[u8], is_whole: bool) -> SoFar
     ensures answers { (more : List ℕ) → (is_whole ≡ true → more ≡ [])
         → AnswersSoFar search.now.query search.now.ignore_case (haystack.now ++ more) 0 result }
-    ensures front { IsFrontOf search.now.query.patterns is_whole (length haystack.now) result }
+    ensures known { IsFirstKnown search.now.query.patterns is_whole (length haystack.now) result }
 {
     if !is_whole {
         return search.find_so_far(haystack, 0);

@@ -10,11 +10,13 @@ const SPAN: Span = Span { start: 14, end: 51 };
 
 fn searched(alloc: Global, asked: &AnySearch<'_>) -> Result<AnyFound, BuildError> {
     let (mut once, mut iterated, mut listed) = (Tally::new(), Tally::new(), Tally::new());
+    let mut array = [0; 1000];
     search_any_list(
         alloc,
         asked,
         HAYSTACK,
         SPAN,
+        &mut array,
         &mut once,
         &mut iterated,
         &mut listed,
@@ -31,6 +33,7 @@ fn searches_for_any_list(rt: HostRuntime) -> Result<(), Fail> {
     let any = searched(rt.alloc(), &asked)?;
     let apple = Match::must(0, Span { start: 28, end: 33 });
     assert!(rt; any.searched.found == Some(apple) && any.searched.earliest == Some(31));
+    assert!(rt; any.searched.by_array == Ok(Some(Match::must(0, Span { start: 28, end: 33 }))));
     assert!(rt; any.searched.all.len() == 3 && any.linear.len() == 3);
     assert!(rt; any.occurring.len() == 5);
     Ok(())

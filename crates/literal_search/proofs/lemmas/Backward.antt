@@ -17,7 +17,7 @@ use Rattle.literal_base.specs.declared.packed.MatchKind.{MatchKind}
 use Rattle.literal_base.specs.declared.packed.MatchKind.TheVariants.{LeftmostFirst, LeftmostLongest}
 use Rattle.literal_base.specs.declared.search.MatchKind.TheVariants.{Standard}
 use Rattle.literal_search.specs.Inside.Classes.{symbols_in}
-use Rattle.literal_search.specs.Inside.Ends.{IsEnd}
+use Rattle.literal_search.specs.Inside.Suffixes.{IsSuffix}
 use Rattle.literal_search.specs.Inside.Linear.{AreParts, BeginsBest, IsMark, StandsDown, named_by}
 use Rattle.literal_search.specs.Inside.Linear.{patterns_of, texts_back}
 use Rattle.literal_search.specs.Inside.Walk.{IsAt, text_of}
@@ -29,7 +29,7 @@ use Rattle.literal_search.proofs.lemmas.Built.{same_texts}
 use Rattle.literal_search.proofs.lemmas.Found.{occurs_where, some_symbols, stands_where, symbols_length}
 use Rattle.literal_search.proofs.lemmas.Longest.{longest_is}
 use Rattle.literal_search.proofs.lemmas.Standard.{ends_of_first, ends_on, first_ends, none_ends}
-use Rattle.literal_search.proofs.lemmas.Walk.{always_held, at_dead, at_start, at_with_end, at_without_end, row_at}
+use Rattle.literal_search.proofs.lemmas.Walk.{always_live, at_dead, at_start, at_with_end, at_without_end, row_at}
 use Rattle.literal_search.proofs.lemmas.Walk.{text_split}
 
 -- the text of a reversed pattern is that of the pattern, reversed
@@ -96,32 +96,32 @@ module _ (lent backward patterns : List (Vec ℕ Global)) (same : lent ≡ backw
         (sym (ap (map (λ (pattern : Vec ℕ Global). pattern.items)) same ∙ copies))
         (some_back (map (λ (pattern : Vec ℕ Global). pattern.items) patterns) some)
 
--- what stands in front of a text is, reversed, an end of the reversed text
+-- what is a prefix of a text is, reversed, a suffix of the reversed text
 module _ (texts : List (List ℕ)) (text : List ℕ) (i : ℕ) where
-  pub front_is_end : i < length texts → starts_with nat_eq text (pattern_at texts i) ≡ true
-      → IsEnd (reversed texts) (reverse text) i
-  front_is_end below stands =
+  pub prefix_is_end : i < length texts → starts_with nat_eq text (pattern_at texts i) ≡ true
+      → IsSuffix (reversed texts) (reverse text) i
+  prefix_is_end below stands =
       let word = pattern_at texts i in
       let rest = drop (length word) text in
       let split = (starts_is Decides-eqb text word _ refl).0 stands in
       record {
         is_pattern = omega (arith, back_count texts);
         ends = record {
-          front = reverse rest;
+          prefix = reverse rest;
           split = ap (λ (l : List ℕ). reverse l) split
               ∙ (reverse-append word rest ∙ ap (λ l. reverse rest ++ l) (sym (back_at texts i)));
         };
       }
 
-  pub end_is_front : IsEnd (reversed texts) (reverse text) i → starts_with nat_eq text (pattern_at texts i) ≡ true
-  end_is_front is =
+  pub end_is_prefix : IsSuffix (reversed texts) (reverse text) i → starts_with nat_eq text (pattern_at texts i) ≡ true
+  end_is_prefix is =
       let word = pattern_at texts i in
-      let front = is.ends.front in
-      let split : text ≡ word ++ reverse front =
+      let prefix = is.ends.prefix in
+      let split : text ≡ word ++ reverse prefix =
       sym (reverse-reverse text)
-      ∙ (ap (λ (l : List ℕ). reverse l) (is.ends.split ∙ ap (λ l. front ++ l) (back_at texts i))
-      ∙ (reverse-append front (reverse word) ∙ ap (λ l. l ++ reverse front) (reverse-reverse word))) in
-      (starts_is Decides-eqb text word _ refl).1 (reverse front) split
+      ∙ (ap (λ (l : List ℕ). reverse l) (is.ends.split ∙ ap (λ l. prefix ++ l) (back_at texts i))
+      ∙ (reverse-append prefix (reverse word) ∙ ap (λ l. l ++ reverse prefix) (reverse-reverse word))) in
+      (starts_is Decides-eqb text word _ refl).1 (reverse prefix) split
 
 -- a better pattern is so by its lengths alone
 pub better_by : (kind : MatchKind) (patterns others : List (List ℕ))
@@ -155,22 +155,22 @@ module _ (p : Parts) (parts : AreParts p) (haystack : List ℕ) (bytes : (i : �
     nothing_before = omega arith
 
     -- what ends with what was read begins there
-    end_begins : (i : ℕ) → IsEnd (texts_back p) (read at from) i
+    end_begins : (i : ℕ) → IsSuffix (texts_back p) (read at from) i
         → Occurs (patterns_of p) p.ignore_case haystack (between at from) i at
     end_begins i is =
         let text = text_of p.classes.table haystack (between at from) in
         let below = is.is_pattern in
         occurs_where p.ignore_case p.classes.table (patterns_of p) parts.tells haystack bytes (between at from) valid i
         at (omega (arith, known, back_count words, below)) (omega arith) after
-        (ap (λ n. starts_with nat_eq (drop n text) (pattern_at words i)) nothing_before ∙ end_is_front words text i is)
+        (ap (λ n. starts_with nat_eq (drop n text) (pattern_at words i)) nothing_before ∙ end_is_prefix words text i is)
 
     -- and what begins there ends so
     begin_ends : (i : ℕ) → Occurs (patterns_of p) p.ignore_case haystack (between at from) i at
-        → IsEnd (texts_back p) (read at from) i
+        → IsSuffix (texts_back p) (read at from) i
     begin_ends i occurs =
         let text = text_of p.classes.table haystack (between at from) in
         let below = occurs.is_pattern in
-        front_is_end words text i (omega (arith, known))
+        prefix_is_end words text i (omega (arith, known))
         (ap (λ n. starts_with nat_eq (drop n text) (pattern_at words i)) (sym nothing_before)
         ∙ stands_where p.ignore_case p.classes.table (patterns_of p) parts.tells haystack bytes (between at from) valid
         i at occurs)
@@ -184,7 +184,7 @@ module _ (p : Parts) (parts : AreParts p) (haystack : List ℕ) (bytes : (i : �
         let below = is.is.is_pattern in
         let one = parts.best.each first (omega (arith, known, back_count words, below)) in
         let best = get_or p.best.items first 0 in
-        let end : IsEnd (texts_back p) text best = record {
+        let end : IsSuffix (texts_back p) text best = record {
           is_pattern = one.is.is_pattern;
           ends = ends_on text (pattern_at (texts_back p) first) (pattern_at (texts_back p) best) is.is.ends one.is.ends;
         } in (
@@ -238,7 +238,7 @@ module _ (p : Parts) (parts : AreParts p) (haystack : List ℕ) (bytes : (i : �
           ∙ reverse-append (symbol ∷ []) rest)
 
       alive : ¬ (code ≡ nothing)
-      alive dead = always_held (texts_back p) (read (at + 1) from ++ symbol ∷ [])
+      alive dead = always_live (texts_back p) (read (at + 1) from ++ symbol ∷ [])
           (at_dead Standard (texts_back p) p.classes.width p.rows parts.recognises (read (at + 1) from) place
           (stands.is_at parts.recognises) symbol below code code_is dead).0
 

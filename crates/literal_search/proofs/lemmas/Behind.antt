@@ -1,4 +1,4 @@
--- What is held behind the first symbol of a word, as the word grows by a symbol.
+-- The live suffix behind the first symbol of a word, as the word grows by a symbol.
 use Rattle.std.proofs.Common.{◌≡◌, ℕ, ◌+◌, ◌<◌, ◌⊎◌, Bool, true, false, List, [], ◌∷◌, ◌++◌, length, Option, None, Some}
 use Rattle.std.proofs.Common.{nat_eq, ◌&&◌, if◌then◌else◌, inl, inr, refl, sym, ap, ◌∙◌, arith, subst}
 use Rattle.std.proofs.lemmas.Bool.{and_from, and_parts, cases_lt, cond-false, cond-true, false_from_ne_true, false≢true}
@@ -11,31 +11,31 @@ use Rattle.std.specs.Option.{IfSome, option_or}
 use Rattle.literal_base.specs.Occurs.{NoneIsEmpty, pattern_at}
 use Rattle.literal_base.specs.declared.search.MatchKind.{MatchKind}
 use Rattle.literal_base.specs.declared.search.MatchKind.TheVariants.{LeftmostFirst, LeftmostLongest, Standard}
-use Rattle.literal_search.specs.Inside.Grown.{ending_held, held_behind, held_else}
-use Rattle.literal_search.specs.Words.{begins_one, ending, first_equal, held, in_question, is_settled, one_stands}
+use Rattle.literal_search.specs.Inside.Grown.{ending_live, failure_of, fallback}
+use Rattle.literal_search.specs.Words.{begins_one, ending, first_equal, live_suffix, in_question, is_matched, one_stands}
 use Rattle.literal_search.proofs.lemmas.Grown.{same_test, stands_nowhere, whole_longer}
-use Rattle.literal_search.proofs.lemmas.Held.{NoneBefore, any_in_question, any_in_question_at, held_on, held_push}
-use Rattle.literal_search.proofs.lemmas.Held.{none_position, settled_longer}
+use Rattle.literal_search.proofs.lemmas.Live.{NoneBefore, any_in_question, any_in_question_at, live_on, live_push}
+use Rattle.literal_search.proofs.lemmas.Live.{none_position, matched_longer}
 
-empty_unsettled : (kind : MatchKind) (patterns : List (List ℕ)) → NoneIsEmpty patterns
-    → is_settled kind patterns [] ≡ false
-empty_unsettled Standard patterns some = refl
-empty_unsettled LeftmostFirst patterns some = stands_nowhere patterns some
-empty_unsettled LeftmostLongest patterns some = stands_nowhere patterns some
+empty_unmatched : (kind : MatchKind) (patterns : List (List ℕ)) → NoneIsEmpty patterns
+    → is_matched kind patterns [] ≡ false
+empty_unmatched Standard patterns some = refl
+empty_unmatched LeftmostFirst patterns some = stands_nowhere patterns some
+empty_unmatched LeftmostLongest patterns some = stands_nowhere patterns some
 
 module _ (kind : MatchKind) (patterns : List (List ℕ)) where
   equal : List ℕ → List ℕ → Bool
   equal text pattern = starts_with nat_eq pattern text && starts_with nat_eq text pattern
 
-  -- what is held where a pattern begins with the text, and where none does
-  pub held_begun : (text : List ℕ) → begins_one kind patterns text ≡ true → held kind patterns text ≡ Some text
-  held_begun [] is = refl
-  held_begun (symbol ∷ more) is = cond-true _ _ _ is
+  -- the live suffix where a pattern begins with the text, and where none does
+  pub live_begun : (text : List ℕ) → begins_one kind patterns text ≡ true → live_suffix kind patterns text ≡ Some text
+  live_begun [] is = refl
+  live_begun (symbol ∷ more) is = cond-true _ _ _ is
 
-  pub held_unbegun : (text : List ℕ) → begins_one kind patterns text ≡ false
-      → held kind patterns text ≡ held_behind kind patterns text
-  held_unbegun [] is = refl
-  held_unbegun (symbol ∷ more) is = cond-false _ _ _ is
+  pub live_unbegun : (text : List ℕ) → begins_one kind patterns text ≡ false
+      → live_suffix kind patterns text ≡ failure_of kind patterns text
+  live_unbegun [] is = refl
+  live_unbegun (symbol ∷ more) is = cond-false _ _ _ is
 
   -- where a pattern is the text
   first_any : (text : List ℕ) (i : ℕ) → first_equal kind patterns text ≡ Some i
@@ -100,103 +100,103 @@ module _ (kind : MatchKind) (patterns : List (List ℕ)) where
         in_question = before at (λ j less. fails_before_first test patterns j [] less);
       })
 
-first_by_settled : (kind : MatchKind) (patterns : List (List ℕ)) (word : List ℕ) (symbol : ℕ)
-    → is_settled kind patterns word ≡ false → is_settled kind patterns (word ++ symbol ∷ []) ≡ true
+first_by_matched : (kind : MatchKind) (patterns : List (List ℕ)) (word : List ℕ) (symbol : ℕ)
+    → is_matched kind patterns word ≡ false → is_matched kind patterns (word ++ symbol ∷ []) ≡ true
     → first_equal kind patterns (word ++ symbol ∷ []) ≡ None → ⊥
-first_by_settled Standard patterns word symbol none some unmet = false≢true some
-first_by_settled LeftmostFirst patterns word symbol none some unmet =
+first_by_matched Standard patterns word symbol none some unmet = false≢true some
+first_by_matched LeftmostFirst patterns word symbol none some unmet =
     first_by_stands LeftmostFirst patterns word symbol none some (λ i before. before) unmet
-first_by_settled LeftmostLongest patterns word symbol none some unmet =
+first_by_matched LeftmostLongest patterns word symbol none some unmet =
     first_by_stands LeftmostLongest patterns word symbol none some (λ i before. tt) unmet
 
-settled_same : (kind : MatchKind) (patterns : List (List ℕ)) (word : List ℕ) (symbol : ℕ)
+matched_same : (kind : MatchKind) (patterns : List (List ℕ)) (word : List ℕ) (symbol : ℕ)
     → first_equal kind patterns (word ++ symbol ∷ []) ≡ None
-    → is_settled kind patterns (word ++ symbol ∷ []) ≡ is_settled kind patterns word
-settled_same kind patterns word symbol unmet =
-    same_test _ _ (by_word (is_settled kind patterns word) refl) (settled_longer kind patterns word (symbol ∷ []))
+    → is_matched kind patterns (word ++ symbol ∷ []) ≡ is_matched kind patterns word
+matched_same kind patterns word symbol unmet =
+    same_test _ _ (by_word (is_matched kind patterns word) refl) (matched_longer kind patterns word (symbol ∷ []))
   where
-    by_word : (s : Bool) → is_settled kind patterns word ≡ s → is_settled kind patterns (word ++ symbol ∷ []) ≡ true
+    by_word : (s : Bool) → is_matched kind patterns word ≡ s → is_matched kind patterns (word ++ symbol ∷ []) ≡ true
         → s ≡ true
     by_word true is some = refl
-    by_word false is some = absurd (first_by_settled kind patterns word symbol is some unmet)
+    by_word false is some = absurd (first_by_matched kind patterns word symbol is some unmet)
 
--- one symbol more: what is held behind the first symbol
+-- one symbol more: the live suffix behind the first symbol
 behind_same : (kind : MatchKind) (patterns : List (List ℕ)) (word : List ℕ) (symbol : ℕ) → NoneIsEmpty patterns
-    → is_settled kind patterns (word ++ symbol ∷ []) ≡ is_settled kind patterns word
-    → held_behind kind patterns (word ++ symbol ∷ []) ≡ held_else kind patterns word symbol
-behind_same kind patterns [] symbol some same = cond-false _ _ _ (same ∙ empty_unsettled kind patterns some)
+    → is_matched kind patterns (word ++ symbol ∷ []) ≡ is_matched kind patterns word
+    → failure_of kind patterns (word ++ symbol ∷ []) ≡ fallback kind patterns word symbol
+behind_same kind patterns [] symbol some same = cond-false _ _ _ (same ∙ empty_unmatched kind patterns some)
 behind_same kind patterns (first ∷ more) symbol some same =
-    ap (λ s. if s then None else held kind patterns (more ++ symbol ∷ [])) same
+    ap (λ s. if s then None else live_suffix kind patterns (more ++ symbol ∷ [])) same
 
 pub behind_next : (kind : MatchKind) (patterns : List (List ℕ)) (word : List ℕ) (symbol : ℕ) → NoneIsEmpty patterns
     → (first_equal kind patterns (word ++ symbol ∷ []) ≡ None) ⊎ (kind ≡ Standard)
-    → held_behind kind patterns (word ++ symbol ∷ []) ≡ held_else kind patterns word symbol
+    → failure_of kind patterns (word ++ symbol ∷ []) ≡ fallback kind patterns word symbol
 behind_next kind patterns word symbol some (inl unmet) =
-    behind_same kind patterns word symbol some (settled_same kind patterns word symbol unmet)
+    behind_same kind patterns word symbol some (matched_same kind patterns word symbol unmet)
 behind_next kind patterns word symbol some (inr is) =
-    subst (λ k. held_behind k patterns (word ++ symbol ∷ []) ≡ held_else k patterns word symbol) (sym is)
+    subst (λ k. failure_of k patterns (word ++ symbol ∷ []) ≡ fallback k patterns word symbol) (sym is)
     (behind_same Standard patterns word symbol some refl)
 
-behind_settled : (kind : MatchKind) (patterns : List (List ℕ)) (text : List ℕ) → 0 < length text
-    → is_settled kind patterns text ≡ true → held_behind kind patterns text ≡ None
-behind_settled kind patterns [] long is = absurd (omega arith)
-behind_settled kind patterns (symbol ∷ more) long is = cond-true _ _ _ is
+behind_matched : (kind : MatchKind) (patterns : List (List ℕ)) (text : List ℕ) → 0 < length text
+    → is_matched kind patterns text ≡ true → failure_of kind patterns text ≡ None
+behind_matched kind patterns [] long is = absurd (omega arith)
+behind_matched kind patterns (symbol ∷ more) long is = cond-true _ _ _ is
 
 pub behind_whole : (kind : MatchKind) (patterns : List (List ℕ)) (text : List ℕ) (i : ℕ) → 0 < length text
-    → first_equal kind patterns text ≡ Some i → (kind ≡ Standard → ⊥) → held_behind kind patterns text ≡ None
+    → first_equal kind patterns text ≡ Some i → (kind ≡ Standard → ⊥) → failure_of kind patterns text ≡ None
 behind_whole Standard patterns text i long is isnt = absurd (isnt refl)
 behind_whole LeftmostFirst patterns text i long is isnt =
-    behind_settled LeftmostFirst patterns text long (first_stands LeftmostFirst patterns text i is)
+    behind_matched LeftmostFirst patterns text long (first_stands LeftmostFirst patterns text i is)
 behind_whole LeftmostLongest patterns text i long is isnt =
-    behind_settled LeftmostLongest patterns text long (first_stands LeftmostLongest patterns text i is)
+    behind_matched LeftmostLongest patterns text long (first_stands LeftmostLongest patterns text i is)
 
 module _ (kind : MatchKind) (patterns : List (List ℕ)) where
   pub else_by_link : (word : List ℕ) (symbol : ℕ) → 0 < length word
-      → held_else kind patterns word symbol ≡ held_on kind patterns (held_behind kind patterns word) (symbol ∷ [])
+      → fallback kind patterns word symbol ≡ live_on kind patterns (failure_of kind patterns word) (symbol ∷ [])
   else_by_link [] symbol long = absurd (omega arith)
-  else_by_link (first ∷ more) symbol long = by_settled (is_settled kind patterns (first ∷ more))
+  else_by_link (first ∷ more) symbol long = by_matched (is_matched kind patterns (first ∷ more))
     where
-      by_settled : (s : Bool)
-          → (if s then None else held kind patterns (more ++ symbol ∷ []))
-          ≡ held_on kind patterns (if s then None else held kind patterns more) (symbol ∷ [])
-      by_settled true = refl
-      by_settled false = sym (held_push kind patterns more (symbol ∷ []))
+      by_matched : (s : Bool)
+          → (if s then None else live_suffix kind patterns (more ++ symbol ∷ []))
+          ≡ live_on kind patterns (if s then None else live_suffix kind patterns more) (symbol ∷ [])
+      by_matched true = refl
+      by_matched false = sym (live_push kind patterns more (symbol ∷ []))
 
-  -- the pattern that ends with a text ends with what is held of it
-  pub ending_by_held : (text : List ℕ) → ending kind patterns text ≡ ending_held kind patterns (held kind patterns text)
-  ending_by_held [] = refl
-  ending_by_held (symbol ∷ more) =
-      by_begun (begins_one kind patterns (symbol ∷ more)) refl (ending_by_held more)
+  -- the pattern that ends with a text ends with its live suffix
+  pub ending_by_live : (text : List ℕ) → ending kind patterns text ≡ ending_live kind patterns (live_suffix kind patterns text)
+  ending_by_live [] = refl
+  ending_by_live (symbol ∷ more) =
+      by_begun (begins_one kind patterns (symbol ∷ more)) refl (ending_by_live more)
     where
-      by_settled : (s : Bool) → ending kind patterns more ≡ ending_held kind patterns (held kind patterns more)
+      by_matched : (s : Bool) → ending kind patterns more ≡ ending_live kind patterns (live_suffix kind patterns more)
           → (if s then None else ending kind patterns more)
-          ≡ ending_held kind patterns (if s then None else held kind patterns more)
-      by_settled true further = refl
-      by_settled false further = further
+          ≡ ending_live kind patterns (if s then None else live_suffix kind patterns more)
+      by_matched true further = refl
+      by_matched false further = further
 
       by_begun : (b : Bool) → begins_one kind patterns (symbol ∷ more) ≡ b
-          → ending kind patterns more ≡ ending_held kind patterns (held kind patterns more)
-          → ending kind patterns (symbol ∷ more) ≡ ending_held kind patterns (held kind patterns (symbol ∷ more))
+          → ending kind patterns more ≡ ending_live kind patterns (live_suffix kind patterns more)
+          → ending kind patterns (symbol ∷ more) ≡ ending_live kind patterns (live_suffix kind patterns (symbol ∷ more))
       by_begun true begun further = sym
-          (ap (ending_held kind patterns) (held_begun kind patterns (symbol ∷ more) begun))
+          (ap (ending_live kind patterns) (live_begun kind patterns (symbol ∷ more) begun))
       by_begun false unbegun further =
-          ap (λ o. option_or o (if is_settled kind patterns (symbol ∷ more) then None else ending kind patterns more))
+          ap (λ o. option_or o (if is_matched kind patterns (symbol ∷ more) then None else ending kind patterns more))
           (unbegun_none kind patterns (symbol ∷ more) unbegun)
-          ∙ (by_settled (is_settled kind patterns (symbol ∷ more)) further
-          ∙ sym (ap (ending_held kind patterns) (held_unbegun kind patterns (symbol ∷ more) unbegun)))
+          ∙ (by_matched (is_matched kind patterns (symbol ∷ more)) further
+          ∙ sym (ap (ending_live kind patterns) (live_unbegun kind patterns (symbol ∷ more) unbegun)))
 
   pub ending_next : (text : List ℕ) → 0 < length text
       → ending kind patterns text
-      ≡ option_or (first_equal kind patterns text) (ending_held kind patterns (held_behind kind patterns text))
+      ≡ option_or (first_equal kind patterns text) (ending_live kind patterns (failure_of kind patterns text))
   ending_next [] long = absurd (omega arith)
   ending_next (symbol ∷ more) long =
-      ap (option_or (first_equal kind patterns (symbol ∷ more))) (by_settled (is_settled kind patterns (symbol ∷ more)))
+      ap (option_or (first_equal kind patterns (symbol ∷ more))) (by_matched (is_matched kind patterns (symbol ∷ more)))
     where
-      by_settled : (s : Bool)
+      by_matched : (s : Bool)
           → (if s then None else ending kind patterns more)
-          ≡ ending_held kind patterns (if s then None else held kind patterns more)
-      by_settled true = refl
-      by_settled false = ending_by_held more
+          ≡ ending_live kind patterns (if s then None else live_suffix kind patterns more)
+      by_matched true = refl
+      by_matched false = ending_by_live more
 
 -- what ends with a text is a pattern
 first_is_pattern : (kind : MatchKind) (patterns : List (List ℕ)) (text : List ℕ) (i : ℕ)
@@ -214,22 +214,22 @@ ending_is_pattern kind patterns [] = tt
 ending_is_pattern kind patterns (symbol ∷ more) =
     by_first (first_equal kind patterns (symbol ∷ more)) refl (ending_is_pattern kind patterns more)
   where
-    by_settled : (s : Bool) → IfSome (ending kind patterns more) (λ i. i < length patterns)
+    by_matched : (s : Bool) → IfSome (ending kind patterns more) (λ i. i < length patterns)
         → IfSome (if s then None else ending kind patterns more) (λ i. i < length patterns)
-    by_settled true further = tt
-    by_settled false further = further
+    by_matched true further = tt
+    by_matched false further = further
 
     by_first : (o : Option ℕ) → first_equal kind patterns (symbol ∷ more) ≡ o
         → IfSome (ending kind patterns more) (λ i. i < length patterns)
-        → IfSome (option_or o (if is_settled kind patterns (symbol ∷ more) then None else ending kind patterns more))
+        → IfSome (option_or o (if is_matched kind patterns (symbol ∷ more) then None else ending kind patterns more))
         (λ i. i < length patterns)
-    by_first None is further = by_settled (is_settled kind patterns (symbol ∷ more)) further
+    by_first None is further = by_matched (is_matched kind patterns (symbol ∷ more)) further
     by_first (Some i) is further = first_is_pattern kind patterns (symbol ∷ more) i is
 
--- where no pattern begins with a word and a symbol, what is held is what is held otherwise
-pub held_by_else : (kind : MatchKind) (patterns : List (List ℕ)) (word : List ℕ) (symbol : ℕ) → NoneIsEmpty patterns
+-- where no pattern begins with a word and a symbol, the live suffix is the live suffix otherwise
+pub live_by_else : (kind : MatchKind) (patterns : List (List ℕ)) (word : List ℕ) (symbol : ℕ) → NoneIsEmpty patterns
     → begins_one kind patterns (word ++ symbol ∷ []) ≡ false
-    → held kind patterns (word ++ symbol ∷ []) ≡ held_else kind patterns word symbol
-held_by_else kind patterns word symbol some unbegun =
-    held_unbegun kind patterns (word ++ symbol ∷ []) unbegun
+    → live_suffix kind patterns (word ++ symbol ∷ []) ≡ fallback kind patterns word symbol
+live_by_else kind patterns word symbol some unbegun =
+    live_unbegun kind patterns (word ++ symbol ∷ []) unbegun
     ∙ behind_next kind patterns word symbol some (inl (unbegun_none kind patterns (word ++ symbol ∷ []) unbegun))

@@ -1,4 +1,4 @@
--- The patterns that are an end of a pattern, from one to the next.
+-- The patterns that are a suffix of a pattern, from one to the next.
 use Rattle.std.proofs.Common.{◌≡◌, ◌≢◌, ℕ, ◌+◌, ◌*◌, ◌-◌, ◌<◌, ◌≤◌, ◌^◌, List, [], ◌∷◌, ◌++◌, length, get_or, take}
 use Rattle.std.proofs.Common.{drop, eqb, set}
 use Rattle.std.proofs.Common.{Option, Some, None, inl, inr, ◌⊎◌, refl, sym, ap, subst, ◌∙◌, arith, mul-le-mul_right}
@@ -18,9 +18,9 @@ use Rattle.std.specs.Ordering.{nat_cmp}
 use Rattle.std.specs.Option.{unwrap_or}
 use Rattle.literal_base.specs.declared.search.MatchKind.TheVariants.{Standard}
 use Rattle.literal_base.specs.Occurs.{NoneIsEmpty, pattern_at}
-use Rattle.literal_search.specs.Inside.Ends.{AreEnds, ComesLater, EndsWith, HasUpTo, IsEnd, IsLink, IsNextEqual}
-use Rattle.literal_search.specs.Inside.Ends.{left_from}
-use Rattle.literal_search.specs.Inside.Lists.{AreHeads, AreLinks}
+use Rattle.literal_search.specs.Inside.Suffixes.{AreSuffixes, ComesLater, HasSuffix, HasUpTo, IsSuffix, IsOutputLink, IsNextEqual}
+use Rattle.literal_search.specs.Inside.Suffixes.{left_from}
+use Rattle.literal_search.specs.Inside.Lists.{AreHeads, AreOutputLinks}
 use Rattle.literal_search.specs.Table.{nothing}
 use Rattle.literal_search.specs.Words.{ending}
 use Rattle.literal_search.proofs.lemmas.Standard.{end_of_itself, ends_length, ends_on, ends_same, ends_within}
@@ -62,12 +62,12 @@ module _ (patterns : List (List ℕ)) (some : NoneIsEmpty patterns) (few : lengt
           subst (IsFirstEqual pattern) (sym at)
           (record { below = all.is.is_pattern; same = same; first_is = ap (ending Standard patterns) same ∙ ends })
 
-  pub behind_first : (text : List ℕ) → EndsWith text (drop 1 text)
-  behind_first text = record { front = take 1 text; split = sym (take-append-drop 1 text) }
+  pub behind_first : (text : List ℕ) → HasSuffix text (drop 1 text)
+  behind_first text = record { prefix = take 1 text; split = sym (take-append-drop 1 text) }
 
   -- a shorter end of a pattern is one of what is behind its first symbol
-  pub shorter_end : (text : List ℕ) (i : ℕ) → IsEnd patterns text i → length (pattern_at patterns i) < length text
-      → IsEnd patterns (drop 1 text) i
+  pub shorter_end : (text : List ℕ) (i : ℕ) → IsSuffix patterns text i → length (pattern_at patterns i) < length text
+      → IsSuffix patterns (drop 1 text) i
   shorter_end text i is shorter = record {
     is_pattern = is.is_pattern;
     ends = ends_within text (pattern_at patterns i) (drop 1 text) is.ends (behind_first text)
@@ -78,11 +78,11 @@ module _ (patterns : List (List ℕ)) (some : NoneIsEmpty patterns) (few : lengt
       (next : IsNextEqual patterns head (pattern + 1) equal)
       (same : pattern_at patterns head ≡ pattern_at patterns pattern)
     where
-      itself : IsEnd patterns (pattern_at patterns pattern) pattern
+      itself : IsSuffix patterns (pattern_at patterns pattern) pattern
       itself = end_of_itself patterns some pattern below
 
       -- as long as the pattern, and later: an equal
-      as_long : (i : ℕ) → IsEnd patterns (pattern_at patterns pattern) i
+      as_long : (i : ℕ) → IsSuffix patterns (pattern_at patterns pattern) i
           → length (pattern_at patterns i) ≡ length (pattern_at patterns pattern) → pattern < i
           → (equal ≢ nothing) × (equal ≤ i)
       as_long i end long later =
@@ -91,7 +91,7 @@ module _ (patterns : List (List ℕ)) (some : NoneIsEmpty patterns) (few : lengt
           itself.ends long in
           next.others i (omega arith) end.is_pattern (is ∙ sym same)
 
-      pub link_to_equal : equal ≢ nothing → IsLink patterns pattern equal
+      pub link_to_equal : equal ≢ nothing → IsOutputLink patterns pattern equal
       link_to_equal found = elim next.is [
         | inl none ↦ absurd (found none)
         | inr one ↦
@@ -99,7 +99,7 @@ module _ (patterns : List (List ℕ)) (some : NoneIsEmpty patterns) (few : lengt
             let long = ap (λ (l : List ℕ). length l) equals in
             record {
               next = inr (
-                record { is_pattern = one.1; ends = record { front = []; split = sym equals } },
+                record { is_pattern = one.1; ends = record { prefix = []; split = sym equals } },
                 inr (long, omega (arith, one.0)),
               );
               others = λ i end later. (
@@ -119,17 +119,17 @@ module _ (patterns : List (List ℕ)) (some : NoneIsEmpty patterns) (few : lengt
 
       pub link_to_shorter : equal ≡ nothing → (link : ℕ)
           → link ≡ unwrap_or (ending Standard patterns (drop 1 (pattern_at patterns pattern))) nothing
-          → IsLink patterns pattern link
+          → IsOutputLink patterns pattern link
       link_to_shorter none link is =
           by (ending Standard patterns (drop 1 (pattern_at patterns pattern))) refl is
         where
-          only_shorter : (i : ℕ) → IsEnd patterns (pattern_at patterns pattern) i → ComesLater patterns pattern i
-              → IsEnd patterns (drop 1 (pattern_at patterns pattern)) i
+          only_shorter : (i : ℕ) → IsSuffix patterns (pattern_at patterns pattern) i → ComesLater patterns pattern i
+              → IsSuffix patterns (drop 1 (pattern_at patterns pattern)) i
           only_shorter i end (inl shorter) = shorter_end (pattern_at patterns pattern) i end shorter
           only_shorter i end (inr later) = absurd ((as_long i end later.0 later.1).0 none)
 
           by : (o : Option ℕ) → ending Standard patterns (drop 1 (pattern_at patterns pattern)) ≡ o
-              → link ≡ unwrap_or o nothing → IsLink patterns pattern link
+              → link ≡ unwrap_or o nothing → IsOutputLink patterns pattern link
           by None ends at = record {
             next = inl at;
             others = λ i end later. absurd (none_ends patterns some (drop 1 (pattern_at patterns pattern)) ends i
@@ -140,7 +140,7 @@ module _ (patterns : List (List ℕ)) (some : NoneIsEmpty patterns) (few : lengt
               let within = ends_length (drop 1 (pattern_at patterns pattern)) (pattern_at patterns first) all.is.ends in
               let long = some pattern [] below in
               let is_pattern = all.is.is_pattern in
-              subst (IsLink patterns pattern) (sym at)
+              subst (IsOutputLink patterns pattern) (sym at)
               (record {
                 next = inr (
                   record {
@@ -198,18 +198,18 @@ module _ (patterns : List (List ℕ)) (some : NoneIsEmpty patterns) (few : lengt
         ]
       ]
 
-  pub links_on : (links : List ℕ) (pattern link : ℕ) → AreLinks patterns links (pattern + 1)
-      → pattern < length patterns → IsLink patterns pattern link → AreLinks patterns (set links pattern link) pattern
+  pub links_on : (links : List ℕ) (pattern link : ℕ) → AreOutputLinks patterns links (pattern + 1)
+      → pattern < length patterns → IsOutputLink patterns pattern link → AreOutputLinks patterns (set links pattern link) pattern
   links_on links pattern link are below is = record {
     long = length-set links pattern link ∙ are.long;
     each = λ i from inside. elim (cases_lt pattern i) [
-      | inl later ↦ subst (IsLink patterns i)
+      | inl later ↦ subst (IsOutputLink patterns i)
           (sym (get_or-set_other links pattern i link 0 (λ same. omega arith)))
           (are.each i (omega arith) inside)
       | inr not ↦
           let here : pattern ≡ i = omega arith in
-          subst (λ k. IsLink patterns k (get_or (set links pattern link) k 0)) here
-          (subst (IsLink patterns pattern)
+          subst (λ k. IsOutputLink patterns k (get_or (set links pattern link) k 0)) here
+          (subst (IsOutputLink patterns pattern)
           (sym (get_or-set_same links pattern link 0 (omega (arith, are.long)))) is)
     ];
   }
@@ -226,7 +226,7 @@ heads_start patterns heads long none = record {
 }
 
 pub links_start : (patterns : List (List ℕ)) (links : List ℕ) → length links ≡ length patterns
-    → AreLinks patterns links (length patterns)
+    → AreOutputLinks patterns links (length patterns)
 links_start patterns links long = record { long = long; each = λ i from inside. absurd (omega arith) }
 
 module _ (patterns : List (List ℕ)) (some : NoneIsEmpty patterns) (few : length patterns ≤ 2 ^ 31 - 1) where
@@ -237,7 +237,7 @@ module _ (patterns : List (List ℕ)) (some : NoneIsEmpty patterns) (few : lengt
       let all = first_ends patterns some (pattern_at patterns first) first is in
       let below = all.is.is_pattern in
       record {
-        each = All-nil (IsEnd patterns (pattern_at patterns first));
+        each = All-nil (IsSuffix patterns (pattern_at patterns first));
         order = λ j k d before inside. absurd (omega arith);
         earlier = λ found. All-nil (λ i. ComesLater patterns i first);
         others = λ i end. inr (λ no. omega (arith, no), all.others i end);
@@ -257,11 +257,11 @@ module _ (patterns : List (List ℕ)) (some : NoneIsEmpty patterns) (few : lengt
 
   -- with the next of them it goes on with what that one's link leads to
   pub up_to_more : (text list : List ℕ) (next link : ℕ) → HasUpTo patterns text list next → next ≢ nothing
-      → IsLink patterns next link → HasUpTo patterns text (list ++ next ∷ []) link
+      → IsOutputLink patterns next link → HasUpTo patterns text (list ++ next ∷ []) link
   up_to_more text list next link has go_on is = elim has.next_is [
     | inl none ↦ absurd (go_on none)
     | inr here ↦ record {
-      each = All-push (IsEnd patterns text) list next has.each here;
+      each = All-push (IsSuffix patterns text) list next has.each here;
       order = all_pairs_push (ComesLater patterns) list next has.order (has.earlier go_on);
       earlier = λ found. elim is.next [
         | inl none ↦ absurd (found none)
@@ -286,8 +286,8 @@ module _ (patterns : List (List ℕ)) (some : NoneIsEmpty patterns) (few : lengt
     }
   ]
     where
-      within : (i : ℕ) → IsEnd patterns text next → IsEnd patterns text i → ComesLater patterns next i
-          → IsEnd patterns (pattern_at patterns next) i
+      within : (i : ℕ) → IsSuffix patterns text next → IsSuffix patterns text i → ComesLater patterns next i
+          → IsSuffix patterns (pattern_at patterns next) i
       within i here end (inl shorter) = record {
         is_pattern = end.is_pattern;
         ends = ends_within text (pattern_at patterns i) (pattern_at patterns next) end.ends here.ends (omega arith);
@@ -300,7 +300,7 @@ module _ (patterns : List (List ℕ)) (some : NoneIsEmpty patterns) (few : lengt
 
   -- and at the end it has all: sorted, they ascend
   pub up_to_all : (text list sorted : List ℕ) (next : ℕ) → HasUpTo patterns text list next → next ≡ nothing
-      → IsPermutation list sorted → IsSorted nat_cmp sorted → AreEnds patterns text 0 sorted 0 (length sorted)
+      → IsPermutation list sorted → IsSorted nat_cmp sorted → AreSuffixes patterns text 0 sorted 0 (length sorted)
   up_to_all text list sorted next has none moved rises =
       let apart = IsDistinct-from_AllPairs Decides-eqb list
       (λ j k d before inside. differs (get_or list j d) (get_or list k d) (has.order j k d before inside)) in
@@ -309,7 +309,7 @@ module _ (patterns : List (List ℕ)) (some : NoneIsEmpty patterns) (few : lengt
       record {
         ascends = λ j k from before inside. AllPairs-from_increasing sorted increases j k 0 before inside;
         each = λ k from inside.
-            (All-permutation (IsEnd patterns text) list sorted moved has.each k 0 inside, omega arith);
+            (All-permutation (IsSuffix patterns text) list sorted moved has.each k 0 inside, omega arith);
         every = λ i end from. elim (has.others i end) [
           | inl in_list ↦
               let one = Contains-permutation list sorted i moved in_list in
@@ -319,7 +319,7 @@ module _ (patterns : List (List ℕ)) (some : NoneIsEmpty patterns) (few : lengt
       }
 
   -- a chain ends
-  pub left_falls : (next link : ℕ) → next < length patterns → IsLink patterns next link
+  pub left_falls : (next link : ℕ) → next < length patterns → IsOutputLink patterns next link
       → left_from patterns link < left_from patterns next
   left_falls next link below is = elim is.next [
     | inl none ↦

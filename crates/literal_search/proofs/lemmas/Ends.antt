@@ -17,13 +17,13 @@ use Rattle.literal_base.specs.Kinds.{root_kind_of}
 use Rattle.literal_base.specs.Leftmost.{IsBetter}
 use Rattle.literal_base.specs.Occurs.{NoneIsEmpty, pattern_at}
 use Rattle.literal_search.specs.Inside.Walk.{IsBest, from_match}
-use Rattle.literal_search.specs.Words.{begins_one, ending, first_equal, held, in_question, is_settled, one_stands}
-use Rattle.literal_search.proofs.lemmas.Held.{NoneBefore, any_in_question, any_in_question_at, none_any}
-use Rattle.literal_search.proofs.lemmas.Held.{none_position, stands_longer}
-use Rattle.literal_search.proofs.lemmas.Held.{first_in_question, none_stands_longer, one_stands_longer}
-use Rattle.literal_search.proofs.lemmas.Held.{stands_or_begins}
+use Rattle.literal_search.specs.Words.{begins_one, ending, first_equal, live_suffix, in_question, is_matched, one_stands}
+use Rattle.literal_search.proofs.lemmas.Live.{NoneBefore, any_in_question, any_in_question_at, none_any}
+use Rattle.literal_search.proofs.lemmas.Live.{none_position, stands_longer}
+use Rattle.literal_search.proofs.lemmas.Live.{first_in_question, none_stands_longer, one_stands_longer}
+use Rattle.literal_search.proofs.lemmas.Live.{stands_or_begins}
 
--- what stands in front of a text and is as long is the text
+-- what is a prefix of a text and is as long is the text
 pub whole_if_long : (text pattern : List ℕ) → starts_with nat_eq text pattern ≡ true → length text ≤ length pattern
     → text ≡ pattern
 whole_if_long text pattern is long =
@@ -45,7 +45,7 @@ equal_if text pattern same =
     (starts_is Decides-eqb text pattern _ refl).1 [] (same ∙ sym (append-nil pattern)) in
     cc
 
--- what stands in front of a text and one symbol more stands in front of the text, or is both
+-- what is a prefix of a text and one symbol more is a prefix of the text, or is both
 pub stands_or_whole : (text pattern : List ℕ) (symbol : ℕ) → starts_with nat_eq (text ++ symbol ∷ []) pattern ≡ true
     → (starts_with nat_eq text pattern ≡ true) ⊎ (text ++ symbol ∷ [] ≡ pattern)
 stands_or_whole text pattern symbol is = elim (stands_or_begins text (symbol ∷ []) pattern is) [
@@ -77,7 +77,7 @@ abbrev pub pushed : List ℕ → ℕ → List ℕ
 pushed [] symbol = []
 pushed (first ∷ more) symbol = first ∷ (more ++ symbol ∷ [])
 
--- no pattern stands in front of an empty text if none is empty
+-- no pattern is a prefix of an empty text if none is empty
 none_stands_nowhere : (patterns : List (List ℕ)) → NoneIsEmpty patterns → one_stands patterns [] ≡ false
 none_stands_nowhere patterns some = false_from_ne_true _ (λ is.
     let one = Any-from_list_any (λ e. starts_with nat_eq [] e) patterns is in
@@ -93,14 +93,14 @@ none_stands_nowhere patterns some = false_from_ne_true _ (λ is.
     )))
 
 module _ (kind : MatchKind) (patterns : List (List ℕ)) where
-  settled_is : (text : List ℕ) → is_settled (root_kind_of kind) patterns text ≡ one_stands patterns text
-  settled_is text = by_kind kind
+  matched_is : (text : List ℕ) → is_matched (root_kind_of kind) patterns text ≡ one_stands patterns text
+  matched_is text = by_kind kind
     where
-      by_kind : (k : MatchKind) → is_settled (root_kind_of k) patterns text ≡ one_stands patterns text
+      by_kind : (k : MatchKind) → is_matched (root_kind_of k) patterns text ≡ one_stands patterns text
       by_kind LeftmostFirst = refl
       by_kind LeftmostLongest = refl
 
-  -- the first pattern that stands in front of a text
+  -- the first pattern that is a prefix of a text
   first_standing : (text : List ℕ) → one_stands patterns text ≡ true
       → (k : ℕ) × (k < length patterns) × (starts_with nat_eq text (pattern_at patterns k) ≡ true)
       × ((j : ℕ) → j < k → starts_with nat_eq text (pattern_at patterns j) ≡ false)
@@ -164,11 +164,11 @@ module _ (kind : MatchKind) (patterns : List (List ℕ)) where
           ≡ whole_of kind patterns (from_match patterns (symbol ∷ more))
       by_test true is further =
           ap (option_or (first_equal (root_kind_of kind) patterns (symbol ∷ more)))
-          (cond-true _ _ _ (settled_is (symbol ∷ more) ∙ is))
+          (cond-true _ _ _ (matched_is (symbol ∷ more) ∙ is))
           ∙ (or_none _ ∙ ap (whole_of kind patterns) (sym (cond-true _ _ _ is)))
       by_test false is further =
           ap (option_or (first_equal (root_kind_of kind) patterns (symbol ∷ more)))
-          (cond-false _ _ _ (settled_is (symbol ∷ more) ∙ is))
+          (cond-false _ _ _ (matched_is (symbol ∷ more) ∙ is))
           ∙ (ap (λ o. option_or o (ending (root_kind_of kind) patterns more)) (none_whole (symbol ∷ more) is)
           ∙ (further ∙ ap (whole_of kind patterns) (sym (cond-false _ _ _ is))))
 
@@ -218,7 +218,7 @@ module _ (kind : MatchKind) (patterns : List (List ℕ)) where
           false≢true (sym (first j equal.1) ∙ equal_if text (pattern_at patterns j)
           (whole_if_long text (pattern_at patterns j) is (omega (arith, ap (λ (l : List ℕ). length l) same, equal.0))))
 
-  -- a text that no pattern that may be the match is: with its last symbol none stands in front of it that did not
+  -- a text that no pattern that may be the match is: with its last symbol none is a prefix of it that was not
   -- before
   stays_unstood : (text : List ℕ) (symbol : ℕ) → one_stands patterns text ≡ false
       → first_equal (root_kind_of kind) patterns (text ++ symbol ∷ []) ≡ None
@@ -334,8 +334,8 @@ module _ (kind : MatchKind) (patterns : List (List ℕ)) where
           ∙ ap (λ u. pushed u symbol)
           (sym (from_more first text (not_stood_shorter (first ∷ text) (symbol ∷ []) is))))
 
-  -- where nothing is held any more: the first match begins in the text, and is known
-  pub from_match_dead : (text more : List ℕ) → held (root_kind_of kind) patterns text ≡ None
+  -- where nothing is live any more: the first match begins in the text, and is known
+  pub from_match_dead : (text more : List ℕ) → live_suffix (root_kind_of kind) patterns text ≡ None
       → (from_match patterns (text ++ more) ≡ from_match patterns text ++ more)
       × (begins_one (root_kind_of kind) patterns (from_match patterns text) ≡ false)
       × (0 < length (from_match patterns text))
@@ -346,7 +346,7 @@ module _ (kind : MatchKind) (patterns : List (List ℕ)) where
     where
       by_test : (b s : Bool) → begins_one (root_kind_of kind) patterns (symbol ∷ text) ≡ b
           → one_stands patterns (symbol ∷ text) ≡ s
-          → (held (root_kind_of kind) patterns text ≡ None
+          → (live_suffix (root_kind_of kind) patterns text ≡ None
           → (from_match patterns (text ++ more) ≡ from_match patterns text ++ more)
           × (begins_one (root_kind_of kind) patterns (from_match patterns text) ≡ false)
           × (0 < length (from_match patterns text)))
@@ -354,7 +354,7 @@ module _ (kind : MatchKind) (patterns : List (List ℕ)) where
           × (begins_one (root_kind_of kind) patterns (from_match patterns (symbol ∷ text)) ≡ false)
           × (0 < length (from_match patterns (symbol ∷ text)))
       by_test true s begun stood further =
-          let is : held (root_kind_of kind) patterns (symbol ∷ text)
+          let is : live_suffix (root_kind_of kind) patterns (symbol ∷ text)
           ≡ Some (symbol ∷ text) = cond-true _ _ _ begun in cc
       by_test false true unbegun stood further =
           let same = from_standing symbol text stood in (
@@ -367,53 +367,53 @@ module _ (kind : MatchKind) (patterns : List (List ℕ)) where
           let same = from_more symbol text unstood in
           let longer = from_more symbol (text ++ more)
           (none_stands_longer (root_kind_of kind) patterns (symbol ∷ text) more unbegun unstood) in
-          let held_is : held (root_kind_of kind) patterns (symbol ∷ text) ≡ held (root_kind_of kind) patterns text =
-          cond-false _ _ _ unbegun ∙ cond-false _ _ _ (settled_is (symbol ∷ text) ∙ unstood) in
-          let rest = further (sym held_is ∙ none) in (
+          let live_is : live_suffix (root_kind_of kind) patterns (symbol ∷ text) ≡ live_suffix (root_kind_of kind) patterns text =
+          cond-false _ _ _ unbegun ∙ cond-false _ _ _ (matched_is (symbol ∷ text) ∙ unstood) in
+          let rest = further (sym live_is ∙ none) in (
             longer ∙ (rest.0 ∙ ap (λ u. u ++ more) (sym same)),
             ap (begins_one (root_kind_of kind) patterns) same ∙ rest.1,
             rw same rest.2,
           )
 
-  -- the first match is in what is held
-  pub from_match_held : (text word : List ℕ) → held (root_kind_of kind) patterns text ≡ Some word
+  -- the first match is in the live suffix
+  pub from_match_live : (text word : List ℕ) → live_suffix (root_kind_of kind) patterns text ≡ Some word
       → from_match patterns text ≡ from_match patterns word
-  from_match_held [] word is = let same : [] ≡ word = cc in ap (from_match patterns) same
-  from_match_held (symbol ∷ text) word is =
+  from_match_live [] word is = let same : [] ≡ word = cc in ap (from_match patterns) same
+  from_match_live (symbol ∷ text) word is =
       by_test (begins_one (root_kind_of kind) patterns (symbol ∷ text)) (one_stands patterns (symbol ∷ text)) refl refl
-      (from_match_held text word)
+      (from_match_live text word)
     where
       by_test : (b s : Bool) → begins_one (root_kind_of kind) patterns (symbol ∷ text) ≡ b
           → one_stands patterns (symbol ∷ text) ≡ s
-          → (held (root_kind_of kind) patterns text ≡ Some word → from_match patterns text ≡ from_match patterns word)
+          → (live_suffix (root_kind_of kind) patterns text ≡ Some word → from_match patterns text ≡ from_match patterns word)
           → from_match patterns (symbol ∷ text) ≡ from_match patterns word
       by_test true s begun stood further =
-          let held_is : held (root_kind_of kind) patterns (symbol ∷ text)
+          let live_is : live_suffix (root_kind_of kind) patterns (symbol ∷ text)
           ≡ Some (symbol ∷ text) = cond-true _ _ _ begun in
           let same : symbol ∷ text ≡ word = cc in
           ap (from_match patterns) same
       by_test false true unbegun stood further =
-          let held_is : held (root_kind_of kind) patterns (symbol ∷ text) ≡ None =
-          cond-false _ _ _ unbegun ∙ cond-true _ _ _ (settled_is (symbol ∷ text) ∙ stood) in cc
+          let live_is : live_suffix (root_kind_of kind) patterns (symbol ∷ text) ≡ None =
+          cond-false _ _ _ unbegun ∙ cond-true _ _ _ (matched_is (symbol ∷ text) ∙ stood) in cc
       by_test false false unbegun unstood further =
-          let held_is : held (root_kind_of kind) patterns (symbol ∷ text) ≡ held (root_kind_of kind) patterns text =
-          cond-false _ _ _ unbegun ∙ cond-false _ _ _ (settled_is (symbol ∷ text) ∙ unstood) in
-          from_more symbol text unstood ∙ further (sym held_is ∙ is)
+          let live_is : live_suffix (root_kind_of kind) patterns (symbol ∷ text) ≡ live_suffix (root_kind_of kind) patterns text =
+          cond-false _ _ _ unbegun ∙ cond-false _ _ _ (matched_is (symbol ∷ text) ∙ unstood) in
+          from_more symbol text unstood ∙ further (sym live_is ∙ is)
 
-  -- what is held is no longer than a pattern
-  pub held_is_short : (longest : ℕ) → ((i : ℕ) → length (pattern_at patterns i) ≤ longest) → (text word : List ℕ)
-      → held (root_kind_of kind) patterns text ≡ Some word → length word ≤ longest
-  held_is_short longest short [] word is =
+  -- the live suffix is no longer than a pattern
+  pub live_is_short : (longest : ℕ) → ((i : ℕ) → length (pattern_at patterns i) ≤ longest) → (text word : List ℕ)
+      → live_suffix (root_kind_of kind) patterns text ≡ Some word → length word ≤ longest
+  live_is_short longest short [] word is =
       let same : [] ≡ word = cc in omega (arith, ap (λ (l : List ℕ). length l) same)
-  held_is_short longest short (symbol ∷ text) word is =
+  live_is_short longest short (symbol ∷ text) word is =
       by_test (begins_one (root_kind_of kind) patterns (symbol ∷ text))
-      (is_settled (root_kind_of kind) patterns (symbol ∷ text)) refl refl (held_is_short longest short text word)
+      (is_matched (root_kind_of kind) patterns (symbol ∷ text)) refl refl (live_is_short longest short text word)
     where
       by_test : (b s : Bool) → begins_one (root_kind_of kind) patterns (symbol ∷ text) ≡ b
-          → is_settled (root_kind_of kind) patterns (symbol ∷ text) ≡ s
-          → (held (root_kind_of kind) patterns text ≡ Some word → length word ≤ longest) → length word ≤ longest
-      by_test true s begun settled further =
-          let held_is : held (root_kind_of kind) patterns (symbol ∷ text)
+          → is_matched (root_kind_of kind) patterns (symbol ∷ text) ≡ s
+          → (live_suffix (root_kind_of kind) patterns text ≡ Some word → length word ≤ longest) → length word ≤ longest
+      by_test true s begun matched further =
+          let live_is : live_suffix (root_kind_of kind) patterns (symbol ∷ text)
           ≡ Some (symbol ∷ text) = cond-true _ _ _ begun in
           let same : symbol ∷ text ≡ word = cc in
           let one = any_in_question (λ pattern. starts_with nat_eq pattern (symbol ∷ text)) (root_kind_of kind) patterns
@@ -426,13 +426,13 @@ module _ (kind : MatchKind) (patterns : List (List ℕ)) where
             ap (λ (l : List ℕ). length l) split,
             length-append (symbol ∷ text) (drop (length (symbol ∷ text)) (pattern_at patterns one.0)),
           )
-      by_test false true unbegun settled further =
-          let held_is : held (root_kind_of kind) patterns (symbol ∷ text) ≡ None =
-          cond-false _ _ _ unbegun ∙ cond-true _ _ _ settled in cc
-      by_test false false unbegun settled further =
-          let held_is : held (root_kind_of kind) patterns (symbol ∷ text) ≡ held (root_kind_of kind) patterns text =
-          cond-false _ _ _ unbegun ∙ cond-false _ _ _ settled in
-          further (sym held_is ∙ is)
+      by_test false true unbegun matched further =
+          let live_is : live_suffix (root_kind_of kind) patterns (symbol ∷ text) ≡ None =
+          cond-false _ _ _ unbegun ∙ cond-true _ _ _ matched in cc
+      by_test false false unbegun matched further =
+          let live_is : live_suffix (root_kind_of kind) patterns (symbol ∷ text) ≡ live_suffix (root_kind_of kind) patterns text =
+          cond-false _ _ _ unbegun ∙ cond-false _ _ _ matched in
+          further (sym live_is ∙ is)
 
   pub from_match_short : (text : List ℕ) → length (from_match patterns text) ≤ length text
   from_match_short [] = omega arith

@@ -77,18 +77,18 @@ part_is classes haystack span at n after before =
     ∙ (ap (take n) (drop-drop (at - span.start) span.start haystack)
     ∙ (ap (λ k. take n (drop k haystack)) place ∙ ap (λ m. take m (drop at haystack)) (sym long)))))))
 
--- what stands in front of a text is its front of that length
-stands_front : (text pattern : List ℕ) → starts_with nat_eq text pattern ≡ true → take (length pattern) text ≡ pattern
-stands_front text pattern is =
+-- what is a prefix of a text is its prefix of that length
+stands_prefix : (text pattern : List ℕ) → starts_with nat_eq text pattern ≡ true → take (length pattern) text ≡ pattern
+stands_prefix text pattern is =
     let split = (starts_is Decides-eqb text pattern _ refl).0 is in
     let rest = drop (length pattern) text in
-    ap (take (length pattern)) split ∙ front pattern rest
+    ap (take (length pattern)) split ∙ prefix pattern rest
   where
-    front : (a b : List ℕ) → take (length a) (a ++ b) ≡ a
-    front a b = grind (arith, common_steps)
+    prefix : (a b : List ℕ) → take (length a) (a ++ b) ≡ a
+    prefix a b = grind (arith, common_steps)
 
-front_stands : (text pattern : List ℕ) → take (length pattern) text ≡ pattern → starts_with nat_eq text pattern ≡ true
-front_stands text pattern is =
+prefix_stands : (text pattern : List ℕ) → take (length pattern) text ≡ pattern → starts_with nat_eq text pattern ≡ true
+prefix_stands text pattern is =
     (starts_is Decides-eqb text pattern _ refl).1 (drop (length pattern) text)
     (sym (take-append-drop (length pattern) text) ∙ ap (λ l. l ++ drop (length pattern) text) is)
 
@@ -135,7 +135,7 @@ module _ (ignore_case : Bool) (classes : List ℕ) (patterns : List (List ℕ)) 
         let same = map_same (folded ignore_case) (λ b. get_or classes b 0) a p
         (λ k in_a in_p. (tells i k (get_or a k 0) o.is_pattern in_p (part_byte at (at + length p) k)).1)
         (sym (folded_is ignore_case a) ∙ (o.same ∙ folded_is ignore_case p)) in
-        front_stands text (pattern_at (map (symbols_in classes) patterns) i)
+        prefix_stands text (pattern_at (map (symbols_in classes) patterns) i)
         (ap (λ n. take n text) (same_length i)
         ∙ (part_is classes haystack span at (length p) o.after_start o.before_end
         ∙ (same ∙ sym (word_at i o.is_pattern))))
@@ -162,7 +162,7 @@ module _ (ignore_case : Bool) (classes : List ℕ) (patterns : List (List ℕ)) 
         let same = map_same (λ b. get_or classes b 0) (folded ignore_case) a p
         (λ k in_a in_p. (tells i k (get_or a k 0) below in_p (part_byte at (at + length p) k)).0)
         (sym (part_is classes haystack span at (length p) after before)
-        ∙ (ap (λ n. take n text) (sym (same_length i)) ∙ (stands_front text word stands ∙ word_at i below))) in
+        ∙ (ap (λ n. take n text) (sym (same_length i)) ∙ (stands_prefix text word stands ∙ word_at i below))) in
         record {
           is_pattern = below;
           after_start = after;

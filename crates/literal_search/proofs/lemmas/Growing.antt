@@ -76,14 +76,14 @@ module _ (kind : MatchKind) (patterns words longer : List (List ℕ)) (width : �
       → IsState kind patterns words width lists n s → IsState kind patterns longer width lists' n s
   state_longer n s lists lists' kept is = record {
     shallow = is.shallow;
-    front = is.front;
+    prefix = is.prefix;
     ordered = is.ordered;
     inside = (kept is.inside).0;
     listed = (kept is.inside).1 ∙ is.listed;
     ended = is.ended;
-    linked = λ later. record {
-      some = (is.linked later).some;
-      leads = linked_longer s.link n _ (is.linked later).leads;
+    failure_is = λ later. record {
+      some = (is.failure_is later).some;
+      leads = linked_longer s.failure n _ (is.failure_is later).leads;
     };
   }
 
@@ -255,7 +255,7 @@ module _ (t : Texts) where
             subst (λ (m : ℕ). IsState t.kind (texts_of t) (words_in t (s ∷ [])) t.width
             (range_with_len 0 (length t.patterns.now)) m (get_or (s ∷ []) m d)) first record {
               shallow = omega (arith, depth);
-              front = omega (arith, depth);
+              prefix = omega (arith, depth);
               ordered = omega (arith, start);
               inside = omega (arith, end, long);
               listed =
@@ -265,7 +265,7 @@ module _ (t : Texts) where
                   ∙ (sym (list_of_empty t.kind (texts_of t) texts.some)
                   ∙ ap (list_for t.kind (texts_of t)) (sym root))));
               ended = none ∙ sym (ap (λ w. unwrap_or (ending t.kind (texts_of t) w) nothing) root);
-              linked = λ later. absurd (omega arith);
+              failure_is = λ later. absurd (omega arith);
             };
         led = record {
           leads = λ n c below inside. absurd (omega arith);

@@ -19,7 +19,7 @@ use Rattle.literal_base.specs.declared.search.MatchKind.{MatchKind}
 use Rattle.literal_base.specs.declared.search.MatchKind.TheVariants.{LeftmostFirst, LeftmostLongest, Standard}
 use Rattle.literal_search.specs.Inside.Grown.{goes_on, list_for, up_to_whole}
 use Rattle.literal_search.specs.Words.{begins_one, first_equal, in_question, one_stands, up_to_first}
-use Rattle.literal_search.proofs.lemmas.Held.{stands_longer}
+use Rattle.literal_search.proofs.lemmas.Live.{stands_longer}
 use Rattle.literal_search.proofs.lemmas.Lists.{AreCounted, AreTests, any_of_none, any_of_one, counted_range}
 use Rattle.literal_search.proofs.lemmas.Lists.{counted_take}
 use Rattle.literal_search.proofs.lemmas.Lists.{filter_filter, find_counted, find_filter, find_up_to, list_any-map}
@@ -90,7 +90,7 @@ whole_by_length t word long is_long = same_test _ _ there back
         and_from _ _ parts.0
         ((starts_is Decides-eqb word t _ refl).1 [] (sym (append-nil word) ∙ (sym whole ∙ sym (append-nil t))))
 
--- what stands in front of a text and one symbol more, and not in front of the text, is both
+-- what is a prefix of a text and one symbol more, and not of the text, is both
 pub whole_longer : (t word : List ℕ) (symbol : ℕ) → starts_with nat_eq word t ≡ false
     → starts_with nat_eq (word ++ symbol ∷ []) t ≡ true → starts_with nat_eq t (word ++ symbol ∷ []) ≡ true
 whole_longer t word symbol isnt is =
@@ -214,7 +214,7 @@ module _ (kind : MatchKind) (patterns : List (List ℕ)) (word : List ℕ) where
           ap (λ n. cond (ltb place n) (Some place) None) (length-map numbers (pattern_at patterns))
           ∙ ap (λ p. cond (ltb p (length numbers)) (Some p) None) is
 
--- no pattern is a front of the empty text
+-- no pattern is a prefix of the empty text
 pub stands_nowhere : (patterns : List (List ℕ)) → NoneIsEmpty patterns → one_stands patterns [] ≡ false
 stands_nowhere patterns some = false_from_ne_true _ (λ is.
     let one = Any-from_list_any (λ e. starts_with nat_eq [] e) patterns is in
@@ -387,10 +387,10 @@ module _ (patterns : List (List ℕ)) (word : List ℕ) (symbol : ℕ) (kind : M
       found LeftmostLongest test xs = refl
 
 -- a pattern in the list for a word begins with it
-pub front_by_list : (kind : MatchKind) (patterns : List (List ℕ)) (word : List ℕ) (first : ℕ) (more : List ℕ)
+pub prefix_by_list : (kind : MatchKind) (patterns : List (List ℕ)) (word : List ℕ) (first : ℕ) (more : List ℕ)
     → list_for kind patterns word ≡ first ∷ more
     → (length word ≤ length (pattern_at patterns first)) × (take (length word) (pattern_at patterns first) ≡ word)
-front_by_list kind patterns word first more is =
+prefix_by_list kind patterns word first more is =
     let begins : starts_with nat_eq (pattern_at patterns first) word ≡ true =
     ap (λ (l : List ℕ). starts_with nat_eq (pattern_at patterns (get_or l 0 first)) word) (sym is)
     ∙ filter_passes (λ i. starts_with nat_eq (pattern_at patterns i) word) _ 0 first

@@ -9,7 +9,7 @@ use Rattle.literal_base.specs.declared.search.MatchKind.TheVariants.{Standard}
 use Rattle.literal_base.specs.declared.search.Span.{Span}
 use Rattle.literal_search.specs.Inside.Classes.{AreClasses}
 use Rattle.literal_search.specs.Inside.LentTables.{AreFor, AreLent, IsNextBy, IsNextEnd, tables_by}
-use Rattle.literal_search.specs.Inside.Prepared.{IsFront, Puts, RefusesArray, numbers_for}
+use Rattle.literal_search.specs.Inside.Prepared.{IsHeader, Puts, RefusesArray, numbers_for}
 use Rattle.literal_search.specs.Inside.Standing.{IsStanding, longest_at, overlapping_value, standing_at}
 use Rattle.literal_search.specs.Inside.Walk.{FindsEnd, IsRow, IsTable}
 use Rattle.literal_search.specs.Overlapping.{OverlappingValue}
@@ -19,7 +19,7 @@ use Rattle.literal_search.specs.PreparedOverlapping.{TakesListedPlaces, WritesOv
 use Rattle.literal_search.specs.PreparedOverlapping.{listed_len, starts_in, texts_in}
 use Rattle.literal_search.specs.Prepared.{rows_end, rows_at}
 use Rattle.literal_search.specs.States.{IsRowsLength}
-use Rattle.literal_search.specs.declared.prepared.Front.{Front}
+use Rattle.literal_search.specs.declared.prepared.Header.{Header}
 use Rattle.literal_search.specs.declared.prepared.PrepareError.{PrepareError}
 use Rattle.literal_search.specs.declared.prepared.TheConstants.{OVERLAPPING_VERSION}
 use Rattle.literal_search.specs.declared.prepared_overlapping.LentTables.{LentTables}
@@ -71,35 +71,35 @@ same_tables search classes classes' width width' rows rows' ends ends' starts st
 
 -- the parts of an array that is prepared for a search are for it
 pub are_for : (p : LentTables) → AreLent p → (search : OverlappingValue)
-    → IsPreparedOverlapping search p.front.numbers.now → AreFor search p
+    → IsPreparedOverlapping search p.header.numbers.now → AreFor search p
 are_for p lent search prepared = record {
-  tables = same_tables search _ p.front.classes.now _ p.front.width _ p.front.rows.now _ p.ends.now _ p.starts.now
-      (sym lent.front.classes_are) (sym lent.front.width_is) (sym lent.front.rows_are) (sym lent.ends_are)
+  tables = same_tables search _ p.header.classes.now _ p.header.width _ p.header.rows.now _ p.ends.now _ p.starts.now
+      (sym lent.header.classes_are) (sym lent.header.width_is) (sym lent.header.rows_are) (sym lent.ends_are)
       (sym lent.starts_are) prepared.tables;
-  lengths = lent.front.lengths_are ∙ prepared.lengths;
+  lengths = lent.header.lengths_are ∙ prepared.lengths;
 }
 
 -- where the rows end, and how many lengths there are, by the parts of an array
-pub parts_end : {version : ℕ} (f : Front) (numbers : List ℕ) → f.numbers.now ≡ numbers → IsFront version f
+pub parts_end : {version : ℕ} (f : Header) (numbers : List ℕ) → f.numbers.now ≡ numbers → IsHeader version f
     → (262 + length f.lengths.now + length f.rows.now ≡ rows_end numbers)
     × (length f.lengths.now ≡ get_or numbers 3 0)
-parts_end {version} f numbers same front =
+parts_end {version} f numbers same header =
     let own = f.numbers.now in
-    let fits = front.parts.fits in
-    let lengths = ap (λ (l : List ℕ). length l) front.lengths_are
+    let fits = header.parts.fits in
+    let lengths = ap (λ (l : List ℕ). length l) header.lengths_are
     ∙ length_part own 262 (rows_at own) (omega arith) (omega arith) in
-    let rows = ap (λ (l : List ℕ). length l) front.rows_are
+    let rows = ap (λ (l : List ℕ). length l) header.rows_are
     ∙ length_part own (rows_at own) (rows_end own) (omega arith) (omega arith) in
     subst (λ (n : List ℕ). (262 + length f.lengths.now + length f.rows.now ≡ rows_end n)
     × (length f.lengths.now ≡ get_or n 3 0)) same (omega (arith, lengths, rows), omega (arith, lengths))
 
 -- there are as many lengths as the fourth number says
-pub lengths_many : {p : LentTables} → AreLent p → length p.front.lengths.now ≡ get_or p.front.numbers.now 3 0
-lengths_many {p} lent = (parts_end p.front p.front.numbers.now refl lent.front).1
+pub lengths_many : {p : LentTables} → AreLent p → length p.header.lengths.now ≡ get_or p.header.numbers.now 3 0
+lengths_many {p} lent = (parts_end p.header p.header.numbers.now refl lent.header).1
 
 -- there is the length of each pattern
 pub lengths_for : {search : OverlappingValue} {p : LentTables} → AreFor search p
-    → length p.front.lengths.now ≡ length search.patterns
+    → length p.header.lengths.now ≡ length search.patterns
 lengths_for {search} are =
     ap (λ (l : List ℕ). length l) are.lengths ∙ length-map search.patterns (λ (bytes : List ℕ). length bytes)
 
@@ -178,14 +178,14 @@ module _ {search : OverlappingValue} {p : LentTables} (are : AreFor search p) (h
       below : pattern < length search.patterns
       below = is_pattern t are.tables haystack bytes span valid s standing left
 
-      length_is : get_or p.front.lengths.now pattern 0 ≡ length (pattern_at search.patterns pattern)
+      length_is : get_or p.header.lengths.now pattern 0 ≡ length (pattern_at search.patterns pattern)
       length_is =
           ap (λ (l : List ℕ). get_or l pattern 0) are.lengths
           ∙ get_or-map (λ (bytes : List ℕ). length bytes) search.patterns pattern [] 0 below
 
       -- which is some, and lies in the span
-      pub length_inside : (0 < get_or p.front.lengths.now pattern 0)
-          × (span.start + get_or p.front.lengths.now pattern 0 ≤ s.at)
+      pub length_inside : (0 < get_or p.header.lengths.now pattern 0)
+          × (span.start + get_or p.header.lengths.now pattern 0 ≤ s.at)
       length_inside =
           let next = next_is t are.tables haystack bytes span valid s standing left in
           let some = are.tables.kept.some pattern [] below in
@@ -193,7 +193,7 @@ module _ {search : OverlappingValue} {p : LentTables} (are : AreFor search p) (h
           let start = next.to_come.occurrence.occurs.after_start in
           (omega (arith, length_is, some), omega (arith, length_is, whole, start))
 
-      pub next_by : (i len : ℕ) → i ≡ pattern → len ≡ get_or p.front.lengths.now i 0
+      pub next_by : (i len : ℕ) → i ≡ pattern → len ≡ get_or p.header.lengths.now i 0
           → IsNextBy t haystack span s (record { pattern = i; start = s.at - len; end = s.at })
           (record { at = s.at; place = s.place; pattern = i + 1; next = s.next + 1; end = s.end })
       next_by i len i_is len_is =
@@ -206,7 +206,7 @@ module _ {search : OverlappingValue} {p : LentTables} (are : AreFor search p) (h
           } in b in
           let found = λ (k n : ℕ). let m : MatchValue = record { pattern = k; start = s.at - n; end = s.at } in m in
           let len_there : len ≡ length (pattern_at search.patterns pattern) =
-          len_is ∙ (ap (λ k. get_or p.front.lengths.now k 0) i_is ∙ length_is) in
+          len_is ∙ (ap (λ k. get_or p.header.lengths.now k 0) i_is ∙ length_is) in
           subst (λ k. IsNextBy t haystack span s (found k len) (behind k)) (sym i_is)
           (subst (λ n. IsNextBy t haystack span s (found pattern n) (behind pattern)) (sym len_there) (record {
             stands = stands_next t are.tables haystack bytes span valid s standing left;

@@ -13,14 +13,14 @@ use Rattle.literal_search.specs.declared.prepared.PrepareError.TheVariants.{Arra
 use Rattle.literal_search.specs.declared.prepared.PrepareError.TheVariants.{PatternTooLong}
 
 -- a part of a list that is known
-pub part_at : (numbers front part back : List ℕ) (from to : ℕ) → numbers ≡ front ++ (part ++ back)
-    → from ≡ length front → to ≡ from + length part → slice_range numbers from to ≡ part
-part_at numbers front part back from to is from_is to_is =
+pub part_at : (numbers prefix part back : List ℕ) (from to : ℕ) → numbers ≡ prefix ++ (part ++ back)
+    → from ≡ length prefix → to ≡ from + length part → slice_range numbers from to ≡ part
+part_at numbers prefix part back from to is from_is to_is =
     let size : to - from ≡ length part = omega arith in
     ap (λ n. take n (drop from numbers)) size
     ∙ (ap (λ k. take (length part) (drop k numbers)) from_is
-    ∙ (ap (λ l. take (length part) (drop (length front) l)) is
-    ∙ (ap (take (length part)) (drop-append_seam front (part ++ back)) ∙ take-append_seam part back)))
+    ∙ (ap (λ l. take (length part) (drop (length prefix) l)) is
+    ∙ (ap (take (length part)) (drop-append_seam prefix (part ++ back)) ∙ take-append_seam part back)))
 
 module _ (version : ℕ) (classes : List ℕ) (width : ℕ) (patterns : List (List ℕ)) (rows starts ends : List ℕ)
     (each : length classes ≡ 256)

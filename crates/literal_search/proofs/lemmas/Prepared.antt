@@ -14,8 +14,8 @@ use Rattle.literal_fingerprints.specs.FingerprintsValue.{AllPass, FingerprintsVa
 use Rattle.literal_search.specs.SearchValue.{CanBeKept, NoneIsShorter, SearchValue}
 use Rattle.literal_search.specs.Inside.Classes.{AreClasses, Tells, symbols_in}
 use Rattle.literal_search.specs.Inside.Scan.{IsTableOf, match_by}
-use Rattle.literal_search.specs.Inside.Prepared.{IsFront, IsLent, IsSplit, table_of}
-use Rattle.literal_search.specs.declared.prepared.Front.{Front}
+use Rattle.literal_search.specs.Inside.Prepared.{IsHeader, IsLent, IsSplit, table_of}
+use Rattle.literal_search.specs.declared.prepared.Header.{Header}
 use Rattle.literal_base.specs.MatchValue.{MatchValue}
 use Rattle.literal_search.specs.Inside.Prepared.{Puts, RefusesArray, numbers_for}
 use Rattle.literal_search.specs.Inside.Search.{IsSound, patterns_in, search_value}
@@ -95,10 +95,10 @@ module _ {version : ℕ} {numbers classes : List ℕ} {width : ℕ} {lengths row
 
 -- so are those of a lent array by which a walk goes
 module _ (p : Lent) (lent : IsLent p) (fingerprints : Option (Bor FingerprintsValue)) (query : Query)
-    (ignore_case : Bool) (prepared : IsPrepared query ignore_case p.front.numbers.now)
+    (ignore_case : Bool) (prepared : IsPrepared query ignore_case p.header.numbers.now)
   where
     all_pass : (o : Option FingerprintsValue)
-        → IfSome o (λ f. (0 < p.shortest) × (f ≡ fingerprints_by (fingerprints_part p.front.numbers.now)))
+        → IfSome o (λ f. (0 < p.shortest) × (f ≡ fingerprints_by (fingerprints_part p.header.numbers.now)))
         → IfSome o (λ f. AllPass f ignore_case query.patterns)
     all_pass None are = tt
     all_pass (Some f) (some, is) =
@@ -106,19 +106,19 @@ module _ (p : Lent) (lent : IsLent p) (fingerprints : Option (Bor FingerprintsVa
         (prepared.fingerprints (omega (arith, some, lent.shortest)))
 
     pub table_for : ((P : FingerprintsValue → Type 0) → IfSome p.fingerprints P → IfSome fingerprints (λ f. P f.now))
-        → IsTableOf (record (table_of p.front) { shortest = p.shortest; fingerprints = fingerprints }) query ignore_case
+        → IsTableOf (record (table_of p.header) { shortest = p.shortest; fingerprints = fingerprints }) query ignore_case
     table_for behind = record {
-      classes = are_classes lent.front prepared;
-      tells = tells lent.front prepared;
-      recognises = recognises lent.front prepared;
+      classes = are_classes lent.header prepared;
+      tells = tells lent.header prepared;
+      recognises = recognises lent.header prepared;
       some = prepared.kept.some;
-      longest = lent.front.longest_is ∙ prepared.longest;
+      longest = lent.header.longest_is ∙ prepared.longest;
       shortest = subst (λ n. NoneIsShorter n query.patterns) (sym lent.shortest) prepared.shortest;
       fingerprints = behind (λ f. AllPass f ignore_case query.patterns) (all_pass p.fingerprints lent.fingerprints);
     }
 
 -- what is found by it is the match with the length that the array has
-module _ {version : ℕ} (f : Front) (split : IsFront version f) (query : Query) (ignore_case : Bool)
+module _ {version : ℕ} (f : Header) (split : IsHeader version f) (query : Query) (ignore_case : Bool)
     (prepared : IsPrepared query ignore_case f.numbers.now) (haystack : List ℕ) (span : Span) (e : Ended)
     (found : IsLeftmostMatch query ignore_case haystack span (match_by query.patterns e))
   where
@@ -210,7 +210,7 @@ prints_pass a value (Some f) prints view pass are some =
     subst (λ p. AllPass p a.ignore_case (patterns_in a)) (sym are.1)
     (subst (λ (v : SearchValue). AllPass f.now v.ignore_case v.query.patterns) (sym view) pass)
 
--- so many places are those in front, one for each pattern, the rows, and the fingerprints
+-- so many places are the header, one for each pattern, the rows, and the fingerprints
 pub takes_places : (a : Inside) → IsSound a → (needed : ℕ)
     → needed ≡ 262 + length (patterns_in a) + length a.rows + 129
     → TakesPlaces (let q : Query = record { kind = a.kind; patterns = patterns_in a } in q) a.ignore_case needed

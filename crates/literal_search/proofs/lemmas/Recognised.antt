@@ -11,8 +11,8 @@ use Rattle.literal_search.specs.Inside.Lists.{Recognise, StandsBehind, symbols_o
 use Rattle.literal_search.specs.Inside.Walk.{IsAt}
 use Rattle.literal_search.specs.Table.{Recognises, nothing}
 use Rattle.literal_search.specs.Words.{ending}
-use Rattle.literal_search.specs.declared.ends.Recognised.{Recognised}
-use Rattle.literal_search.proofs.lemmas.Walk.{always_held, at_dead, at_start, at_with_end, at_without_end, ends_at}
+use Rattle.literal_search.specs.declared.suffixes.Recognised.{Recognised}
+use Rattle.literal_search.proofs.lemmas.Walk.{always_live, at_dead, at_start, at_with_end, at_without_end, ends_at}
 use Rattle.literal_search.proofs.lemmas.Walk.{row_at, slice_push}
 
 module _ (r : Recognised) (recognise : Recognise r) where
@@ -40,7 +40,7 @@ module _ (r : Recognised) (recognise : Recognise r) where
       (code_is : code ≡ get_or r.rows.now (place + symbol) 0)
     where
       alive : (recognises : Recognises Standard (symbols_of r) r.width r.rows.now) → ¬ (code ≡ nothing)
-      alive recognises is = always_held (symbols_of r) (text ++ symbol ∷ [])
+      alive recognises is = always_live (symbols_of r) (text ++ symbol ∷ [])
           (at_dead Standard (symbols_of r) r.width r.rows.now recognises text place (behind.at recognises) symbol below
           code code_is is).0
 

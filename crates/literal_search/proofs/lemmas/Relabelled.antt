@@ -21,7 +21,7 @@ use Rattle.literal_search.specs.Table.{stride_of}
 use Rattle.literal_search.specs.Words.{begins_one}
 use Rattle.literal_search.specs.declared.prepared.PrepareError.{PrepareError}
 use Rattle.literal_search.specs.declared.prepared.PrepareError.TheVariants.{ArrayTooShort, ListsTooLong, PatternTooLong}
-use Rattle.literal_search.proofs.lemmas.Held.{NoneBefore, any_in_question, any_in_question_at}
+use Rattle.literal_search.proofs.lemmas.Live.{NoneBefore, any_in_question, any_in_question_at}
 
 eqb_same : (n : ℕ) → eqb n n ≡ true
 eqb_same n = elim (eqb_tells n n) [
@@ -41,20 +41,20 @@ map_append : (f : ℕ → ℕ) (xs ys : List ℕ) → map f (xs ++ ys) ≡ map f
 map_append f [] ys = refl
 map_append f (x ∷ xs) ys = ap (λ l. f x ∷ l) (map_append f xs ys)
 
--- the front of a list that two functions lead back to itself
-fixed_front : (f g : ℕ → ℕ) (xs ys : List ℕ) → map g (map f (xs ++ ys)) ≡ xs ++ ys → map g (map f xs) ≡ xs
-fixed_front f g [] ys fixed = refl
-fixed_front f g (x ∷ xs) ys fixed =
+-- the prefix of a list that two functions lead back to itself
+fixed_prefix : (f g : ℕ → ℕ) (xs ys : List ℕ) → map g (map f (xs ++ ys)) ≡ xs ++ ys → map g (map f xs) ≡ xs
+fixed_prefix f g [] ys fixed = refl
+fixed_prefix f g (x ∷ xs) ys fixed =
     let head : g (f x) ≡ x = cc in
     let tail : map g (map f (xs ++ ys)) ≡ xs ++ ys = cc in
-    cc (head, fixed_front f g xs ys tail)
+    cc (head, fixed_prefix f g xs ys tail)
 
 -- what begins with a text still does once both are mapped
-starts_on : (f : ℕ → ℕ) (text front : List ℕ) → starts_with nat_eq text front ≡ true
-    → starts_with nat_eq (map f text) (map f front) ≡ true
-starts_on f text front is =
-    (starts_is Decides-eqb (map f text) (map f front) _ refl).1 (map f (drop (length front) text))
-    (ap (map f) ((starts_is Decides-eqb text front _ refl).0 is) ∙ map_append f front (drop (length front) text))
+starts_on : (f : ℕ → ℕ) (text prefix : List ℕ) → starts_with nat_eq text prefix ≡ true
+    → starts_with nat_eq (map f text) (map f prefix) ≡ true
+starts_on f text prefix is =
+    (starts_is Decides-eqb (map f text) (map f prefix) _ refl).1 (map f (drop (length prefix) text))
+    (ap (map f) ((starts_is Decides-eqb text prefix _ refl).0 is) ∙ map_append f prefix (drop (length prefix) text))
 
 -- the class, in other classes, of the first byte that has this one
 relabel : List ℕ → List ℕ → ℕ → ℕ
@@ -125,7 +125,7 @@ module _ (kind : MatchKind) (ignore_case : Bool) (patterns : List (List ℕ)) (o
       (sym (texts_at ignore_case patterns one other tells_one tells_other all_one all_other i below))
       ∙ sym (texts_at ignore_case patterns other one tells_other tells_one all_other all_one i below)
 
-  -- what stands in front of a text before does after
+  -- what is a prefix of a text before is one after
   none_on : (kind : MatchKind) (text : List ℕ) (i : ℕ) → i < length patterns → map back (map on text) ≡ text
       → NoneBefore kind texts text i → NoneBefore kind others (map on text) i
   unfolding on back
@@ -148,7 +148,7 @@ module _ (kind : MatchKind) (ignore_case : Bool) (patterns : List (List ℕ)) (o
       let below : it.0 < length patterns =
       omega (arith, it.1.below, length-map patterns (λ (bytes : List ℕ). symbols_in one bytes)) in
       let split = (starts_is Decides-eqb (pattern_at texts it.0) text _ refl).0 it.1.passes in
-      fixed_front on back text (drop (length text) (pattern_at texts it.0))
+      fixed_prefix on back text (drop (length text) (pattern_at texts it.0))
       (subst (λ (l : List ℕ). map back (map on l) ≡ l) split (fixed_text it.0 below))
 
   begun_on : (text : List ℕ) → begins_one kind texts text ≡ true → begins_one kind others (map on text) ≡ true

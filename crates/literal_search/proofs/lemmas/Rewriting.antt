@@ -134,19 +134,19 @@ module _ (search : SearchValue) (replacements : List (List ℕ)) (is_whole : Boo
         later = omega (arith, one.later, other.later);
         within = omega (arith, one.later, split, other.within, length-drop (at - from) ahead);
         goes_on = λ before more rest len over is.
-            let front = take (at - from) ahead in
-            let same : (before ++ front) ++ (drop (at - from) ahead ++ more) ≡ before ++ (ahead ++ more) =
-            append_assoc before front (drop (at - from) ahead ++ more)
-            ∙ ap (λ l. before ++ l) (sym (append_assoc front (drop (at - from) ahead) more)
+            let prefix = take (at - from) ahead in
+            let same : (before ++ prefix) ++ (drop (at - from) ahead ++ more) ≡ before ++ (ahead ++ more) =
+            append_assoc before prefix (drop (at - from) ahead ++ more)
+            ∙ ap (λ l. before ++ l) (sym (append_assoc prefix (drop (at - from) ahead) more)
             ∙ ap (λ l. l ++ more) (take-append-drop (at - from) ahead)) in
-            let front_len : length (before ++ front) ≡ at = omega (
+            let prefix_len : length (before ++ prefix) ≡ at = omega (
               arith,
-              length-append before front,
+              length-append before prefix,
               length-take-le (at - from) ahead split,
               len,
               one.later,
             ) in
-            let then = other.goes_on (before ++ front) more rest front_len over
+            let then = other.goes_on (before ++ prefix) more rest prefix_len over
             (subst (λ text. IsReplacedFrom search text replacements to rest) (sym same) is) in
             subst (IsReplacedFrom search (before ++ (ahead ++ more)) replacements from)
             (sym (append_assoc out next rest))

@@ -11,70 +11,70 @@ use Rattle.std.specs.List.{starts_with}
 use Rattle.std.specs.Option.{option_or}
 use Rattle.literal_base.specs.declared.search.MatchKind.TheVariants.{Standard}
 use Rattle.literal_base.specs.Occurs.{NoneIsEmpty, pattern_at}
-use Rattle.literal_search.specs.Inside.Ends.{EndsWith, IsEnd, IsFirstOfEnds}
+use Rattle.literal_search.specs.Inside.Suffixes.{HasSuffix, IsSuffix, IsFirstSuffix}
 use Rattle.literal_search.specs.Words.{ending, first_equal}
 use Rattle.literal_search.proofs.lemmas.Ends.{equal_if, whole_if_long}
-use Rattle.literal_search.proofs.lemmas.Held.{none_any, none_position}
+use Rattle.literal_search.proofs.lemmas.Live.{none_any, none_position}
 
--- an end of an end is one
-pub ends_on : (text middle end : List ℕ) → EndsWith text middle → EndsWith middle end → EndsWith text end
+-- a suffix of a suffix is one
+pub ends_on : (text middle end : List ℕ) → HasSuffix text middle → HasSuffix middle end → HasSuffix text end
 ends_on text middle end one other = record {
-  front = one.front ++ other.front;
-  split = one.split ∙ (ap (λ l. one.front ++ l) other.split ∙ sym (append_assoc one.front other.front end));
+  prefix = one.prefix ++ other.prefix;
+  split = one.split ∙ (ap (λ l. one.prefix ++ l) other.split ∙ sym (append_assoc one.prefix other.prefix end));
 }
 
-pub ends_length : (text end : List ℕ) (is : EndsWith text end) → length text ≡ length is.front + length end
-ends_length text end is = ap (λ (l : List ℕ). length l) is.split ∙ length-append is.front end
+pub ends_length : (text end : List ℕ) (is : HasSuffix text end) → length text ≡ length is.prefix + length end
+ends_length text end is = ap (λ (l : List ℕ). length l) is.split ∙ length-append is.prefix end
 
--- of two ends of a text the shorter is an end of the longer
-pub ends_within : (text short long : List ℕ) → EndsWith text short → EndsWith text long → length short ≤ length long
-    → EndsWith long short
+-- of two suffixes of a text the shorter is a suffix of the longer
+pub ends_within : (text short long : List ℕ) → HasSuffix text short → HasSuffix text long → length short ≤ length long
+    → HasSuffix long short
 ends_within text short long one other shorter =
-    let n = length other.front in
-    let m = length one.front - n in
-    let sizes : n ≤ length one.front =
+    let n = length other.prefix in
+    let m = length one.prefix - n in
+    let sizes : n ≤ length one.prefix =
     omega (arith, ends_length text short one, ends_length text long other) in
-    let whole : n + m ≡ length one.front = omega arith in
-    let rest : drop n text ≡ long = ap (drop n) other.split ∙ drop-append_seam other.front long in
+    let whole : n + m ≡ length one.prefix = omega arith in
+    let rest : drop n text ≡ long = ap (drop n) other.split ∙ drop-append_seam other.prefix long in
     let last : drop m long ≡ short =
     ap (drop m) (sym rest)
     ∙ (drop-drop m n text
     ∙ (ap (λ k. drop k text) whole
-    ∙ (ap (drop (length one.front)) one.split ∙ drop-append_seam one.front short))) in
-    record { front = take m long; split = sym (take-append-drop m long) ∙ ap (λ l. take m long ++ l) last }
+    ∙ (ap (drop (length one.prefix)) one.split ∙ drop-append_seam one.prefix short))) in
+    record { prefix = take m long; split = sym (take-append-drop m long) ∙ ap (λ l. take m long ++ l) last }
 
-empty_front : (front rest : List ℕ) → length front ≡ 0 → front ++ rest ≡ rest
-empty_front [] rest none = refl
-empty_front (x ∷ front) rest none = absurd (omega arith)
+empty_prefix : (prefix rest : List ℕ) → length prefix ≡ 0 → prefix ++ rest ≡ rest
+empty_prefix [] rest none = refl
+empty_prefix (x ∷ prefix) rest none = absurd (omega arith)
 
 -- of one length they are equal
-pub ends_same : (text a b : List ℕ) → EndsWith text a → EndsWith text b → length a ≡ length b → a ≡ b
+pub ends_same : (text a b : List ℕ) → HasSuffix text a → HasSuffix text b → length a ≡ length b → a ≡ b
 ends_same text a b one other same =
     let within = ends_within text a b one other (omega arith) in
-    let none : length within.front ≡ 0 = omega (arith, ends_length b a within) in
-    sym (within.split ∙ empty_front within.front a none)
+    let none : length within.prefix ≡ 0 = omega (arith, ends_length b a within) in
+    sym (within.split ∙ empty_prefix within.prefix a none)
 
 module _ (patterns : List (List ℕ)) (some : NoneIsEmpty patterns) where
-  -- an end of a text is the text, or an end of what is behind its first symbol
-  end_splits : (symbol : ℕ) (more : List ℕ) (i : ℕ) → IsEnd patterns (symbol ∷ more) i
-      → (symbol ∷ more ≡ pattern_at patterns i) ⊎ IsEnd patterns more i
-  end_splits symbol more i is = by_front is.ends.front is.ends.split
+  -- a suffix of a text is the text, or a suffix of what is behind its first symbol
+  end_splits : (symbol : ℕ) (more : List ℕ) (i : ℕ) → IsSuffix patterns (symbol ∷ more) i
+      → (symbol ∷ more ≡ pattern_at patterns i) ⊎ IsSuffix patterns more i
+  end_splits symbol more i is = by_prefix is.ends.prefix is.ends.split
     where
-      by_front : (front : List ℕ) → symbol ∷ more ≡ front ++ pattern_at patterns i
-          → (symbol ∷ more ≡ pattern_at patterns i) ⊎ IsEnd patterns more i
-      by_front [] split = inl split
-      by_front (x ∷ front) split =
-          let tails : more ≡ front ++ pattern_at patterns i = cc in
-          inr (record { is_pattern = is.is_pattern; ends = record { front = front; split = tails } })
+      by_prefix : (prefix : List ℕ) → symbol ∷ more ≡ prefix ++ pattern_at patterns i
+          → (symbol ∷ more ≡ pattern_at patterns i) ⊎ IsSuffix patterns more i
+      by_prefix [] split = inl split
+      by_prefix (x ∷ prefix) split =
+          let tails : more ≡ prefix ++ pattern_at patterns i = cc in
+          inr (record { is_pattern = is.is_pattern; ends = record { prefix = prefix; split = tails } })
 
-  longer_end : (symbol : ℕ) (more : List ℕ) (i : ℕ) → IsEnd patterns more i → IsEnd patterns (symbol ∷ more) i
+  longer_end : (symbol : ℕ) (more : List ℕ) (i : ℕ) → IsSuffix patterns more i → IsSuffix patterns (symbol ∷ more) i
   longer_end symbol more i is = record {
     is_pattern = is.is_pattern;
     ends = ends_on (symbol ∷ more) more (pattern_at patterns i)
-        (record { front = symbol ∷ []; split = refl }) is.ends;
+        (record { prefix = symbol ∷ []; split = refl }) is.ends;
   }
 
-  pub no_end_of_nothing : (i : ℕ) → ¬ IsEnd patterns [] i
+  pub no_end_of_nothing : (i : ℕ) → ¬ IsSuffix patterns [] i
   no_end_of_nothing i is =
       let long = some i [] is.is_pattern in
       omega (arith, long, ends_length [] (pattern_at patterns i) is.ends)
@@ -87,7 +87,7 @@ module _ (patterns : List (List ℕ)) (some : NoneIsEmpty patterns) where
 
   -- the first that is a text
   equal_is_first : (text : List ℕ) (first : ℕ) → first_equal Standard patterns text ≡ Some first
-      → IsFirstOfEnds patterns text first
+      → IsFirstSuffix patterns text first
   equal_is_first text first is =
       let test = λ (pattern : List ℕ). starts_with nat_eq pattern text && starts_with nat_eq text pattern in
       let one = position-Some test patterns first [] is in
@@ -102,14 +102,14 @@ module _ (patterns : List (List ℕ)) (some : NoneIsEmpty patterns) where
       )) in
       let long = ap (λ (l : List ℕ). length l) same in
       record {
-        is = record { is_pattern = one.0; ends = record { front = []; split = same } };
+        is = record { is_pattern = one.0; ends = record { prefix = []; split = same } };
         others = λ i end.
             let size = ends_length text (pattern_at patterns i) end.ends in
             elim (cases_lt (length (pattern_at patterns i)) (length (pattern_at patterns first))) [
               | inl shorter ↦ inr (inl shorter)
               | inr whole ↦
                   let equal : text ≡ pattern_at patterns i =
-                  ends_same text text (pattern_at patterns i) (record { front = []; split = refl }) end.ends
+                  ends_same text text (pattern_at patterns i) (record { prefix = []; split = refl }) end.ends
                   (omega arith) in
                   elim (cases_lt first i) [
                     | inl later ↦ inr (inr (omega (arith, ap (λ (l : List ℕ). length l) equal, long), later))
@@ -122,15 +122,15 @@ module _ (patterns : List (List ℕ)) (some : NoneIsEmpty patterns) where
             ];
       }
 
-  -- where no pattern ends none is an end of the text
-  pub none_ends : (text : List ℕ) → ending Standard patterns text ≡ None → (i : ℕ) → ¬ IsEnd patterns text i
+  -- where no pattern ends none is a suffix of the text
+  pub none_ends : (text : List ℕ) → ending Standard patterns text ≡ None → (i : ℕ) → ¬ IsSuffix patterns text i
   none_ends [] none i is = no_end_of_nothing i is
   none_ends (symbol ∷ more) none i is =
       by_first (first_equal Standard patterns (symbol ∷ more)) refl none (none_ends more)
     where
       by_first : (o : Option ℕ) → first_equal Standard patterns (symbol ∷ more) ≡ o
           → option_or o (ending Standard patterns more) ≡ None
-          → (ending Standard patterns more ≡ None → (i : ℕ) → ¬ IsEnd patterns more i) → ⊥
+          → (ending Standard patterns more ≡ None → (i : ℕ) → ¬ IsSuffix patterns more i) → ⊥
       by_first (Some first) equal none further = cc
       by_first None equal none further = elim (end_splits symbol more i is) [
         | inl same ↦ not_equal (symbol ∷ more) i equal is.is_pattern same
@@ -139,15 +139,15 @@ module _ (patterns : List (List ℕ)) (some : NoneIsEmpty patterns) where
 
   -- and where one does it comes first of all that are
   pub first_ends : (text : List ℕ) (first : ℕ) → ending Standard patterns text ≡ Some first
-      → IsFirstOfEnds patterns text first
+      → IsFirstSuffix patterns text first
   first_ends [] first is = cc
   first_ends (symbol ∷ more) first is =
       by_first (first_equal Standard patterns (symbol ∷ more)) refl is (first_ends more)
     where
       by_first : (o : Option ℕ) → first_equal Standard patterns (symbol ∷ more) ≡ o
           → option_or o (ending Standard patterns more) ≡ Some first
-          → ((first : ℕ) → ending Standard patterns more ≡ Some first → IsFirstOfEnds patterns more first)
-          → IsFirstOfEnds patterns (symbol ∷ more) first
+          → ((first : ℕ) → ending Standard patterns more ≡ Some first → IsFirstSuffix patterns more first)
+          → IsFirstSuffix patterns (symbol ∷ more) first
       by_first (Some equal) whole found further =
           equal_is_first (symbol ∷ more) first (whole ∙ found)
       by_first None none found further =
@@ -160,23 +160,23 @@ module _ (patterns : List (List ℕ)) (some : NoneIsEmpty patterns) where
             ];
           }
 
-  -- each pattern is an end of itself
-  pub end_of_itself : (i : ℕ) → i < length patterns → IsEnd patterns (pattern_at patterns i) i
-  end_of_itself i below = record { is_pattern = below; ends = record { front = []; split = refl } }
+  -- each pattern is a suffix of itself
+  pub end_of_itself : (i : ℕ) → i < length patterns → IsSuffix patterns (pattern_at patterns i) i
+  end_of_itself i below = record { is_pattern = below; ends = record { prefix = []; split = refl } }
 
   -- the first of the ends of a text is the first of its own
-  pub first_is_own : (text : List ℕ) (first : ℕ) → IsFirstOfEnds patterns text first
+  pub first_is_own : (text : List ℕ) (first : ℕ) → IsFirstSuffix patterns text first
       → ending Standard patterns (pattern_at patterns first) ≡ Some first
   first_is_own text first is = by (ending Standard patterns (pattern_at patterns first)) refl
     where
-      own : IsEnd patterns (pattern_at patterns first) first
+      own : IsSuffix patterns (pattern_at patterns first) first
       own = end_of_itself first is.is.is_pattern
 
       by : (o : Option ℕ) → ending Standard patterns (pattern_at patterns first) ≡ o → o ≡ Some first
       by None none = absurd (none_ends (pattern_at patterns first) none first own)
       by (Some other) found =
           let one = first_ends (pattern_at patterns first) other found in
-          let end : IsEnd patterns text other = record {
+          let end : IsSuffix patterns text other = record {
             is_pattern = one.is.is_pattern;
             ends = ends_on text (pattern_at patterns first) (pattern_at patterns other) is.is.ends one.is.ends;
           } in
@@ -198,8 +198,8 @@ module _ (patterns : List (List ℕ)) (some : NoneIsEmpty patterns) where
           ]
 
   -- the ends of a text are those of the first of them
-  pub ends_of_first : (text : List ℕ) (first : ℕ) → IsFirstOfEnds patterns text first → (i : ℕ)
-      → IsEnd patterns text i → IsEnd patterns (pattern_at patterns first) i
+  pub ends_of_first : (text : List ℕ) (first : ℕ) → IsFirstSuffix patterns text first → (i : ℕ)
+      → IsSuffix patterns text i → IsSuffix patterns (pattern_at patterns first) i
   ends_of_first text first is i end = record {
     is_pattern = end.is_pattern;
     ends = ends_within text (pattern_at patterns i) (pattern_at patterns first) end.ends is.is.ends

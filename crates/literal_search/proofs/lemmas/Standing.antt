@@ -15,7 +15,7 @@ use Rattle.literal_base.specs.declared.search.Span.{Span}
 use Rattle.literal_base.specs.MatchValue.{MatchValue}
 use Rattle.literal_base.specs.Occurs.{IsValidSpan, NoneIsEmpty, between, pattern_at}
 use Rattle.literal_search.specs.Inside.Classes.{symbols_in}
-use Rattle.literal_search.specs.Inside.Ends.{AreEnds, IsEnd, IsFirstOfEnds}
+use Rattle.literal_search.specs.Inside.Suffixes.{AreSuffixes, IsSuffix, IsFirstSuffix}
 use Rattle.literal_search.specs.Inside.Standing.{HaveSameToCome, IsStanding}
 use Rattle.literal_search.specs.Inside.Standing.{longest_at, read_of, standing_at, standing_value}
 use Rattle.literal_search.specs.Inside.Walk.{FindsEnd, IsAt, IsFirstEnd, NoneEnds, read_to}
@@ -47,10 +47,10 @@ module _ (p : Tables) (parts : AreTables p) (haystack : List ℕ) (bytes : (i : 
     known : length (texts_in p) ≡ length p.patterns
     known = length-map p.patterns (symbols_in p.classes)
 
-    -- an occurrence is an end of what is read up to its own end
+    -- an occurrence is a suffix of what is read up to its own end
     pub occurrence_ends : (found : MatchValue)
         → IsOccurrence p.patterns p.ignore_case haystack span found
-        → IsEnd (texts_in p) (read_of p haystack span found.end) found.pattern
+        → IsSuffix (texts_in p) (read_of p haystack span found.end) found.pattern
     occurrence_ends found is =
         let begin = is.occurs.after_start in
         let whole = is.whole in
@@ -74,14 +74,14 @@ module _ (p : Tables) (parts : AreTables p) (haystack : List ℕ) (bytes : (i : 
         record {
           is_pattern = omega (arith, known, is.occurs.is_pattern);
           ends = record {
-            front = take at text;
+            prefix = take at text;
             split = sym (take-append-drop at text) ∙ ap (λ l. take at text ++ l) same;
           };
         }
 
-    -- and an end of what is read occurs
+    -- and a suffix of what is read occurs
     pub end_occurs : (i at : ℕ) → span.start ≤ at → at ≤ span.end
-        → IsEnd (texts_in p) (read_of p haystack span at) i
+        → IsSuffix (texts_in p) (read_of p haystack span at) i
         → IsOccurrence p.patterns p.ignore_case haystack span
         (record { pattern = i; start = at - length (pattern_at p.patterns i); end = at })
     end_occurs i at after inside is =
@@ -89,14 +89,14 @@ module _ (p : Tables) (parts : AreTables p) (haystack : List ℕ) (bytes : (i : 
         let valid_here = valid_to at after inside in
         let text = read_of p haystack span at in
         let word = pattern_at (texts_in p) i in
-        let front = is.ends.front in
+        let prefix = is.ends.prefix in
         let start = at - length (pattern_at p.patterns i) in
         let long = text_long p.ignore_case p.classes p.patterns parts.tells haystack bytes here valid_here in
         let size = symbols_length p.classes p.patterns i in
         let parts_long = ends_length text word is.ends in
-        let place : length front ≡ start - span.start = omega (arith, long, size, parts_long) in
+        let place : length prefix ≡ start - span.start = omega (arith, long, size, parts_long) in
         let same : drop (start - span.start) text ≡ word =
-        ap (λ n. drop n text) (sym place) ∙ (ap (drop (length front)) is.ends.split ∙ drop-append_seam front word) in
+        ap (λ n. drop n text) (sym place) ∙ (ap (drop (length prefix)) is.ends.split ∙ drop-append_seam prefix word) in
         let stands : starts_with nat_eq (drop (start - span.start) text) word ≡ true =
         (starts_is Decides-eqb (drop (start - span.start) text) word _ refl).1 [] (same ∙ sym (append-nil word)) in
         let is_pattern = is.is_pattern in
@@ -122,7 +122,7 @@ module _ (p : Tables) (parts : AreTables p) (haystack : List ℕ) (bytes : (i : 
         | inr here ↦
             let end = occurrence_ends found is.occurrence in
             let one = standing.left.every found.pattern
-            (subst (λ n. IsEnd (texts_in p) (read_of p haystack span n) found.pattern) (sym here.0) end) here.1 in
+            (subst (λ n. IsSuffix (texts_in p) (read_of p haystack span n) found.pattern) (sym here.0) end) here.1 in
             absurd (omega (arith, one.1, one.2))
       ]
 
@@ -189,7 +189,7 @@ module _ (p : Tables) (parts : AreTables p) (haystack : List ℕ) (bytes : (i : 
               by None is some read = cc
               by (Some i) is some read = ap Some (sym read)
 
-          is_first : IsFirstOfEnds (texts_in p) text (longest_at p stop)
+          is_first : IsFirstSuffix (texts_in p) text (longest_at p stop)
           is_first = first_ends (texts_in p) some_texts text (longest_at p stop) ends_first
 
           pub longest_below : (longest_at p stop) < length p.patterns
@@ -201,7 +201,7 @@ module _ (p : Tables) (parts : AreTables p) (haystack : List ℕ) (bytes : (i : 
               first.at in
               omega (arith, row.fits)
 
-          list : AreEnds (texts_in p) (pattern_at (texts_in p) (longest_at p stop)) 0 p.ends
+          list : AreSuffixes (texts_in p) (pattern_at (texts_in p) (longest_at p stop)) 0 p.ends
               (get_or p.starts (longest_at p stop) 0) (get_or p.starts ((longest_at p stop) +
               1) 0)
           list = parts.lists.each (longest_at p stop) longest_below (first_is_own (texts_in p) some_texts text
@@ -267,7 +267,7 @@ module _ (p : Tables) (parts : AreTables p) (haystack : List ℕ) (bytes : (i : 
         abbrev pub pattern : ℕ
         pattern = get_or p.ends s.next 0
 
-        here : IsEnd (texts_in p) (read_of p haystack span s.at) pattern × (s.pattern ≤ pattern)
+        here : IsSuffix (texts_in p) (read_of p haystack span s.at) pattern × (s.pattern ≤ pattern)
         here = standing.left.each s.next (omega arith) left
 
         abbrev pub found : MatchValue
@@ -296,7 +296,7 @@ module _ (p : Tables) (parts : AreTables p) (haystack : List ℕ) (bytes : (i : 
               | inr at ↦
                   let end = occurrence_ends other is.occurrence in
                   let one = standing.left.every other.pattern
-                  (subst (λ n. IsEnd (texts_in p) (read_of p haystack span n) other.pattern) less.0 end) at.1 in
+                  (subst (λ n. IsSuffix (texts_in p) (read_of p haystack span n) other.pattern) less.0 end) at.1 in
                   elim (cases_lt s.next one.0) [
                     | inl later ↦
                         omega (arith, less.1, one.3, standing.left.ascends s.next one.0 (omega arith) later one.2)
@@ -349,7 +349,7 @@ module _ (p : Tables) (parts : AreTables p) (haystack : List ℕ) (bytes : (i : 
         ascends = λ j k from before after. absurd (omega arith);
         each = λ k from before. absurd (omega arith);
         every = λ i end from.
-            let none = subst (λ t. IsEnd (texts_in p) t i) nothing_read end in
+            let none = subst (λ t. IsSuffix (texts_in p) t i) nothing_read end in
             absurd (no_end_of_nothing (texts_in p) some_texts i none);
       };
     }

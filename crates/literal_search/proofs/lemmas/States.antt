@@ -22,19 +22,19 @@ use Rattle.literal_search.specs.Inside.Classes.{AreClasses, symbols_in}
 use Rattle.literal_search.specs.Inside.Grown.{AreWords, LeadsBy}
 use Rattle.literal_search.specs.States.{AreStates, HasTooManyStates}
 use Rattle.literal_search.specs.Table.{Recognises, stride_of}
-use Rattle.literal_search.specs.Words.{begins_one, held, word_of}
-use Rattle.literal_search.proofs.lemmas.Behind.{held_begun}
-use Rattle.literal_search.proofs.lemmas.Held.{NoneBefore, any_in_question, any_in_question_at, begins_front}
+use Rattle.literal_search.specs.Words.{begins_one, live_suffix, word_of}
+use Rattle.literal_search.proofs.lemmas.Behind.{live_begun}
+use Rattle.literal_search.proofs.lemmas.Live.{NoneBefore, any_in_question, any_in_question_at, begins_prefix}
 
 module _ (kind : MatchKind) (patterns : List (List ℕ)) (width : ℕ)
     (below : (i k : ℕ) → get_or (pattern_at patterns i) k 0 < width) (rows : List ℕ)
     (r : Recognises kind patterns width rows) where
-  -- each front of a text with which a pattern begins has a state
-  state_of_front : (text : List ℕ) → begins_one kind patterns text ≡ true → (k : ℕ) → k ≤ length text
+  -- each prefix of a text with which a pattern begins has a state
+  state_of_prefix : (text : List ℕ) → begins_one kind patterns text ≡ true → (k : ℕ) → k ≤ length text
       → (n : ℕ) × (n < length r.words) × (word_of r.words n ≡ take k text)
-  state_of_front text begun zero short = (0, r.some, r.root)
-  state_of_front text begun (suc k) short =
-      let before = state_of_front text begun k (omega arith) in
+  state_of_prefix text begun zero short = (0, r.some, r.root)
+  state_of_prefix text begun (suc k) short =
+      let before = state_of_prefix text begun k (omega arith) in
       let symbol = get_or text k 0 in
       let one = any_in_question (λ e. starts_with nat_eq e text) kind patterns text begun in
       let pattern = pattern_at patterns one.0 in
@@ -45,13 +45,13 @@ module _ (kind : MatchKind) (patterns : List (List ℕ)) (width : ℕ)
       let next : suc k ≡ k + 1 = omega arith in
       let more : take (suc k) text ≡ take k text ++ symbol ∷ [] =
       ap (λ n. take n text) next ∙ take_more text k 0 (omega arith) in
-      let front_begun = begins_front kind patterns (take (suc k) text) (drop (suc k) text)
+      let prefix_begun = begins_prefix kind patterns (take (suc k) text) (drop (suc k) text)
       (subst (λ t. begins_one kind patterns t ≡ true) (sym (take-append-drop (suc k) text)) begun) in
       let leads = subst
       (λ t. LeadsBy kind patterns r.words width (get_or rows (before.0 * stride_of width + symbol) 0) t)
-      (ap (λ w. held kind patterns (w ++ symbol ∷ [])) before.2
-      ∙ (ap (held kind patterns) (sym more)
-      ∙ held_begun kind patterns (take (suc k) text) front_begun))
+      (ap (λ w. live_suffix kind patterns (w ++ symbol ∷ [])) before.2
+      ∙ (ap (live_suffix kind patterns) (sym more)
+      ∙ live_begun kind patterns (take (suc k) text) prefix_begun))
       (r.leads before.0 symbol before.1 is_symbol) in
       (leads.state, leads.is_state, leads.word_is)
 
@@ -59,7 +59,7 @@ module _ (kind : MatchKind) (patterns : List (List ℕ)) (width : ℕ)
       → (n : ℕ) × (n < length r.words) × (word_of r.words n ≡ text)
   state_of text (inl none) = (0, r.some, r.root ∙ sym none)
   state_of text (inr begun) =
-      let is = state_of_front text begun (length text) (omega arith) in
+      let is = state_of_prefix text begun (length text) (omega arith) in
       (is.0, is.1, is.2 ∙ take_all (length text) text (omega arith))
 
   -- the states of texts
@@ -246,32 +246,32 @@ symbols_below classes width are patterns i k = elim (cases_lt i (length patterns
     at (p ∷ ps) zero inside = symbol_below p.items
     at (p ∷ ps) (suc j) inside = at ps j (omega arith)
 
--- the fronts of a pattern, where each of them may lead to the match
+-- the prefixes of a pattern, where each of them may lead to the match
 module _ (kind : MatchKind) (patterns : List (List ℕ)) (i : ℕ) (below : i < length patterns)
     (first : kind ≡ LeftmostFirst → i ≡ 0) where
-  front : ℕ → List ℕ
-  front n = take n (pattern_at patterns i)
+  prefix : ℕ → List ℕ
+  prefix n = take n (pattern_at patterns i)
 
-  front_begins : (n : ℕ) → begins_one kind patterns (front n) ≡ true
-  unfolding front
-  front_begins n = any_in_question_at (λ e. starts_with nat_eq e (front n)) kind patterns (front n) i record {
+  prefix_begins : (n : ℕ) → begins_one kind patterns (prefix n) ≡ true
+  unfolding prefix
+  prefix_begins n = any_in_question_at (λ e. starts_with nat_eq e (prefix n)) kind patterns (prefix n) i record {
     below = below;
-    passes = (starts_is Decides-eqb (pattern_at patterns i) (front n) _ refl).1 (drop n (pattern_at patterns i))
+    passes = (starts_is Decides-eqb (pattern_at patterns i) (prefix n) _ refl).1 (drop n (pattern_at patterns i))
         (sym (take-append-drop n (pattern_at patterns i)));
     in_question = by_kind kind first;
   }
     where
-      by_kind : (k : MatchKind) → (k ≡ LeftmostFirst → i ≡ 0) → NoneBefore k patterns (front n) i
+      by_kind : (k : MatchKind) → (k ≡ LeftmostFirst → i ≡ 0) → NoneBefore k patterns (prefix n) i
       by_kind Standard is = tt
       by_kind LeftmostFirst is = λ j before. absurd (omega (arith, before, is refl))
       by_kind LeftmostLongest is = tt
 
   -- where these are too many for rows, all states are
-  pub too_many_fronts : (width : ℕ) → 2 ^ 31 - 1 < (length (pattern_at patterns i) + 1) * stride_of width
+  pub too_many_prefixes : (width : ℕ) → 2 ^ 31 - 1 < (length (pattern_at patterns i) + 1) * stride_of width
       → HasTooManyStates kind patterns width
-  unfolding front
-  too_many_fronts width long = (
-    map front (range_with_len 0 count),
+  unfolding prefix
+  too_many_prefixes width long = (
+    map prefix (range_with_len 0 count),
     record {
       apart = λ j k d before inside same. omega (
         arith,
@@ -287,7 +287,7 @@ module _ (kind : MatchKind) (patterns : List (List ℕ)) (i : ℕ) (below : i < 
         )))),
       );
       begun = λ k d inside. inr (subst (λ (text : List ℕ). begins_one kind patterns text ≡ true)
-          (sym (at k d (omega (arith, inside, many)))) (front_begins k));
+          (sym (at k d (omega (arith, inside, many)))) (prefix_begins k));
     },
     subst (λ n. 2 ^ 31 - 1 < n * stride_of width) (sym many) long,
   )
@@ -295,8 +295,8 @@ module _ (kind : MatchKind) (patterns : List (List ℕ)) (i : ℕ) (below : i < 
       count : ℕ
       count = length (pattern_at patterns i) + 1
 
-      many : length (map front (range_with_len 0 count)) ≡ count
-      many = length-map-range_with_len front 0 count
+      many : length (map prefix (range_with_len 0 count)) ≡ count
+      many = length-map-range_with_len prefix 0 count
 
-      at : (k : ℕ) (d : List ℕ) → k < count → get_or (map front (range_with_len 0 count)) k d ≡ front k
-      at k d inside = get_or-map-range_with_len front 0 count k k d inside (omega arith)
+      at : (k : ℕ) (d : List ℕ) → k < count → get_or (map prefix (range_with_len 0 count)) k d ≡ prefix k
+      at k d inside = get_or-map-range_with_len prefix 0 count k k d inside (omega arith)

@@ -153,13 +153,13 @@ passed_more search from now n seen rest within none before =
       rest_is = ap (drop n) before.rest_is ∙ (drop-drop n (now - from) seen ∙ ap (λ k. drop k seen) far);
       passed = λ more. passes_more search from now (now + n) (seen ++ more) before.later
           (omega (arith, before.within, length-append seen more)) (before.passed more)
-          (λ front front_len i p occurs.
-          let text = subst (λ (l : List ℕ). Occurs search.query.patterns search.ignore_case (front ++ l)
-          (rest_from (front ++ l) now) i p) (rest_and_more search from now seen rest before more) occurs in
-          let there = none_ahead search.query.patterns search.ignore_case front (rest ++ more) n (none more) i p
-          (subst (λ at. Occurs search.query.patterns search.ignore_case (front ++ (rest ++ more))
-          (rest_from (front ++ (rest ++ more)) at) i p) (sym front_len) text) in
-          omega (arith, there, front_len));
+          (λ prefix prefix_len i p occurs.
+          let text = subst (λ (l : List ℕ). Occurs search.query.patterns search.ignore_case (prefix ++ l)
+          (rest_from (prefix ++ l) now) i p) (rest_and_more search from now seen rest before more) occurs in
+          let there = none_ahead search.query.patterns search.ignore_case prefix (rest ++ more) n (none more) i p
+          (subst (λ at. Occurs search.query.patterns search.ignore_case (prefix ++ (rest ++ more))
+          (rest_from (prefix ++ (rest ++ more)) at) i p) (sym prefix_len) text) in
+          omega (arith, there, prefix_len));
     }
 
 -- after a piece is read
@@ -181,11 +181,11 @@ pub found_ahead : (search : SearchValue) (from now : ℕ) (seen rest more : List
 found_ahead search from now seen rest more found leftmost before =
     ahead_before search from now (seen ++ more) (Some (shifted now found)) before.later
     (omega (arith, before.within, length-append seen more)) (before.passed more)
-    (λ front len. subst (λ (l : List ℕ). IsLeftmostMatch search.query search.ignore_case (front ++ l)
-    (rest_from (front ++ l) now) (shifted now found)) (sym (rest_and_more search from now seen rest before more))
-    (subst (λ at. IsLeftmostMatch search.query search.ignore_case (front ++ (rest ++ more))
-    (rest_from (front ++ (rest ++ more)) at) (shifted at found)) len
-    (leftmost_behind search.query search.ignore_case front (rest ++ more) found leftmost)))
+    (λ prefix len. subst (λ (l : List ℕ). IsLeftmostMatch search.query search.ignore_case (prefix ++ l)
+    (rest_from (prefix ++ l) now) (shifted now found)) (sym (rest_and_more search from now seen rest before more))
+    (subst (λ at. IsLeftmostMatch search.query search.ignore_case (prefix ++ (rest ++ more))
+    (rest_from (prefix ++ (rest ++ more)) at) (shifted at found)) len
+    (leftmost_behind search.query search.ignore_case prefix (rest ++ more) found leftmost)))
 
 -- where nothing occurs in what is held, and nothing follows, nothing occurs ahead
 pub nothing_left : (search : SearchValue) (from now : ℕ) (seen rest : List ℕ)
@@ -194,11 +194,11 @@ pub nothing_left : (search : SearchValue) (from now : ℕ) (seen rest : List ℕ
 nothing_left search from now seen rest nothing before =
     ahead_before search from now seen None before.later before.within
     (subst (PassesOver search from now) (append-nil seen) (before.passed []))
-    (λ front len. subst (λ (l : List ℕ). NothingOccurs search.query.patterns search.ignore_case (front ++ l)
-    (rest_from (front ++ l) now)) before.rest_is
-    (subst (λ at. NothingOccurs search.query.patterns search.ignore_case (front ++ rest)
-    (rest_from (front ++ rest) at)) len
-    (nothing_ahead search.query.patterns search.ignore_case front rest nothing)))
+    (λ prefix len. subst (λ (l : List ℕ). NothingOccurs search.query.patterns search.ignore_case (prefix ++ l)
+    (rest_from (prefix ++ l) now)) before.rest_is
+    (subst (λ at. NothingOccurs search.query.patterns search.ignore_case (prefix ++ rest)
+    (rest_from (prefix ++ rest) at)) len
+    (nothing_ahead search.query.patterns search.ignore_case prefix rest nothing)))
 
 -- where nothing was read, no failure is lost
 nothing_read : (failure : Option ErrorKind) (piece : List ℕ) → piece ≡ []

@@ -19,24 +19,24 @@ use Rattle.literal_base.specs.Kinds.{root_kind_of}
 use Rattle.literal_base.specs.declared.search.Span.{Span}
 use Rattle.literal_base.specs.Occurs.{NoneIsEmpty, between, pattern_at}
 use Rattle.literal_search.specs.Inside.Classes.{AreClasses, symbols_in}
-use Rattle.literal_search.specs.Inside.Grown.{ending_held}
+use Rattle.literal_search.specs.Inside.Grown.{ending_live}
 use Rattle.literal_search.specs.Inside.Walk.{FindsIn, IsAt, IsBehind, IsBest, IsFirst, IsFound, IsRow, IsTable}
 use Rattle.literal_search.specs.Inside.Walk.{Reads}
 use Rattle.literal_search.specs.Inside.Walk.{Finds, FindsEarliest, FindsEnd, GoesOn, IsFirstEnd, NoneEnds}
 use Rattle.literal_search.specs.Inside.Walk.{ReadsAll, StopsBy}
 use Rattle.literal_search.specs.Inside.Walk.{StopsNear, from_match, place_of, read_to, text_in, text_of}
 use Rattle.literal_search.specs.Table.{LeadsTo, Leads, Recognises, code_of, nothing, stride_of}
-use Rattle.literal_search.specs.Words.{begins_one, ending, first_equal, held, word_of}
+use Rattle.literal_search.specs.Words.{begins_one, ending, first_equal, live_suffix, word_of}
 use Rattle.literal_search.specs.declared.walk.Ended.{Ended}
 use Rattle.literal_search.specs.declared.walk.Stop.{Stop}
 use Rattle.literal_search.specs.declared.walk.Table.{Table}
 use Rattle.literal_search.specs.declared.walk.Walked.TheVariants.{Known}
-use Rattle.literal_search.proofs.lemmas.Behind.{ending_by_held}
-use Rattle.literal_search.proofs.lemmas.Ends.{ending_is, from_match_dead, from_match_held}
-use Rattle.literal_search.proofs.lemmas.Ends.{from_match_push, from_match_short, held_is_short, pushed}
+use Rattle.literal_search.proofs.lemmas.Behind.{ending_by_live}
+use Rattle.literal_search.proofs.lemmas.Ends.{ending_is, from_match_dead, from_match_live}
+use Rattle.literal_search.proofs.lemmas.Ends.{from_match_push, from_match_short, live_is_short, pushed}
 use Rattle.literal_search.proofs.lemmas.Ends.{whole_is_best, whole_of}
 use Rattle.literal_search.proofs.lemmas.Ends.{stays_best, stays_best_for_good}
-use Rattle.literal_search.proofs.lemmas.Held.{held_on, held_push}
+use Rattle.literal_search.proofs.lemmas.Live.{live_on, live_push}
 
 pushed_is : (text : List ℕ) (symbol : ℕ) → 0 < length text → pushed text symbol ≡ text ++ symbol ∷ []
 pushed_is [] symbol some = absurd (omega arith)
@@ -96,8 +96,8 @@ module _ (kind : MatchKind) (patterns : List (List ℕ)) (some : NoneIsEmpty pat
       (sym (ending_is kind patterns text) ∙ ends) in
       record { best = whole.0; end = omega (arith, end_is, ap (λ (l : List ℕ). length l) whole.1) }
 
-  -- more of a text where nothing is held any more
-  pub found_dead : (text more : List ℕ) (answer : Option Ended) → held (root_kind_of kind) patterns text ≡ None
+  -- more of a text where nothing is live any more
+  pub found_dead : (text more : List ℕ) (answer : Option Ended) → live_suffix (root_kind_of kind) patterns text ≡ None
       → IsFound kind patterns start text answer → IsFound kind patterns start (text ++ more) answer
   found_dead text more None dead found =
       let is = from_match_dead kind patterns text more dead in
@@ -148,7 +148,7 @@ table_of kind patterns width rows recognises = record {
       let is_state = state_below row.state (omega (arith, row.place_is, row.fits)) in
       subst (λ n. (n ≡ nothing) ⊎ IsRow width rows (place_of n))
       (ap (λ p. get_or rows (p + class) 0) (sym row.place_is))
-      (by_held code (held kind patterns (word_of recognises.words row.state ++ class ∷ []))
+      (by_live code (live_suffix kind patterns (word_of recognises.words row.state ++ class ∷ []))
       (recognises.leads row.state class is_state below));
 }
   where
@@ -165,11 +165,11 @@ table_of kind patterns width rows recognises = record {
           absurd (omega (arith, most, recognises.full))
     ]
 
-    by_held : (code : ℕ) (o : Option (List ℕ))
+    by_live : (code : ℕ) (o : Option (List ℕ))
         → MatchOption o (code ≡ nothing) (LeadsTo kind patterns recognises.words width code)
         → (code ≡ nothing) ⊎ IsRow width rows (place_of code)
-    by_held code None dead = inl dead
-    by_held code (Some word) to =
+    by_live code None dead = inl dead
+    by_live code (Some word) to =
         let fits = row_fits kind patterns width rows recognises to.state to.is_state in
         let few = recognises.few in
         let place_is = ap place_of to.code_is
@@ -188,15 +188,15 @@ module _ (kind : search.MatchKind) (patterns : List (List ℕ)) (width : ℕ) (r
         (sym (code_is ∙ ap (λ p. get_or rows (p + symbol) 0) at.place_is))
         (recognises.leads at.state symbol at.is_state below)
 
-    held_more : held kind patterns (word_of recognises.words at.state ++ symbol ∷ [])
-        ≡ held kind patterns (text ++ symbol ∷ [])
-    held_more =
-        sym (ap (λ o. held_on kind patterns o (symbol ∷ [])) at.held) ∙ held_push kind patterns text (symbol ∷ [])
+    live_more : live_suffix kind patterns (word_of recognises.words at.state ++ symbol ∷ [])
+        ≡ live_suffix kind patterns (text ++ symbol ∷ [])
+    live_more =
+        sym (ap (λ o. live_on kind patterns o (symbol ∷ [])) at.live_suffix) ∙ live_push kind patterns text (symbol ∷ [])
 
-    leads_more : MatchOption (held kind patterns (text ++ symbol ∷ [])) (code ≡ nothing)
+    leads_more : MatchOption (live_suffix kind patterns (text ++ symbol ∷ [])) (code ≡ nothing)
         (LeadsTo kind patterns recognises.words width code)
     leads_more = subst (λ o. MatchOption o (code ≡ nothing) (LeadsTo kind patterns recognises.words width code))
-        held_more leads_on
+        live_more leads_on
 
     small : (state : ℕ) → state < length recognises.words → state * stride_of width < 2 ^ 31 - 1
     small state is_state =
@@ -204,22 +204,22 @@ module _ (kind : search.MatchKind) (patterns : List (List ℕ)) (width : ℕ) (r
         let few = recognises.few in
         omega arith
 
-    ends_by : (o : Option (List ℕ)) → held kind patterns (text ++ symbol ∷ []) ≡ o
-        → ending kind patterns (text ++ symbol ∷ []) ≡ ending_held kind patterns o
-    ends_by o is = ending_by_held kind patterns (text ++ symbol ∷ []) ∙ ap (ending_held kind patterns) is
+    ends_by : (o : Option (List ℕ)) → live_suffix kind patterns (text ++ symbol ∷ []) ≡ o
+        → ending kind patterns (text ++ symbol ∷ []) ≡ ending_live kind patterns o
+    ends_by o is = ending_by_live kind patterns (text ++ symbol ∷ []) ∙ ap (ending_live kind patterns) is
 
     -- a number below 2^31 leads to a state with whose word nothing ends
     pub at_without_end : code < 2 ^ 31
         → IsAt kind patterns width rows recognises (text ++ symbol ∷ []) code
         × (ending kind patterns (text ++ symbol ∷ []) ≡ None)
-    at_without_end is_small = by_held (held kind patterns (text ++ symbol ∷ [])) refl leads_more
+    at_without_end is_small = by_live (live_suffix kind patterns (text ++ symbol ∷ [])) refl leads_more
       where
-        by_held : (o : Option (List ℕ)) → held kind patterns (text ++ symbol ∷ []) ≡ o
+        by_live : (o : Option (List ℕ)) → live_suffix kind patterns (text ++ symbol ∷ []) ≡ o
             → MatchOption o (code ≡ nothing) (LeadsTo kind patterns recognises.words width code)
             → IsAt kind patterns width rows recognises (text ++ symbol ∷ []) code
             × (ending kind patterns (text ++ symbol ∷ []) ≡ None)
-        by_held None is dead = absurd (omega arith)
-        by_held (Some word) is to = by_ending (ending kind patterns word) refl
+        by_live None is dead = absurd (omega arith)
+        by_live (Some word) is to = by_ending (ending kind patterns word) refl
           where
             by_ending : (o : Option ℕ) → ending kind patterns word ≡ o
                 → IsAt kind patterns width rows recognises (text ++ symbol ∷ []) code
@@ -229,7 +229,7 @@ module _ (kind : search.MatchKind) (patterns : List (List ℕ)) (width : ℕ) (r
                 state = to.state;
                 is_state = to.is_state;
                 place_is = to.code_is ∙ ap (code_of (to.state * stride_of width)) ends;
-                held = is ∙ ap Some (sym to.word_is);
+                live_suffix = is ∙ ap Some (sym to.word_is);
               },
               ends_by (Some word) is ∙ ends,
             )
@@ -241,14 +241,14 @@ module _ (kind : search.MatchKind) (patterns : List (List ℕ)) (width : ℕ) (r
     pub at_with_end : 2 ^ 31 ≤ code → ¬ (code ≡ nothing)
         → IsAt kind patterns width rows recognises (text ++ symbol ∷ []) (code - 2 ^ 31)
         × (ending kind patterns (text ++ symbol ∷ []) ≡ Some (get_or rows (code - 2 ^ 31 + width) 0))
-    at_with_end is_large alive = by_held (held kind patterns (text ++ symbol ∷ [])) refl leads_more
+    at_with_end is_large alive = by_live (live_suffix kind patterns (text ++ symbol ∷ [])) refl leads_more
       where
-        by_held : (o : Option (List ℕ)) → held kind patterns (text ++ symbol ∷ []) ≡ o
+        by_live : (o : Option (List ℕ)) → live_suffix kind patterns (text ++ symbol ∷ []) ≡ o
             → MatchOption o (code ≡ nothing) (LeadsTo kind patterns recognises.words width code)
             → IsAt kind patterns width rows recognises (text ++ symbol ∷ []) (code - 2 ^ 31)
             × (ending kind patterns (text ++ symbol ∷ []) ≡ Some (get_or rows (code - 2 ^ 31 + width) 0))
-        by_held None is dead = absurd (alive dead)
-        by_held (Some word) is to = by_ending (ending kind patterns word) refl
+        by_live None is dead = absurd (alive dead)
+        by_live (Some word) is to = by_ending (ending kind patterns word) refl
           where
             by_ending : (o : Option ℕ) → ending kind patterns word ≡ o
                 → IsAt kind patterns width rows recognises (text ++ symbol ∷ []) (code - 2 ^ 31)
@@ -267,24 +267,24 @@ module _ (kind : search.MatchKind) (patterns : List (List ℕ)) (width : ℕ) (r
                     state = to.state;
                     is_state = to.is_state;
                     place_is = place_is;
-                    held = is ∙ ap Some (sym to.word_is);
+                    live_suffix = is ∙ ap Some (sym to.word_is);
                   },
                   ends_by (Some word) is ∙ (ends ∙ ap Some (sym pattern_is)),
                 )
 
-    -- where it leads to none nothing is held, and no match ends
+    -- where it leads to none nothing is live, and no match ends
     pub at_dead : code ≡ nothing
-        → (held kind patterns (text ++ symbol ∷ []) ≡ None) × (ending kind patterns (text ++ symbol ∷ []) ≡ None)
-    at_dead is_dead = by_held (held kind patterns (text ++ symbol ∷ [])) refl leads_more
+        → (live_suffix kind patterns (text ++ symbol ∷ []) ≡ None) × (ending kind patterns (text ++ symbol ∷ []) ≡ None)
+    at_dead is_dead = by_live (live_suffix kind patterns (text ++ symbol ∷ [])) refl leads_more
       where
-        by_held : (o : Option (List ℕ)) → held kind patterns (text ++ symbol ∷ []) ≡ o
+        by_live : (o : Option (List ℕ)) → live_suffix kind patterns (text ++ symbol ∷ []) ≡ o
             → MatchOption o (code ≡ nothing) (LeadsTo kind patterns recognises.words width code)
-            → (held kind patterns (text ++ symbol ∷ []) ≡ None) × (ending kind patterns (text ++ symbol ∷ []) ≡ None)
-        by_held None is dead = (is, ends_by None is)
-        by_held (Some word) is to = by_ending (ending kind patterns word) refl
+            → (live_suffix kind patterns (text ++ symbol ∷ []) ≡ None) × (ending kind patterns (text ++ symbol ∷ []) ≡ None)
+        by_live None is dead = (is, ends_by None is)
+        by_live (Some word) is to = by_ending (ending kind patterns word) refl
           where
             by_ending : (o : Option ℕ) → ending kind patterns word ≡ o
-                → (held kind patterns (text ++ symbol ∷ []) ≡ None)
+                → (live_suffix kind patterns (text ++ symbol ∷ []) ≡ None)
                 × (ending kind patterns (text ++ symbol ∷ []) ≡ None)
             by_ending None ends =
                 let code_is = to.code_is ∙ ap (code_of (to.state * stride_of width)) ends in
@@ -396,7 +396,7 @@ at_start kind patterns width rows recognises = record {
   state = 0;
   is_state = recognises.some;
   place_is = zero_row;
-  held = ap Some (sym recognises.root);
+  live_suffix = ap Some (sym recognises.root);
 }
   where
     zero_row : 0 ≡ 0 * stride_of width
@@ -474,9 +474,9 @@ reads_near width rows start text place (Some e) reads = λ kind patterns recogni
     let behind = reads.behind kind patterns recognises some in
     let word = word_of recognises.words behind.at.state in
     let end = behind.found.end in
-    let size = held_is_short kind patterns longest short text word behind.at.held in
+    let size = live_is_short kind patterns longest short text word behind.at.live_suffix in
     let least = from_match_short kind patterns word in
-    let same = ap (λ (l : List ℕ). length l) (from_match_held kind patterns text word behind.at.held) in
+    let same = ap (λ (l : List ℕ). length l) (from_match_live kind patterns text word behind.at.live_suffix) in
     omega arith
 
 -- a place before one that is near is near
@@ -641,7 +641,7 @@ module _ (width : ℕ) (rows : List ℕ) (from : ℕ) (classes haystack : List �
             at = subst (λ t. IsAt kind patterns width rows recognises t (code - 2 ^ 31)) more on.0;
           })
 
-      -- nothing is held any more, and so nothing ends however far the text goes on
+      -- nothing is live any more, and so nothing ends however far the text goes on
       pub finds_dead_end : code ≡ nothing → (span : Span) → span.start ≡ start → span.end ≤ length haystack
           → FindsEnd width rows from classes haystack span None
       finds_dead_end is_dead span same short = λ kind patterns recognises text begins end begun upto.
@@ -654,12 +654,12 @@ module _ (width : ℕ) (rows : List ℕ) (from : ℕ) (classes haystack : List �
           (elim (cases_lt at end) [
             | inl longer ↦
                 dead_for_good kind patterns text end longer (omega arith)
-                (subst (λ t. held kind patterns t ≡ None) more on.0)
+                (subst (λ t. live_suffix kind patterns t ≡ None) more on.0)
             | inr before ↦ stood.1 end later before
           ])
         where
           dead_for_good : (kind : search.MatchKind) (patterns : List (List ℕ)) (text : List ℕ) (end : ℕ) → at < end
-              → end ≤ length haystack → held kind patterns (read_to text classes haystack start (at + 1)) ≡ None
+              → end ≤ length haystack → live_suffix kind patterns (read_to text classes haystack start (at + 1)) ≡ None
               → ending kind patterns (read_to text classes haystack start end) ≡ None
           dead_for_good kind patterns text end longer short dead =
               let first = text_of classes haystack (between start (at + 1)) in
@@ -669,10 +669,10 @@ module _ (width : ℕ) (rows : List ℕ) (from : ℕ) (classes haystack : List �
               ap (λ l. text ++ l) (text_halves classes haystack start (at + 1) end (omega arith) (omega arith))
               ∙ sym (append_assoc text first rest) in
               ap (ending kind patterns) split
-              ∙ (ending_by_held kind patterns (read_to text classes haystack start (at + 1) ++ rest)
-              ∙ ap (ending_held kind patterns)
-              (sym (held_push kind patterns (read_to text classes haystack start (at + 1)) rest)
-              ∙ ap (λ o. held_on kind patterns o rest) dead))
+              ∙ (ending_by_live kind patterns (read_to text classes haystack start (at + 1) ++ rest)
+              ∙ ap (ending_live kind patterns)
+              (sym (live_push kind patterns (read_to text classes haystack start (at + 1)) rest)
+              ∙ ap (λ o. live_on kind patterns o rest) dead))
 
   -- behind all bytes
   pub finds_no_end : (place : ℕ) (span : Span) → span.start ≡ start
@@ -682,18 +682,18 @@ module _ (width : ℕ) (rows : List ℕ) (from : ℕ) (classes haystack : List �
       subst (λ first. NoneEnds kind patterns text classes haystack first span.end) (sym same)
       (goes.stands kind patterns recognises text begins).1
 
--- where all occurrences are wanted something is always held
-pub always_held : (patterns : List (List ℕ)) (text : List ℕ) → ¬ (held Standard patterns text ≡ None)
-always_held patterns [] is = cc
-always_held patterns (symbol ∷ text) is =
-    by_begun (begins_one Standard patterns (symbol ∷ text)) refl (always_held patterns text)
+-- where all occurrences are wanted something is always live
+pub always_live : (patterns : List (List ℕ)) (text : List ℕ) → ¬ (live_suffix Standard patterns text ≡ None)
+always_live patterns [] is = cc
+always_live patterns (symbol ∷ text) is =
+    by_begun (begins_one Standard patterns (symbol ∷ text)) refl (always_live patterns text)
   where
     by_begun : (b : Bool) → begins_one Standard patterns (symbol ∷ text) ≡ b
-        → ¬ (held Standard patterns text ≡ None) → ⊥
+        → ¬ (live_suffix Standard patterns text ≡ None) → ⊥
     by_begun true begun further =
-        let some : held Standard patterns (symbol ∷ text) ≡ Some (symbol ∷ text) = cond-true _ _ _ begun in cc
+        let some : live_suffix Standard patterns (symbol ∷ text) ≡ Some (symbol ∷ text) = cond-true _ _ _ begun in cc
     by_begun false unbegun further =
-        let same : held Standard patterns (symbol ∷ text) ≡ held Standard patterns text = cond-false _ _ _ unbegun in
+        let same : live_suffix Standard patterns (symbol ∷ text) ≡ live_suffix Standard patterns text = cond-false _ _ _ unbegun in
         further (sym same ∙ is)
 
 -- what ends where a walk stands
@@ -705,4 +705,4 @@ ends_at kind patterns width rows recognises text place at =
     ap (λ p. get_or rows (p + width) 0) at.place_is
     ∙ (recognises.ends at.state at.is_state
     ∙ ap (λ o. unwrap_or o nothing)
-    (sym (ending_by_held kind patterns text ∙ ap (ending_held kind patterns) at.held)))
+    (sym (ending_by_live kind patterns text ∙ ap (ending_live kind patterns) at.live_suffix)))

@@ -14,8 +14,8 @@ use Rattle.literal_search.proofs.lemmas.Longest.{longest_is}
 
 module _ (patterns : List (List ℕ)) (ignore_case : Bool) (text more : List ℕ) where
   -- a part of a text is the same part of a longer one
-  same_front : (p n : ℕ) → p + n ≤ length text → slice_range (text ++ more) p (p + n) ≡ slice_range text p (p + n)
-  same_front p n inside =
+  same_prefix : (p n : ℕ) → p + n ≤ length text → slice_range (text ++ more) p (p + n) ≡ slice_range text p (p + n)
+  same_prefix p n inside =
       let len : (p + n) - p ≡ n = omega arith in
       let room : n ≤ length (drop p text) = omega (arith, length-drop p text) in
       rw (len, drop-append-le p text more (omega (arith, inside))) (take-append-le n (drop p text) more room)
@@ -27,18 +27,18 @@ module _ (patterns : List (List ℕ)) (ignore_case : Bool) (text more : List ℕ
     is_pattern = occurs.is_pattern;
     after_start = occurs.after_start;
     before_end = omega (arith, occurs.before_end, length-append text more);
-    same = rw (same_front p (length (pattern_at patterns i)) occurs.before_end) occurs.same;
+    same = rw (same_prefix p (length (pattern_at patterns i)) occurs.before_end) occurs.same;
   }
 
   -- and what lies whole in it occurs in it
-  pub occurs_front : (at i p : ℕ) → p + length (pattern_at patterns i) ≤ length text
+  pub occurs_prefix : (at i p : ℕ) → p + length (pattern_at patterns i) ≤ length text
       → Occurs patterns ignore_case (text ++ more) (rest_from (text ++ more) at) i p
       → Occurs patterns ignore_case text (between at (length text)) i p
-  occurs_front at i p inside occurs = record {
+  occurs_prefix at i p inside occurs = record {
     is_pattern = occurs.is_pattern;
     after_start = occurs.after_start;
     before_end = inside;
-    same = rw (← same_front p (length (pattern_at patterns i)) inside) occurs.same;
+    same = rw (← same_prefix p (length (pattern_at patterns i)) inside) occurs.same;
   }
 
 -- a match behind whose start the longest pattern would fit is the leftmost one of a longer text too
@@ -50,10 +50,10 @@ leftmost_longer query ignore_case text more at found room first = record {
   occurs = occurs_longer query.patterns ignore_case text more at found.pattern found.start first.occurs;
   whole = first.whole;
   earliest = λ i p earlier occurs. first.earliest i p earlier
-      (occurs_front query.patterns ignore_case text more at i p
+      (occurs_prefix query.patterns ignore_case text more at i p
       (omega (arith, earlier, room, longest_is query.patterns i)) occurs);
   best = λ i better occurs. first.best i better
-      (occurs_front query.patterns ignore_case text more at i found.start
+      (occurs_prefix query.patterns ignore_case text more at i found.start
       (omega (arith, room, longest_is query.patterns i)) occurs);
 }
 

@@ -18,21 +18,21 @@ puts_none at old =
 pub puts_more : (at : ℕ) (numbers old now : List ℕ) (number : ℕ) → at + length numbers < length old
     → Puts at numbers old now → Puts at (numbers ++ number ∷ []) old (set now (at + length numbers) number)
 puts_more at numbers old now number inside puts =
-    let front = take at old ++ numbers in
+    let prefix = take at old ++ numbers in
     let n = at + length numbers in
     let rest = drop (suc n) old in
-    let long : length front ≡ n = omega (
+    let long : length prefix ≡ n = omega (
       arith,
       length-append (take at old) numbers,
       length-take-le at old (omega arith),
     ) in
     let next : at + length (numbers ++ number ∷ []) ≡ suc n = omega (arith, length-append numbers (number ∷ [])) in
-    let now_is : now ≡ front ++ get_or old n 0 ∷ rest =
+    let now_is : now ≡ prefix ++ get_or old n 0 ∷ rest =
     puts ∙ (sym (append_assoc (take at old) numbers (drop n old))
-    ∙ ap (λ l. front ++ l) (drop-cons old n 0 inside)) in
+    ∙ ap (λ l. prefix ++ l) (drop-cons old n 0 inside)) in
     ap (λ l. set l n number) now_is
-    ∙ (ap (λ k. set (front ++ get_or old n 0 ∷ rest) k number) (sym long)
-    ∙ (set-append_seam front (get_or old n 0) rest number
+    ∙ (ap (λ k. set (prefix ++ get_or old n 0 ∷ rest) k number) (sym long)
+    ∙ (set-append_seam prefix (get_or old n 0) rest number
     ∙ (append_assoc (take at old) numbers (number ∷ rest)
     ∙ (ap (λ l. take at old ++ l) (sym (append_assoc numbers (number ∷ []) rest))
     ∙ ap (λ k. take at old ++ ((numbers ++ number ∷ []) ++ drop k old)) (sym next)))))
@@ -47,25 +47,25 @@ puts_next at i all old now number room below is puts =
     (ap (λ v. take i all ++ v ∷ []) is ∙ sym (take_more all i 0 below))
     (puts_more at (take i all) old now number (omega (arith, long)) puts))
 
--- behind a front that is written
-pub puts_behind : (at : ℕ) (front numbers old now new : List ℕ) → at ≡ length front
-    → now ≡ front ++ drop (length front) old → Puts at numbers now new
-    → new ≡ (front ++ numbers) ++ drop (length (front ++ numbers)) old
-puts_behind at front numbers old now new at_is before puts =
-    let n = length front in
+-- behind a prefix that is written
+pub puts_behind : (at : ℕ) (prefix numbers old now new : List ℕ) → at ≡ length prefix
+    → now ≡ prefix ++ drop (length prefix) old → Puts at numbers now new
+    → new ≡ (prefix ++ numbers) ++ drop (length (prefix ++ numbers)) old
+puts_behind at prefix numbers old now new at_is before puts =
+    let n = length prefix in
     let m = length numbers in
-    let behind : drop (n + m) now ≡ drop (length (front ++ numbers)) old =
+    let behind : drop (n + m) now ≡ drop (length (prefix ++ numbers)) old =
     ap (drop (n + m)) before
-    ∙ (drop-append-add front (drop n old) m
-    ∙ (drop-drop m n old ∙ ap (λ k. drop k old) (let k : n + m ≡ length (front ++ numbers) = omega (
+    ∙ (drop-append-add prefix (drop n old) m
+    ∙ (drop-drop m n old ∙ ap (λ k. drop k old) (let k : n + m ≡ length (prefix ++ numbers) = omega (
       arith,
-      length-append front numbers,
+      length-append prefix numbers,
     ) in k))) in
-    let first : take n now ≡ front = ap (take n) before ∙ take-append_seam front (drop n old) in
+    let first : take n now ≡ prefix = ap (take n) before ∙ take-append_seam prefix (drop n old) in
     subst (λ (k : ℕ). Puts k numbers now new) at_is puts
     ∙ (ap (λ l. l ++ (numbers ++ drop (n + m) now)) first
-    ∙ (ap (λ l. front ++ (numbers ++ l)) behind
-    ∙ sym (append_assoc front numbers (drop (length (front ++ numbers)) old))))
+    ∙ (ap (λ l. prefix ++ (numbers ++ l)) behind
+    ∙ sym (append_assoc prefix numbers (drop (length (prefix ++ numbers)) old))))
 
 -- the parts of a prepared search, one behind the other, and the check over them
 module _ (version width patterns places longest : ℕ) (classes lengths rows starts ends old : List ℕ)
@@ -92,26 +92,26 @@ module _ (version width patterns places longest : ℕ) (classes lengths rows sta
         → check ≡ check_of (slice_range last 2 (262 + patterns + places + length starts + length ends))
         → Puts 0 (checked version body) old (set last 1 check)
     puts_all first second third fourth fifth last check a b c d e f check_is =
-        let front = version ∷ 0 ∷ width ∷ patterns ∷ places ∷ longest ∷ [] in
+        let prefix = version ∷ 0 ∷ width ∷ patterns ∷ places ∷ longest ∷ [] in
         let needed = 262 + patterns + places + length starts + length ends in
         let size : length (checked version body) ≡ needed = size_of_all in
         let rest = drop needed old in
-        let one = puts_behind 0 [] front old old first refl refl a in
-        let two = puts_behind 6 front classes old first second refl one b in
-        let three = puts_behind 262 (front ++ classes) lengths old second third
-        (omega (arith, length-append front classes)) two c in
-        let four = puts_behind (262 + patterns) ((front ++ classes) ++ lengths) rows old third fourth
-        (omega (arith, length-append (front ++ classes) lengths, length-append front classes)) three d in
-        let upto_rows = length-append ((front ++ classes) ++ lengths) rows in
-        let upto_lengths = length-append (front ++ classes) lengths in
-        let upto_classes = length-append front classes in
-        let five = puts_behind (262 + patterns + places) (((front ++ classes) ++ lengths) ++ rows) starts old fourth
+        let one = puts_behind 0 [] prefix old old first refl refl a in
+        let two = puts_behind 6 prefix classes old first second refl one b in
+        let three = puts_behind 262 (prefix ++ classes) lengths old second third
+        (omega (arith, length-append prefix classes)) two c in
+        let four = puts_behind (262 + patterns) ((prefix ++ classes) ++ lengths) rows old third fourth
+        (omega (arith, length-append (prefix ++ classes) lengths, length-append prefix classes)) three d in
+        let upto_rows = length-append ((prefix ++ classes) ++ lengths) rows in
+        let upto_lengths = length-append (prefix ++ classes) lengths in
+        let upto_classes = length-append prefix classes in
+        let five = puts_behind (262 + patterns + places) (((prefix ++ classes) ++ lengths) ++ rows) starts old fourth
         fifth (omega (arith, upto_rows, upto_lengths, upto_classes)) four e in
         let six = puts_behind (262 + patterns + places + length starts)
-        ((((front ++ classes) ++ lengths) ++ rows) ++ starts) ends old fifth last
+        ((((prefix ++ classes) ++ lengths) ++ rows) ++ starts) ends old fifth last
         (omega (
           arith,
-          length-append (((front ++ classes) ++ lengths) ++ rows) starts,
+          length-append (((prefix ++ classes) ++ lengths) ++ rows) starts,
           upto_rows,
           upto_lengths,
           upto_classes,

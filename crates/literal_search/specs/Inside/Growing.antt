@@ -7,7 +7,7 @@ use Rattle.literal_base.specs.declared.search.MatchKind.{MatchKind}
 use Rattle.literal_search.specs.Table.{LeadsTo, nothing, stride_of}
 use Rattle.literal_search.specs.Words.{ending, word_of}
 use Rattle.literal_search.specs.Inside.Classes.{AreClasses, symbols_in}
-use Rattle.literal_search.specs.Inside.Grown.{AreRows, LeadsBy, held_behind, list_for}
+use Rattle.literal_search.specs.Inside.Grown.{AreRows, LeadsBy, failure_of, list_for}
 use Rattle.literal_search.specs.declared.grow.Growing.{Growing}
 use Rattle.literal_search.specs.declared.grow.State.{State}
 use Rattle.literal_search.specs.declared.grow.Texts.{Texts}
@@ -16,7 +16,7 @@ use Rattle.literal_search.specs.declared.grow.Texts.{Texts}
 abbrev pub texts_of : Texts → List (List ℕ)
 texts_of t = map (λ pattern. symbols_in t.classes.now pattern.items) t.patterns.now
 
--- the word of a state: a front of a pattern
+-- the word of a state: a prefix of a pattern
 abbrev pub word_in : List (List ℕ) → State → List ℕ
 word_in patterns s = take s.depth (pattern_at patterns s.pattern)
 
@@ -38,28 +38,29 @@ pub record AreTexts (t : Texts) : Type 0 where
   pub some : NoneIsEmpty (texts_of t)
   pub few : length t.patterns.now ≤ 2 ^ 31 - 1
 
--- the number in a row leads to the state of what is held, if it leads to one
+-- the number in a row leads to the state of a live suffix, if it leads to one
 abbrev pub IsCode : Growing → ℕ → Type 0
 IsCode g code =
     (word : Option (List ℕ)) × LeadsBy g.texts.kind (texts_of g.texts) (words_of g) g.texts.width code word
 
--- a state's word is not empty, and its link leads to an earlier state, that of what is held behind the first symbol
-pub record IsLinked (kind : MatchKind) (patterns words : List (List ℕ)) (width n : ℕ) (s : State) : Type 0 where
+-- a state's word is not empty, and its failure link leads to an earlier state, that of the live suffix behind the
+-- word's first symbol
+pub record HasFailure (kind : MatchKind) (patterns words : List (List ℕ)) (width n : ℕ) (s : State) : Type 0 where
   pub some : 0 < s.depth
-  pub leads : MatchOption (held_behind kind patterns (word_in patterns s)) (s.link ≡ nothing)
-      (λ word. (to : LeadsTo kind patterns words width s.link word) × (to.state < n))
+  pub leads : MatchOption (failure_of kind patterns (word_in patterns s)) (s.failure ≡ nothing)
+      (λ word. (to : LeadsTo kind patterns words width s.failure word) × (to.state < n))
 
--- a state, behind so many others, has the front of a pattern, the list of those that begin with it, what ends there,
--- and a link, unless it is the first
+-- a state, behind so many others, has a prefix of a pattern, the list of those that begin with it, what ends there,
+-- and a failure link, unless it is the first
 pub record IsState (kind : MatchKind) (patterns words : List (List ℕ)) (width : ℕ) (lists : List ℕ) (n : ℕ)
     (s : State) : Type 0 where
   pub shallow : s.depth ≤ n
-  pub front : s.depth ≤ length (pattern_at patterns s.pattern)
+  pub prefix : s.depth ≤ length (pattern_at patterns s.pattern)
   pub ordered : s.start ≤ s.end
   pub inside : s.end ≤ length lists
   pub listed : list_in lists s ≡ list_for kind patterns (word_in patterns s)
   pub ended : s.ending ≡ unwrap_or (ending kind patterns (word_in patterns s)) nothing
-  pub linked : 0 < n → IsLinked kind patterns words width n s
+  pub failure_is : 0 < n → HasFailure kind patterns words width n s
 
 -- each state is right, the first has the empty word, and so are the rows, as far as they are filled
 pub record IsGrowing (t : Texts) (states : List State) (lists rows : List ℕ) : Type 0 where

@@ -7,7 +7,7 @@ use Rattle.literal_base.specs.Occurs.{pattern_at}
 use Rattle.literal_base.specs.declared.search.MatchKind.{MatchKind}
 use Rattle.literal_base.specs.declared.search.MatchKind.TheVariants.{LeftmostFirst, LeftmostLongest, Standard}
 use Rattle.literal_search.specs.Table.{Leads, LeadsTo, nothing, stride_of}
-use Rattle.literal_search.specs.Words.{begins_one, ending, held, in_question, is_settled, up_to_first, word_of}
+use Rattle.literal_search.specs.Words.{begins_one, ending, live_suffix, in_question, is_matched, up_to_first, word_of}
 
 -- whether a text goes on with a symbol at a place
 abbrev pub goes_on : List ℕ → ℕ → ℕ → Bool
@@ -25,27 +25,28 @@ up_to_whole Standard is_whole list = list
 up_to_whole LeftmostFirst is_whole list = up_to_first is_whole list
 up_to_whole LeftmostLongest is_whole list = list
 
--- what is held of a text's end behind its first symbol. None where the match is known to begin with that or before
-abbrev pub held_behind : MatchKind → List (List ℕ) → List ℕ → Option (List ℕ)
-held_behind kind patterns [] = Some []
-held_behind kind patterns (symbol ∷ more) =
-    if is_settled kind patterns (symbol ∷ more) then None else held kind patterns more
+-- the word to which the failure link of a text's state leads: the live suffix of what is behind its first symbol. None
+-- where the match is known to begin with that or before
+abbrev pub failure_of : MatchKind → List (List ℕ) → List ℕ → Option (List ℕ)
+failure_of kind patterns [] = Some []
+failure_of kind patterns (symbol ∷ more) =
+    if is_matched kind patterns (symbol ∷ more) then None else live_suffix kind patterns more
 
--- what is held behind a word and one more symbol, where that does not settle more
-abbrev pub held_else : MatchKind → List (List ℕ) → List ℕ → ℕ → Option (List ℕ)
-held_else kind patterns [] symbol = Some []
-held_else kind patterns (first ∷ more) symbol =
-    if is_settled kind patterns (first ∷ more) then None else held kind patterns (more ++ symbol ∷ [])
+-- where no pattern goes on with a word and a symbol: the live suffix of both, behind the first symbol
+abbrev pub fallback : MatchKind → List (List ℕ) → List ℕ → ℕ → Option (List ℕ)
+fallback kind patterns [] symbol = Some []
+fallback kind patterns (first ∷ more) symbol =
+    if is_matched kind patterns (first ∷ more) then None else live_suffix kind patterns (more ++ symbol ∷ [])
 
--- the number in a row leads to the state of what is held, if anything is
+-- the number in a row leads to the state of the live suffix, if there is one
 abbrev pub LeadsBy : MatchKind → List (List ℕ) → List (List ℕ) → ℕ → ℕ → Option (List ℕ) → Type 0
 LeadsBy kind patterns words width code answer =
     MatchOption answer (code ≡ nothing) (LeadsTo kind patterns words width code)
 
--- the pattern that ends with what is held, if anything is
-abbrev pub ending_held : MatchKind → List (List ℕ) → Option (List ℕ) → Option ℕ
-ending_held kind patterns None = None
-ending_held kind patterns (Some word) = ending kind patterns word
+-- the pattern that ends with the live suffix, if there is one
+abbrev pub ending_live : MatchKind → List (List ℕ) → Option (List ℕ) → Option ℕ
+ending_live kind patterns None = None
+ending_live kind patterns (Some word) = ending kind patterns word
 
 -- words, and maybe more behind them
 pub record IsLonger (words longer : List (List ℕ)) : Type 0 where

@@ -2,7 +2,7 @@
 use Rattle.std.specs.Prelude.{◌≡◌, ◌<◌, ◌≤◌, ◌^◌, ℕ, List, IfSome, MatchOption, Option, Some, length, map}
 use Rattle.literal_base.specs.MatchValue.{MatchValue}
 use Rattle.literal_base.specs.declared.search.Span.{Span}
-use Rattle.literal_search.specs.Inside.Prepared.{IsFront}
+use Rattle.literal_search.specs.Inside.Prepared.{IsHeader}
 use Rattle.literal_search.specs.Inside.Standing.{HaveSameToCome, IsStanding, standing_value}
 use Rattle.literal_search.specs.Overlapping.{OverlappingValue}
 use Rattle.literal_search.specs.OverlappingMatchesValue.{IsNextToCome, IsToCome, gone_on}
@@ -14,19 +14,19 @@ use Rattle.literal_search.specs.declared.standing.Standing.{Standing}
 
 -- the parts of an array that begins as a prepared search for everything that occurs
 pub record AreLent (p : LentTables) : Type 0 where
-  pub front : IsFront OVERLAPPING_VERSION p.front
-  pub listed : HasLists p.front.numbers.now
-  pub starts_are : p.starts.now ≡ starts_in p.front.numbers.now
-  pub ends_are : p.ends.now ≡ ends_in p.front.numbers.now
+  pub header : IsHeader OVERLAPPING_VERSION p.header
+  pub listed : HasLists p.header.numbers.now
+  pub starts_are : p.starts.now ≡ starts_in p.header.numbers.now
+  pub ends_are : p.ends.now ≡ ends_in p.header.numbers.now
 
 -- the tables that they would be of a search
 abbrev pub tables_by : OverlappingValue → LentTables → Tables
 tables_by search p = record {
   patterns = search.patterns;
   ignore_case = search.ignore_case;
-  classes = p.front.classes.now;
-  width = p.front.width;
-  rows = p.front.rows.now;
+  classes = p.header.classes.now;
+  width = p.header.width;
+  rows = p.header.rows.now;
   ends = p.ends.now;
   starts = p.starts.now;
 }
@@ -34,7 +34,7 @@ tables_by search p = record {
 -- they are those of a search
 pub record AreFor (search : OverlappingValue) (p : LentTables) : Type 0 where
   pub tables : AreTables (tables_by search p)
-  pub lengths : p.front.lengths.now ≡ map (λ bytes. length bytes) search.patterns
+  pub lengths : p.header.lengths.now ≡ map (λ bytes. length bytes) search.patterns
 
 -- a search stands in the span, at a row or another number
 pub record LiesAt (span : Span) (s : Standing) : Type 0 where

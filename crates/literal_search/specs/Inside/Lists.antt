@@ -3,11 +3,11 @@ use Rattle.std.specs.Prelude.{[], ◌∷◌, ◌≡◌, ℕ, ◌+◌, ◌-◌, �
 use Rattle.literal_base.specs.Occurs.{NoneIsEmpty, pattern_at}
 use Rattle.literal_base.specs.declared.search.MatchKind.TheVariants.{Standard}
 use Rattle.literal_search.specs.Inside.Classes.{AreClasses, symbols_in}
-use Rattle.literal_search.specs.Inside.Ends.{AreEnds, IsLink, IsNextEqual}
+use Rattle.literal_search.specs.Inside.Suffixes.{AreSuffixes, IsOutputLink, IsNextEqual}
 use Rattle.literal_search.specs.Inside.Walk.{IsAt, IsRow}
 use Rattle.literal_search.specs.Table.{Recognises}
 use Rattle.literal_search.specs.Words.{ending}
-use Rattle.literal_search.specs.declared.ends.Recognised.{Recognised}
+use Rattle.literal_search.specs.declared.suffixes.Recognised.{Recognised}
 
 -- the symbols of the patterns
 abbrev pub symbols_of : Recognised → List (List ℕ)
@@ -21,19 +21,19 @@ pub record Recognise (r : Recognised) : Type 0 where
   pub few : length r.patterns.now ≤ 2 ^ 31 - 1
 
 -- from one pattern on each has its link
-pub record AreLinks (patterns : List (List ℕ)) (links : List ℕ) (from : ℕ) : Type 0 where
+pub record AreOutputLinks (patterns : List (List ℕ)) (links : List ℕ) (from : ℕ) : Type 0 where
   pub long : length links ≡ length patterns
-  pub each : (i : ℕ) → from ≤ i → i < length patterns → IsLink patterns i (slice_index links i)
+  pub each : (i : ℕ) → from ≤ i → i < length patterns → IsOutputLink patterns i (slice_index links i)
 
 -- lists for so many patterns, one behind another: each of these that is the first of its equals has in its list those
--- that are an end of it, and the others have none
+-- that are a suffix of it, and the others have none
 pub record AreLists (patterns : List (List ℕ)) (ends starts : List ℕ) (count : ℕ) : Type 0 where
   pub long : length starts ≡ count + 1
   pub ordered : (i : ℕ) → i < count → slice_index starts i ≤ slice_index starts (i + 1)
   pub inside : (i : ℕ) → i ≤ count → slice_index starts i ≤ length ends
   pub last : slice_index starts count ≡ length ends
   pub each : (i : ℕ) → i < count → ending Standard patterns (pattern_at patterns i) ≡ Some i
-      → AreEnds patterns (pattern_at patterns i) 0 ends (slice_index starts i) (slice_index starts (i + 1))
+      → AreSuffixes patterns (pattern_at patterns i) 0 ends (slice_index starts i) (slice_index starts (i + 1))
   pub others : (i : ℕ) → i < count → ¬ (ending Standard patterns (pattern_at patterns i) ≡ Some i)
       → slice_index starts i ≡ slice_index starts (i + 1)
 

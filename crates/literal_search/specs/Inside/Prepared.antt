@@ -5,7 +5,7 @@ use Rattle.std.specs.List.{splice}
 use Rattle.literal_search.specs.SearchValue.{longest_of}
 use Rattle.literal_search.specs.Prepared.{AreShort, HasAllParts, HasParts, check_of, classes_in, fingerprints_by}
 use Rattle.literal_search.specs.Prepared.{lengths_in, fingerprints_part, rows_in, shortest_by, width_in}
-use Rattle.literal_search.specs.declared.prepared.Front.{Front}
+use Rattle.literal_search.specs.declared.prepared.Header.{Header}
 use Rattle.literal_search.specs.declared.prepared.Prepared.TheInside.{Inside}
 use Rattle.literal_search.specs.declared.prepared.TheConstants.{PREPARED_VERSION}
 use Rattle.literal_search.specs.declared.walk.Table.{Table}
@@ -24,12 +24,12 @@ pub record IsSplit (version : ℕ) (numbers classes : List ℕ) (width : ℕ) (l
   pub rows_are : rows ≡ rows_in numbers
   pub longest_is : longest ≡ slice_index numbers 5
 
--- the fields of a `Front` are these parts
-abbrev pub IsFront : ℕ → Front → Type 0
-IsFront version f = IsSplit version f.numbers.now f.classes.now f.width f.lengths.now f.rows.now f.longest
+-- the fields of a `Header` are these parts
+abbrev pub IsHeader : ℕ → Header → Type 0
+IsHeader version f = IsSplit version f.numbers.now f.classes.now f.width f.lengths.now f.rows.now f.longest
 
 -- what a walk reads of them that goes by no fingerprints
-abbrev pub table_of : Front → Table
+abbrev pub table_of : Header → Table
 table_of f =
     record {
       classes = f.classes;
@@ -42,11 +42,11 @@ table_of f =
 
 -- the fields of a `Prepared`: the parts of an array, and its fingerprints where it has some
 pub record IsLent (p : Inside) : Type 0 where
-  pub front : IsFront PREPARED_VERSION p.front
-  pub all : HasAllParts p.front.numbers.now
-  pub shortest : p.shortest ≡ shortest_by (fingerprints_part p.front.numbers.now)
+  pub header : IsHeader PREPARED_VERSION p.header
+  pub all : HasAllParts p.header.numbers.now
+  pub shortest : p.shortest ≡ shortest_by (fingerprints_part p.header.numbers.now)
   pub fingerprints : IfSome p.fingerprints
-      (λ f. (0 < p.shortest) × (f ≡ fingerprints_by (fingerprints_part p.front.numbers.now)))
+      (λ f. (0 < p.shortest) × (f ≡ fingerprints_by (fingerprints_part p.header.numbers.now)))
 
 -- numbers stand in a list from a place on, and the rest of it is as it was
 abbrev pub Puts : ℕ → List ℕ → List ℕ → List ℕ → Type 0

@@ -15,9 +15,9 @@ abbrev pub kept_back : List (List ℕ) → Bool → ℕ
 kept_back patterns is_whole = if is_whole then 0 else longest_of patterns - 1
 
 -- a match lies in so many bytes and is not empty; a place is behind all of them but those that may still matter
-abbrev pub IsFrontOf : List (List ℕ) → Bool → ℕ → SoFar → Type 0
-IsFrontOf patterns is_whole len (Found found) = (found.start < found.end) × (found.end ≤ len)
-IsFrontOf patterns is_whole len (NoneBefore place) = place ≡ len - kept_back patterns is_whole
+abbrev pub IsFirstKnown : List (List ℕ) → Bool → ℕ → SoFar → Type 0
+IsFirstKnown patterns is_whole len (Found found) = (found.start < found.end) × (found.end ≤ len)
+IsFirstKnown patterns is_whole len (NoneBefore place) = place ≡ len - kept_back patterns is_whole
 
 -- a text from an offset on, with its matches replaced
 pub record IsReplacedFrom (search : SearchValue) (text : List ℕ) (replacements : List (List ℕ)) (at : ℕ)

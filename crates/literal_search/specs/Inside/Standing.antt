@@ -4,7 +4,7 @@ use Rattle.literal_base.specs.declared.search.MatchKind.TheVariants.{Standard}
 use Rattle.literal_base.specs.declared.search.Span.{Span}
 use Rattle.literal_base.specs.MatchValue.{MatchValue}
 use Rattle.literal_base.specs.Occurs.{between}
-use Rattle.literal_search.specs.Inside.Ends.{AreEnds}
+use Rattle.literal_search.specs.Inside.Suffixes.{AreSuffixes}
 use Rattle.literal_search.specs.Inside.Lists.{starts_of}
 use Rattle.literal_search.specs.Inside.Walk.{IsAt, text_of}
 use Rattle.literal_search.specs.Overlapping.{OverlappingValue}
@@ -44,7 +44,7 @@ pub record IsStanding (t : Tables) (haystack : List ℕ) (span : Span) (s : Stan
       → IsAt Standard (texts_in t) t.width t.rows recognises (read_of t haystack span s.at) s.place
   pub ordered : s.next ≤ s.end
   pub within : s.end ≤ length t.ends
-  pub left : AreEnds (texts_in t) (read_of t haystack span s.at) s.pattern t.ends s.next s.end
+  pub left : AreSuffixes (texts_in t) (read_of t haystack span s.at) s.pattern t.ends s.next s.end
 
 -- where a search stands, as a caller sees it
 abbrev pub standing_value : Tables → List ℕ → Span → Standing → OverlappingMatchesValue

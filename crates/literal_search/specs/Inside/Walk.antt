@@ -14,7 +14,7 @@ use Rattle.literal_base.specs.Leftmost.{IsBetter}
 use Rattle.literal_base.specs.Occurs.{NoneIsEmpty, between, pattern_at}
 use Rattle.literal_search.specs.Inside.Classes.{AreClasses, symbols_in}
 use Rattle.literal_search.specs.Table.{Recognises, nothing, stride_of}
-use Rattle.literal_search.specs.Words.{ending, held, one_stands, word_of}
+use Rattle.literal_search.specs.Words.{ending, live_suffix, one_stands, word_of}
 use Rattle.literal_search.specs.declared.prepared.Damaged.{Damaged}
 use Rattle.literal_search.specs.declared.walk.Ended.{Ended}
 use Rattle.literal_search.specs.declared.walk.Stop.{Stop}
@@ -49,7 +49,7 @@ from_match patterns [] = []
 from_match patterns (symbol ∷ more) =
     if one_stands patterns (symbol ∷ more) then symbol ∷ more else from_match patterns more
 
--- of the patterns that stand in front of a text this one is the best
+-- of the patterns that are prefixes of a text this one is the best
 pub record IsBest (kind : MatchKind) (patterns : List (List ℕ)) (text : List ℕ) (i : ℕ) : Type 0 where
   pub is_pattern : i < length patterns
   pub stands : starts_with nat_eq text (pattern_at patterns i) ≡ true
@@ -74,15 +74,15 @@ FindsIn width rows start text answer =
     (kind : MatchKind) (patterns : List (List ℕ)) → Recognises (root_kind_of kind) patterns width rows
     → NoneIsEmpty patterns → IsFound kind patterns start text answer
 
--- a walk that read a text stands at the state of what is held of it
+-- a walk that read a text stands at the state of its live suffix
 pub record IsAt (kind : search.MatchKind) (patterns : List (List ℕ)) (width : ℕ) (rows : List ℕ)
     (recognises : Recognises kind patterns width rows) (text : List ℕ) (place : ℕ) : Type 0 where
   pub state : ℕ
   pub is_state : state < length recognises.words
   pub place_is : place ≡ state * stride_of width
-  pub held : held kind patterns text ≡ Some (word_of recognises.words state)
+  pub live_suffix : live_suffix kind patterns text ≡ Some (word_of recognises.words state)
 
--- what a walk knows of a text that it read: it is at the state of what is held of the text, and has the best match
+-- what a walk knows of a text that it read: it is at the state of the live suffix of the text, and has the best match
 pub record IsBehind (kind : MatchKind) (patterns : List (List ℕ)) (width : ℕ) (rows : List ℕ)
     (recognises : Recognises (root_kind_of kind) patterns width rows) (start : ℕ) (text : List ℕ) (place : ℕ)
     (last : Option Ended) : Type 0 where

@@ -146,18 +146,18 @@ loop-found-init c =
     }
 
 -- with the match before them, and its replacement
-goes_on : (haystack : List ℕ) (given : List (List ℕ)) (front now all between replacement : List ℕ) (at end : ℕ)
-    (found : MatchValue) (more : List MatchValue) → now ≡ front ++ between → all ≡ now ++ replacement
+goes_on : (haystack : List ℕ) (given : List (List ℕ)) (prefix now all between replacement : List ℕ) (at end : ℕ)
+    (found : MatchValue) (more : List MatchValue) → now ≡ prefix ++ between → all ≡ now ++ replacement
     → between ≡ slice_range haystack at found.start → replacement ≡ pattern_at given found.pattern → end ≡ found.end
-    → all ++ replaced haystack given end more ≡ front ++ replaced haystack given at (found ∷ more)
-goes_on haystack given front now all between replacement at end found more now_is all_is between_is replacement_is
+    → all ++ replaced haystack given end more ≡ prefix ++ replaced haystack given at (found ∷ more)
+goes_on haystack given prefix now all between replacement at end found more now_is all_is between_is replacement_is
     end_is =
     let rest = replaced haystack given found.end more in
     ap (λ k. all ++ replaced haystack given k more) end_is
     ∙ (ap (λ l. l ++ rest) (all_is ∙ ap (λ l. l ++ replacement) now_is)
-    ∙ (append_assoc (front ++ between) replacement rest ∙ (append_assoc front between (replacement ++ rest)
-    ∙ (ap (λ l. front ++ (l ++ (replacement ++ rest))) between_is
-    ∙ ap (λ l. front ++ (slice_range haystack at found.start ++ (l ++ rest))) replacement_is))))
+    ∙ (append_assoc (prefix ++ between) replacement rest ∙ (append_assoc prefix between (replacement ++ rest)
+    ∙ (ap (λ l. prefix ++ (l ++ (replacement ++ rest))) between_is
+    ∙ ap (λ l. prefix ++ (slice_range haystack at found.start ++ (l ++ rest))) replacement_is))))
 
 pub loop-found-preserved : goal.loop-found-preserved
 loop-found-preserved c =

@@ -6,9 +6,9 @@ use Rattle.literal_search.proofs.lemmas.Streams.{streamed_all, streamed_failed, 
 use Rattle.literal_search.proofs.lemmas.Streams.{streamed_len, streamed_to}
 use Rattle.literal_search.proofs.laws.streams_are_greedy.Goals as goal
 
--- at first it stands in front of the text
-in_front : (search : SearchValue) (bytes : List ℕ) → StandsIn search bytes (stream_of search (Some bytes))
-in_front search bytes = record {
+-- at first it is a prefix of the text
+at_the_start : (search : SearchValue) (bytes : List ℕ) → StandsIn search bytes (stream_of search (Some bytes))
+at_the_start search bytes = record {
   before = [];
   rest = bytes;
   search_is = refl;
@@ -20,18 +20,18 @@ in_front search bytes = record {
 
 pub returns-clause-so_far : goal.returns-clause-so_far
 returns-clause-so_far c = λ search bytes last all more run greedy.
-    streamed_first search bytes (stream_of search (Some bytes)) all last more (in_front search bytes) run greedy
+    streamed_first search bytes (stream_of search (Some bytes)) all last more (at_the_start search bytes) run greedy
 
 pub returns-clause-whole : goal.returns-clause-whole
 returns-clause-whole c = λ search bytes last ended all run ends.
-    streamed_all search bytes (stream_of search (Some bytes)) all last ended (in_front search bytes) run ends
+    streamed_all search bytes (stream_of search (Some bytes)) all last ended (at_the_start search bytes) run ends
 
 pub returns-clause-read : goal.returns-clause-read
 returns-clause-read c = λ search bytes last ended all run ends.
     streamed_len search bytes last ended
-    (streamed_to search bytes (stream_of search (Some bytes)) all last (in_front search bytes) run) ends
+    (streamed_to search bytes (stream_of search (Some bytes)) all last (at_the_start search bytes) run) ends
 
 pub returns-clause-failed : goal.returns-clause-failed
 returns-clause-failed c = λ search bytes last ended all error run fails.
     streamed_failed search bytes last error ended
-    (streamed_to search bytes (stream_of search (Some bytes)) all last (in_front search bytes) run) fails
+    (streamed_to search bytes (stream_of search (Some bytes)) all last (at_the_start search bytes) run) fails

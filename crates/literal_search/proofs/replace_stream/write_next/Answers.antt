@@ -26,7 +26,7 @@ returns-in_ok-put-in-Found-2-clause-written g c =
     let ahead = held c.args.window.now in
     let found = c.in-Found.found in
     let within : found.end ≤ length ahead =
-    omega (arith, c.in-Found.ensures.front.1, ap (λ (l : List ℕ). length l) c.held.ensures) in
+    omega (arith, c.in-Found.ensures.known.1, ap (λ (l : List ℕ). length l) c.held.ensures) in
     let leftmost = subst (λ (h : List ℕ). (more : List ℕ) → (is_whole ≡ true → more ≡ [])
     → IsLeftmostMatch search.query search.ignore_case (h ++ more) (rest_from (h ++ more) 0) found) c.held.ensures
     c.in-Found.ensures.answers in
@@ -35,12 +35,12 @@ returns-in_ok-put-in-Found-2-clause-written g c =
     sym (get_or-map (λ (r : Bor (List ℕ)). r.now) c.args.replacements.now c.as_usize.result
     (record { ref_ptr = (0, 0); now = [] }))
     ∙ ap (λ i. pattern_at given i) (c.as_usize.ensures.value ∙ c.pattern.ensures) in
-    let front : take c.start.result c.held-in-Found.result.now ≡ take found.start ahead =
+    let prefix : take c.start.result c.held-in-Found.result.now ≡ take found.start ahead =
     ap (λ n. take n c.held-in-Found.result.now) c.start.ensures.start
     ∙ ap (take found.start) c.held-in-Found.ensures in (
       take found.start ahead ++ pattern_at given found.pattern,
       Appends-trans _ _ _ (take found.start ahead) (pattern_at given found.pattern)
-          (subst (Appends (g.W.Write.contents c.args.writer.now) (g.W.Write.contents c.put.new.writer)) front
+          (subst (Appends (g.W.Write.contents c.args.writer.now) (g.W.Write.contents c.put.new.writer)) prefix
           c.in_ok-put-in-Found.ensures.written)
           (subst (Appends (g.W.Write.contents c.put.new.writer) (g.W.Write.contents c.put-in-Found.new.writer))
           replacement c.in_ok-put-in-Found-2.ensures.written),
@@ -60,16 +60,16 @@ returns-in_ok-put-in-NoneBefore-clause-written g c =
     let place = c.in-NoneBefore.place in
     let within : place ≤ length ahead = omega (
       arith,
-      c.in-NoneBefore.ensures.front,
+      c.in-NoneBefore.ensures.known,
       ap (λ (l : List ℕ). length l) c.held.ensures,
     ) in
     let none = subst (λ (h : List ℕ). (more : List ℕ) → (is_whole ≡ true → more ≡ []) → (i p : ℕ)
     → Occurs search.query.patterns search.ignore_case (h ++ more) (rest_from (h ++ more) 0) i p → place ≤ p)
     c.held.ensures c.in-NoneBefore.ensures.answers in
-    let front : take place c.held-in-NoneBefore.result.now ≡ take place ahead =
+    let prefix : take place c.held-in-NoneBefore.result.now ≡ take place ahead =
     ap (take place) c.held-in-NoneBefore.ensures in (
       take place ahead,
-      subst (Appends (g.W.Write.contents c.args.writer.now) (g.W.Write.contents c.put-in-NoneBefore.new.writer)) front
+      subst (Appends (g.W.Write.contents c.args.writer.now) (g.W.Write.contents c.put-in-NoneBefore.new.writer)) prefix
           c.in_ok-put-in-NoneBefore.ensures.written,
       subst (λ to. WritesOn search given is_whole at to ahead (take place ahead))
           (sym c.pass-in-NoneBefore.ensures.offset) (writes_place search given is_whole at ahead place within none),

@@ -4,7 +4,7 @@ use Rattle.literal_base.specs.Leftmost.{IsLeftmost}
 use Rattle.literal_base.specs.MatchValue.{MatchValue}
 use Rattle.literal_base.specs.Occurs.{between, pattern_at}
 use Rattle.literal_search.proofs.lemmas.Longest.{longest_is}
-use Rattle.literal_search.proofs.lemmas.Windows.{leftmost_longer, occurs_front}
+use Rattle.literal_search.proofs.lemmas.Windows.{leftmost_longer, occurs_prefix}
 use Rattle.literal_search.proofs.stream.so_far.Goals.{in-Some+else-end-start, in_default}
 use Rattle.literal_search.proofs.stream.so_far.Goals as goal
 
@@ -36,7 +36,7 @@ returns-clause-whatever_follows c = λ query ignore_case more longest_is_so left
             longest_is_so,
             longest_is patterns i,
           ) in
-          let here = occurs_front patterns ignore_case text more c.args.at i p inside occurs in
+          let here = occurs_prefix patterns ignore_case text more c.args.at i p inside occurs in
           elim c.match-leftmost.branch [
             | in-Some+else-end-start w ↦
                 let first = subst (λ (a : Option MatchValue).

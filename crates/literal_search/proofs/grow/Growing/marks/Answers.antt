@@ -7,7 +7,7 @@ use Rattle.literal_search.specs.Inside.Growing.{list_in, texts_of, words_of}
 use Rattle.literal_search.specs.Words.{word_of}
 use Rattle.literal_search.specs.declared.grow.State.{State}
 use Rattle.literal_search.proofs.lemmas.Grown.{unlisted}
-use Rattle.literal_search.proofs.lemmas.Links.{list_at, long_word}
+use Rattle.literal_search.proofs.lemmas.Failures.{list_at, long_word}
 use Rattle.literal_search.proofs.grow.Growing.marks.Goals as goal
 
 pub returns : goal.returns

@@ -4,10 +4,10 @@ use Rattle.literal_search.specs.Inside.Grown.{AreWords, LeadsBy, list_for}
 use Rattle.literal_search.specs.Inside.Growing.{IsGrowing, texts_of, word_in, words_of}
 use Rattle.literal_search.specs.States.{AreStates}
 use Rattle.literal_search.specs.Table.{LeadsTo, stride_of}
-use Rattle.literal_search.specs.Words.{begins_one, held, word_of}
+use Rattle.literal_search.specs.Words.{begins_one, live_suffix, word_of}
 use Rattle.literal_search.specs.declared.grow.Growing.{Growing}
 use Rattle.literal_search.specs.declared.grow.Texts.{Texts}
-use Rattle.literal_search.proofs.lemmas.Behind.{held_begun, held_by_else}
+use Rattle.literal_search.proofs.lemmas.Behind.{live_begun, live_by_else}
 use Rattle.literal_search.proofs.lemmas.Grown.{begun_by_length, unbegun_by_list}
 use Rattle.literal_search.proofs.lemmas.Growing.{words_length, words_same}
 use Rattle.literal_search.proofs.lemmas.States.{made_more, made_next, states_made}
@@ -94,7 +94,7 @@ returns-then-not-is_marked-clause-leads c =
     let text = word_of (words_of g) c.args.state ++ c.args.class ∷ [] in
     let unbegun = unbegun_by_list g.texts.kind (texts_of g.texts) text (c.requires.unmarked c.if-not-is_marked.true) in
     subst (LeadsBy g.texts.kind (texts_of g.texts) (words_of g) g.texts.width c.behind_link-behind.result)
-    (sym (held_by_else g.texts.kind (texts_of g.texts) (word_of (words_of g) c.args.state) c.args.class
+    (sym (live_by_else g.texts.kind (texts_of g.texts) (word_of (words_of g) c.args.state) c.args.class
     c.requires.grows.texts.some unbegun)) c.behind_link-behind.ensures
 
 pub returns-then-len-start-clause-leads : goal.returns-then-len-start-clause-leads
@@ -111,10 +111,10 @@ returns-then-len-start-clause-leads c =
     let none = nil_from_length list (omega (arith, same, now, was, long)) in
     let unbegun = unbegun_by_list g.texts.kind (texts_of g.texts) text none in
     subst (λ words. LeadsBy g.texts.kind (texts_of g.texts) words g.texts.width c.behind_link-behind.result
-    (held g.texts.kind (texts_of g.texts) text))
+    (live_suffix g.texts.kind (texts_of g.texts) text))
     (sym (words_same g g' said.same.0 said.same.1))
     (subst (LeadsBy g.texts.kind (texts_of g.texts) (words_of g) g.texts.width c.behind_link-behind.result)
-    (sym (held_by_else g.texts.kind (texts_of g.texts) (word_of (words_of g) c.args.state) c.args.class
+    (sym (live_by_else g.texts.kind (texts_of g.texts) (word_of (words_of g) c.args.state) c.args.class
     c.requires.grows.texts.some unbegun)) c.behind_link-behind.ensures)
 
 -- a number leads to a word, of texts that stay the same
@@ -137,7 +137,7 @@ returns-clause-leads c =
     let long = ap (λ (l : List ℕ). length l) said.lists ∙ length-append g.lists.items list in
     let begun = begun_by_length g.texts.kind (texts_of g.texts) text (omega (arith, isnt, now, was, long)) in
     subst (LeadsBy g.texts.kind (texts_of g.texts) (words_of c.add_state.new.self) g.texts.width c.in_ok-code.code)
-    (sym (held_begun g.texts.kind (texts_of g.texts) text begun))
+    (sym (live_begun g.texts.kind (texts_of g.texts) text begun))
     (leads_same g.texts g'.texts (words_of c.add_state.new.self) c.in_ok-code.code text _ said.same.0
     (c.state_behind-next.ensures.word
     ∙ ap (λ words. word_of words c.args.state ++ c.args.class ∷ []) (words_same g g' said.same.0 said.same.1))

@@ -6,7 +6,7 @@ use Rattle.literal_search.specs.declared.grow.State.{State}
 use Rattle.literal_search.specs.declared.grow.Texts.{Texts}
 use Rattle.literal_search.proofs.lemmas.Grown.{list_by_list, whole_by_list}
 use Rattle.literal_search.proofs.lemmas.Growing.{grown_lists}
-use Rattle.literal_search.proofs.lemmas.Links.{list_at, long_word}
+use Rattle.literal_search.proofs.lemmas.Failures.{list_at, long_word}
 use Rattle.literal_search.proofs.grow.Growing.push_list.Goals as goal
 
 by_fields : (t t' : Texts) (s s' : List State) (l l' r r' : List ℕ) → t' ≡ t → s' ≡ s → l' ≡ l → r' ≡ r

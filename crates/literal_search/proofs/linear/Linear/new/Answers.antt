@@ -70,8 +70,8 @@ returns-in_err-rows-clause-error g c =
     (c.in_err-rows.ensures.too_many is)))
     c.from_residual-in_err-rows.result c.from_residual-in_err-rows.ensures.1
 
-pub best_ends-requires : goal.best_ends-requires
-best_ends-requires g c =
+pub best_suffixes-requires : goal.best_suffixes-requires
+best_suffixes-requires g c =
     let classes = c.classes_for-classes.result in
     let patterns = c.in_ok-patterns.patterns.items in
     let kept = c.in_ok-patterns.ensures.ok.5 in

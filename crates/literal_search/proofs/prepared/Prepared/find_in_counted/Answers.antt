@@ -32,15 +32,15 @@ returns-in_default-clause-near c = λ query ignore_case is.
     (c.table.ensures.prepared query ignore_case is)) in
     record { others = told.others; least = omega (arith, near, told.grows); most = told.most; near = tt }
 
-pub returns-then-pattern-front-clause-prepared : goal.returns-then-pattern-front-clause-prepared
-returns-then-pattern-front-clause-prepared c = λ query ignore_case is.
+pub returns-then-pattern-header-clause-prepared : goal.returns-then-pattern-header-clause-prepared
+returns-then-pattern-header-clause-prepared c = λ query ignore_case is.
     let prepared = subst (IsPrepared query ignore_case) (sym c.self.view_is) is in
     let found = subst (Answers false query ignore_case c.args.haystack.now c.args.span) c.in-Some.is
     (c.in_ok-ended.ensures.found query ignore_case
     (c.table.ensures.prepared query ignore_case is)) in
-    let below = pattern_by c.self.inside.front c.self.invariant.front query ignore_case prepared c.args.haystack.now
+    let below = pattern_by c.self.inside.header c.self.invariant.header query ignore_case prepared c.args.haystack.now
     c.args.span c.in-Some.ended found in
-    omega (arith, below, c.if-pattern-front.true)
+    omega (arith, below, c.if-pattern-header.true)
 
 pub returns-then-len-eq0-clause-prepared : goal.returns-then-len-eq0-clause-prepared
 returns-then-len-eq0-clause-prepared c = λ query ignore_case is.
@@ -48,7 +48,7 @@ returns-then-len-eq0-clause-prepared c = λ query ignore_case is.
     let found = subst (Answers false query ignore_case c.args.haystack.now c.args.span) c.in-Some.is
     (c.in_ok-ended.ensures.found query ignore_case
     (c.table.ensures.prepared query ignore_case is)) in
-    let inside = inside_by c.self.inside.front c.self.invariant.front query ignore_case prepared c.args.haystack.now
+    let inside = inside_by c.self.inside.header c.self.invariant.header query ignore_case prepared c.args.haystack.now
     c.args.span c.in-Some.ended found in
     elim c.then-len-eq0.branch [
       | goal.then-len-eq0-via-then-len-eq0 w ↦ omega (arith, inside.0, w.if-len-eq0.true)
@@ -61,7 +61,7 @@ returns-clause-prepared c = λ query ignore_case is.
     let found = subst (Answers false query ignore_case c.args.haystack.now c.args.span) c.in-Some.is
     (c.in_ok-ended.ensures.found query ignore_case
     (c.table.ensures.prepared query ignore_case is)) in
-    let same = match_is c.self.inside.front c.self.invariant.front query ignore_case prepared c.args.haystack.now
+    let same = match_is c.self.inside.header c.self.invariant.header query ignore_case prepared c.args.haystack.now
     c.args.span c.in-Some.ended found ∙ sym c.must.ensures in
     subst (IsLeftmostMatch query ignore_case c.args.haystack.now c.args.span) same found
 
@@ -71,7 +71,7 @@ returns-clause-near c = λ query ignore_case is.
     let found = subst (Answers false query ignore_case c.args.haystack.now c.args.span) c.in-Some.is
     (c.in_ok-ended.ensures.found query ignore_case
     (c.table.ensures.prepared query ignore_case is)) in
-    let same = match_is c.self.inside.front c.self.invariant.front query ignore_case prepared c.args.haystack.now
+    let same = match_is c.self.inside.header c.self.invariant.header query ignore_case prepared c.args.haystack.now
     c.args.span c.in-Some.ended found ∙ sym c.must.ensures in
     let told = c.in_ok-ended.ensures in
     let steps = c.search.new.tally.scanned - c.args.tally.now.scanned in

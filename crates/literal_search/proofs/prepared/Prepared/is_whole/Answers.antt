@@ -6,9 +6,9 @@ use Rattle.literal_search.proofs.prepared.Prepared.is_whole.Goals as goal
 
 pub returns : goal.returns
 returns c =
-    let p = c.self.inside.front in
+    let p = c.self.inside.header in
     let numbers = p.numbers.now in
-    let split = c.self.invariant.front in
+    let split = c.self.invariant.header in
     let fits = split.parts.fits in
     let lengths = ap (λ (l : List ℕ). length l) split.lengths_are
     ∙ length_part numbers 262 (rows_at numbers) (omega arith) (omega arith) in

@@ -10,8 +10,8 @@ returns-then-len-eq0-clause-prepared c = λ search are standing left.
     let p = c.args.self.now in
     let pattern_is = got_is p.ends.now _ c.get.result c.in_ok-pattern.field-0 c.get.ensures.lookup
     c.in_ok-pattern.ensures.ok_part in
-    let len_is = got_is p.front.lengths.now _ c.get-2.result c.in_ok-len.field-0 c.get-2.ensures.lookup
-    c.in_ok-len.ensures.ok_part ∙ ap (λ k. get_or p.front.lengths.now k 0) pattern_is in
+    let len_is = got_is p.header.lengths.now _ c.get-2.result c.in_ok-len.field-0 c.get-2.ensures.lookup
+    c.in_ok-len.ensures.ok_part ∙ ap (λ k. get_or p.header.lengths.now k 0) pattern_is in
     let inside = length_inside are c.args.haystack.now (λ k. omega (arith, c.type_inv.haystack k)) c.args.span
     c.requires.valid c.args.here standing left in
     elim c.then-len-eq0.branch [
@@ -24,7 +24,7 @@ returns-clause-prepared c = λ search are standing left.
     let p = c.args.self.now in
     let pattern_is = got_is p.ends.now _ c.get.result c.in_ok-pattern.field-0 c.get.ensures.lookup
     c.in_ok-pattern.ensures.ok_part in
-    let len_is = got_is p.front.lengths.now _ c.get-2.result c.in_ok-len.field-0 c.get-2.ensures.lookup
+    let len_is = got_is p.header.lengths.now _ c.get-2.result c.in_ok-len.field-0 c.get-2.ensures.lookup
     c.in_ok-len.ensures.ok_part in
     subst (λ (m : MatchValue). IsNextBy (tables_by search p) c.args.haystack.now c.args.span c.args.here m
     (record {

@@ -26,7 +26,7 @@ returns-then-standing-span-clause-prepared c = λ search are standing.
 
 pub first_ended-requires-clause-classes : goal.first_ended-requires-clause-classes
 first_ended-requires-clause-classes c =
-    subst (λ (t : Table). length t.classes.now ≡ 256) (sym c.table-table.ensures) (classes_long c.requires.lent.front)
+    subst (λ (t : Table). length t.classes.now ≡ 256) (sym c.table-table.ensures) (classes_long c.requires.lent.header)
 
 pub returns-in_err-stop-clause-prepared : goal.returns-in_err-stop-clause-prepared
 returns-in_err-stop-clause-prepared c = λ search are standing.
@@ -44,7 +44,7 @@ returns-in_default-clause-prepared c = λ search are standing.
     let p = c.args.self.now in
     next_nowhere are c.args.haystack.now (λ k. omega (arith, c.type_inv.haystack k)) c.args.span c.requires.valid
     c.args.standing standing c.if-standing.false more
-    (subst (FindsBy (table_of p.front) c.args.standing.place c.args.haystack.now
+    (subst (FindsBy (table_of p.header) c.args.standing.place c.args.haystack.now
     (between c.args.standing.at c.args.span.end)) c.in_default.is (subst (λ (t : Table). FindsBy t
     c.args.standing.place c.args.haystack.now
     (between c.args.standing.at c.args.span.end) c.in_ok-stop.field-0) c.table-table.ensures
@@ -56,7 +56,7 @@ returns-in_err-standing_at-clause-prepared c = λ search are standing.
     let more : c.args.standing.at < c.args.span.end = omega (arith, c.if-standing-span.false) in
     let p = c.args.self.now in
     let stop = c.in-Some.stop in
-    let finds = subst (FindsBy (table_of p.front) c.args.standing.place c.args.haystack.now
+    let finds = subst (FindsBy (table_of p.header) c.args.standing.place c.args.haystack.now
     (between c.args.standing.at c.args.span.end)) c.in-Some.is (subst (λ (t : Table). FindsBy t
     c.args.standing.place c.args.haystack.now
     (between c.args.standing.at c.args.span.end) c.in_ok-stop.field-0) c.table-table.ensures
@@ -76,7 +76,7 @@ returns-clause-prepared c = λ search are standing.
     let more : c.args.standing.at < c.args.span.end = omega (arith, c.if-standing-span.false) in
     let p = c.args.self.now in
     let stop = c.in-Some.stop in
-    let finds = subst (FindsBy (table_of p.front) c.args.standing.place c.args.haystack.now
+    let finds = subst (FindsBy (table_of p.header) c.args.standing.place c.args.haystack.now
     (between c.args.standing.at c.args.span.end)) c.in-Some.is (subst (λ (t : Table). FindsBy t
     c.args.standing.place c.args.haystack.now
     (between c.args.standing.at c.args.span.end) c.in_ok-stop.field-0) c.table-table.ensures

@@ -8,18 +8,18 @@ use Rattle.literal_search.proofs.prepared_overlapping.PreparedOverlapping.is_who
 pub returns : goal.returns
 returns c =
     let p = c.self.inside.lent in
-    let numbers = p.front.numbers.now in
+    let numbers = p.header.numbers.now in
     let lent = c.self.invariant in
     let fits = lent.listed.fits in
-    let lengths = ap (λ (l : List ℕ). length l) lent.front.lengths_are
+    let lengths = ap (λ (l : List ℕ). length l) lent.header.lengths_are
     ∙ length_part numbers 262 (rows_at numbers) (omega arith) (omega arith) in
-    let rows = ap (λ (l : List ℕ). length l) lent.front.rows_are
+    let rows = ap (λ (l : List ℕ). length l) lent.header.rows_are
     ∙ length_part numbers (rows_at numbers) (rows_end numbers) (omega arith) (omega arith) in
     let starts = ap (λ (l : List ℕ). length l) lent.starts_are
     ∙ length_part numbers (rows_end numbers) (ends_at numbers) (omega arith) (omega arith) in
     let ends = ap (λ (l : List ℕ). length l) lent.ends_are
     ∙ length_part numbers (ends_at numbers) (listed_len numbers) (omega arith) (omega arith) in
-    let end_is : 262 + length p.front.lengths.now + length p.front.rows.now + length p.starts.now + length p.ends.now
+    let end_is : 262 + length p.header.lengths.now + length p.header.rows.now + length p.starts.now + length p.ends.now
     ≡ listed_len numbers =
     omega (arith, lengths, rows, starts, ends) in
     let check_is = ap (λ end. check_of (slice_range numbers 2 end)) end_is in (

@@ -8,8 +8,8 @@ use Rattle.literal_search.proofs.prepared_overlapping.PreparedOverlapping.new.Go
 pub returns-then-numbers-ends_at : goal.returns-then-numbers-ends_at
 returns-then-numbers-ends_at c = λ lists.
     let numbers = c.args.numbers.now in
-    let f = c.in_ok-front.front in
-    let known = parts_end f numbers c.in_ok-front.ensures.0 c.in_ok-front.ensures.2 in
+    let f = c.in_ok-header.header in
+    let known = parts_end f numbers c.in_ok-header.ensures.0 c.in_ok-header.ensures.2 in
     let fits = lists.fits in
     let last : 262 + length f.lengths.now + length f.rows.now + length f.lengths.now
     ≡ rows_end numbers + get_or numbers 3 0 = omega (arith, known.0, known.1) in
@@ -18,9 +18,9 @@ returns-then-numbers-ends_at c = λ lists.
 pub invariant_of-result : goal.invariant_of-result
 invariant_of-result c =
     let numbers = c.args.numbers.now in
-    let f = c.in_ok-front.front in
-    let same = c.in_ok-front.ensures.0 in
-    let known = parts_end f numbers same c.in_ok-front.ensures.2 in
+    let f = c.in_ok-header.header in
+    let same = c.in_ok-header.ensures.0 in
+    let known = parts_end f numbers same c.in_ok-header.ensures.2 in
     let last : 262 + length f.lengths.now + length f.rows.now + length f.lengths.now
     ≡ rows_end numbers + get_or numbers 3 0 = omega (arith, known.0, known.1) in
     let ends : 262 + length f.lengths.now + length f.rows.now + length f.lengths.now + 1 ≡ ends_at numbers =
@@ -29,9 +29,9 @@ invariant_of-result c =
     + get_or numbers (262 + length f.lengths.now + length f.rows.now + length f.lengths.now) 0 ≡ listed_len numbers =
     omega (arith, ends, ap (λ k. get_or numbers k 0) last) in
     record {
-      front = c.in_ok-front.ensures.2;
+      header = c.in_ok-header.ensures.2;
       listed = subst HasLists (sym same) (record {
-        parts = c.in_ok-front.ensures.1;
+        parts = c.in_ok-header.ensures.1;
         fits = omega (arith, listed, c.if-numbers-ends_at.false, c.if-numbers-last.false);
       });
       starts_are = ap (λ from. slice_range numbers from
@@ -46,13 +46,13 @@ invariant_of-result c =
 pub returns : goal.returns
 returns c =
     let numbers = c.args.numbers.now in
-    let f = c.in_ok-front.front in
-    let known = parts_end f numbers c.in_ok-front.ensures.0 c.in_ok-front.ensures.2 in
+    let f = c.in_ok-header.header in
+    let known = parts_end f numbers c.in_ok-header.ensures.0 c.in_ok-header.ensures.2 in
     let last : 262 + length f.lengths.now + length f.rows.now + length f.lengths.now
     ≡ rows_end numbers + get_or numbers 3 0 = omega (arith, known.0, known.1) in (
-      c.in_ok-front.ensures.0,
+      c.in_ok-header.ensures.0,
       record {
-        parts = c.in_ok-front.ensures.1;
+        parts = c.in_ok-header.ensures.1;
         fits = omega (
           arith,
           last,

@@ -9,7 +9,7 @@ returns-then-self c =
     let s = c.self.inside in
     let many = lengths_many c.self.invariant.0 in
     subst (λ (m : PreparedOverlappingMatchesValue). IsTrue
-    (nat_eq s.standing.pattern (length s.lent.now.front.lengths.now)) ↔ HasEnded m) c.self.view_is (
+    (nat_eq s.standing.pattern (length s.lent.now.header.lengths.now)) ↔ HasEnded m) c.self.view_is (
       λ is. (c.if-self.true, eqb-true s.standing.pattern _ is ∙ many),
       λ ended. eq-eqb s.standing.pattern _ (ended.1 ∙ sym many),
     )

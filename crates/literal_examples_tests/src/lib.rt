@@ -1,8 +1,0 @@
-//! Tests of what is shown to be copied: the examples in the documentation of the main types, and the parts of programs
-//! of `literal_examples`.
-#![tactic(auto)]
-
-#[cfg(test)]
-mod parts;
-#[cfg(test)]
-mod types;

@@ -1,4 +1,0 @@
-use Rattle.literal_search.proofs.replace_stream.front.Goals as goal
-
-pub returns-then-not-is_whole-clause-answers : goal.returns-then-not-is_whole-clause-answers
-returns-then-not-is_whole-clause-answers c = λ more over. c.find_so_far.ensures.whatever_follows more

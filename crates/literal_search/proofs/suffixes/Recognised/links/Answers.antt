@@ -1,0 +1,91 @@
+use Rattle.std.proofs.Common.{◌≡◌, ◌+◌, ◌-◌, ◌<◌, ◌≤◌, ◌^◌, ◌∙◌, ℕ, List, get_or, length, arith, sym, ap, subst}
+use Rattle.std.proofs.lemmas.List.{get_or-replicate, get_or_default, length-map, length-replicate}
+use Rattle.std.specs.Global.{Vec}
+use Rattle.literal_search.specs.Inside.Classes.{symbols_in}
+use Rattle.literal_search.specs.Inside.Lists.{AreHeads, AreOutputLinks, symbols_of}
+use Rattle.literal_search.specs.Inside.Suffixes.{IsOutputLink, IsNextEqual}
+use Rattle.literal_search.specs.Table.{nothing}
+use Rattle.literal_search.proofs.lemmas.Chains.{first_equal_of, heads_on, heads_start, link_to_equal}
+use Rattle.literal_search.proofs.lemmas.Chains.{link_to_shorter, links_on, links_start}
+use Rattle.literal_search.proofs.suffixes.Recognised.links.Goals as goal
+use Rattle.literal_search.proofs.suffixes.Recognised.links.Goals.{then-equal, else-equal}
+
+pub loop-pattern-init : goal.loop-pattern-init
+loop-pattern-init c =
+    let r = c.args.self.now in
+    let texts = symbols_of r in
+    let count = length r.patterns.now in
+    let known : length texts ≡ count = length-map r.patterns.now (λ (p : Vec ℕ). symbols_in r.classes.now p.items) in
+    let heads = c.in_ok-heads.heads.items in
+    let links = c.in_ok-links.links.items in
+    let heads_are = c.in_ok-heads.ensures.items_if_clones_equal (λ y is. is) in
+    let links_are = c.in_ok-links.ensures.items_if_clones_equal (λ y is. is) in
+    let heads_long : length heads ≡ length texts =
+    ap (λ (l : List ℕ). length l) heads_are ∙ (length-replicate count nothing ∙ sym known) in
+    let links_long : length links ≡ length texts =
+    ap (λ (l : List ℕ). length l) links_are ∙ (length-replicate count nothing ∙ sym known) in
+    record {
+      links = subst (AreOutputLinks texts links) known (links_start texts links links_long);
+      heads = subst (AreHeads texts heads) known (heads_start texts heads heads_long (λ k below.
+          ap (λ l. get_or l k 0) heads_are
+          ∙ get_or-replicate count k nothing 0 (omega (arith, heads_long, known))));
+    }
+
+pub index-equal-requires : goal.index-equal-requires
+index-equal-requires c =
+    let r = c.args.self.now in
+    let texts = symbols_of r in
+    let known : length texts ≡ length r.patterns.now =
+    length-map r.patterns.now (λ (p : Vec ℕ). symbols_in r.classes.now p.items) in
+    let p = c.loop-pattern.pattern - 1 in
+    let below : p < length texts = omega (arith, known) in
+    let first = first_equal_of texts c.requires.some (omega (arith, known, c.requires.few)) p c.longest_suffix-first.result
+    below c.longest_suffix-first.ensures in
+    omega (arith, first.below, c.loop-pattern.invariant.heads.long, c.loop-pattern.heads.ok.0)
+
+pub index_mut-requires-in-loop-pattern : goal.index_mut-requires-in-loop-pattern
+index_mut-requires-in-loop-pattern c =
+    let r = c.args.self.now in
+    let texts = symbols_of r in
+    let known : length texts ≡ length r.patterns.now =
+    length-map r.patterns.now (λ (p : Vec ℕ). symbols_in r.classes.now p.items) in
+    let p = c.loop-pattern.pattern - 1 in
+    let below : p < length texts = omega (arith, known) in
+    let first = first_equal_of texts c.requires.some (omega (arith, known, c.requires.few)) p c.longest_suffix-first.result
+    below c.longest_suffix-first.ensures in
+    omega (arith, first.below, c.loop-pattern.invariant.heads.long, c.loop-pattern.heads.ok.0)
+
+pub loop-pattern-preserved : goal.loop-pattern-preserved
+loop-pattern-preserved c =
+    let r = c.args.self.now in
+    let texts = symbols_of r in
+    let some = c.requires.some in
+    let known : length texts ≡ length r.patterns.now =
+    length-map r.patterns.now (λ (p : Vec ℕ). symbols_in r.classes.now p.items) in
+    let few : length texts ≤ 2 ^ 31 - 1 = omega (arith, known, c.requires.few) in
+    let p = c.loop-pattern.pattern - 1 in
+    let next : c.loop-pattern.pattern ≡ p + 1 = omega arith in
+    let below : p < length texts = omega (arith, known) in
+    let is = first_equal_of texts some few p c.longest_suffix-first.result below c.longest_suffix-first.ensures in
+    let heads = c.loop-pattern.heads.items in
+    let equal = c.index-equal.result.now in
+    let read : equal ≡ get_or heads c.longest_suffix-first.result 0 = c.index-equal.ensures
+    ∙ get_or_default heads c.longest_suffix-first.result equal 0 (omega (
+      arith,
+      is.below,
+      c.loop-pattern.invariant.heads.long,
+    )) in
+    let before = subst (AreHeads texts heads) next c.loop-pattern.invariant.heads in
+    let after = subst (IsNextEqual texts c.longest_suffix-first.result (p + 1)) (sym read)
+    (before.each c.longest_suffix-first.result is.below is.first_is) in
+    record {
+      links = links_on texts some few c.loop-pattern.links.items p c.if-equal.link
+          (subst (AreOutputLinks texts c.loop-pattern.links.items) next c.loop-pattern.invariant.links) below
+          (elim c.if-equal.branch [
+            | then-equal w ↦ link_to_shorter texts some few p c.longest_suffix-first.result equal below after is.same
+                w.if-equal.true c.if-equal.link (w.link-is ∙ w.longest_suffix-link.ensures)
+            | else-equal w ↦ subst (IsOutputLink texts p) (sym w.link-is)
+                (link_to_equal texts some few p c.longest_suffix-first.result equal below after is.same w.if-equal.false)
+          ]);
+      heads = heads_on texts some few heads p c.longest_suffix-first.result before below is;
+    }

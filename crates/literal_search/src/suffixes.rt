@@ -1,0 +1,148 @@
+//! The patterns that are a suffix of a pattern, for each pattern of which one is found first.
+ghost use Rattle.std.specs.Prelude.{◌≡◌, ◌<◌, ◌≤◌, ◌++◌, ◌∷◌, [], IfOk, OnErr, Some, drop, length};
+ghost use Rattle.std.specs.Option.{unwrap_or};
+ghost use Rattle.literal_base.specs.Occurs.{pattern_at};
+ghost use Rattle.literal_base.specs.declared.search.MatchKind.TheVariants.{Standard};
+ghost use Rattle.literal_search.specs.Table.{nothing};
+ghost use Rattle.literal_search.specs.Words.{ending};
+ghost use Rattle.literal_search.specs.Inside.Suffixes.{AreSuffixes};
+ghost use Rattle.literal_search.specs.Inside.Lists.{AreOutputLinks, AreLists, Recognise, starts_of, symbols_of};
+
+use crate::walk::{ENDS, NOTHING};
+use std::alloc::{AllocError, Global};
+
+/// Where the last of no lists ends.
+const NO_LIST: [usize; 1] = [0];
+
+/// Patterns, and the rows of an automaton for all that occurs of them.
+#[derive(Clone, Copy)]
+pub struct Recognised<'p> {
+    pub classes: &'p [u8; 256],
+    pub width: usize,
+    pub rows: &'p [u32],
+    pub patterns: &'p [Vec<u8>],
+}
+
+/// Lists of patterns, one behind another: where each begins, and behind the last where that ends.
+#[derive(Drop)]
+pub struct Lists {
+    pub ends: Vec<u32>,
+    /// Empty where there is no list.
+    starts: Vec<usize>,
+}
+
+impl<'p> Recognised<'p> {
+    /// Of the patterns that are a suffix of a pattern from one of its bytes on, the longest, and of equals the first.
+    pub(crate) fn longest_suffix(&self, pattern: usize, from: usize) -> u32
+        requires recognise { Recognise self.now }
+        requires is_pattern { pattern < length self.now.patterns.now }
+        requires inside { from ≤ length (pattern_at (symbols_of self.now) pattern) }
+        ensures { result ≡ unwrap_or (ending Standard (symbols_of self.now)
+            (drop from (pattern_at (symbols_of self.now) pattern))) nothing }
+    {
+        let bytes = self.patterns[pattern].as_slice();
+        let mut place = 0;
+        for at in from..bytes.len() {
+            let code = self.rows[place + self.classes[bytes[at] as usize] as usize];
+            place = if code < ENDS { code } else { code - ENDS } as usize;
+        }
+        self.rows[place + self.width]
+    }
+
+    /// For each pattern the next that is a suffix of it: one of its equals that comes later, or else a shorter one.
+    fn links(&self, alloc: Global) -> Result<Vec<u32>, AllocError>
+        requires { Recognise self.now }
+        ensures { IfOk result (λ links. AreOutputLinks (symbols_of self.now) links.items 0) }
+    {
+        let count = self.patterns.len();
+        let mut links = vec![in alloc; NOTHING; count]?;
+        let mut heads = vec![in alloc; NOTHING; count]?;
+        for pattern in (0..count).rev() {
+            let first = self.longest_suffix(pattern, 0) as usize;
+            let equal = heads[first];
+            let link = if equal == NOTHING {
+                self.longest_suffix(pattern, 1)
+            } else {
+                equal
+            };
+            links[pattern] = link;
+            heads[first] = pattern as u32;
+        }
+        Ok(links)
+    }
+
+    /// The patterns that are a suffix of a pattern, in order, and none where it is not the first of its equals.
+    fn suffixes_of(&self, alloc: Global, links: &[u32], pattern: usize) -> Result<Vec<u32>, AllocError>
+        requires recognise { Recognise self.now }
+        requires links { AreOutputLinks (symbols_of self.now) links.now 0 }
+        requires is_pattern { pattern < length self.now.patterns.now }
+        ensures ends { IfOk result (λ list. ending Standard (symbols_of self.now)
+            (pattern_at (symbols_of self.now) pattern) ≡ Some pattern
+            → AreSuffixes (symbols_of self.now) (pattern_at (symbols_of self.now) pattern) 0 list.items 0
+            (length list.items)) }
+        ensures none { IfOk result (λ list. ¬ (ending Standard (symbols_of self.now)
+            (pattern_at (symbols_of self.now) pattern) ≡ Some pattern) → list.items ≡ []) }
+    {
+        let mut list = Vec::new(alloc);
+        if self.longest_suffix(pattern, 0) as usize != pattern {
+            return Ok(list);
+        }
+        let mut next = pattern as u32;
+        while next != NOTHING {
+            list.push(next)?;
+            next = links[next as usize];
+        }
+        // Equals stand one behind another, and ascend: the sort keeps such runs.
+        list.sort()?;
+        Ok(list)
+    }
+
+    /// The lists of the patterns that are a suffix of a pattern, for each that is the first of its equals. Where there
+    /// is no pattern, there is none, and no memory is asked for.
+    pub(crate) fn lists(&self, alloc: Global) -> Result<Lists, AllocError>
+        requires { Recognise self.now }
+        ensures lists { IfOk result (λ lists. AreLists (symbols_of self.now) lists.ends.items
+            (starts_of lists.starts.items) (length self.now.patterns.now)) }
+        ensures not_empty { OnErr result (0 < length self.now.patterns.now) }
+    {
+        if self.patterns.is_empty() {
+            return Ok(Lists {
+                ends: Vec::new(alloc),
+                starts: Vec::new(alloc),
+            });
+        }
+        let links = self.links(alloc)?;
+        let mut lists = Lists {
+            ends: Vec::new(alloc),
+            starts: vec![in alloc; 0usize; 1]?,
+        };
+        for pattern in 0..self.patterns.len() {
+            let list = self.suffixes_of(alloc, &links, pattern)?;
+            lists.push(&list)?;
+        }
+        Ok(lists)
+    }
+}
+
+impl Lists {
+    /// Where each begins, and the last ends.
+    pub fn starts(&self) -> &[usize]
+        ensures { result.now ≡ starts_of self.now.starts.items }
+    {
+        if self.starts.is_empty() {
+            return &NO_LIST;
+        }
+        &self.starts
+    }
+
+    /// Adds a list behind the others.
+    fn push(&mut self, list: &[u32]) -> Result<(), AllocError>
+        ensures ends { IfOk result (λ _. self.new.ends.items ≡ self.old.ends.items ++ list.now) }
+        ensures starts { IfOk result (λ _. self.new.starts.items
+            ≡ self.old.starts.items ++ length self.new.ends.items ∷ []) }
+    {
+        self.ends.extend_from_slice(list)?;
+        self.starts.push(self.ends.len())?;
+        Ok(())
+    }
+}
