@@ -109,7 +109,7 @@ static void by_null(const uint8_t *text, size_t len) {
     CHECK(literal_find(0, false, NULL, 0, NULL, 0, text, len, 0, len, &found) == LITERAL_NONE);
     CHECK(literal_find(1, true, patterns, 17, ends, 3, NULL, 0, 0, 0, &found) == LITERAL_NONE && is(&found, 7, 8, 9));
     CHECK(literal_find_all(0, false, patterns, 17, ends, 3, text, len, 0, NULL, 0, &page) == LITERAL_OK);
-    CHECK(page.written == 0 && page.next == 0 && page.is_last == 0);
+    CHECK(page.written == 0 && page.next == 13 && page.is_last == 0);
     CHECK(literal_find_overlapping(false, NULL, 0, NULL, 0, NULL, 0, 0, 0, NULL, 0, &page) == LITERAL_OK);
     CHECK(page.written == 0 && page.next == 0 && page.is_last == 1);
     CHECK(literal_find_each(0, false, patterns, 17, ends, 3, NULL, 0, NULL, 0, NULL, 0) == LITERAL_OK);

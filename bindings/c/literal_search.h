@@ -84,7 +84,7 @@ typedef struct literal_match {
 } literal_match;
 
 /* What a call that finds all wrote: how many matches, the offset from which the search goes on, and 1 if no match is
- * left from there on, else 0. */
+ * left from there on, else 0: then the next match of a literal_find_all or literal_find_all_in begins there. */
 typedef struct literal_page {
     size_t written;
     size_t next;
@@ -144,10 +144,9 @@ int32_t literal_find(uint32_t kind, bool ignore_case, const uint8_t *patterns, s
  * long page. found[0] up to found[page->written - 1] are written, the rest of found stays as it was. To end before the
  * end of the haystack, give a shorter haystack_len.
  *
- * Give room for at least one match. With found_len 0 and a match left, nothing is written, page->next stays at the
- * offset, and a loop would spin for ever. Behind its last match a page looks whether another one is left, and the next
- * page searches these bytes again: with room for n matches one search in n is made twice, and pages of one match read
- * the bytes between matches twice. literal_find_so_far_in finds each match once.
+ * Give room for at least one match. With found_len 0 and a match left, nothing is written, page->next is where that
+ * begins, and a loop would spin for ever. Behind its last match a page looks whether another one is left: page->next is
+ * where it begins, so that the next page reads no bytes before it again.
  *
  * LITERAL_OK             found and page are written, also where no pattern occurs (then page->written is 0)
  * LITERAL_NO_SEARCHER    the patterns can't be searched for

@@ -140,7 +140,7 @@ class Pages(unittest.TestCase):
     def test_pages(self):
         array = prepared(WORDS)
         for room in (0, 1, 2, 3, 4):
-            wanted = (SPANS, 1, 50) if room else ([], 0, 0)
+            wanted = (SPANS, 1, 50) if room else ([], 0, SPANS[0][0])
             by_patterns = lambda at, *lent: CALLS.literal_find_all(0, False, *joined(WORDS), TEXT, len(TEXT), at, *lent)
             by_array = lambda at, *lent: CALLS.literal_find_all_in(*array, TEXT, len(TEXT), at, len(TEXT), *lent)
             self.assertEqual(self.spans(by_patterns, room), wanted)

@@ -189,7 +189,7 @@ static void take_matches(Walk *walk, size_t count, size_t at, bool is_done) {
 
 /* Takes over what the library wrote of a piece, up to the cut. */
 static int take_page(Walk *walk, const literal_page *page, size_t cut, size_t piece_end) {
-    size_t count = page->written, at = walk->at;
+    size_t count = page->written, at = walk->at, known;
     if (count > walk->room || (count == 0 && !page->is_last) ||
         !are_in_order(walk->matches, count, at, piece_end))
         return refuse(LITERAL_DAMAGED);
@@ -197,8 +197,10 @@ static int take_page(Walk *walk, const literal_page *page, size_t cut, size_t pi
         count--;
     if (count > 0)
         at = walk->matches[count - 1].end;
-    if ((page->is_last || count < page->written) && at < cut)
-        at = cut;
+    /* (behind these none begins before where the next one does, and of the last page none before the cut) */
+    known = page->is_last || count < page->written || cut < page->next ? cut : page->next;
+    if (at < known)
+        at = known;
     take_matches(walk, count, at, page->is_last && cut == walk->end);
     return 0;
 }
@@ -217,7 +219,7 @@ static int matches_of_piece(Walk *walk) {
 }
 
 /* The same one after another: of a text that is read, of which the library tells what stands whatever follows; and
- * where there is room for one, since a page of one would look for the next too, and find it again. */
+ * where there is room for one, since a page of one would look for the next too. */
 static int matches_one_by_one(Walk *walk) {
     size_t words_len, at = walk->at, count = 0, piece_end = end_of_piece(walk->search, at, walk->end);
     const uint32_t *words = words_of(walk->search->prepared, &words_len);

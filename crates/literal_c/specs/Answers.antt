@@ -4,7 +4,7 @@ use Rattle.std.specs.Prelude.{IfSome}
 use Rattle.std.specs.List.{All}
 use Rattle.literal_base.specs.Leftmost.{IsLeftmost, IsLeftmostMatch}
 use Rattle.literal_base.specs.MatchValue.{MatchValue}
-use Rattle.literal_base.specs.Occurs.{NothingOccurs, between, whole_of}
+use Rattle.literal_base.specs.Occurs.{NothingOccurs, Occurs, between, whole_of}
 use Rattle.literal_base.specs.Query.{Query}
 use Rattle.literal_base.specs.declared.search.Span.{Span}
 use Rattle.literal_search.specs.Prepared.{LiesIn}
@@ -21,16 +21,21 @@ match_of found = record { pattern = found.pattern; start = found.start; end = fo
 abbrev pub match_for_c : MatchValue → LiteralMatch
 match_for_c found = record { pattern = found.pattern; start = found.start; end = found.end }
 
+-- no match in the haystack from a place up to an end begins before a later place
+abbrev pub BeginsNone : Query → Bool → List ℕ → ℕ → ℕ → ℕ → Type 0
+BeginsNone query ignore_case haystack end at next =
+    (at ≤ next) × ((i p : ℕ) → p < next → ¬ Occurs query.patterns ignore_case haystack (between at end) i p)
+
 -- each match is the leftmost one of the haystack from behind the match before it up to an end, the first from a place
--- on; the last ends at `next`, which is that place where there is no match
+-- on; behind the last, or from that place on where there is none, no match begins before `next`
 abbrev pub AreNext : Query → Bool → List ℕ → ℕ → ℕ → List MatchValue → ℕ → Type 0
-AreNext query ignore_case haystack end at [] next = next ≡ at
+AreNext query ignore_case haystack end at [] next = BeginsNone query ignore_case haystack end at next
 AreNext query ignore_case haystack end at (found ∷ more) next =
     IsLeftmostMatch query ignore_case haystack (between at end) found
     × AreNext query ignore_case haystack end found.end more next
 
 -- a page of the matches in a span: as many as it says are written, and the rest of the array stays as it was. Either
--- nothing occurs behind them, and it is the last page, or something does, and the array is full
+-- nothing occurs behind them, and it is the last page, or the array is full, and the next match begins at `next`
 pub record IsPage (query : Query) (ignore_case : Bool) (haystack : List ℕ) (span : Span) (old new : List LiteralMatch)
     (page : LiteralPage) : Type 0 where
   pub len : length new ≡ length old
@@ -39,7 +44,7 @@ pub record IsPage (query : Query) (ignore_case : Bool) (haystack : List ℕ) (sp
   pub others : drop page.written new ≡ drop page.written old
   pub rest : ((page.is_last ≡ 1) × NothingOccurs query.patterns ignore_case haystack (between page.next span.end))
       ⊎ ((page.is_last ≡ 0) × (page.written ≡ length new)
-      × ¬ NothingOccurs query.patterns ignore_case haystack (between page.next span.end))
+      × (i : ℕ) × Occurs query.patterns ignore_case haystack (between page.next span.end) i page.next)
 
 -- a match lies in the span, is not empty, and names one of so many patterns
 pub record MayBeFound (span : Span) (patterns : ℕ) (found : MatchValue) : Type 0 where

@@ -75,9 +75,9 @@ pub fn write_page<F: Finder>(
         written += 1;
         next = it.end();
     }
-    let is_last = match search.find_in(haystack, Span { start: next, end })? {
-        None => 1,
-        Some(_) => 0,
+    let (next, is_last) = match search.find_in(haystack, Span { start: next, end })? {
+        None => (next, 1),
+        Some(it) => (it.start(), 0),
     };
     Ok(LiteralPage {
         written,

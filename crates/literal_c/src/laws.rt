@@ -11,7 +11,7 @@ ghost use Rattle.literal_c.specs.Overlapping.{IsOverlappingPage, all_that_occurs
 ghost use Rattle.literal_c.specs.declared.LiteralMatch.{LiteralMatch};
 ghost use Rattle.literal_c.specs.declared.LiteralPage.{LiteralPage};
 
-/// The matches of pages one after another, each from where the one before it ends, are those of one page; and those of
+/// The matches of pages one after another, each from where the one before it says, are those of one page; and those of
 /// pages up to the last one are the greedy list.
 pub fn pages_are_the_greedy_list()
     ensures joined { (query : Query) (ignore_case : Bool) (haystack : List ℕ) (end from next last : ℕ)

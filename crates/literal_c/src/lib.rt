@@ -75,7 +75,7 @@ pub struct LiteralMatch {
 }
 
 /// How many matches were written, the offset from which the search goes on, and 1 if nothing occurs from there on, or
-/// else 0.
+/// else 0: then the next match begins there.
 #[repr(C)]
 #[derive(Clone, Copy)]
 pub struct LiteralPage {

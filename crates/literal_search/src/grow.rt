@@ -220,7 +220,7 @@ impl<'p> Growing<'p> {
     }
 
     /// The number in a row for the live suffix behind a state and a class, where no pattern goes on with it.
-    fn behind_link(&self, state: usize, class: u8) -> u32
+    fn behind_failure(&self, state: usize, class: u8) -> u32
         requires grows { Grows self.now }
         requires is_state { state < length self.now.states.items }
         requires is_class { class < self.now.texts.width }
@@ -355,7 +355,7 @@ impl<'p> Growing<'p> {
         ensures kept { IfOk result (λ _. IsLonger (words_of self.old) (words_of self.new)) }
         ensures same { IfOk result (λ _. (self.new.texts ≡ self.old.texts) × (self.new.rows ≡ self.old.rows)) }
     {
-        let behind = self.behind_link(state, class);
+        let behind = self.behind_failure(state, class);
         if !is_marked {
             return Ok(behind);
         }

@@ -1,7 +1,8 @@
 -- Matches that are written for C, one after another, and pages of them.
 -- For `write_page`, `write_overlapping`, `count_matches` and the laws.
 use Rattle.std.proofs.Common.{◌≡◌, ℕ, ◌+◌, ◌<◌, ◌≤◌, Bool, List, [], ◌∷◌, ◌++◌, length, map, take}
-use Rattle.std.proofs.Common.{Some, refl, sym, ap, ◌∙◌, subst, add-one, arith}
+use Rattle.std.proofs.Common.{Some, sym, ap, ◌∙◌, subst, add-one, append-nil, arith}
+use Rattle.std.proofs.lemmas.Bool.{cases_lt}
 use Rattle.std.proofs.Math.ListN.{set}
 use Rattle.std.proofs.Math.Seq.{take-suc-set}
 use Rattle.std.proofs.lemmas.List.{map-append}
@@ -11,27 +12,81 @@ use Rattle.std.specs.List.{All}
 use Rattle.literal_base.specs.Greedy.{IsGreedy}
 use Rattle.literal_base.specs.Leftmost.{IsLeftmostMatch}
 use Rattle.literal_base.specs.MatchValue.{MatchValue}
-use Rattle.literal_base.specs.Occurs.{NothingOccurs, between, rest_from}
+use Rattle.literal_base.specs.Occurs.{NothingOccurs, Occurs, between, rest_from}
 use Rattle.literal_base.specs.Query.{Query}
 use Rattle.literal_search.specs.OverlappingMatchesValue.{GivesOverlapping, OverlappingMatchesValue}
-use Rattle.literal_c.specs.Answers.{AreNext, MayBeFound, match_of}
+use Rattle.literal_c.specs.Answers.{AreNext, BeginsNone, MayBeFound, match_of}
 use Rattle.literal_c.specs.declared.LiteralMatch.{LiteralMatch}
 
 module _ (query : Query) (ignore_case : Bool) (haystack : List ℕ) where
+  -- an occurrence behind a place is one behind an earlier place, and the other way round
+  from : (at next end i p : ℕ) → next ≤ p → Occurs query.patterns ignore_case haystack (between at end) i p
+      → Occurs query.patterns ignore_case haystack (between next end) i p
+  from at next end i p behind is = record {
+    is_pattern = is.is_pattern;
+    after_start = behind;
+    before_end = is.before_end;
+    same = is.same;
+  }
+
+  -- where no match begins before a place, those from there on are those from the start
+  none_more : (end at next last : ℕ) → BeginsNone query ignore_case haystack end at next
+      → BeginsNone query ignore_case haystack end next last → BeginsNone query ignore_case haystack end at last
+  none_more end at next last a b = (
+    omega (arith, a.0, b.0),
+    λ i p before is.
+        elim (cases_lt p next) [
+        | inl early ↦ a.1 i p early is
+        | inr late ↦ b.1 i p before (from at next end i p late is)
+        ],
+  )
+
+  first_behind : (end at next : ℕ) (found : MatchValue) → BeginsNone query ignore_case haystack end at next
+      → IsLeftmostMatch query ignore_case haystack (between next end) found
+      → IsLeftmostMatch query ignore_case haystack (between at end) found
+  first_behind end at next found none is = record {
+    occurs = from next at end found.pattern found.start (omega (arith, none.0, is.occurs.after_start)) is.occurs;
+    whole = is.whole;
+    earliest = λ i p early occurs.
+        elim (cases_lt p next) [
+        | inl before ↦ none.1 i p before occurs
+        | inr late ↦ is.earliest i p early (from at next end i p late occurs)
+        ];
+    best = λ i better occurs.
+        is.best i better (from at next end i found.start is.occurs.after_start occurs);
+  }
+
+  -- before a place none begins that lies behind it
+  pub none_here : (end at : ℕ) → BeginsNone query ignore_case haystack end at at
+  none_here end at = (omega arith, λ i p before is. absurd (omega (arith, before, is.after_start)))
+
   -- those of two pages, one behind the other, are those of one
   pub joined : (end at next last : ℕ) (first second : List MatchValue)
       → AreNext query ignore_case haystack end at first next → AreNext query ignore_case haystack end next second last
       → AreNext query ignore_case haystack end at (first ++ second) last
-  joined end at next last [] second a b = subst (λ n. AreNext query ignore_case haystack end n second last) a b
+  joined end at next last [] [] a b = none_more end at next last a b
+  joined end at next last [] (found ∷ more) a b = (first_behind end at next found a b.0, b.1)
   joined end at next last (found ∷ more) second a b = (a.0, joined end found.end next last more second a.1 b)
+
+  -- up to where the next match begins
+  pub up_to_next : (end at next : ℕ) (all : List MatchValue) (found : MatchValue)
+      → AreNext query ignore_case haystack end at all next
+      → IsLeftmostMatch query ignore_case haystack (between next end) found
+      → AreNext query ignore_case haystack end at all found.start
+  up_to_next end at next all found are is =
+      subst (λ l. AreNext query ignore_case haystack end at l found.start) (append-nil all)
+      (joined end at next found.start all [] are (is.occurs.after_start, λ i p early occurs. is.earliest i p early occurs))
 
   -- where nothing is left, they are the greedy list
   pub greedy : (at next : ℕ) (all : List MatchValue)
       → AreNext query ignore_case haystack (length haystack) at all next
       → NothingOccurs query.patterns ignore_case haystack (rest_from haystack next)
       → IsGreedy query ignore_case haystack at all
-  greedy at next [] a none =
-      subst (λ n. NothingOccurs query.patterns ignore_case haystack (rest_from haystack n)) a none
+  greedy at next [] a none = λ i p is.
+      elim (cases_lt p next) [
+      | inl before ↦ a.1 i p before is
+      | inr late ↦ none i p (from at next (length haystack) i p late is)
+      ]
   greedy at next (found ∷ more) a none = (a.0, greedy found.end next more a.1 none)
 
   -- one more, which is written behind them
@@ -45,7 +100,8 @@ module _ (query : Query) (ignore_case : Bool) (haystack : List ℕ) where
       ap (map match_of) (rw add-one (take-suc-set written i found lt))
       ∙ map-append match_of (take i written) (found ∷ []) in
       subst (λ all. AreNext query ignore_case haystack end at all found.end) (sym list)
-      (joined end at next found.end (map match_of (take i written)) (match_of found ∷ []) before (here, refl))
+      (joined end at next found.end (map match_of (take i written)) (match_of found ∷ []) before
+      (here, none_here end found.end))
 
 -- a match that may be in the rest of a span may be in the span
 pub may_be_in_all : (start next end patterns : ℕ) (found : MatchValue) → start ≤ next

@@ -5,7 +5,7 @@ use Rattle.literal_base.specs.MatchValue.{MatchValue}
 use Rattle.literal_base.specs.Occurs.{between}
 use Rattle.literal_search.specs.Prepared.{LiesIn}
 use Rattle.literal_c.specs.Answers.{AreNext}
-use Rattle.literal_c.proofs.lemmas.Pages.{joined}
+use Rattle.literal_c.proofs.lemmas.Pages.{joined, none_here}
 use Rattle.literal_c.proofs.answers.count_matches.Goals as goal
 
 pub returns-in_err-it-clause-count : goal.returns-in_err-it-clause-count
@@ -32,7 +32,8 @@ loop-it-preserved c =
           (c.in_ok-it.ensures.prepared query ignore_case is) in (
             all ++ it ∷ [],
             subst (AreNext query ignore_case haystack stop start (all ++ it ∷ [])) (sym c.end-next.ensures.end)
-                (joined query ignore_case haystack stop start next it.end all (it ∷ []) are_next (leftmost, refl)),
+                (joined query ignore_case haystack stop start next it.end all (it ∷ []) are_next
+                (leftmost, none_here query ignore_case haystack stop it.end)),
             omega (arith, count, length-append all (it ∷ [])),
           );
     }

@@ -93,9 +93,9 @@ returns-then-not-is_marked-clause-leads c =
     let g = c.args.self.now in
     let text = word_of (words_of g) c.args.state ++ c.args.class ∷ [] in
     let unbegun = unbegun_by_list g.texts.kind (texts_of g.texts) text (c.requires.unmarked c.if-not-is_marked.true) in
-    subst (LeadsBy g.texts.kind (texts_of g.texts) (words_of g) g.texts.width c.behind_link-behind.result)
+    subst (LeadsBy g.texts.kind (texts_of g.texts) (words_of g) g.texts.width c.behind_failure-behind.result)
     (sym (live_by_else g.texts.kind (texts_of g.texts) (word_of (words_of g) c.args.state) c.args.class
-    c.requires.grows.texts.some unbegun)) c.behind_link-behind.ensures
+    c.requires.grows.texts.some unbegun)) c.behind_failure-behind.ensures
 
 pub returns-then-len-start-clause-leads : goal.returns-then-len-start-clause-leads
 returns-then-len-start-clause-leads c =
@@ -110,12 +110,12 @@ returns-then-len-start-clause-leads c =
     let long = ap (λ (l : List ℕ). length l) said.lists ∙ length-append g.lists.items list in
     let none = nil_from_length list (omega (arith, same, now, was, long)) in
     let unbegun = unbegun_by_list g.texts.kind (texts_of g.texts) text none in
-    subst (λ words. LeadsBy g.texts.kind (texts_of g.texts) words g.texts.width c.behind_link-behind.result
+    subst (λ words. LeadsBy g.texts.kind (texts_of g.texts) words g.texts.width c.behind_failure-behind.result
     (live_suffix g.texts.kind (texts_of g.texts) text))
     (sym (words_same g g' said.same.0 said.same.1))
-    (subst (LeadsBy g.texts.kind (texts_of g.texts) (words_of g) g.texts.width c.behind_link-behind.result)
+    (subst (LeadsBy g.texts.kind (texts_of g.texts) (words_of g) g.texts.width c.behind_failure-behind.result)
     (sym (live_by_else g.texts.kind (texts_of g.texts) (word_of (words_of g) c.args.state) c.args.class
-    c.requires.grows.texts.some unbegun)) c.behind_link-behind.ensures)
+    c.requires.grows.texts.some unbegun)) c.behind_failure-behind.ensures)
 
 -- a number leads to a word, of texts that stay the same
 leads_same : (t t' : Texts) (words : List (List ℕ)) (code : ℕ) (word word' : List ℕ) → t' ≡ t → word' ≡ word

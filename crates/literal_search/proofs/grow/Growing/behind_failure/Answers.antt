@@ -6,7 +6,7 @@ use Rattle.literal_search.specs.Table.{code_of}
 use Rattle.literal_search.specs.Words.{word_of}
 use Rattle.literal_search.specs.declared.grow.State.{State}
 use Rattle.literal_search.proofs.lemmas.Failures.{else_of_link, else_of_none, else_of_root}
-use Rattle.literal_search.proofs.grow.Growing.behind_link.Goals as goal
+use Rattle.literal_search.proofs.grow.Growing.behind_failure.Goals as goal
 
 pub returns-then-state-eq0 : goal.returns-then-state-eq0
 returns-then-state-eq0 c =
@@ -16,13 +16,13 @@ returns-then-state-eq0 c =
     (sym c.if-state-eq0.true)
     (else_of_root g.texts g.states.items g.lists.items g.rows.items c.requires.grows c.args.class)
 
-pub returns-then-link : goal.returns-then-link
-returns-then-link c =
+pub returns-then-failure : goal.returns-then-failure
+returns-then-failure c =
     let g = c.args.self.now in
     let isnt = c.if-state-eq0.false in
     else_of_none g.texts g.states.items g.lists.items g.rows.items c.requires.grows c.args.state c.args.class
     c.index.result.now (omega (arith, isnt)) c.requires.is_state
-    (ap (λ (s : State). s.failure) (sym c.index.ensures) ∙ c.if-link.true)
+    (ap (λ (s : State). s.failure) (sym c.index.ensures) ∙ c.if-failure.true)
 
 -- where the failure link leads
 link_at : (c : goal.After-place_of)
@@ -37,7 +37,7 @@ link_at c =
     let isnt = c.if-state-eq0.false in
     else_of_link g.texts g.states.items g.lists.items g.rows.items c.requires.grows c.args.state c.args.class
     c.index.result.now (omega (arith, isnt)) c.requires.is_state
-    (λ none. c.if-link.false (ap (λ (s : State). s.failure) c.index.ensures ∙ none)) c.requires.is_class c.requires.filled
+    (λ none. c.if-failure.false (ap (λ (s : State). s.failure) c.index.ensures ∙ none)) c.requires.is_class c.requires.filled
 
 place_is : (c : goal.After-place_of) → c.place_of.result ≡ (link_at c).0
 place_is c =
@@ -64,7 +64,7 @@ returns c =
     let isnt = c.if-state-eq0.false in
     let at = else_of_link g.texts g.states.items g.lists.items g.rows.items c.requires.grows c.args.state c.args.class
     c.index.result.now (omega (arith, isnt)) c.requires.is_state
-    (λ none. c.if-link.false (ap (λ (s : State). s.failure) c.index.ensures ∙ none)) c.requires.is_class c.requires.filled
+    (λ none. c.if-failure.false (ap (λ (s : State). s.failure) c.index.ensures ∙ none)) c.requires.is_class c.requires.filled
     in
     let place_is : c.place_of.result ≡ at.0 =
     c.place_of.ensures at.0 at.1 at.3 (ap (λ (s : State). s.failure) c.index.ensures ∙ at.2) in
