@@ -47,8 +47,6 @@ pub struct Searched {
     pub earliest: Option<usize>,
     /// By [`Search::find_iter`], up to its first `None`.
     pub all: Vec<Match>,
-    /// By [`Prepared::find_in`], in the span, if the array is long enough.
-    pub by_array: Result<Option<Match>, PrepareError>,
 }
 
 /// What all searches for a list find.
@@ -59,6 +57,8 @@ pub struct AnyFound {
     pub occurring: Vec<Match>,
     /// By [`Linear::find_all_in_counted`], of the whole haystack.
     pub linear: Vec<Match>,
+    /// By [`Prepared::find_in`], in the span, if the array is long enough.
+    pub by_array: Result<Option<Match>, PrepareError>,
 }
 
 /// Searches for a list of patterns by a `Search`, an `Overlapping` and a `Linear`, each made for it. It refuses as they
@@ -91,20 +91,22 @@ pub fn search_any_list(
         asked.now.ignore_case haystack.now span any.occurring.items) }
     ensures same_list { IfOk result (λ any. any.linear.items ≡ any.searched.all.items) }
     ensures twice { IfOk result (λ _. ScansTwice (whole_of haystack.now) listed.old listed.new) }
-    ensures by_array { IfOk result (λ any. MatchResult any.searched.by_array
+    ensures by_array { IfOk result (λ any. MatchResult any.by_array
         (IsLeftmost (searched_for asked.now).query asked.now.ignore_case haystack.now span)
         (RefusesToPrepare (searched_for asked.now).query asked.now.ignore_case array.old)) }
     ensures listed_each { IfOk result (λ _. listed.old.scanned + length haystack.now ≤ listed.new.scanned) }
     ensures iterated_each { IfOk result (λ _. iterated.old.scanned + length haystack.now ≤ iterated.new.scanned) }
 {
     greedy_is_unique();
-    let searched = search(alloc, asked, haystack, span, array, once, iterated)?;
+    let searched = search(alloc, asked, haystack, span, once, iterated)?;
     let occurring = all_that_occurs(alloc, asked, haystack, span)?;
     let linear = list(alloc, asked, haystack, listed)?;
+    let by_array = by_array(&search_for(alloc, asked)?, array, haystack, span);
     Ok(AnyFound {
         searched,
         occurring,
         linear,
+        by_array,
     })
 }
 
@@ -113,7 +115,6 @@ fn search(
     asked: &AnySearch<'_>,
     haystack: &[u8],
     span: Span,
-    array: &mut [u32],
     once: &mut Tally,
     iterated: &mut Tally,
 ) -> Result<Searched, BuildError>
@@ -131,20 +132,15 @@ fn search(
     ensures iteration { IfOk result (λ searched. ScansListAtMost (searched_for asked.now).query.patterns
         (length haystack.now) (length searched.all.items) iterated.old iterated.new) }
     ensures each { IfOk result (λ _. iterated.old.scanned + length haystack.now ≤ iterated.new.scanned) }
-    ensures by_array { IfOk result (λ searched. MatchResult searched.by_array
-        (IsLeftmost (searched_for asked.now).query asked.now.ignore_case haystack.now span)
-        (RefusesToPrepare (searched_for asked.now).query asked.now.ignore_case array.old)) }
 {
     let search = search_for(alloc, asked)?;
     let found = search.find_in_counted(haystack, span, once);
     let earliest = search.earliest_end(haystack, span);
     let all = taken_in_turn(alloc, &search, haystack, iterated)?;
-    let by_array = by_array(&search, array, haystack, span);
     Ok(Searched {
         found,
         earliest,
         all,
-        by_array,
     })
 }
 

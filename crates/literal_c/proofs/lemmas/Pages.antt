@@ -1,7 +1,7 @@
 -- Matches that are written for C, one after another, and pages of them.
 -- For `write_page`, `write_overlapping`, `count_matches` and the laws.
 use Rattle.std.proofs.Common.{◌≡◌, ℕ, ◌+◌, ◌<◌, ◌≤◌, Bool, List, [], ◌∷◌, ◌++◌, length, map, take}
-use Rattle.std.proofs.Common.{Some, sym, ap, ◌∙◌, subst, add-one, append-nil, arith}
+use Rattle.std.proofs.Common.{Some, refl, sym, ap, ◌∙◌, subst, add-one, append-nil, arith, inl, inr}
 use Rattle.std.proofs.lemmas.Bool.{cases_lt}
 use Rattle.std.proofs.Math.ListN.{set}
 use Rattle.std.proofs.Math.Seq.{take-suc-set}
@@ -20,7 +20,7 @@ use Rattle.literal_c.specs.declared.LiteralMatch.{LiteralMatch}
 
 module _ (query : Query) (ignore_case : Bool) (haystack : List ℕ) where
   -- an occurrence behind a place is one behind an earlier place, and the other way round
-  from : (at next end i p : ℕ) → next ≤ p → Occurs query.patterns ignore_case haystack (between at end) i p
+  pub from : (at next end i p : ℕ) → next ≤ p → Occurs query.patterns ignore_case haystack (between at end) i p
       → Occurs query.patterns ignore_case haystack (between next end) i p
   from at next end i p behind is = record {
     is_pattern = is.is_pattern;
