@@ -1,7 +1,7 @@
 //! Walks through a span from its end, by an automaton of the reversed patterns. The numbers may be lent, and so any:
 //! they are damaged where one leads out of the rows.
 ghost use Rattle.std.specs.Prelude.{◌≡◌, ◌+◌, ◌-◌, ◌*◌, ◌<◌, ◌≤◌, ◌^◌, ◌%◌, [], length, max, min, slice_index};
-ghost use Rattle.std.specs.Prelude.{ℕ, IfErr, IfOk, IfSome, MatchOption, MatchResult, OnErr};
+ghost use Rattle.std.specs.Prelude.{ℕ, IfErr, IfOk, IfSome, MatchOption, MatchResult, None, OnErr};
 ghost use Rattle.std.specs.Result.{IsOkAnd};
 ghost use Rattle.literal_base.specs.Leftmost.{IsLeftmost, IsLeftmostMatch};
 ghost use Rattle.literal_base.specs.Occurs.{IsValidSpan, between};
@@ -146,7 +146,8 @@ impl<'t> Backward<'t> {
         requires row { place + self.now.table.width < length self.now.table.rows.now }
         requires inside { at < length haystack.now }
         ensures read { ForBackward self.now (λ tables. (from : ℕ) → at < from → from ≤ length haystack.now
-            → StandsDown tables haystack.now from (at + 1) place → IsOkAnd result (IsRead tables haystack.now from at)) }
+            → StandsDown tables haystack.now from (at + 1) place
+            → IsOkAnd result (IsRead tables haystack.now from at)) }
         ensures leads { IfOk result (LeadsOn self.now) }
         ensures ticks { tally.new ≡ record tally.old { scanned = tally.old.scanned + 1 } }
     {
@@ -276,6 +277,7 @@ impl<'t> Backward<'t> {
         ensures more { length marks.old.numbers.items ≤ length marks.new.numbers.items }
         ensures no_room { IfErr result (λ error. error ≡ Stopped.OutOfMemory
             → length marks.old.numbers.items < min (max self.now.table.longest LEAST) (span.end - at)) }
+        ensures ended { at ≡ span.end → IsOkAnd result (λ answer. answer ≡ None) }
     {
         let mut from = at;
         while from < span.end {
@@ -359,13 +361,7 @@ impl<'t> Backward<'t> {
     }
 
     /// The match that begins at a place with a mark.
-    fn match_at(
-        &self,
-        haystack: &[u8],
-        span: Span,
-        at: usize,
-        code: u32,
-    ) -> Result<Match, Damaged>
+    fn match_at(&self, haystack: &[u8], span: Span, at: usize, code: u32) -> Result<Match, Damaged>
         requires safe { IsSafe self.now }
         requires valid { IsValidSpan haystack.now span }
         requires inside { at < span.end }
@@ -399,5 +395,15 @@ pub fn no_marks(alloc: Global, span: Span) -> Marks
         first: span.start,
         upto: span.start,
         known: span.start,
+    }
+}
+
+/// Where a list goes on behind an answer.
+pub fn place_after(span: Span, answer: &Option<Match>) -> usize
+    ensures { result ≡ place_behind span answer.now }
+{
+    match answer {
+        Some(found) => found.end(),
+        None => span.end,
     }
 }

@@ -19,8 +19,8 @@ ghost use Rattle.literal_search.specs.declared.prepared.PrepareError.TheVariants
 use crate::backward::{Backward, Lens, Marks, no_marks};
 use crate::classes::{ClassNumbers, classes_for};
 use crate::ends::Recognised;
-use crate::rows::{Rows, rows_for};
 use crate::prepared::{self, PrepareError};
+use crate::rows::{Rows, rows_for};
 use crate::walk::Table;
 use crate::{BuildError, copies, longest_len};
 use literal_base::count::Tally;
@@ -276,10 +276,7 @@ impl Parts {
         ensures no_memory { OnErr result (¬ NothingOccurs (patterns_of self.now) self.now.ignore_case haystack.now
             (between at span.end)) }
     {
-        match self
-            .backward()
-            .next_match(haystack, span, at, marks, tally)
-        {
+        match self.backward().next_match(haystack, span, at, marks, tally) {
             Ok(answer) => Ok(answer),
             Err(_) => Err(AllocError),
         }

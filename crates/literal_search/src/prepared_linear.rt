@@ -4,7 +4,7 @@ ghost use Rattle.std.specs.Prelude.{◌≡◌, ◌+◌, ◌-◌, ◌*◌, ◌<�
 ghost use Rattle.std.specs.Prelude.{IfOk, IfSome, IsTrue, MatchOption, MatchResult, None, OnErr, ⊤};
 ghost use Rattle.std.specs.Result.{IsOkAnd};
 ghost use Rattle.literal_base.specs.Occurs.{IsValidSpan, between};
-ghost use Rattle.literal_search.specs.Linear.{ScansTwice};
+ghost use Rattle.literal_search.specs.Linear.{ScansTwice, looked_by};
 ghost use Rattle.literal_search.specs.LinearMatchesValue.{GivesInSpan, place_behind};
 ghost use Rattle.literal_search.specs.Prepared.{LiesIn, longest_in};
 ghost use Rattle.literal_search.specs.PreparedLinear.{ForLinear, HasLinearParts, IsWholeLinear, linear_matches_for};
@@ -12,7 +12,7 @@ ghost use Rattle.literal_search.specs.PreparedLinear.{back_tables_in};
 ghost use Rattle.literal_search.specs.SearchValue.{SearchValue};
 ghost use Rattle.literal_search.specs.Inside.Backward.{AreBackFor, IsSafe, back_tables_by, lens_of};
 
-use crate::backward::{Backward, Lens, Marks, no_marks};
+use crate::backward::{Backward, Lens, Marks, no_marks, place_after};
 use crate::prepared::{Damaged, Front, LENGTHS_AT, LINEAR_VERSION, is_checked, split};
 use literal_base::count::Tally;
 use literal_base::{Match, Span};
@@ -163,9 +163,9 @@ impl<'s, 'p, 'h> PreparedLinearMatches<'s, 'p, 'h> {
         self.next_counted(&mut Tally::new())
     }
 
-    /// Answers as `next_match`, and adds each byte that it looks up to a tally, as scanned: at most twice as many as
-    /// those up to which it looks further than before. A whole iteration so looks up at most twice the bytes of the
-    /// span, whatever the numbers are.
+    /// Answers as `next_match`, and adds each byte that it looks up to a tally, as
+    /// [`LinearMatches::next_counted`](crate::LinearMatches::next_counted) does: a whole iteration looks up at most
+    /// twice the bytes of the span, whatever the numbers are.
     pub fn next_counted(&mut self, tally: &mut Tally) -> Result<Option<Match>, Damaged>
         ensures prepared { ForLinear self.old.numbers (λ search. IsOkAnd result (λ answer.
             GivesInSpan (linear_matches_for search self.old) answer (linear_matches_for search self.new))) }
@@ -178,22 +178,18 @@ impl<'s, 'p, 'h> PreparedLinearMatches<'s, 'p, 'h> {
         ensures same { self.new ≡ record self.old { at = self.new.at; known = self.new.known } }
         ensures further { (self.old.known ≤ self.new.known) × (self.new.known ≤ self.old.span.end) }
         ensures bounded { ScansTwice (between self.old.known self.new.known) tally.old tally.new }
+        ensures least { IfOk result (λ _. tally.old.scanned
+            + looked_by (longest_in self.old.numbers) self.old.span self.new.known
+            ≤ tally.new.scanned + looked_by (longest_in self.old.numbers) self.old.span self.old.known) }
     {
-        let answer = self.prepared.backward().next_match(
-            self.haystack,
-            self.span,
-            self.at,
-            &mut self.marks,
-            tally,
-        );
+        let answer = self
+            .prepared
+            .backward()
+            .next_match(self.haystack, self.span, self.at, &mut self.marks, tally);
         match answer {
-            Ok(Some(found)) => {
-                self.at = found.end();
-                Ok(Some(found))
-            }
-            Ok(None) => {
-                self.at = self.span.end;
-                Ok(None)
+            Ok(answer) => {
+                self.at = place_after(self.span, &answer);
+                Ok(answer)
             }
             Err(_) => {
                 self.at = self.span.end;

@@ -1,7 +1,7 @@
 //! Walks through the rows of an automaton. The numbers may be lent, and so any: they are damaged where one leads out of
 //! the rows.
-ghost use Rattle.std.specs.Prelude.{◌≡◌, ◌⊎◌, ◌+◌, ◌-◌, ◌*◌, ◌<◌, ◌≤◌, ◌^◌};
-ghost use Rattle.std.specs.Prelude.{IfOk, IfSome, MatchResult, length, min, slice_index, true};
+ghost use Rattle.std.specs.Prelude.{◌≡◌, ◌⊎◌, ◌+◌, ◌-◌, ◌*◌, ◌<◌, ◌≤◌, ◌^◌, ◌↔◌};
+ghost use Rattle.std.specs.Prelude.{IfOk, IfSome, IsTrue, MatchResult, length, min, slice_index, true};
 ghost use Rattle.std.specs.Result.{IsOkAnd};
 ghost use Rattle.literal_base.specs.Occurs.{IsValidSpan};
 ghost use Rattle.literal_search.specs.Inside.Classes.{AreClasses};
@@ -63,7 +63,7 @@ impl<'t> Table<'t> {
     /// Whether no class is above the width: then no class has to be tested.
     pub fn classes_fit(&self) -> bool
         requires { length self.now.classes.now ≡ 256 }
-        ensures { result ≡ true → ClassesFit self.now }
+        ensures { IsTrue result ↔ ClassesFit self.now }
     {
         for class in self.classes {
             if *class as usize > self.width {

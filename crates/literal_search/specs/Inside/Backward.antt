@@ -1,6 +1,6 @@
 -- Walks through a span from its end, by tables that may be lent.
-use Rattle.std.specs.Prelude.{◌≡◌, ◌⊎◌, ℕ, ◌+◌, ◌-◌, ◌<◌, ◌≤◌, ◌^◌, ◌%◌, List, None, Option, Some, length, map, max, min}
-use Rattle.std.specs.Prelude.{reverse, slice_index}
+use Rattle.std.specs.Prelude.{◌≡◌, ◌⊎◌, ℕ, ◌+◌, ◌-◌, ◌<◌, ◌≤◌, ◌^◌, ◌%◌, List, None, Option, Some, length, map}
+use Rattle.std.specs.Prelude.{max, min, reverse, slice_index}
 use Rattle.literal_base.specs.Leftmost.{IsBetter}
 use Rattle.literal_base.specs.MatchValue.{MatchValue}
 use Rattle.literal_base.specs.Occurs.{NothingOccurs, Occurs, between}
@@ -67,7 +67,8 @@ pub record StandsDown (p : BackTables) (haystack : List ℕ) (from at place : �
 
 -- no pattern begins at a place that lies whole before an end
 abbrev pub NoneBegins : BackTables → List ℕ → ℕ → ℕ → Type 0
-NoneBegins p haystack end at = (i : ℕ) → ¬ Occurs p.search.query.patterns p.search.ignore_case haystack (between at end) i at
+NoneBegins p haystack end at =
+    (i : ℕ) → ¬ Occurs p.search.query.patterns p.search.ignore_case haystack (between at end) i at
 
 -- of the patterns that begin at a place and lie whole before an end this one is the best
 pub record BeginsBest (p : BackTables) (haystack : List ℕ) (end at i : ℕ) : Type 0 where

@@ -43,4 +43,3 @@ pub record IsGreedyUpTo (search : SearchValue) (haystack : List ℕ) (span : Spa
   pub goes_on : (more : List MatchValue)
       → IsGreedyIn search.query search.ignore_case haystack (between at span.end) more
       → IsGreedyIn search.query search.ignore_case haystack span (done ++ more)
-

@@ -26,7 +26,8 @@ returns-in_err-code-clause-last c = λ search is.
     let next : c.loop-at.at ≡ at + 1 = omega arith in
     let tables = back_tables_by search c.args.self.now in
     absurd (c.in_err-code.ensures.read search is from (omega arith) (omega arith)
-    (subst (λ n. StandsDown tables c.args.haystack.now from n c.loop-at.place) next (c.loop-at.invariant.stands search is)))
+    (subst (λ n. StandsDown tables c.args.haystack.now from n c.loop-at.place) next
+    (c.loop-at.invariant.stands search is)))
 
 pub returns-then-at-block-clause-last : goal.returns-then-at-block-clause-last
 returns-then-at-block-clause-last c = λ search is.
@@ -36,8 +37,8 @@ returns-then-at-block-clause-last c = λ search is.
     let next : c.loop-at.at ≡ at + 1 = omega arith in
     let tables = back_tables_by search c.args.self.now in
     let one = c.in_ok-code.ensures.read search is from (omega arith) (omega arith)
-    (subst (λ n. StandsDown tables c.args.haystack.now from n c.loop-at.place) next (c.loop-at.invariant.stands search is))
-    in
+    (subst (λ n. StandsDown tables c.args.haystack.now from n c.loop-at.place) next
+    (c.loop-at.invariant.stands search is)) in
     let inside : from ≤ c.args.span.end = omega arith in
     let far : (from ≡ c.args.span.end) ⊎ (at + c.args.self.now.table.longest ≤ from) =
     elim (cases_lt c.args.self.now.table.longest (c.args.span.end - c.args.block.end + 1)) [
@@ -46,7 +47,8 @@ returns-then-at-block-clause-last c = λ search is.
     ] in (
       record {
         ends = c.if-code-ge-ENDS.true;
-        mark = mark_in tables is.tables c.args.haystack.now c.args.span.end at from inside far c.in_ok-code.code one.mark;
+        mark = mark_in tables is.tables c.args.haystack.now c.args.span.end at from inside far c.in_ok-code.code
+            one.mark;
         stands = record { from = from; after = omega arith; inside = inside; far = far; stands = one.stands };
       },
       λ k after before. c.loop-at.invariant.none search is k (omega (arith, after)) before,
@@ -72,8 +74,8 @@ loop-at-preserved c =
       inside = omega arith;
       row = c.in_ok-code.ensures.leads;
       stands = λ search is. (c.in_ok-code.ensures.read search is from (omega arith) (omega arith)
-          (subst (λ n. StandsDown (back_tables_by search c.args.self.now) c.args.haystack.now from n c.loop-at.place) next
-          (c.loop-at.invariant.stands search is))).stands;
+          (subst (λ n. StandsDown (back_tables_by search c.args.self.now) c.args.haystack.now from n c.loop-at.place)
+          next (c.loop-at.invariant.stands search is))).stands;
       none = λ search is k after before. elim (cases_lt at k) [
         | inl later ↦ c.loop-at.invariant.none search is k (omega arith) before
         | inr not ↦
@@ -84,8 +86,8 @@ loop-at-preserved c =
             (c.loop-at.invariant.stands search is)) in
             let there : at < c.args.block.end = omega (arith, same, before) in
             subst (NoneBegins tables c.args.haystack.now c.args.span.end) same
-            ((mark_in tables is.tables c.args.haystack.now c.args.span.end at from inside (far there) code one.mark).none
-            (elim c.else-code-ge-ENDS.either [
+            ((mark_in tables is.tables c.args.haystack.now c.args.span.end at from inside (far there) code
+            one.mark).none (elim c.else-code-ge-ENDS.either [
               | inl behind ↦ absurd (omega (arith, behind.1, there))
               | inr small ↦ small
             ]))

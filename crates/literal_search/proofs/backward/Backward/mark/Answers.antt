@@ -39,8 +39,8 @@ loop-at-preserved c =
           let after = far.after in
           let inside = far.inside in
           let one = c.in_ok-code.ensures.read search is far.from (omega arith) (omega arith)
-          (subst (λ n. StandsDown (back_tables_by search c.args.self.now) c.args.haystack.now far.from n c.loop-at.place)
-          next far.stands) in
+          (subst (λ n. StandsDown (back_tables_by search c.args.self.now) c.args.haystack.now far.from n
+          c.loop-at.place) next far.stands) in
           record {
             from = far.from;
             after = omega (arith, far.after);

@@ -1,4 +1,4 @@
-use Rattle.std.proofs.Common.{◌<◌, ◌≤◌, ℕ, IfSome, List, None, Option, Some, arith}
+use Rattle.std.proofs.Common.{◌≤◌, ℕ, IfSome, List, None, Option, Some, arith}
 use Rattle.literal_base.specs.MatchValue.{MatchValue}
 use Rattle.literal_base.specs.declared.search.Span.{Span}
 use Rattle.literal_search.specs.Inside.Backward.{AreMarked, IsMatchBy, back_tables_by}

@@ -27,7 +27,8 @@ returns-in_err-push-clause-no_memory c =
     let at = c.loop-marks.at in
     let leftmost = subst (λ (o : Option MatchValue). IsLeftmost (linear_value p).query p.ignore_case haystack
     (between at span.end) o) c.in-Some.is c.in_ok-found.ensures.leftmost in
-    let occurs = leftmost_occurs (linear_value p) haystack span at c.in-Some.found c.loop-marks.invariant.greedy.after leftmost in
+    let occurs = leftmost_occurs (linear_value p) haystack span at c.in-Some.found c.loop-marks.invariant.greedy.after
+    leftmost in
     on_err c.from_residual-in_err-push.result (¬ NothingOccurs search.query.patterns search.ignore_case haystack span)
     (subst (λ (v : SearchValue). ¬ NothingOccurs v.query.patterns v.ignore_case haystack span) c.self.view_is occurs)
 
@@ -45,8 +46,10 @@ loop-marks-preserved c =
       marked = search rules;
       greedy = subst (λ (all : List MatchValue). IsGreedyUpTo (linear_value p) haystack span all c.end-at.result)
           (sym c.in_ok-push.ensures.items)
-          (subst (λ e. IsGreedyUpTo (linear_value p) haystack span (c.loop-marks.all.items ++ found ∷ []) e) (sym c.end-at.ensures.end)
-          (up_to_next (linear_value p) haystack span c.loop-marks.all.items at found c.loop-marks.invariant.greedy leftmost));
+          (subst (λ e. IsGreedyUpTo (linear_value p) haystack span (c.loop-marks.all.items ++ found ∷ []) e)
+          (sym c.end-at.ensures.end)
+          (up_to_next (linear_value p) haystack span c.loop-marks.all.items at found c.loop-marks.invariant.greedy
+          leftmost));
       scanned = search rules;
       least = omega (arith, c.loop-marks.invariant.least, c.in_ok-found.ensures.least);
     }
@@ -60,4 +63,5 @@ returns-clause-greedy c =
     (between c.loop-marks.at span.end) o) c.in_default.is c.in_ok-found.ensures.leftmost in
     subst (λ (v : SearchValue). IsGreedyIn v.query v.ignore_case haystack span c.loop-marks.all.items)
     c.self.view_is
-    (up_to_all (linear_value p) haystack span c.loop-marks.all.items c.loop-marks.at c.loop-marks.invariant.greedy nothing)
+    (up_to_all (linear_value p) haystack span c.loop-marks.all.items c.loop-marks.at c.loop-marks.invariant.greedy
+    nothing)
