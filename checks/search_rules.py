@@ -34,7 +34,7 @@ MAKERS = (
     "Builder::build", "Searcher::find_in", "Searcher::find_iter", "Prefilter::find_in", "ConfirmingSearch::find_in",
     "Search::find_in", "Search::match_at", "Search::find_all", "Search::earliest_end", "MatchesIterator::next",
     "OverlappingMatchesIterator::next", "Prepared::find_in", "PreparedOverlappingMatches::next_match",
-    "Linear::find_all_in", "LinearMatchesIterator::next",
+    "Linear::find_all_in", "LinearMatchesIterator::next", "PreparedLinearMatches::next_match",
 )
 
 # Where each step ticks, once in each function. The functions that compare or scan read bytes of a haystack.
@@ -45,7 +45,7 @@ TICKS = {
     "crates/literal_fingerprints/src/lanes.rt": {"lanes::load": "tick_scanned"},
     "crates/literal_prefilters/src/prefilter/byte_table.rt": {"ByteTable::find": "tick_scanned"},
     CONFIRMING: {"confirming::confirm": "tick_tried", "confirming::confirm_by_table": "tick_tried"},
-    "crates/literal_search/src/walk.rt": {"Table::class_at": "tick_scanned", "Table::next_at": "tick_scanned"},
+    "crates/literal_search/src/walk.rt": {"Table::class_at": "tick_scanned", "Table::code_at": "tick_scanned"},
 }
 READS = ("tick_compared", "tick_scanned")
 
@@ -53,7 +53,7 @@ READS = ("tick_compared", "tick_scanned")
 REVIEWED = {
     "Patterns::matches_at": "726bd5dd96cb", "Rolling::push": "ebc0e88b6d30", "Rolling::roll": "5b80638e8bc9",
     "BucketEntries::entry": "95314473946b", "ByteTable::find": "9327f693401c", "lanes::load": "81399e5b4db7",
-    "Table::class_at": "7a13f63110dc", "Table::next_at": "8ae2e543904c",
+    "Table::class_at": "7a13f63110dc", "Table::code_at": "0e736a4a6af9",
 }
 
 # What parameters are called that hold bytes of patterns, one or all, or what is put in their place, and how bytes are
@@ -63,8 +63,8 @@ BYTES = re.compile(r"\b([a-z]\w*)\s*:[^,):]*(?:\[u8\]|\bVec<u8>|\bstr\b)")
 
 # The types that may keep a slice of bytes: a haystack, patterns, or what C hands over of either.
 KEEPERS = (
-    "FindIter", "Matches", "LinearMatches", "OverlappingMatches", "PreparedOverlappingMatches", "Input", "Pattern",
-    "SearchRequest", "Pieces", "AnySearch",
+    "FindIter", "Matches", "LinearMatches", "PreparedLinearMatches", "OverlappingMatches", "PreparedOverlappingMatches",
+    "Input", "Pattern", "SearchRequest", "Pieces", "AnySearch",
 )
 
 # The fields of `BucketEntries` that tell nothing of an entry, and the functions that may name the others: the one that

@@ -21,6 +21,8 @@ mod prefilters;
 #[cfg(test)]
 mod prepared;
 #[cfg(test)]
+mod prepared_linear;
+#[cfg(test)]
 mod rabin_karp;
 #[cfg(test)]
 mod replacing;

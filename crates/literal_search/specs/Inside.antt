@@ -1,4 +1,5 @@
 -- What models and private functions alone cite.
+pub mod Backward
 pub mod Best
 pub mod Classes
 pub mod Search
@@ -9,6 +10,7 @@ pub mod LentTables
 pub mod Linear
 pub mod Lists
 pub mod Prepared
+pub mod PreparedLinear
 pub mod Rewriting
 pub mod Rows
 pub mod Scan

@@ -9,6 +9,7 @@ pub mod MatchesValue
 pub mod Overlapping
 pub mod OverlappingMatchesValue
 pub mod Prepared
+pub mod PreparedLinear
 pub mod PreparedOverlapping
 pub mod Replaced
 pub mod SearchBuilderValue

@@ -25,9 +25,12 @@ pub record ScansTwice (span : Span) (old new : Counts) : Type 0 where
 
 -- up to where the bytes of a span are looked up once it is known what begins before a place: behind that place one
 -- fewer than the longest pattern has, but no more than stand before it in the span, and none behind the span
+abbrev pub looked_by : ℕ → Span → ℕ → ℕ
+looked_by longest span known = min (known + min (known - span.start) (longest - 1)) span.end
+
+-- the same for some patterns
 abbrev pub looked_upto : List (List ℕ) → Span → ℕ → ℕ
-looked_upto patterns span known =
-    min (known + min (known - span.start) (longest_of patterns - 1)) span.end
+looked_upto patterns = looked_by (longest_of patterns)
 
 -- each read from its end
 abbrev pub reversed : List (List ℕ) → List (List ℕ)

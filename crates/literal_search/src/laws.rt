@@ -18,6 +18,7 @@ ghost use Rattle.literal_search.specs.Overlapping.{IsOverlapping, OverlappingVal
 ghost use Rattle.literal_search.specs.OverlappingMatchesValue.{GivesOverlapping, OverlappingMatchesValue};
 ghost use Rattle.literal_search.specs.Prepared.{AreShort, IsPrepared, IsWhole, RefusesToPrepare, TakesPlaces};
 ghost use Rattle.literal_search.specs.Prepared.{check_of, prepared_len};
+ghost use Rattle.literal_search.specs.PreparedLinear.{IsPreparedLinear, IsWholeLinear, linear_len};
 ghost use Rattle.literal_search.specs.PreparedOverlapping.{IsPreparedOverlapping, IsWholeOverlapping, listed_len};
 ghost use Rattle.literal_search.specs.Replaced.{replaced};
 ghost use Rattle.literal_search.specs.SearchValue.{ScansListAtMost, SearchValue, longest_of};
@@ -143,6 +144,10 @@ pub fn first_places_are_enough()
     ensures shorter_overlapping { (search : OverlappingValue) (numbers : List ℕ) (n : ℕ)
         → IsPreparedOverlapping search numbers → listed_len numbers ≤ n
         → IsPreparedOverlapping search (take n numbers) }
+    ensures longer_linear { (search : SearchValue) (numbers : List ℕ) (n : ℕ)
+        → IsPreparedLinear search (take n numbers) → IsPreparedLinear search numbers }
+    ensures shorter_linear { (search : SearchValue) (numbers : List ℕ) (n : ℕ)
+        → IsPreparedLinear search numbers → linear_len numbers ≤ n → IsPreparedLinear search (take n numbers) }
 {}
 
 /// The patterns alone tell how many places a search takes as numbers (`once`). So what
@@ -168,6 +173,8 @@ pub fn zeros_are_refused()
         → ¬ IsWhole (version ∷ zeros) }
     ensures overlapping { (version : ℕ) (zeros : List ℕ) → All (λ number. number ≡ 0) zeros
         → ¬ IsWholeOverlapping (version ∷ zeros) }
+    ensures linear { (version : ℕ) (zeros : List ℕ) → All (λ number. number ≡ 0) zeros
+        → ¬ IsWholeLinear (version ∷ zeros) }
 {}
 
 /// An iterator over everything that occurs that answers `None` keeps doing so, and stays where it is.

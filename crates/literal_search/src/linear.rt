@@ -2,29 +2,32 @@
 ghost use Rattle.std.specs.Prelude.{◌≡◌, ◌+◌, ◌-◌, ◌*◌, ◌<◌, ◌≤◌, ◌^◌, [], length, map, reverse};
 ghost use Rattle.std.specs.Prelude.{IfErr, IfOk, IfSome, MatchOption, OnErr, max, min};
 ghost use Rattle.literal_base.specs.Greedy.{IsGreedy};
-ghost use Rattle.literal_base.specs.Leftmost.{IsLeftmost, IsLeftmostMatch};
+ghost use Rattle.literal_base.specs.Leftmost.{IsLeftmost};
 ghost use Rattle.literal_base.specs.Occurs.{IsValidSpan, NothingOccurs, between, whole_of};
 ghost use Rattle.literal_base.specs.Given.{CanBeTaken};
 ghost use Rattle.literal_search.specs.SearchValue.{BuildsSearch, CanBeKept, RefusesSearch};
 ghost use Rattle.literal_search.specs.Linear.{IsGreedyIn, NeedFewReversed, NeedTooManyReversed, ScansTwice};
 ghost use Rattle.literal_search.specs.Linear.{looked_upto, reversed};
 ghost use Rattle.literal_search.specs.LinearMatchesValue.{GivesInSpan, most_in_span, place_behind};
-ghost use Rattle.literal_search.specs.Inside.Linear.{AreMarked, AreMarks, AreParts, IsBegun, IsBlock, IsMark};
-ghost use Rattle.literal_search.specs.Inside.Linear.{NoneFrom, best_by, linear_value, patterns_of};
+ghost use Rattle.literal_search.specs.Inside.Backward.{AreBackFor, AreMarked, IsPlaced, IsSafe, back_tables_by};
+ghost use Rattle.literal_search.specs.Inside.Linear.{AreParts, linear_value, patterns_of, tables_of};
+ghost use Rattle.literal_search.specs.Prepared.{AreShort};
+ghost use Rattle.literal_search.specs.PreparedLinear.{RefusesLinear, TakesLinearPlaces, WritesLinear};
+ghost use Rattle.literal_search.specs.declared.backward.TheConstants.{LEAST};
+ghost use Rattle.literal_search.specs.declared.prepared.PrepareError.TheVariants.{PatternTooLong};
 
+use crate::backward::{Backward, Lens, Marks, no_marks};
 use crate::classes::{ClassNumbers, classes_for};
-use crate::suffixes::Recognised;
+use crate::ends::Recognised;
+use crate::prepared::{self, PrepareError};
 use crate::rows::{Rows, rows_for};
-use crate::walk::{ENDS, Table};
+use crate::walk::Table;
 use crate::{BuildError, copies, longest_len};
 use literal_base::count::Tally;
 use literal_base::packed::MatchKind;
 use literal_base::{Match, Span, search};
 use std::alloc::{AllocError, Global};
 use std::marker::Model;
-
-/// How long a block is at least, if the span is.
-const LEAST: usize = 1024;
 
 /// Searches for all leftmost matches of any number of patterns, and looks up at most twice as many bytes as there are,
 /// whatever the patterns are, and however many matches there are. Contracts see the kind of match, the patterns, and
@@ -56,23 +59,6 @@ struct Parts {
     /// For each pattern the best of those that are prefixes of it.
     best: Vec<u32>,
     longest: usize,
-}
-
-/// A place at which a pattern begins, and the number with which a walk came there.
-#[derive(Clone, Copy)]
-struct Begun {
-    at: usize,
-    code: u32,
-}
-
-/// Marks of the places of a block before one, the first of them that of a place. From there on nothing begins up to
-/// where it is known what does.
-#[derive(Drop)]
-struct Marks {
-    numbers: Vec<u32>,
-    first: usize,
-    upto: usize,
-    known: usize,
 }
 
 impl Model for Linear {
@@ -204,6 +190,7 @@ impl Linear {
         prove!(span.end <= haystack.len());
         let mut marks = no_marks(*self.parts.patterns.allocator(), span);
         self.parts
+            .backward()
             .make_room(&mut marks.numbers, span.end - span.start)?;
         Ok(LinearMatches {
             parts: &self.parts,
@@ -212,6 +199,41 @@ impl Linear {
             at: span.start,
             marks,
         })
+    }
+
+    /// Writes the search into the first places of an array, and answers how many these are: about as many as the
+    /// automaton has numbers. [`PreparedLinear`](crate::PreparedLinear) searches by them, without this automaton. After
+    /// an error the array is as it was.
+    pub fn prepare(&self, array: &mut [u32]) -> Result<usize, PrepareError>
+        ensures ok { IfOk result (WritesLinear self.now array.old array.new) }
+        ensures error { IfErr result (RefusesLinear self.now array.old) }
+        ensures as_before { OnErr result (array.new ≡ array.old) }
+    {
+        let parts = &self.parts;
+        prepared::write(
+            prepared::LINEAR_VERSION,
+            &parts.classes,
+            &parts.patterns,
+            parts.rows.as_slice(),
+            &[],
+            &parts.best,
+            array,
+        )
+    }
+
+    /// How many places [`Linear::prepare`] writes: an array of as many, or more, is long enough for it. For a search
+    /// that it refuses whatever the array, since a pattern has 2^32 bytes or more, the error is the same.
+    pub fn prepared_len(&self) -> Result<usize, PrepareError>
+        ensures ok { IfOk result (λ needed. AreShort self.now.query.patterns × TakesLinearPlaces self.now needed) }
+        ensures error { IfErr result
+            (λ error. (error ≡ PatternTooLong) × ¬ AreShort self.now.query.patterns) }
+    {
+        let parts = &self.parts;
+        if parts.longest > u32::MAX as usize {
+            return Err(PrepareError::PatternTooLong);
+        }
+        let rows = parts.rows.as_slice();
+        Ok(prepared::LENGTHS_AT + parts.patterns.len() + rows.len() + parts.best.len())
     }
 
     /// How many patterns there are, none of them empty.
@@ -224,104 +246,6 @@ impl Linear {
 }
 
 impl Parts {
-    /// The block that begins at a place: as long as the longest pattern or longer, if as much is left.
-    fn block_at(&self, span: Span, at: usize) -> Span
-        requires after { span.start ≤ at }
-        requires inside { at < span.end }
-        ensures block { IsBlock self.now span result }
-        ensures start { result.start ≡ at }
-        ensures len { result.end ≡ at + min (max self.now.longest LEAST) (span.end - at) }
-    {
-        let len = self.longest.max(LEAST).min(span.end - at);
-        Span {
-            start: at,
-            end: at + len,
-        }
-    }
-
-    /// The last place of a block at which a pattern begins.
-    fn last_begun(
-        &self,
-        haystack: &[u8],
-        span: Span,
-        block: Span,
-        tally: &mut Tally,
-    ) -> Option<Begun>
-        requires parts { AreParts self.now }
-        requires valid { IsValidSpan haystack.now span }
-        requires block { IsBlock self.now span block }
-        ensures none { MatchOption result
-            (NoneFrom self.now haystack.now span.end block.start block.end)
-            (λ begun. NoneFrom self.now haystack.now span.end (begun.at + 1) block.end) }
-        ensures begun { IfSome result (IsBegun self.now haystack.now span.end) }
-        ensures inside { IfSome result (λ begun. (block.start ≤ begun.at) × (begun.at < block.end)) }
-        ensures others { tally.new ≡ record tally.old { scanned = tally.new.scanned } }
-        ensures scanned { MatchOption result
-            (tally.new.scanned ≤ tally.old.scanned + 2 * (block.end - block.start))
-            (λ begun. tally.new.scanned + (begun.at - block.start)
-            ≤ tally.old.scanned + 2 * (block.end - block.start)) }
-        ensures least { MatchOption result
-            (tally.old.scanned + min (block.end + (self.now.longest - 1)) span.end ≤ tally.new.scanned + block.start)
-            (λ begun. tally.old.scanned + min (block.end + (self.now.longest - 1)) span.end
-            ≤ tally.new.scanned + begun.at) }
-    {
-        let table = self.table();
-        let ahead = self.longest.saturating_sub(1).min(span.end - block.end);
-        let from = block.end + ahead;
-        let mut place = 0;
-        for at in (block.start..from).rev() {
-            let code = table.next_at(place, haystack, at, tally) as u32;
-            if code >= ENDS && at < block.end {
-                return Some(Begun { at, code });
-            }
-            place = (code % ENDS) as usize;
-        }
-        None
-    }
-
-    /// Makes room for the marks of a block, where so many bytes are left.
-    fn make_room(&self, marks: &mut Vec<u32>, left: usize) -> Result<(), AllocError>
-        ensures ok { IfOk result (λ _. min (max self.now.longest LEAST) left ≤ length marks.new.items) }
-        ensures more { IfOk result (λ _. length marks.old.items ≤ length marks.new.items) }
-        ensures no_memory { OnErr result (length marks.old.items < min (max self.now.longest LEAST) left) }
-    {
-        let len = self.longest.max(LEAST).min(left);
-        if marks.len() < len {
-            *marks = vec![in *self.patterns.allocator(); 0u32; len]?;
-        }
-        Ok(())
-    }
-
-    /// Marks each place from a start up to one at which a pattern begins.
-    fn mark(
-        &self,
-        haystack: &[u8],
-        span: Span,
-        start: usize,
-        begun: Begun,
-        marks: &mut [u32],
-        tally: &mut Tally,
-    )
-        requires parts { AreParts self.now }
-        requires valid { IsValidSpan haystack.now span }
-        requires begun { IsBegun self.now haystack.now span.end begun }
-        requires after { start ≤ begun.at }
-        requires room { begun.at - start < length marks.old }
-        ensures marks { AreMarks self.now haystack.now span.end marks.new start start (begun.at + 1) }
-        ensures others { tally.new ≡ record tally.old { scanned = tally.new.scanned } }
-        ensures scanned { tally.new.scanned ≡ tally.old.scanned + (begun.at - start) }
-    {
-        prove!(begun.at < span.end && span.end <= haystack.len());
-        let table = self.table();
-        marks[begun.at - start] = begun.code;
-        let mut place = (begun.code % ENDS) as usize;
-        for at in (start..begun.at).rev() {
-            let code = table.next_at(place, haystack, at, tally) as u32;
-            marks[at - start] = code;
-            place = (code % ENDS) as usize;
-        }
-    }
-
     /// The leftmost match of the rest of a span, from a place on. Memory is asked for only where a pattern occurs in
     /// the rest, and there is no room for the marks of a block.
     fn next_match(
@@ -334,12 +258,14 @@ impl Parts {
     ) -> Result<Option<Match>, AllocError>
         requires parts { AreParts self.now }
         requires valid { IsValidSpan haystack.now span }
-        requires marked { AreMarked self.now haystack.now span at marks.old }
+        requires placed { IsPlaced self.now.longest span at marks.old }
+        requires marked { AreMarked (tables_of self.now) haystack.now span at marks.old }
         ensures leftmost { IfOk result (IsLeftmost (linear_value self.now).query self.now.ignore_case haystack.now
             (between at span.end)) }
         ensures not_empty { IfOk result (λ answer. IfSome answer (λ found. found.start < found.end)) }
+        ensures placed { IfOk result (λ answer. IsPlaced self.now.longest span (place_behind span answer) marks.new) }
         ensures marked { IfOk result
-            (λ answer. AreMarked self.now haystack.now span (place_behind span answer) marks.new) }
+            (λ answer. AreMarked (tables_of self.now) haystack.now span (place_behind span answer) marks.new) }
         ensures further { (marks.old.known ≤ marks.new.known) × (marks.new.known ≤ span.end) }
         ensures bounded { ScansTwice (between marks.old.known marks.new.known) tally.old tally.new }
         ensures least { IfOk result (λ _. tally.old.scanned + looked_upto (patterns_of self.now) span marks.new.known
@@ -350,123 +276,33 @@ impl Parts {
         ensures no_memory { OnErr result (¬ NothingOccurs (patterns_of self.now) self.now.ignore_case haystack.now
             (between at span.end)) }
     {
-        let mut from = at;
-        while from < span.end {
-            self.mark_from(haystack, span, from, marks, tally)?;
-            let found = self.next_marked(haystack, span, from, marks);
-            if found.is_some() {
-                return Ok(found);
-            }
-            from = marks.known;
+        match self.backward().next_match(haystack, span, at, marks, tally) {
+            Ok(answer) => Ok(answer),
+            Err(_) => Err(AllocError),
         }
-        Ok(None)
     }
 
-    /// Marks the block that begins at a place, unless it is known what begins there.
-    fn mark_from(
-        &self,
-        haystack: &[u8],
-        span: Span,
-        from: usize,
-        marks: &mut Marks,
-        tally: &mut Tally,
-    ) -> Result<(), AllocError>
-        requires parts { AreParts self.now }
-        requires valid { IsValidSpan haystack.now span }
-        requires more { from < span.end }
-        requires marked { AreMarked self.now haystack.now span from marks.old }
-        ensures marked { IfOk result (λ _. AreMarked self.now haystack.now span from marks.new) }
-        ensures known { IfOk result (λ _. from < marks.new.known) }
-        ensures further { (marks.old.known ≤ marks.new.known) × (marks.new.known ≤ span.end) }
-        ensures bounded { ScansTwice (between marks.old.known marks.new.known) tally.old tally.new }
-        ensures least { IfOk result (λ _. tally.old.scanned + looked_upto (patterns_of self.now) span marks.new.known
-            ≤ tally.new.scanned + looked_upto (patterns_of self.now) span marks.old.known) }
-        ensures more { IfOk result (λ _. length marks.old.numbers.items ≤ length marks.new.numbers.items) }
-        ensures no_room { OnErr result
-            (length marks.old.numbers.items < min (max self.now.longest LEAST) (span.end - from)) }
-        ensures no_memory { OnErr result (¬ NothingOccurs (patterns_of self.now) self.now.ignore_case haystack.now
-            (between from span.end)) }
+    /// What a search from the right reads of them.
+    fn backward(&self) -> Backward<'_>
+        requires { AreParts self.now }
+        ensures safe { IsSafe result }
+        ensures is_for { AreBackFor (linear_value self.now) result }
+        ensures tables { back_tables_by (linear_value self.now) result ≡ tables_of self.now }
+        ensures longest { result.table.longest ≡ self.now.longest }
     {
-        if from < marks.known {
-            return Ok(());
-        }
-        let block = self.block_at(span, from);
-        marks.first = from;
-        marks.upto = from;
-        marks.known = block.end;
-        if let Some(begun) = self.last_begun(haystack, span, block, tally) {
-            self.make_room(&mut marks.numbers, span.end - from)?;
-            self.mark(haystack, span, from, begun, &mut marks.numbers, tally);
-            marks.upto = begun.at + 1;
-        }
-        Ok(())
-    }
-
-    /// The match that begins at the first marked place, from one on, at which a pattern begins.
-    fn next_marked(&self, haystack: &[u8], span: Span, from: usize, marks: &Marks) -> Option<Match>
-        requires parts { AreParts self.now }
-        requires valid { IsValidSpan haystack.now span }
-        requires marked { AreMarked self.now haystack.now span from marks.now }
-        ensures found { MatchOption result (NoneFrom self.now haystack.now span.end from marks.now.known)
-            (IsLeftmostMatch (linear_value self.now).query self.now.ignore_case haystack.now (between from span.end)) }
-        ensures not_empty { IfSome result (λ found. found.start < found.end) }
-        ensures known { IfSome result (λ found. found.start < marks.now.known) }
-    {
-        for at in from..marks.upto {
-            let code = marks.numbers[at - marks.first];
-            if code >= ENDS {
-                return Some(self.match_at(haystack, span, at, code));
-            }
-        }
-        None
-    }
-
-    /// The match that begins at a place with a mark.
-    fn match_at(&self, haystack: &[u8], span: Span, at: usize, code: u32) -> Match
-        requires parts { AreParts self.now }
-        requires valid { IsValidSpan haystack.now span }
-        requires ends { 2 ^ 31 ≤ code }
-        requires mark { IsMark self.now haystack.now span.end at code }
-        ensures leftmost { IsLeftmostMatch (linear_value self.now).query self.now.ignore_case haystack.now
-            (between at span.end) result }
-        ensures here { result.start ≡ at }
-        ensures some { at < result.end }
-    {
-        prove!(at <= span.end && span.end <= haystack.len());
-        let place = (code - ENDS) as usize;
-        let longest = self.rows.as_slice()[place + self.classes.width];
-        let pattern = self.best[longest as usize] as usize;
-        let end = at + self.patterns[pattern].len();
-        Match::must(pattern, Span { start: at, end })
-    }
-
-    /// What a walk reads of them.
-    fn table(&self) -> Table<'_>
-        ensures classes { result.classes.now ≡ self.now.classes.table }
-        ensures width { result.width ≡ self.now.classes.width }
-        ensures rows { result.rows.now ≡ self.now.rows }
-    {
-        Table {
+        let table = Table {
             classes: &self.classes.table,
             width: self.classes.width,
             rows: self.rows.as_slice(),
             longest: self.longest,
             shortest: 0,
             fingerprints: None,
+        };
+        Backward {
+            table,
+            best: &self.best,
+            lens: Lens::Patterns(&self.patterns),
         }
-    }
-}
-
-/// No mark, and no room for any.
-fn no_marks(alloc: Global, span: Span) -> Marks
-    ensures numbers { result.numbers.items ≡ [] }
-    ensures places { (result.first ≡ span.start) × (result.upto ≡ span.start) × (result.known ≡ span.start) }
-{
-    Marks {
-        numbers: Vec::new(alloc),
-        first: span.start,
-        upto: span.start,
-        known: span.start,
     }
 }
 
@@ -506,7 +342,8 @@ pub struct LinearMatches<'s, 'h> {
 
 impl<'s, 'h> Model for LinearMatches<'s, 'h> {
     ghost use Rattle.literal_search.specs.LinearMatchesValue.{LinearMatchesValue};
-    ghost use Rattle.literal_search.specs.Inside.Linear.{AreMarked, AreParts, HasRoom, linear_value};
+    ghost use Rattle.literal_search.specs.Inside.Backward.{AreMarked, HasRoom, IsPlaced};
+    ghost use Rattle.literal_search.specs.Inside.Linear.{AreParts, linear_value, tables_of};
     ghost use Rattle.literal_base.specs.Occurs.{IsValidSpan};
 
     ghost Value = { LinearMatchesValue };
@@ -520,8 +357,9 @@ impl<'s, 'h> Model for LinearMatches<'s, 'h> {
     } };
 
     ghost invariant = { λ m. AreParts m.parts.now × IsValidSpan m.haystack.now m.span
-        × AreMarked m.parts.now m.haystack.now m.span m.at m.marks
-        × HasRoom m.parts.now m.span m.marks };
+        × IsPlaced m.parts.now.longest m.span m.at m.marks
+        × AreMarked (tables_of m.parts.now) m.haystack.now m.span m.at m.marks
+        × HasRoom m.parts.now.longest m.span m.marks };
 }
 
 impl<'s, 'h> LinearMatches<'s, 'h> {

@@ -29,6 +29,9 @@ pub const PREPARED_VERSION: u32 = 0x4C50_0004;
 /// What that of one for everything that occurs is.
 pub const OVERLAPPING_VERSION: u32 = 0x4C4F_0003;
 
+/// What that of one for all leftmost matches in linear time is.
+pub const LINEAR_VERSION: u32 = 0x4C4C_0001;
+
 /// Where the classes of all bytes begin, behind the version, the check, the width, how many patterns and places in the
 /// rows there are, and how long the longest pattern is.
 pub const CLASSES_AT: usize = 6;

@@ -1,7 +1,7 @@
 //! Walks through the rows of an automaton. The numbers may be lent, and so any: they are damaged where one leads out of
 //! the rows.
-ghost use Rattle.std.specs.Prelude.{◌≡◌, ◌⊎◌, ◌+◌, ◌-◌, ◌*◌, ◌<◌, ◌≤◌, ◌^◌};
-ghost use Rattle.std.specs.Prelude.{IfOk, IfSome, MatchResult, length, min, slice_index, true};
+ghost use Rattle.std.specs.Prelude.{◌≡◌, ◌⊎◌, ◌+◌, ◌-◌, ◌*◌, ◌<◌, ◌≤◌, ◌^◌, ◌↔◌};
+ghost use Rattle.std.specs.Prelude.{IfOk, IfSome, IsTrue, MatchResult, length, min, slice_index, true};
 ghost use Rattle.std.specs.Result.{IsOkAnd};
 ghost use Rattle.literal_base.specs.Occurs.{IsValidSpan};
 ghost use Rattle.literal_search.specs.Inside.Classes.{AreClasses};
@@ -63,7 +63,7 @@ impl<'t> Table<'t> {
     /// Whether no class is above the width: then no class has to be tested.
     pub fn classes_fit(&self) -> bool
         requires { length self.now.classes.now ≡ 256 }
-        ensures { result ≡ true → ClassesFit self.now }
+        ensures { IsTrue result ↔ ClassesFit self.now }
     {
         for class in self.classes {
             if *class as usize > self.width {
@@ -321,15 +321,23 @@ impl<'t> Table<'t> {
         true
     }
 
+    /// As [`Table::code_at`], to be compared with a place.
+    #[inline(always)]
+    fn next_at(&self, place: usize, haystack: &[u8], at: usize, tally: &mut Tally) -> usize
+        requires classes { length self.now.classes.now ≡ 256 }
+        requires fits { ClassesFit self.now }
+        requires inside { at < length haystack.now }
+        requires within { place + self.now.width < length self.now.rows.now }
+        ensures number { result ≡ slice_index self.now.rows.now
+            (place + slice_index self.now.classes.now (slice_index haystack.now at)) }
+        ensures ticks { tally.new ≡ record tally.old { scanned = tally.old.scanned + 1 } }
+    {
+        self.code_at(place, haystack, at, tally) as usize
+    }
+
     /// The number in the row that begins at a place for a byte of the haystack, where the classes fit.
     #[inline(always)]
-    pub(crate) fn next_at(
-        &self,
-        place: usize,
-        haystack: &[u8],
-        at: usize,
-        tally: &mut Tally,
-    ) -> usize
+    pub(crate) fn code_at(&self, place: usize, haystack: &[u8], at: usize, tally: &mut Tally) -> u32
         requires classes { length self.now.classes.now ≡ 256 }
         requires fits { ClassesFit self.now }
         requires inside { at < length haystack.now }
@@ -340,7 +348,7 @@ impl<'t> Table<'t> {
     {
         tally.tick_scanned();
         let class = self.classes[haystack[at] as usize] as usize;
-        self.number_at(place, class) as usize
+        self.number_at(place, class)
     }
 }
 

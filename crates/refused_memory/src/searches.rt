@@ -1,7 +1,9 @@
 //! Calls of `Search`, `Linear` and `Overlapping`.
 use crate::made::{assert_place, words_with_a_table, words_without_a_table};
 use literal_base::count::Tally;
-use literal_search::{BuildError, Linear, Match, MatchKind, Overlapping, Search, Span};
+use literal_search::{
+    BuildError, Linear, Match, MatchKind, Overlapping, PreparedLinear, Search, Span,
+};
 use std::alloc::{AllocError, Global};
 use std::process::Abort;
 use std::test::Fail;
@@ -159,6 +161,30 @@ fn find_iter_of_linear(rt: HostRuntime) -> Result<(), AllocError> {
     };
     assert_place(&rt, all.first().copied(), 0, (0, 2));
     assert!(rt; all.len() == 2);
+    Ok(())
+}
+
+/// The same by an array that is prepared.
+fn iterate_by(alloc: Global, array: &[u32]) -> Result<usize, AllocError> {
+    let prepared = PreparedLinear::new(array).or(Err(AllocError))?;
+    let mut matches = prepared.find_iter_in(alloc, b"ABqb", Span { start: 0, end: 4 })?;
+    let mut count: usize = 0;
+    while let Ok(Some(_)) = matches.next_match() {
+        count = count.saturating_add(1);
+    }
+    Ok(count)
+}
+
+#[test]
+fn find_iter_of_prepared_linear(rt: HostRuntime) -> Result<(), AllocError> {
+    let search = build_linear(rt.alloc()).or(Err(AllocError))?;
+    let mut array = [0; 1024];
+    assert!(rt; search.prepare(&mut array).is_ok());
+    let count = match iterate_by(rt.alloc(), &array) {
+        Ok(count) => count,
+        Err(_) => iterate_by(rt.alloc(), &array).expect(&rt, "it was refused again"),
+    };
+    assert!(rt; count == 2);
     Ok(())
 }
 

@@ -11,20 +11,22 @@ use Rattle.std.specs.Global.{Global}
 use Rattle.std.specs.List.{starts_with}
 use Rattle.std.specs.declared.vec.Vec.{Vec}
 use Rattle.literal_base.specs.Counts.{Counts}
-use Rattle.literal_base.specs.Leftmost.{IsBetter}
+use Rattle.literal_base.specs.Leftmost.{IsBetter, IsLeftmostMatch}
 use Rattle.literal_base.specs.Occurs.{IsValidSpan, NoneIsEmpty, Occurs, between, pattern_at}
 use Rattle.literal_base.specs.declared.packed.MatchKind.{MatchKind}
 use Rattle.literal_base.specs.declared.packed.MatchKind.TheVariants.{LeftmostFirst, LeftmostLongest}
 use Rattle.literal_base.specs.declared.search.MatchKind.TheVariants.{Standard}
 use Rattle.literal_search.specs.Inside.Classes.{symbols_in}
-use Rattle.literal_search.specs.Inside.Suffixes.{IsSuffix}
-use Rattle.literal_search.specs.Inside.Linear.{AreParts, BeginsBest, IsMark, StandsDown, named_by}
-use Rattle.literal_search.specs.Inside.Linear.{patterns_of, texts_back}
+use Rattle.literal_search.specs.Inside.Ends.{IsEnd}
+use Rattle.literal_search.specs.Inside.Backward.{AreBackFor, BeginsBest, IsMark, IsRead, StandsDown, back_tables_by}
+use Rattle.literal_search.specs.Inside.Backward.{best_by, lens_of, named_by}
 use Rattle.literal_search.specs.Inside.Walk.{IsAt, text_of}
 use Rattle.literal_search.specs.Linear.{reversed}
+use Rattle.literal_search.specs.PreparedLinear.{AreBackTables, BackTables, texts_back}
+use Rattle.literal_search.specs.SearchValue.{SearchValue}
 use Rattle.literal_search.specs.Table.{Recognises, nothing}
 use Rattle.literal_search.specs.Words.{ending}
-use Rattle.literal_search.specs.declared.linear.Parts.{Parts}
+use Rattle.literal_search.specs.declared.backward.Backward.{Backward}
 use Rattle.literal_search.proofs.lemmas.Built.{same_texts}
 use Rattle.literal_search.proofs.lemmas.Found.{occurs_where, some_symbols, stands_where, symbols_length}
 use Rattle.literal_search.proofs.lemmas.Longest.{longest_is}
@@ -131,167 +133,174 @@ better_by LeftmostFirst patterns others same j i better = better
 better_by LeftmostLongest patterns others same j i (inl longer) = inl (omega (arith, same i, same j))
 better_by LeftmostLongest patterns others same j i (inr long) = inr (omega (arith, same i, same j, long.0), long.1)
 
-module _ (p : Parts) (parts : AreParts p) (haystack : List ℕ) (bytes : (i : ℕ) → get_or haystack i 0 < 256) where
-  abbrev words : List (List ℕ)
-  words = map (symbols_in p.classes.table) (patterns_of p)
+module _ (p : BackTables) (are : AreBackTables p) (haystack : List ℕ) (bytes : (i : ℕ) → get_or haystack i 0 < 256)
+  where
+    abbrev words : List (List ℕ)
+    words = map (symbols_in p.classes) p.search.query.patterns
 
-  abbrev read : ℕ → ℕ → List ℕ
-  read at from = reverse (text_of p.classes.table haystack (between at from))
+    abbrev read : ℕ → ℕ → List ℕ
+    read at from = reverse (text_of p.classes haystack (between at from))
 
-  some_texts : NoneIsEmpty (texts_back p)
-  some_texts = some_back words (some_symbols p.classes.table (patterns_of p) parts.kept.some)
+    some_texts : NoneIsEmpty (texts_back p)
+    some_texts = some_back words (some_symbols p.classes p.search.query.patterns are.kept.some)
 
-  known : length words ≡ length (patterns_of p)
-  known = length-map (patterns_of p) (symbols_in p.classes.table)
+    known : length words ≡ length p.search.query.patterns
+    known = length-map p.search.query.patterns (symbols_in p.classes)
 
-  same_long : (i : ℕ) → length (pattern_at (texts_back p) i) ≡ length (pattern_at (patterns_of p) i)
-  same_long i = back_long words i ∙ symbols_length p.classes.table (patterns_of p) i
+    same_long : (i : ℕ) → length (pattern_at (texts_back p) i) ≡ length (pattern_at p.search.query.patterns i)
+    same_long i = back_long words i ∙ symbols_length p.classes p.search.query.patterns i
 
-  module _ (from at : ℕ) (after : at ≤ from) (inside : from ≤ length haystack) where
-    valid : IsValidSpan haystack (between at from)
-    valid = record { ordered = after; in_haystack = inside }
+    module _ (from at : ℕ) (after : at ≤ from) (inside : from ≤ length haystack) where
+      valid : IsValidSpan haystack (between at from)
+      valid = record { ordered = after; in_haystack = inside }
 
-    nothing_before : at - at ≡ 0
-    nothing_before = omega arith
+      nothing_before : at - at ≡ 0
+      nothing_before = omega arith
 
-    -- what ends with what was read begins there
-    end_begins : (i : ℕ) → IsSuffix (texts_back p) (read at from) i
-        → Occurs (patterns_of p) p.ignore_case haystack (between at from) i at
-    end_begins i is =
-        let text = text_of p.classes.table haystack (between at from) in
-        let below = is.is_pattern in
-        occurs_where p.ignore_case p.classes.table (patterns_of p) parts.tells haystack bytes (between at from) valid i
-        at (omega (arith, known, back_count words, below)) (omega arith) after
-        (ap (λ n. starts_with nat_eq (drop n text) (pattern_at words i)) nothing_before ∙ end_is_prefix words text i is)
+      -- what ends with what was read begins there
+      end_begins : (i : ℕ) → IsEnd (texts_back p) (read at from) i
+          → Occurs p.search.query.patterns p.search.ignore_case haystack (between at from) i at
+      end_begins i is =
+          let text = text_of p.classes haystack (between at from) in
+          let below = is.is_pattern in
+          occurs_where p.search.ignore_case p.classes p.search.query.patterns are.tells haystack bytes (between at from)
+          valid i
+          at (omega (arith, known, back_count words, below)) (omega arith) after
+          (ap (λ n. starts_with nat_eq (drop n text) (pattern_at words i)) nothing_before
+          ∙ end_is_front words text i is)
 
-    -- and what begins there ends so
-    begin_ends : (i : ℕ) → Occurs (patterns_of p) p.ignore_case haystack (between at from) i at
-        → IsSuffix (texts_back p) (read at from) i
-    begin_ends i occurs =
-        let text = text_of p.classes.table haystack (between at from) in
-        let below = occurs.is_pattern in
-        prefix_is_end words text i (omega (arith, known))
-        (ap (λ n. starts_with nat_eq (drop n text) (pattern_at words i)) (sym nothing_before)
-        ∙ stands_where p.ignore_case p.classes.table (patterns_of p) parts.tells haystack bytes (between at from) valid
-        i at occurs)
+      -- and what begins there ends so
+      begin_ends : (i : ℕ) → Occurs p.search.query.patterns p.search.ignore_case haystack (between at from) i at
+          → IsEnd (texts_back p) (read at from) i
+      begin_ends i occurs =
+          let text = text_of p.classes haystack (between at from) in
+          let below = occurs.is_pattern in
+          front_is_end words text i (omega (arith, known))
+          (ap (λ n. starts_with nat_eq (drop n text) (pattern_at words i)) (sym nothing_before)
+          ∙ stands_where p.search.ignore_case p.classes p.search.query.patterns are.tells haystack bytes
+          (between at from)
+          valid
+          i at occurs)
 
-    -- the best of the ends is the best that begins
-    best_begins : (first : ℕ) → ending Standard (texts_back p) (read at from) ≡ Some first
-        → (first < length p.best.items) × BeginsBest p haystack from at (get_or p.best.items first 0)
-    best_begins first ends =
-        let text = read at from in
-        let is = first_ends (texts_back p) some_texts text first ends in
-        let below = is.is.is_pattern in
-        let one = parts.best.each first (omega (arith, known, back_count words, below)) in
-        let best = get_or p.best.items first 0 in
-        let end : IsSuffix (texts_back p) text best = record {
-          is_pattern = one.is.is_pattern;
-          ends = ends_on text (pattern_at (texts_back p) first) (pattern_at (texts_back p) best) is.is.ends one.is.ends;
-        } in (
-          omega (arith, known, back_count words, below, parts.best.long),
-          record {
-            occurs = end_begins best end;
-            best = λ j better occurs. one.best j
-                (ends_of_first (texts_back p) some_texts text first is j (begin_ends j occurs))
-                (better_by p.kind (patterns_of p) (texts_back p) same_long j best better);
-          },
-        )
-
-  no_text : (at : ℕ) → text_of p.classes.table haystack (between at at) ≡ []
-  no_text at =
-      let none : at - at ≡ 0 = omega arith in
-      ap (λ n. symbols_in p.classes.table (take n (drop at haystack))) none
-
-  row_of : (text : List ℕ) (place : ℕ)
-      → IsAt Standard (texts_back p) p.classes.width p.rows parts.recognises text place
-      → place + p.classes.width < length p.rows
-  row_of text place at =
-      let row = row_at Standard (texts_back p) p.classes.width p.rows parts.recognises text place at in
-      omega (arith, row.fits)
-
-  -- a walk that read nothing
-  pub stands_nowhere : (from : ℕ) → StandsDown p haystack from from 0
-  stands_nowhere from =
-      let at : (recognises : Recognises Standard (texts_back p) p.classes.width p.rows)
-      → IsAt Standard (texts_back p) p.classes.width p.rows recognises (read from from) 0 =
-      λ recognises. subst (λ t. IsAt Standard (texts_back p) p.classes.width p.rows recognises (reverse t) 0)
-      (sym (no_text from)) (at_start Standard (texts_back p) p.classes.width p.rows recognises) in
-      record { row = row_of (read from from) 0 (at parts.recognises); is_at = at }
-
-  -- one byte more
-  module _ (from at place code : ℕ) (before : at < from) (inside : from ≤ length haystack)
-      (stands : StandsDown p haystack from (at + 1) place)
-      (code_is : code ≡ get_or p.rows (place + get_or p.classes.table (get_or haystack at 0) 0) 0)
-    where
-      abbrev symbol : ℕ
-      symbol = get_or p.classes.table (get_or haystack at 0) 0
-
-      below : symbol < p.classes.width
-      below = parts.classes.below (get_or haystack at 0) (bytes at)
-
-      more : read (at + 1) from ++ symbol ∷ [] ≡ read at from
-      more =
-          let rest = text_of p.classes.table haystack (between (at + 1) from) in
-          sym (ap (λ (l : List ℕ). reverse l)
-          (text_split p.classes.table haystack at at (omega arith) (omega arith) from before
-          ∙ ap (λ l. l ++ symbol ∷ rest) (no_text at))
-          ∙ reverse-append (symbol ∷ []) rest)
-
-      alive : ¬ (code ≡ nothing)
-      alive dead = always_live (texts_back p) (read (at + 1) from ++ symbol ∷ [])
-          (at_dead Standard (texts_back p) p.classes.width p.rows parts.recognises (read (at + 1) from) place
-          (stands.is_at parts.recognises) symbol below code code_is dead).0
-
-      -- below 2^31 nothing begins there
-      without : code < 2 ^ 31 → (recognises : Recognises Standard (texts_back p) p.classes.width p.rows)
-          → IsAt Standard (texts_back p) p.classes.width p.rows recognises (read at from) code
-          × (ending Standard (texts_back p) (read at from) ≡ None)
-      without small recognises =
-          let on = at_without_end Standard (texts_back p) p.classes.width p.rows recognises (read (at + 1) from) place
-          (stands.is_at recognises) symbol below code code_is small in (
-            subst (λ t. IsAt Standard (texts_back p) p.classes.width p.rows recognises t code) more on.0,
-            ap (ending Standard (texts_back p)) (sym more) ∙ on.1,
+      -- the best of the ends is the best that begins
+      best_begins : (first : ℕ) → ending Standard (texts_back p) (read at from) ≡ Some first
+          → (first < length p.best) × BeginsBest p haystack from at (get_or p.best first 0)
+      best_begins first ends =
+          let text = read at from in
+          let is = first_ends (texts_back p) some_texts text first ends in
+          let below = is.is.is_pattern in
+          let one = are.best.each first (omega (arith, known, back_count words, below)) in
+          let best = get_or p.best first 0 in
+          let end : IsEnd (texts_back p) text best = record {
+            is_pattern = one.is.is_pattern;
+            ends = ends_on text (pattern_at (texts_back p) first) (pattern_at (texts_back p) best) is.is.ends
+                one.is.ends;
+          } in (
+            omega (arith, known, back_count words, below, are.best.long),
+            record {
+              occurs = end_begins best end;
+              best = λ j better occurs. one.best j
+                  (ends_of_first (texts_back p) some_texts text first is j (begin_ends j occurs))
+                  (better_by p.search.query.kind p.search.query.patterns (texts_back p) same_long j best better);
+            },
           )
 
-      -- from there on something does
-      with_end : 2 ^ 31 ≤ code → (recognises : Recognises Standard (texts_back p) p.classes.width p.rows)
-          → IsAt Standard (texts_back p) p.classes.width p.rows recognises (read at from) (code - 2 ^ 31)
-          × (ending Standard (texts_back p) (read at from) ≡ Some (named_by p code))
-      with_end large recognises =
-          let on = at_with_end Standard (texts_back p) p.classes.width p.rows recognises (read (at + 1) from) place
-          (stands.is_at recognises) symbol below code code_is large alive in (
-            subst (λ t. IsAt Standard (texts_back p) p.classes.width p.rows recognises t (code - 2 ^ 31)) more on.0,
-            ap (ending Standard (texts_back p)) (sym more) ∙ on.1,
-          )
+    no_text : (at : ℕ) → text_of p.classes haystack (between at at) ≡ []
+    no_text at =
+        let none : at - at ≡ 0 = omega arith in
+        ap (λ n. symbols_in p.classes (take n (drop at haystack))) none
 
-      pub mark_there : IsMark p haystack from at code
-      mark_there = record {
-        none = λ small i occurs. none_ends (texts_back p) some_texts (read at from) (without small parts.recognises).1 i
-            (begin_ends from at (omega arith) inside i occurs);
-        row = λ large. row_of (read at from) (code - 2 ^ 31) (with_end large parts.recognises).0;
-        named = λ large.
-            (best_begins from at (omega arith) inside (named_by p code) (with_end large parts.recognises).1).0;
-        best = λ large.
-            (best_begins from at (omega arith) inside (named_by p code) (with_end large parts.recognises).1).1;
-      }
+    row_of : (text : List ℕ) (place : ℕ)
+        → IsAt Standard (texts_back p) p.width p.rows are.recognises text place
+        → place + p.width < length p.rows
+    row_of text place at =
+        let row = row_at Standard (texts_back p) p.width p.rows are.recognises text place at in
+        omega (arith, row.fits)
 
-      pub stands_there : StandsDown p haystack from at (code % 2 ^ 31)
-      stands_there = elim (cases_lt code (2 ^ 31)) [
-        | inl small ↦
-            let is : code ≡ code % 2 ^ 31 = omega arith in
-            subst (StandsDown p haystack from at) is (record {
-              row = row_of (read at from) code (without small parts.recognises).0;
-              is_at = λ recognises. (without small recognises).0;
-            })
-        | inr large ↦
-            let row = row_of (read at from) (code - 2 ^ 31) (with_end large parts.recognises).0 in
-            let few = parts.recognises.few in
-            let is : code - 2 ^ 31 ≡ code % 2 ^ 31 = omega arith in
-            subst (StandsDown p haystack from at) is (record {
-              row = row;
-              is_at = λ recognises. (with_end large recognises).0;
-            })
-      ]
+    -- a walk that read nothing
+    pub stands_nowhere : (from : ℕ) → StandsDown p haystack from from 0
+    stands_nowhere from =
+        let at : (recognises : Recognises Standard (texts_back p) p.width p.rows)
+        → IsAt Standard (texts_back p) p.width p.rows recognises (read from from) 0 =
+        λ recognises. subst (λ t. IsAt Standard (texts_back p) p.width p.rows recognises (reverse t) 0)
+        (sym (no_text from)) (at_start Standard (texts_back p) p.width p.rows recognises) in
+        record { row = row_of (read from from) 0 (at are.recognises); is_at = at }
+
+    -- one byte more
+    module _ (from at place code : ℕ) (before : at < from) (inside : from ≤ length haystack)
+        (stands : StandsDown p haystack from (at + 1) place)
+        (code_is : code ≡ get_or p.rows (place + get_or p.classes (get_or haystack at 0) 0) 0)
+      where
+        abbrev symbol : ℕ
+        symbol = get_or p.classes (get_or haystack at 0) 0
+
+        below : symbol < p.width
+        below = are.classes.below (get_or haystack at 0) (bytes at)
+
+        more : read (at + 1) from ++ symbol ∷ [] ≡ read at from
+        more =
+            let rest = text_of p.classes haystack (between (at + 1) from) in
+            sym (ap (λ (l : List ℕ). reverse l)
+            (text_split p.classes haystack at at (omega arith) (omega arith) from before
+            ∙ ap (λ l. l ++ symbol ∷ rest) (no_text at))
+            ∙ reverse-append (symbol ∷ []) rest)
+
+        alive : ¬ (code ≡ nothing)
+        alive dead = always_held (texts_back p) (read (at + 1) from ++ symbol ∷ [])
+            (at_dead Standard (texts_back p) p.width p.rows are.recognises (read (at + 1) from) place
+            (stands.is_at are.recognises) symbol below code code_is dead).0
+
+        -- below 2^31 nothing begins there
+        without : code < 2 ^ 31 → (recognises : Recognises Standard (texts_back p) p.width p.rows)
+            → IsAt Standard (texts_back p) p.width p.rows recognises (read at from) code
+            × (ending Standard (texts_back p) (read at from) ≡ None)
+        without small recognises =
+            let on = at_without_end Standard (texts_back p) p.width p.rows recognises (read (at + 1) from) place
+            (stands.is_at recognises) symbol below code code_is small in (
+              subst (λ t. IsAt Standard (texts_back p) p.width p.rows recognises t code) more on.0,
+              ap (ending Standard (texts_back p)) (sym more) ∙ on.1,
+            )
+
+        -- from there on something does
+        with_end : 2 ^ 31 ≤ code → (recognises : Recognises Standard (texts_back p) p.width p.rows)
+            → IsAt Standard (texts_back p) p.width p.rows recognises (read at from) (code - 2 ^ 31)
+            × (ending Standard (texts_back p) (read at from) ≡ Some (named_by p code))
+        with_end large recognises =
+            let on = at_with_end Standard (texts_back p) p.width p.rows recognises (read (at + 1) from) place
+            (stands.is_at recognises) symbol below code code_is large alive in (
+              subst (λ t. IsAt Standard (texts_back p) p.width p.rows recognises t (code - 2 ^ 31)) more on.0,
+              ap (ending Standard (texts_back p)) (sym more) ∙ on.1,
+            )
+
+        pub mark_there : IsMark p haystack from at code
+        mark_there = record {
+          none = λ small i occurs. none_ends (texts_back p) some_texts (read at from)
+              (without small are.recognises).1 i
+              (begin_ends from at (omega arith) inside i occurs);
+          row = λ large. row_of (read at from) (code - 2 ^ 31) (with_end large are.recognises).0;
+          named = λ large.
+              (best_begins from at (omega arith) inside (named_by p code) (with_end large are.recognises).1).0;
+          best = λ large.
+              (best_begins from at (omega arith) inside (named_by p code) (with_end large are.recognises).1).1;
+        }
+
+        pub stands_there : StandsDown p haystack from at (code % 2 ^ 31)
+        stands_there = elim (cases_lt code (2 ^ 31)) [
+          | inl small ↦
+              let is : code ≡ code % 2 ^ 31 = omega arith in
+              subst (StandsDown p haystack from at) is (record {
+                row = row_of (read at from) code (without small are.recognises).0;
+                is_at = λ recognises. (without small recognises).0;
+              })
+          | inr large ↦
+              let row = row_of (read at from) (code - 2 ^ 31) (with_end large are.recognises).0 in
+              let few = are.recognises.few in
+              let is : code - 2 ^ 31 ≡ code % 2 ^ 31 = omega arith in
+              subst (StandsDown p haystack from at) is (record {
+                row = row;
+                is_at = λ recognises. (with_end large recognises).0;
+              })
+        ]
 
 -- one count alone has changed, and one step more
 pub ticked_on : (old now new : Counts) → now ≡ (let t : Counts = record old { scanned = now.scanned } in t)
@@ -302,49 +311,26 @@ ticked_on old now new before tick =
     tick
     ∙ (ap (to (now.scanned + 1)) before ∙ ap (λ n. to n old) (sym (ap (λ (t : Counts). t.scanned) tick)))
 
--- a number was read for the byte at a place, and the walk goes on from there
-pub record IsRead (p : Parts) (haystack : List ℕ) (from at code : ℕ) : Type 0 where
-  pub fits : code < 2 ^ 32
-  pub mark : IsMark p haystack from at code
-  pub stands : StandsDown p haystack from at (code % 2 ^ 31)
-
--- the byte before where a walk stands
-pub read_one : (p : Parts) → AreParts p → (haystack : List ℕ) → ((i : ℕ) → get_or haystack i 0 < 256)
-    → (from upto place code : ℕ) → 0 < upto → upto ≤ from → from ≤ length haystack
-    → StandsDown p haystack from upto place → (rows classes : List ℕ) → rows ≡ p.rows → classes ≡ p.classes.table
-    → code ≡ get_or rows (place + get_or classes (get_or haystack (upto - 1) 0) 0) 0
-    → IsRead p haystack from (upto - 1) code
-read_one p parts haystack bytes from upto place code some after inside stands rows classes rows_are classes_are is =
-    let at = upto - 1 in
-    let before : at < from = omega arith in
-    let next : upto ≡ at + 1 = omega arith in
-    let from_next = subst (λ n. StandsDown p haystack from n place) next stands in
-    let code_is : code ≡ get_or p.rows (place + get_or p.classes.table (get_or haystack at 0) 0) 0 =
-    is
-    ∙ (ap (λ r. get_or r (place + get_or classes (get_or haystack at 0) 0) 0) rows_are
-    ∙ ap (λ t. get_or p.rows (place + get_or t (get_or haystack at 0) 0) 0) classes_are) in
-    let mark = mark_there p parts haystack bytes from at place code before inside from_next code_is in
-    let few = parts.recognises.few in
-    record {
-      fits = elim (cases_lt code (2 ^ 31)) [
-        | inl small ↦ omega arith
-        | inr large ↦ omega (arith, mark.row large)
-      ];
-      mark = mark;
-      stands = stands_there p parts haystack bytes from at place code before inside from_next code_is;
-    }
+-- what was read for the byte before where a walk stands
+pub read_one : (p : BackTables) → AreBackTables p → (haystack : List ℕ) → ((i : ℕ) → get_or haystack i 0 < 256)
+    → (from at place code : ℕ) → at < from → from ≤ length haystack → StandsDown p haystack from (at + 1) place
+    → code ≡ get_or p.rows (place + get_or p.classes (get_or haystack at 0) 0) 0 → IsRead p haystack from at code
+read_one p tables haystack bytes from at place code before inside stands is = record {
+  mark = mark_there p tables haystack bytes from at place code before inside stands is;
+  stands = stands_there p tables haystack bytes from at place code before inside stands is;
+}
 
 -- what is known of a walk that began so far behind that all that begins there lies before
-module _ (p : Parts) (parts : AreParts p) (haystack : List ℕ) (end at from : ℕ) (inside : from ≤ end)
+module _ (p : BackTables) (are : AreBackTables p) (haystack : List ℕ) (end at from : ℕ) (inside : from ≤ end)
     (far : (from ≡ end) ⊎ (at + p.longest ≤ from))
   where
     -- whatever lies whole in the span lies in what was read
-    lies_before : (i : ℕ) → Occurs (patterns_of p) p.ignore_case haystack (between at end) i at
-        → Occurs (patterns_of p) p.ignore_case haystack (between at from) i at
+    lies_before : (i : ℕ) → Occurs p.search.query.patterns p.search.ignore_case haystack (between at end) i at
+        → Occurs p.search.query.patterns p.search.ignore_case haystack (between at from) i at
     lies_before i occurs =
-        let short = longest_is (patterns_of p) i in
+        let short = longest_is p.search.query.patterns i in
         let whole = occurs.before_end in
-        let long = parts.longest in
+        let long = are.longest in
         record {
           is_pattern = occurs.is_pattern;
           after_start = occurs.after_start;
@@ -370,3 +356,45 @@ module _ (p : Parts) (parts : AreParts p) (haystack : List ℕ) (end at from : �
             best = λ j better occurs. one.best j better (lies_before j occurs);
           };
     }
+
+-- the match that a mark tells of
+module _ (b : Backward) (search : SearchValue) (is : AreBackFor search b) (haystack : List ℕ) (end at code : ℕ)
+    (ends : 2 ^ 31 ≤ code) (mark : IsMark (back_tables_by search b) haystack end at code)
+  where
+    abbrev best : ℕ
+    best = best_by (back_tables_by search b) code
+
+    begins : BeginsBest (back_tables_by search b) haystack end at best
+    begins = mark.best ends
+
+    length_is : get_or (lens_of b.lens) best 0 ≡ length (pattern_at search.query.patterns best)
+    length_is =
+        ap (λ (l : List ℕ). get_or l best 0) is.lens
+        ∙ get_or-map (λ (bytes : List ℕ). length bytes) search.query.patterns best [] 0 begins.occurs.is_pattern
+
+    -- it is not empty, no longer than the longest pattern, and lies before the end
+    pub mark_inside : (0 < get_or (lens_of b.lens) best 0) × (get_or (lens_of b.lens) best 0 ≤ b.table.longest)
+        × (at + get_or (lens_of b.lens) best 0 ≤ end)
+    mark_inside =
+        let some = is.tables.kept.some best [] begins.occurs.is_pattern in
+        let short = longest_is search.query.patterns best in
+        let whole = begins.occurs.before_end in (
+          omega (arith, some, length_is),
+          omega (arith, short, length_is, is.tables.longest),
+          omega (arith, whole, length_is),
+        )
+
+    pub mark_leftmost : (pattern len : ℕ) → pattern ≡ best → len ≡ get_or (lens_of b.lens) pattern 0
+        → IsLeftmostMatch search.query search.ignore_case haystack (between at end)
+        (record { pattern = pattern; start = at; end = at + len })
+    mark_leftmost pattern len pattern_is len_is =
+        let whole : len ≡ length (pattern_at search.query.patterns best) =
+        len_is ∙ (ap (λ k. get_or (lens_of b.lens) k 0) pattern_is ∙ length_is) in
+        subst (λ i. IsLeftmostMatch search.query search.ignore_case haystack (between at end)
+        (record { pattern = i; start = at; end = at + len })) (sym pattern_is)
+        (record {
+          occurs = begins.occurs;
+          whole = omega (arith, whole);
+          earliest = λ i place before occurs. let after = occurs.after_start in omega (arith, after, before);
+          best = begins.best;
+        })

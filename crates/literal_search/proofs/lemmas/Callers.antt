@@ -20,12 +20,14 @@ use Rattle.std.proofs.lemmas.List.{get_or_default, length-map}
 use denote.Param.Members.{Mut}
 use Rattle.literal_base.specs.declared.packed.MatchKind.{MatchKind}
 use Rattle.literal_base.specs.declared.search.MatchKind as search
+use Rattle.literal_base.specs.declared.search.MatchKind.TheVariants.{Standard}
 use Rattle.literal_base.specs.Greedy.{IsGreedy}
 use Rattle.literal_base.specs.MatchValue.{MatchValue}
 use Rattle.literal_base.specs.Occurs.{pattern_at}
 use Rattle.literal_base.proofs.lemmas.Callers.{GivesList}
 use Rattle.literal_search.specs.SearchValue.{BuildsSearch, SearchValue, GivesAll, GivesNext, NeedTooManyStates}
 use Rattle.literal_search.specs.SearchValue.{search_by}
+use Rattle.literal_search.specs.Linear.{NeedTooManyReversed}
 use Rattle.literal_search.specs.MatchesValue.{GivesMatch, MatchesValue}
 use Rattle.literal_search.specs.Overlapping.{BuildsOverlapping, OverlappingValue}
 use Rattle.literal_search.specs.Replaced.{IsReplaced, IsWritten, WritesMatch, WritingValue, replaced}
@@ -154,6 +156,12 @@ pub none_need_few : (kind : search.MatchKind) (ignore_case : Bool) → ¬ NeedTo
 unfolding NeedTooManyStates
 none_need_few kind ignore_case (classes, are, tells, many) =
     none_few kind (subst (HasTooManyStates kind []) (one_class ignore_case) many)
+
+-- nor are those of the reversed patterns
+pub none_need_few_reversed : (ignore_case : Bool) → ¬ NeedTooManyReversed ignore_case []
+unfolding NeedTooManyReversed
+none_need_few_reversed ignore_case (classes, are, tells, many) =
+    none_few Standard (subst (HasTooManyStates Standard []) (one_class ignore_case) many)
 
 -- `holds` is what holds of the function from call to call, such as that it stays as it was
 module _ {F : Type 0}

@@ -11,11 +11,13 @@ use Rattle.literal_base.specs.Leftmost.{IsLeftmostMatch}
 use Rattle.literal_base.specs.MatchValue.{MatchValue}
 use Rattle.literal_base.specs.Occurs.{NothingOccurs, Occurs, between}
 use Rattle.literal_base.specs.Query.{Query}
-use Rattle.literal_search.specs.Inside.Linear.{IsBegun, IsGreedyUpTo, linear_value, patterns_of}
+use Rattle.literal_search.specs.Inside.Backward.{IsBegun}
+use Rattle.literal_search.specs.Inside.Linear.{IsGreedyUpTo}
 use Rattle.literal_search.specs.Linear.{IsGreedyIn}
 use Rattle.literal_search.specs.LinearMatchesValue.{GivesInSpan, LinearMatchesValue}
-use Rattle.literal_search.specs.declared.linear.Begun.{Begun}
-use Rattle.literal_search.specs.declared.linear.Parts.{Parts}
+use Rattle.literal_search.specs.PreparedLinear.{BackTables}
+use Rattle.literal_search.specs.SearchValue.{SearchValue}
+use Rattle.literal_search.specs.declared.backward.Begun.{Begun}
 
 -- the list of a rest of the haystack
 pub greedy_rest : (query : Query) (ignore_case : Bool) (haystack : List ℕ) (at : ℕ) (all : List MatchValue)
@@ -52,11 +54,11 @@ greedy_in_from_yields m (found ∷ more) n o run nothing = (
       (greedy_in_from_yields run.0 more n o run.2 nothing),
 )
 
-module _ (p : Parts) (haystack : List ℕ) where
+module _ (search : SearchValue) (haystack : List ℕ) where
   -- what occurs from a place on occurs from an earlier one on
   pub occurs_earlier : (end from to : ℕ) → from ≤ to
-      → ¬ NothingOccurs (patterns_of p) p.ignore_case haystack (between to end)
-      → ¬ NothingOccurs (patterns_of p) p.ignore_case haystack (between from end)
+      → ¬ NothingOccurs search.query.patterns search.ignore_case haystack (between to end)
+      → ¬ NothingOccurs search.query.patterns search.ignore_case haystack (between from end)
   occurs_earlier end from to before one nothing = one (λ i at occurs.
       let begins = occurs.after_start in
       nothing i at (record {
@@ -68,17 +70,17 @@ module _ (p : Parts) (haystack : List ℕ) where
 
   module _ (span : Span) where
     -- where nothing is left that is all
-    pub up_to_all : (done : List MatchValue) (at : ℕ) → IsGreedyUpTo p haystack span done at
-        → NothingOccurs (patterns_of p) p.ignore_case haystack (between at span.end)
-        → IsGreedyIn (linear_value p).query p.ignore_case haystack span done
+    pub up_to_all : (done : List MatchValue) (at : ℕ) → IsGreedyUpTo search haystack span done at
+        → NothingOccurs search.query.patterns search.ignore_case haystack (between at span.end)
+        → IsGreedyIn search.query search.ignore_case haystack span done
     up_to_all done at so_far nothing =
-        subst (IsGreedyIn (linear_value p).query p.ignore_case haystack span) (append-nil done)
+        subst (IsGreedyIn search.query search.ignore_case haystack span) (append-nil done)
         (so_far.goes_on [] nothing)
 
     -- and with the next match
-    pub up_to_next : (done : List MatchValue) (at : ℕ) (found : MatchValue) → IsGreedyUpTo p haystack span done at
-        → IsLeftmostMatch (linear_value p).query p.ignore_case haystack (between at span.end) found
-        → IsGreedyUpTo p haystack span (done ++ found ∷ []) found.end
+    pub up_to_next : (done : List MatchValue) (at : ℕ) (found : MatchValue) → IsGreedyUpTo search haystack span done at
+        → IsLeftmostMatch search.query search.ignore_case haystack (between at span.end) found
+        → IsGreedyUpTo search haystack span (done ++ found ∷ []) found.end
     up_to_next done at found so_far leftmost =
         let begins = leftmost.occurs.after_start in
         let whole = leftmost.whole in
@@ -92,8 +94,8 @@ module _ (p : Parts) (haystack : List ℕ) where
 
     -- what begins in the span occurs there
     pub occurs_in : (at i : ℕ) → span.start ≤ at
-        → Occurs (patterns_of p) p.ignore_case haystack (between at span.end) i at
-        → ¬ NothingOccurs (patterns_of p) p.ignore_case haystack span
+        → Occurs search.query.patterns search.ignore_case haystack (between at span.end) i at
+        → ¬ NothingOccurs search.query.patterns search.ignore_case haystack span
     occurs_in at i after occurs nothing = nothing i at (record {
       is_pattern = occurs.is_pattern;
       after_start = after;
@@ -101,13 +103,9 @@ module _ (p : Parts) (haystack : List ℕ) where
       same = occurs.same;
     })
 
-    pub begun_occurs : (begun : Begun) → span.start ≤ begun.at → IsBegun p haystack span.end begun
-        → ¬ NothingOccurs (patterns_of p) p.ignore_case haystack span
-    begun_occurs begun after is = occurs_in begun.at _ after (is.mark.best is.ends).occurs
-
     pub leftmost_occurs : (at : ℕ) (found : MatchValue) → span.start ≤ at
-        → IsLeftmostMatch (linear_value p).query p.ignore_case haystack (between at span.end) found
-        → ¬ NothingOccurs (patterns_of p) p.ignore_case haystack span
+        → IsLeftmostMatch search.query search.ignore_case haystack (between at span.end) found
+        → ¬ NothingOccurs search.query.patterns search.ignore_case haystack span
     leftmost_occurs at found after leftmost nothing =
         let begins = leftmost.occurs.after_start in
         nothing found.pattern found.start (record {
@@ -116,3 +114,9 @@ module _ (p : Parts) (haystack : List ℕ) where
           before_end = leftmost.occurs.before_end;
           same = leftmost.occurs.same;
         })
+
+pub begun_occurs : (tables : BackTables) (haystack : List ℕ) (span : Span) (begun : Begun) → span.start ≤ begun.at
+    → IsBegun tables haystack span.end begun
+    → ¬ NothingOccurs tables.search.query.patterns tables.search.ignore_case haystack span
+begun_occurs tables haystack span begun after is =
+    occurs_in tables.search haystack span begun.at _ after (is.mark.best is.ends).occurs

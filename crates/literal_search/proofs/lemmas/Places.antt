@@ -8,11 +8,13 @@ use Rattle.literal_base.specs.Query.{Query}
 use Rattle.literal_fingerprints.specs.FingerprintsValue.{AllPass}
 use Rattle.literal_search.specs.Inside.Classes.{AreClasses, Tells, symbols_in}
 use Rattle.literal_search.specs.Prepared.{IsPrepared, IsWhole, check_of, classes_in, fingerprints_by, lengths_in}
-use Rattle.literal_search.specs.Prepared.{prepared_len, fingerprints_part, rows_at, rows_end, rows_in, shortest_by, width_in}
-use Rattle.literal_search.specs.SearchValue.{NoneIsShorter}
+use Rattle.literal_search.specs.Prepared.{prepared_len, prints_in, rows_at, rows_end, rows_in, shortest_by, width_in}
+use Rattle.literal_search.specs.SearchValue.{NoneIsShorter, SearchValue}
 use Rattle.literal_search.specs.Overlapping.{OverlappingValue}
+use Rattle.literal_search.specs.PreparedLinear.{AreBackTables, BackTables, IsPreparedLinear, linear_len}
 use Rattle.literal_search.specs.PreparedOverlapping.{IsPreparedOverlapping, ends_at, listed_len}
 use Rattle.literal_search.specs.Table.{Recognises}
+use Rattle.literal_search.proofs.lemmas.BackTables.{same_tables as same_back}
 use Rattle.literal_search.proofs.lemmas.LentTables.{same_tables}
 use Rattle.std.proofs.Common.{map}
 
@@ -185,4 +187,73 @@ module _ (search : OverlappingValue) (numbers : List ℕ) (n : ℕ) where
       let fits = prepared.whole.lists.fits in
       let long = length-take n numbers in
       listed_as search numbers (take n numbers) (λ k below. get_or-take n numbers k 0 (omega arith))
+      (λ from to ordered inside. part_of_first n numbers from to ordered (omega arith)) (omega arith) prepared
+
+-- and of one for all leftmost matches
+module _ (search : SearchValue) (old new : List ℕ)
+    (same : (k : ℕ) → k < 6 → get_or new k 0 ≡ get_or old k 0)
+    (parts : (from to : ℕ) → from ≤ to → to ≤ linear_len old → slice_range new from to ≡ slice_range old from to)
+    (fits : linear_len old ≤ length new)
+  where
+    end_is : rows_end new ≡ rows_end old
+    end_is = omega (arith, same 3 (omega arith), same 4 (omega arith))
+
+    linear_is : linear_len new ≡ linear_len old
+    linear_is = omega (arith, same 3 (omega arith), end_is)
+
+    -- a part that lies at the same places is the same
+    range_is : (from to from' to' : ℕ) → from' ≡ from → to' ≡ to → from ≤ to → to ≤ linear_len old
+        → slice_range new from' to' ≡ slice_range old from to
+    range_is from to from' to' from_is to_is ordered inside =
+        ap (λ k. slice_range new k to') from_is ∙ (ap (slice_range new from) to_is ∙ parts from to ordered inside)
+
+    pub linear_as : IsPreparedLinear search old → IsPreparedLinear search new
+    linear_as prepared =
+        let all = prepared.whole.parts in
+        let few = all.parts.few in
+        let first : classes_in new ≡ classes_in old = parts 6 262 (omega arith) (omega arith) in
+        let rows_is : rows_at new ≡ rows_at old = omega (arith, same 3 (omega arith)) in
+        record {
+          whole = record {
+            parts = record {
+              parts = record {
+                version_is = same 0 (omega arith) ∙ all.parts.version_is;
+                few = omega (arith, few, same 3 (omega arith));
+                fits = omega (arith, end_is, fits);
+              };
+              fits = omega (arith, linear_is, fits);
+              row = omega (arith, all.row, same 2 (omega arith), same 4 (omega arith));
+              classes = subst (λ (l : List ℕ). (i d : ℕ) → i < length l → get_or l i d ≤ width_in new) (sym first)
+                  (λ i d before. omega (arith, all.classes i d before, same 2 (omega arith)));
+            };
+            check = same 1 (omega arith)
+                ∙ (prepared.whole.check
+                ∙ ap check_of
+                (sym (range_is 2 (linear_len old) 2 (linear_len new) refl linear_is (omega arith) (omega arith))));
+          };
+          tables = subst (λ (t : BackTables). AreBackTables t) (same_back search _ _ _ _ _ _ _ _ _ _ (sym first)
+              (sym (same 2 (omega arith)))
+              (sym (range_is (rows_at old) (rows_end old) (rows_at new) (rows_end new) rows_is end_is
+              (omega arith) (omega arith)))
+              (sym (range_is (rows_end old) (linear_len old) (rows_end new) (linear_len new) end_is linear_is
+              (omega arith) (omega arith)))
+              (sym (same 5 (omega arith)))) prepared.tables;
+          lengths = range_is 262 (rows_at old) 262 (rows_at new) refl rows_is (omega arith) (omega arith)
+              ∙ prepared.lengths;
+        }
+
+module _ (search : SearchValue) (numbers : List ℕ) (n : ℕ) where
+  pub longer_linear : IsPreparedLinear search (take n numbers) → IsPreparedLinear search numbers
+  longer_linear prepared =
+      let fits = prepared.whole.parts.fits in
+      let long = length-take n numbers in
+      linear_as search (take n numbers) numbers (λ k below. sym (get_or-take n numbers k 0 (omega arith)))
+      (λ from to ordered inside. sym (part_of_first n numbers from to ordered (omega arith))) (omega arith) prepared
+
+  pub shorter_linear : IsPreparedLinear search numbers → linear_len numbers ≤ n
+      → IsPreparedLinear search (take n numbers)
+  shorter_linear prepared enough =
+      let fits = prepared.whole.parts.fits in
+      let long = length-take n numbers in
+      linear_as search numbers (take n numbers) (λ k below. get_or-take n numbers k 0 (omega arith))
       (λ from to ordered inside. part_of_first n numbers from to ordered (omega arith)) (omega arith) prepared

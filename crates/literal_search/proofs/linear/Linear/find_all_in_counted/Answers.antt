@@ -13,7 +13,7 @@ returns-in_err-found-clause-no_memory c =
     let search = c.args.self.now in
     let haystack = c.args.haystack.now in
     let span = c.args.span in
-    let occurs = occurs_earlier c.self.inside.parts haystack span.end span.start c.loop-marks.at
+    let occurs = occurs_earlier (linear_value c.self.inside.parts) haystack span.end span.start c.loop-marks.at
     c.loop-marks.invariant.greedy.after c.in_err-found.ensures.no_memory in
     on_err c.from_residual.result (¬ NothingOccurs search.query.patterns search.ignore_case haystack span)
     (subst (λ (v : SearchValue). ¬ NothingOccurs v.query.patterns v.ignore_case haystack span) c.self.view_is occurs)
@@ -27,7 +27,8 @@ returns-in_err-push-clause-no_memory c =
     let at = c.loop-marks.at in
     let leftmost = subst (λ (o : Option MatchValue). IsLeftmost (linear_value p).query p.ignore_case haystack
     (between at span.end) o) c.in-Some.is c.in_ok-found.ensures.leftmost in
-    let occurs = leftmost_occurs p haystack span at c.in-Some.found c.loop-marks.invariant.greedy.after leftmost in
+    let occurs = leftmost_occurs (linear_value p) haystack span at c.in-Some.found c.loop-marks.invariant.greedy.after
+    leftmost in
     on_err c.from_residual-in_err-push.result (¬ NothingOccurs search.query.patterns search.ignore_case haystack span)
     (subst (λ (v : SearchValue). ¬ NothingOccurs v.query.patterns v.ignore_case haystack span) c.self.view_is occurs)
 
@@ -41,11 +42,14 @@ loop-marks-preserved c =
     let leftmost = subst (λ (o : Option MatchValue). IsLeftmost (linear_value p).query p.ignore_case haystack
     (between at span.end) o) c.in-Some.is c.in_ok-found.ensures.leftmost in
     record {
+      placed = search rules;
       marked = search rules;
-      greedy = subst (λ (all : List MatchValue). IsGreedyUpTo p haystack span all c.end-at.result)
+      greedy = subst (λ (all : List MatchValue). IsGreedyUpTo (linear_value p) haystack span all c.end-at.result)
           (sym c.in_ok-push.ensures.items)
-          (subst (λ e. IsGreedyUpTo p haystack span (c.loop-marks.all.items ++ found ∷ []) e) (sym c.end-at.ensures.end)
-          (up_to_next p haystack span c.loop-marks.all.items at found c.loop-marks.invariant.greedy leftmost));
+          (subst (λ e. IsGreedyUpTo (linear_value p) haystack span (c.loop-marks.all.items ++ found ∷ []) e)
+          (sym c.end-at.ensures.end)
+          (up_to_next (linear_value p) haystack span c.loop-marks.all.items at found c.loop-marks.invariant.greedy
+          leftmost));
       scanned = search rules;
       least = omega (arith, c.loop-marks.invariant.least, c.in_ok-found.ensures.least);
     }
@@ -59,4 +63,5 @@ returns-clause-greedy c =
     (between c.loop-marks.at span.end) o) c.in_default.is c.in_ok-found.ensures.leftmost in
     subst (λ (v : SearchValue). IsGreedyIn v.query v.ignore_case haystack span c.loop-marks.all.items)
     c.self.view_is
-    (up_to_all p haystack span c.loop-marks.all.items c.loop-marks.at c.loop-marks.invariant.greedy nothing)
+    (up_to_all (linear_value p) haystack span c.loop-marks.all.items c.loop-marks.at c.loop-marks.invariant.greedy
+    nothing)

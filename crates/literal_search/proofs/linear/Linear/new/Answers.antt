@@ -9,7 +9,7 @@ use Rattle.literal_search.specs.Inside.Best.{AreBest}
 use Rattle.literal_search.specs.Inside.Classes.{Tells, symbols_in}
 use Rattle.literal_search.specs.Inside.Linear.{AreParts}
 use Rattle.literal_search.specs.Linear.{NeedTooManyReversed, reversed}
-use Rattle.literal_search.specs.States.{HasTooManyStates}
+use Rattle.literal_search.specs.States.{HasTooManyStates, IsRowsLength}
 use Rattle.literal_search.specs.Table.{Recognises}
 use Rattle.literal_search.specs.declared.classes.ClassNumbers.{ClassNumbers}
 use Rattle.literal_search.specs.declared.linear.Parts.{Parts}
@@ -130,18 +130,25 @@ invariant_of-result g c =
       best = c.in_ok-best.best;
       longest = c.longest_len-longest.result;
     } in AreParts p) (sym c.to_numbers.ensures) (record {
-      classes = c.classes_for-classes.ensures.classes;
-      tells = subst (λ (p : List (Vec ℕ Global)). Tells c.args.ignore_case classes.table
-          (map (λ (pattern : Vec ℕ Global). pattern.items) p)) c.deref.ensures.value
-          c.classes_for-classes.ensures.tells;
-      recognises = subst (λ (texts : List (List ℕ)). Recognises Standard texts classes.width c.in_ok-rows.rows)
-          rows_are c.in_ok-rows.ensures.recognises;
-      best = subst (AreBest c.args.kind (reversed (map (symbols_in classes.table) bytes)) c.in_ok-best.best.items) count
-          (subst (λ (texts : List (List ℕ)). AreBest c.args.kind texts c.in_ok-best.best.items
-          (length c.deref-4.result.now)) best_are c.in_ok-best.ensures.best);
-      longest = c.longest_len-longest.ensures ∙ ap (λ (p : List (Vec ℕ Global)). longest_of
-          (map (λ (pattern : Vec ℕ Global). pattern.items) p)) c.deref-5.ensures.value;
-      kept = c.in_ok-patterns.ensures.ok.5;
+      tables = record {
+        classes = c.classes_for-classes.ensures.classes;
+        tells = subst (λ (p : List (Vec ℕ Global)). Tells c.args.ignore_case classes.table
+            (map (λ (pattern : Vec ℕ Global). pattern.items) p)) c.deref.ensures.value
+            c.classes_for-classes.ensures.tells;
+        recognises = subst (λ (texts : List (List ℕ)). Recognises Standard texts classes.width c.in_ok-rows.rows)
+            rows_are c.in_ok-rows.ensures.recognises;
+        best = subst (AreBest c.args.kind (reversed (map (symbols_in classes.table) bytes)) c.in_ok-best.best.items)
+            count
+            (subst (λ (texts : List (List ℕ)). AreBest c.args.kind texts c.in_ok-best.best.items
+            (length c.deref-4.result.now)) best_are c.in_ok-best.ensures.best);
+        longest = c.longest_len-longest.ensures ∙ ap (λ (p : List (Vec ℕ Global)). longest_of
+            (map (λ (pattern : Vec ℕ Global). pattern.items) p)) c.deref-5.ensures.value;
+        kept = c.in_ok-patterns.ensures.ok.5;
+      };
+      width = c.classes_for-classes.ensures.width ∙ ap (λ (p : List (Vec ℕ Global)). width_for c.args.ignore_case
+          (map (λ (pattern : Vec ℕ Global). pattern.items) p)) c.deref.ensures.value;
+      rows = subst (λ (texts : List (List ℕ)). IsRowsLength Standard texts classes.width (length c.in_ok-rows.rows))
+          rows_are c.in_ok-rows.ensures.states;
     })
 
 pub returns-clause-few : goal.returns-clause-few

@@ -1,0 +1,169 @@
+-- Walks through a span from its end, by tables that may be lent.
+use Rattle.std.specs.Prelude.{◌≡◌, ◌⊎◌, ℕ, ◌+◌, ◌-◌, ◌<◌, ◌≤◌, ◌^◌, ◌%◌, List, None, Option, Some, length, map}
+use Rattle.std.specs.Prelude.{max, min, reverse, slice_index}
+use Rattle.literal_base.specs.Leftmost.{IsBetter}
+use Rattle.literal_base.specs.MatchValue.{MatchValue}
+use Rattle.literal_base.specs.Occurs.{NothingOccurs, Occurs, between}
+use Rattle.literal_base.specs.declared.search.MatchKind.TheVariants.{Standard}
+use Rattle.literal_base.specs.declared.search.Span.{Span}
+use Rattle.literal_ids.specs.declared.primitives.pattern_id.TheConstants.PatternID
+use Rattle.literal_search.specs.SearchValue.{SearchValue}
+use Rattle.literal_search.specs.Inside.Walk.{ClassesFit, IsAt, text_of}
+use Rattle.literal_search.specs.Linear.{looked_by}
+use Rattle.literal_search.specs.PreparedLinear.{AreBackTables, BackTables, texts_back}
+use Rattle.literal_search.specs.Table.{Recognises}
+use Rattle.literal_search.specs.declared.backward.Backward.{Backward}
+use Rattle.literal_search.specs.declared.backward.Begun.{Begun}
+use Rattle.literal_search.specs.declared.backward.Lens.{Lens}
+use Rattle.literal_search.specs.declared.backward.Lens.TheVariants.{Numbers, Patterns}
+use Rattle.literal_search.specs.declared.backward.Marks.{Marks}
+use Rattle.literal_search.specs.declared.backward.Stopped.{Stopped}
+use Rattle.literal_search.specs.declared.backward.Stopped.TheVariants.{OutOfMemory}
+use Rattle.literal_search.specs.declared.backward.TheConstants.{LEAST}
+
+-- the lengths of the patterns
+abbrev pub lens_of : Lens → List ℕ
+lens_of (Patterns patterns) = map (λ pattern. length pattern.items) patterns.now
+lens_of (Numbers numbers) = numbers.now
+
+-- a walk by them leaves neither the classes nor the rows, and there are identifiers for the patterns
+pub record IsSafe (b : Backward) : Type 0 where
+  pub each : length b.table.classes.now ≡ 256
+  pub fits : ClassesFit b.table
+  pub small : b.table.width < 2 ^ 32
+  pub row : b.table.width < length b.table.rows.now
+  pub few : length (lens_of b.lens) ≤ PatternID.LIMIT
+
+-- the tables that they would be of a search
+abbrev pub back_tables_by : SearchValue → Backward → BackTables
+back_tables_by search b = record {
+  search = search;
+  classes = b.table.classes.now;
+  width = b.table.width;
+  rows = b.table.rows.now;
+  best = b.best.now;
+  longest = b.table.longest;
+}
+
+-- they are those of a search, with the length of each pattern
+pub record AreBackFor (search : SearchValue) (b : Backward) : Type 0 where
+  pub tables : AreBackTables (back_tables_by search b)
+  pub lens : lens_of b.lens ≡ map (λ bytes. length bytes) search.query.patterns
+
+-- what holds of whatever search they are the tables of
+abbrev pub ForBackward : Backward → (BackTables → Type 0) → Type 0
+ForBackward b P = (search : SearchValue) → AreBackFor search b → P (back_tables_by search b)
+
+-- the number in a row leads to another, which is whole
+abbrev pub LeadsOn : Backward → ℕ → Type 0
+LeadsOn b code = code % 2 ^ 31 + b.table.width < length b.table.rows.now
+
+-- a walk stands at the row of what it read of a haystack, from a place down to another
+pub record StandsDown (p : BackTables) (haystack : List ℕ) (from at place : ℕ) : Type 0 where
+  pub row : place + p.width < length p.rows
+  pub is_at : (recognises : Recognises Standard (texts_back p) p.width p.rows)
+      → IsAt Standard (texts_back p) p.width p.rows recognises
+      (reverse (text_of p.classes haystack (between at from))) place
+
+-- no pattern begins at a place that lies whole before an end
+abbrev pub NoneBegins : BackTables → List ℕ → ℕ → ℕ → Type 0
+NoneBegins p haystack end at =
+    (i : ℕ) → ¬ Occurs p.search.query.patterns p.search.ignore_case haystack (between at end) i at
+
+-- of the patterns that begin at a place and lie whole before an end this one is the best
+pub record BeginsBest (p : BackTables) (haystack : List ℕ) (end at i : ℕ) : Type 0 where
+  pub occurs : Occurs p.search.query.patterns p.search.ignore_case haystack (between at end) i at
+  pub best : (j : ℕ) → IsBetter p.search.query.kind p.search.query.patterns j i
+      → ¬ Occurs p.search.query.patterns p.search.ignore_case haystack (between at end) j at
+
+-- the pattern that a row names, to which a number leads
+abbrev pub named_by : BackTables → ℕ → ℕ
+named_by p code = slice_index p.rows (code - 2 ^ 31 + p.width)
+
+-- and the best of its ends
+abbrev pub best_by : BackTables → ℕ → ℕ
+best_by p code = slice_index p.best (named_by p code)
+
+-- what a number of a row tells of the place at which it was read: from 2^31 on, that a pattern begins there, and which
+pub record IsMark (p : BackTables) (haystack : List ℕ) (end at code : ℕ) : Type 0 where
+  pub none : code < 2 ^ 31 → NoneBegins p haystack end at
+  pub row : 2 ^ 31 ≤ code → code - 2 ^ 31 + p.width < length p.rows
+  pub named : 2 ^ 31 ≤ code → named_by p code < length p.best
+  pub best : 2 ^ 31 ≤ code → BeginsBest p haystack end at (best_by p code)
+
+-- the same for a walk that began so far behind that it knows all that begins at the place
+pub record StandsFar (p : BackTables) (haystack : List ℕ) (end at place : ℕ) : Type 0 where
+  pub from : ℕ
+  pub after : at ≤ from
+  pub inside : from ≤ end
+  pub far : (from ≡ end) ⊎ (at + p.longest ≤ from)
+  pub stands : StandsDown p haystack from at place
+
+-- at a place a pattern begins, and a walk stands there
+pub record IsBegun (p : BackTables) (haystack : List ℕ) (end : ℕ) (begun : Begun) : Type 0 where
+  pub ends : 2 ^ 31 ≤ begun.code
+  pub mark : IsMark p haystack end begun.at begun.code
+  pub stands : StandsFar p haystack end begun.at (begun.code % 2 ^ 31)
+
+-- a part of the span, as long as the longest pattern if more is behind it
+pub record IsBlock (longest : ℕ) (span block : Span) : Type 0 where
+  pub after : span.start ≤ block.start
+  pub some : block.start < block.end
+  pub inside : block.end ≤ span.end
+  pub full : (block.end ≡ span.end) ⊎ (longest ≤ block.end - block.start)
+
+-- no pattern begins from a place on before another
+abbrev pub NoneFrom : BackTables → List ℕ → ℕ → ℕ → ℕ → Type 0
+NoneFrom p haystack end from upto = (at : ℕ) → from ≤ at → at < upto → NoneBegins p haystack end at
+
+-- of each place from one up to another there is a mark, in a list that has that of the start first
+abbrev pub AreMarks : BackTables → List ℕ → ℕ → List ℕ → ℕ → ℕ → ℕ → Type 0
+AreMarks p haystack end marks start from upto =
+    (at : ℕ) → from ≤ at → at < upto → IsMark p haystack end at (slice_index marks (at - start))
+
+-- where the list goes on at a place, marks stand before one, and up to one it is known what begins; what stands before
+-- the place was looked up
+pub record IsPlaced (longest : ℕ) (span : Span) (at : ℕ) (m : Marks) : Type 0 where
+  pub after : span.start ≤ at
+  pub inside : at ≤ span.end
+  pub known_after : span.start ≤ m.known
+  pub known_inside : m.known ≤ span.end
+  pub full : (m.known ≡ span.start) ⊎ ((m.known ≡ span.end) ⊎ (longest ≤ m.known - span.start))
+  pub looked : at ≤ looked_by longest span m.known
+  pub first : at < m.upto → m.first ≤ at
+  pub listed : m.upto ≤ m.first + length m.numbers.items
+  pub upto_known : m.upto ≤ m.known
+
+-- there are marks of each place from there on before the one, and from that on nothing begins up to where it is known
+pub record AreMarked (p : BackTables) (haystack : List ℕ) (span : Span) (at : ℕ) (m : Marks) : Type 0 where
+  pub marks : AreMarks p haystack span.end m.numbers.items m.first at m.upto
+  pub none : (k : ℕ) → at ≤ k → m.upto ≤ k → k < m.known → NoneBegins p haystack span.end k
+
+-- there is room for the marks of any block of a span
+abbrev pub HasRoom : ℕ → Span → Marks → Type 0
+HasRoom longest span m = min (max longest LEAST) (span.end - span.start) ≤ length m.numbers.items
+
+-- a number was read for the byte at a place, and the walk goes on from there
+pub record IsRead (p : BackTables) (haystack : List ℕ) (from at code : ℕ) : Type 0 where
+  pub mark : IsMark p haystack from at code
+  pub stands : StandsDown p haystack from at (code % 2 ^ 31)
+
+-- the last place of a block at which a pattern begins, and None where none does
+abbrev pub IsLastBegun : BackTables → List ℕ → ℕ → Span → Option Begun → Type 0
+IsLastBegun p haystack end block None = NoneFrom p haystack end block.start block.end
+IsLastBegun p haystack end block (Some begun) =
+    IsBegun p haystack end begun × NoneFrom p haystack end (begun.at + 1) block.end
+
+-- a match begins at a place or behind it, is not empty and ends in the span, and has one of the lengths, which is not
+-- above the longest
+pub record IsMatchBy (b : Backward) (span : Span) (at : ℕ) (found : MatchValue) : Type 0 where
+  pub after : at ≤ found.start
+  pub some : found.start < found.end
+  pub inside : found.end ≤ span.end
+  pub short : found.end ≤ found.start + b.table.longest
+  pub pattern : found.pattern < length (lens_of b.lens)
+
+-- why a search that has the tables stops: it found no room for marks, and something occurs
+pub record IsRefused (p : BackTables) (haystack : List ℕ) (from end : ℕ) (error : Stopped) : Type 0 where
+  pub no_memory : error ≡ OutOfMemory
+  pub occurs : ¬ NothingOccurs p.search.query.patterns p.search.ignore_case haystack (between from end)

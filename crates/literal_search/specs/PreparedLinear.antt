@@ -1,0 +1,112 @@
+-- A search for all leftmost matches as numbers in an array that is lent.
+use Rattle.std.specs.Prelude.{◌≡◌, ◌+◌, ◌<◌, ◌≤◌, ℕ, List, length, map, slice_index, slice_range}
+use Rattle.std.specs.List.{All}
+use Rattle.literal_base.specs.declared.search.MatchKind.TheVariants.{Standard}
+use Rattle.literal_base.specs.declared.search.Span.{Span}
+use Rattle.literal_search.specs.SearchValue.{CanBeKept, HoldsInClasses, SearchValue, longest_of}
+use Rattle.literal_search.specs.Inside.Best.{AreBest}
+use Rattle.literal_search.specs.Inside.Classes.{AreClasses, Tells, symbols_in}
+use Rattle.literal_search.specs.Linear.{reversed}
+use Rattle.literal_search.specs.LinearMatchesValue.{LinearMatchesValue}
+use Rattle.literal_search.specs.Prepared.{HasParts, RefusesNumbers, WritesNumbers, check_of, classes_in}
+use Rattle.literal_search.specs.Prepared.{lengths_in, longest_in, rows_end, rows_in, width_in}
+use Rattle.literal_search.specs.States.{IsRowsLength}
+use Rattle.literal_search.specs.Table.{Recognises}
+use Rattle.literal_search.specs.declared.prepared.PrepareError.{PrepareError}
+use Rattle.literal_search.specs.declared.prepared.TheConstants.{LENGTHS_AT, LINEAR_VERSION}
+
+-- what a search from the right reads: classes of bytes, rows, for each pattern the best of those that stand in front of
+-- it, and how long the longest is
+pub record BackTables : Type 0 where
+  pub search : SearchValue
+  pub classes : List ℕ
+  pub width : ℕ
+  pub rows : List ℕ
+  pub best : List ℕ
+  pub longest : ℕ
+
+-- the classes of the patterns' bytes, read from their ends
+abbrev pub texts_back : BackTables → List (List ℕ)
+texts_back t = reversed (map (symbols_in t.classes) t.search.query.patterns)
+
+-- each byte has a class, by which those of the patterns are told from others; the rows are for all that occurs of the
+-- reversed texts, and for each of these the best end is known; none is empty
+pub record AreBackTables (t : BackTables) : Type 0 where
+  pub classes : AreClasses t.classes t.width
+  pub tells : Tells t.search.ignore_case t.classes t.search.query.patterns
+  pub recognises : Recognises Standard (texts_back t) t.width t.rows
+  pub best : AreBest t.search.query.kind (texts_back t) t.best (length t.search.query.patterns)
+  pub longest : t.longest ≡ longest_of t.search.query.patterns
+  pub kept : CanBeKept t.search.query.patterns
+
+-- how many numbers are those of the search: behind its rows stands a number for each pattern
+abbrev pub linear_len : List ℕ → ℕ
+linear_len numbers = rows_end numbers + slice_index numbers 3
+
+-- these numbers
+abbrev pub best_in : List ℕ → List ℕ
+best_in numbers = slice_range numbers (rows_end numbers) (linear_len numbers)
+
+-- the array has the parts of a search for all leftmost matches, and is as long as these are; there is a whole row, and
+-- no class leads out of one
+pub record HasLinearParts (numbers : List ℕ) : Type 0 where
+  pub parts : HasParts LINEAR_VERSION numbers
+  pub fits : linear_len numbers ≤ length numbers
+  pub row : width_in numbers < slice_index numbers 4
+  pub classes : All (λ class. class ≤ width_in numbers) (classes_in numbers)
+
+-- the same, and the second number is the check over those of the search behind it
+pub record IsWholeLinear (numbers : List ℕ) : Type 0 where
+  pub parts : HasLinearParts numbers
+  pub check : slice_index numbers 1 ≡ check_of (slice_range numbers 2 (linear_len numbers))
+
+-- the tables in an array
+abbrev pub back_tables_in : SearchValue → List ℕ → BackTables
+back_tables_in search numbers = record {
+  search = search;
+  classes = classes_in numbers;
+  width = width_in numbers;
+  rows = rows_in numbers;
+  best = best_in numbers;
+  longest = longest_in numbers;
+}
+
+-- the array begins with a whole search for all leftmost matches: with its tables, and the length of each pattern
+pub record IsPreparedLinear (search : SearchValue) (numbers : List ℕ) : Type 0 where
+  pub whole : IsWholeLinear numbers
+  pub tables : AreBackTables (back_tables_in search numbers)
+  pub lengths : lengths_in numbers ≡ map (λ bytes. length bytes) search.query.patterns
+
+-- what holds of whatever search for all leftmost matches an array is prepared for
+abbrev pub ForLinear : List ℕ → (SearchValue → Type 0) → Type 0
+ForLinear numbers P = (search : SearchValue) → IsPreparedLinear search numbers → P search
+
+-- how many places a search takes: those in front, two for each pattern, and the rows of all states
+unfoldable pub TakesLinearPlaces : SearchValue → ℕ → Type 0
+TakesLinearPlaces search needed =
+    HoldsInClasses (λ texts width. (rows : ℕ) × IsRowsLength Standard (reversed texts) width rows
+    × (needed ≡ LENGTHS_AT + length search.query.patterns + rows + length search.query.patterns))
+    search.ignore_case search.query.patterns
+
+-- the search is written into the first places of an array
+abbrev pub WritesLinear : SearchValue → List ℕ → List ℕ → ℕ → Type 0
+WritesLinear search = WritesNumbers (IsPreparedLinear search) (TakesLinearPlaces search)
+
+-- why it is not
+abbrev pub RefusesLinear : SearchValue → List ℕ → PrepareError → Type 0
+RefusesLinear search =
+    RefusesNumbers search.query.patterns ⊥ (IsPreparedLinear search) (TakesLinearPlaces search)
+
+-- a `PreparedLinearMatches` as contracts see it: by which array, where, from which place it goes on, and up to which
+-- place it has looked
+pub record PreparedLinearMatchesValue : Type 0 where
+  pub numbers : List ℕ
+  pub haystack : List ℕ
+  pub span : Span
+  pub at : ℕ
+  pub known : ℕ
+
+-- the same for a search that the array is prepared for
+abbrev pub linear_matches_for : SearchValue → PreparedLinearMatchesValue → LinearMatchesValue
+linear_matches_for search m =
+    record { search = search; haystack = m.haystack; span = m.span; at = m.at; known = m.known }

@@ -1,0 +1,409 @@
+//! Walks through a span from its end, by an automaton of the reversed patterns. The numbers may be lent, and so any:
+//! they are damaged where one leads out of the rows.
+ghost use Rattle.std.specs.Prelude.{◌≡◌, ◌+◌, ◌-◌, ◌*◌, ◌<◌, ◌≤◌, ◌^◌, ◌%◌, [], length, max, min, slice_index};
+ghost use Rattle.std.specs.Prelude.{ℕ, IfErr, IfOk, IfSome, MatchOption, MatchResult, None, OnErr};
+ghost use Rattle.std.specs.Result.{IsOkAnd};
+ghost use Rattle.literal_base.specs.Leftmost.{IsLeftmost, IsLeftmostMatch};
+ghost use Rattle.literal_base.specs.Occurs.{IsValidSpan, between};
+ghost use Rattle.literal_search.specs.Linear.{ScansTwice, looked_by};
+ghost use Rattle.literal_search.specs.LinearMatchesValue.{place_behind};
+ghost use Rattle.literal_search.specs.Inside.Backward.{AreMarked, AreMarks, ForBackward, IsBegun, IsBlock};
+ghost use Rattle.literal_search.specs.Inside.Backward.{IsLastBegun, IsMark, IsMatchBy, IsPlaced, IsRead, IsRefused};
+ghost use Rattle.literal_search.specs.Inside.Backward.{IsSafe, LeadsOn, NoneFrom, StandsDown, lens_of};
+
+use crate::prepared::Damaged;
+use crate::walk::{ENDS, Table};
+use literal_base::count::Tally;
+use literal_base::{Match, Span};
+use std::alloc::{AllocError, Global};
+
+/// How long a block is at least, if the span is.
+const LEAST: usize = 1024;
+
+/// What a search from the right reads.
+#[derive(Clone, Copy)]
+pub struct Backward<'t> {
+    /// The numbers of an automaton for all that occurs of the reversed patterns.
+    pub table: Table<'t>,
+    /// For each pattern the best of those that stand in front of it.
+    pub best: &'t [u32],
+    pub lens: Lens<'t>,
+}
+
+/// How long each pattern is.
+#[derive(Clone, Copy)]
+pub enum Lens<'t> {
+    Patterns(&'t [Vec<u8>]),
+    Numbers(&'t [u32]),
+}
+
+/// A place at which a pattern begins, and the number with which a walk came there.
+#[derive(Clone, Copy)]
+pub struct Begun {
+    pub at: usize,
+    pub code: u32,
+}
+
+/// Marks of the places of a block before one, the first of them that of a place. From there on nothing begins up to
+/// where it is known what does.
+#[derive(Drop)]
+pub struct Marks {
+    pub numbers: Vec<u32>,
+    pub first: usize,
+    pub upto: usize,
+    pub known: usize,
+}
+
+/// Why a search stops before it knows the next match.
+#[derive(Clone, Copy, Drop)]
+pub enum Stopped {
+    Damaged,
+    OutOfMemory,
+}
+
+/// [`Stopped::Damaged`].
+impl From<Damaged> for Stopped {
+    ghost use Rattle.std.specs.Prelude.{◌≡◌};
+    ghost use Rattle.literal_search.specs.declared.backward.Stopped.TheVariants.{Damaged};
+
+    ghost from_gives = { λ _ stopped. stopped ≡ Damaged };
+
+    fn from(_: Damaged) -> Stopped {
+        Stopped::Damaged
+    }
+}
+
+/// [`Stopped::OutOfMemory`].
+impl From<AllocError> for Stopped {
+    ghost use Rattle.std.specs.Prelude.{◌≡◌};
+    ghost use Rattle.literal_search.specs.declared.backward.Stopped.TheVariants.{OutOfMemory};
+
+    ghost from_gives = { λ _ stopped. stopped ≡ OutOfMemory };
+
+    fn from(_: AllocError) -> Stopped {
+        Stopped::OutOfMemory
+    }
+}
+
+impl Marks {
+    /// No place is left before an end for which there is a mark.
+    pub fn pass_to(&mut self, end: usize)
+        ensures numbers { self.new.numbers ≡ self.old.numbers }
+        ensures places { (self.new.first ≡ end) × (self.new.upto ≡ end) × (self.new.known ≡ end) }
+    {
+        self.first = end;
+        self.upto = end;
+        self.known = end;
+    }
+}
+
+impl<'t> Lens<'t> {
+    /// How long the pattern of a number is, where there is one.
+    fn len_of(&self, pattern: usize) -> Result<usize, Damaged>
+        ensures { MatchResult result
+            (λ len. (pattern < length (lens_of self.now)) × (len ≡ slice_index (lens_of self.now) pattern))
+            (λ _. length (lens_of self.now) ≤ pattern) }
+    {
+        match self {
+            Lens::Patterns(patterns) => {
+                let bytes = patterns.get(pattern).ok_or(Damaged)?;
+                Ok(bytes.len())
+            }
+            Lens::Numbers(numbers) => {
+                let len = numbers.get(pattern).ok_or(Damaged)?;
+                Ok(*len as usize)
+            }
+        }
+    }
+}
+
+impl<'t> Backward<'t> {
+    /// The block that begins at a place: as long as the longest pattern or longer, if as much is left.
+    fn block_at(&self, span: Span, at: usize) -> Span
+        requires after { span.start ≤ at }
+        requires inside { at < span.end }
+        ensures block { IsBlock self.now.table.longest span result }
+        ensures start { result.start ≡ at }
+        ensures len { result.end ≡ at + min (max self.now.table.longest LEAST) (span.end - at) }
+    {
+        let len = self.table.longest.max(LEAST).min(span.end - at);
+        Span {
+            start: at,
+            end: at + len,
+        }
+    }
+
+    /// The number for a byte of the haystack in the row that begins at a place.
+    #[inline(always)]
+    fn read(
+        &self,
+        place: usize,
+        haystack: &[u8],
+        at: usize,
+        tally: &mut Tally,
+    ) -> Result<u32, Damaged>
+        requires safe { IsSafe self.now }
+        requires row { place + self.now.table.width < length self.now.table.rows.now }
+        requires inside { at < length haystack.now }
+        ensures read { ForBackward self.now (λ tables. (from : ℕ) → at < from → from ≤ length haystack.now
+            → StandsDown tables haystack.now from (at + 1) place
+            → IsOkAnd result (IsRead tables haystack.now from at)) }
+        ensures leads { IfOk result (LeadsOn self.now) }
+        ensures ticks { tally.new ≡ record tally.old { scanned = tally.old.scanned + 1 } }
+    {
+        let code = self.table.code_at(place, haystack, at, tally);
+        if (code % ENDS) as usize + self.table.width >= self.table.rows.len() {
+            return Err(Damaged);
+        }
+        Ok(code)
+    }
+
+    /// The last place of a block at which a pattern begins.
+    fn last_begun(
+        &self,
+        haystack: &[u8],
+        span: Span,
+        block: Span,
+        tally: &mut Tally,
+    ) -> Result<Option<Begun>, Damaged>
+        requires safe { IsSafe self.now }
+        requires valid { IsValidSpan haystack.now span }
+        requires block { IsBlock self.now.table.longest span block }
+        ensures last { ForBackward self.now (λ tables. IsOkAnd result
+            (IsLastBegun tables haystack.now span.end block)) }
+        ensures leads { IfOk result (λ last. IfSome last (λ begun. LeadsOn self.now begun.code)) }
+        ensures inside { IfOk result (λ last. IfSome last
+            (λ begun. (block.start ≤ begun.at) × (begun.at < block.end))) }
+        ensures others { tally.new ≡ record tally.old { scanned = tally.new.scanned } }
+        ensures most { tally.new.scanned ≤ tally.old.scanned + 2 * (block.end - block.start) }
+        ensures scanned { IfOk result (λ last. IfSome last (λ begun.
+            tally.new.scanned + (begun.at - block.start) ≤ tally.old.scanned + 2 * (block.end - block.start))) }
+        ensures least { IfOk result (λ last. MatchOption last
+            (tally.old.scanned + min (block.end + (self.now.table.longest - 1)) span.end
+            ≤ tally.new.scanned + block.start)
+            (λ begun. tally.old.scanned + min (block.end + (self.now.table.longest - 1)) span.end
+            ≤ tally.new.scanned + begun.at)) }
+    {
+        let ahead = self
+            .table
+            .longest
+            .saturating_sub(1)
+            .min(span.end - block.end);
+        let from = block.end + ahead;
+        let mut place = 0;
+        for at in (block.start..from).rev() {
+            let code = self.read(place, haystack, at, tally)?;
+            if code >= ENDS && at < block.end {
+                return Ok(Some(Begun { at, code }));
+            }
+            place = (code % ENDS) as usize;
+        }
+        Ok(None)
+    }
+
+    /// Makes room for the marks of a block, where so many bytes are left.
+    pub fn make_room(&self, marks: &mut Vec<u32>, left: usize) -> Result<(), AllocError>
+        ensures ok { IfOk result (λ _. min (max self.now.table.longest LEAST) left ≤ length marks.new.items) }
+        ensures more { length marks.old.items ≤ length marks.new.items }
+        ensures no_memory { OnErr result (length marks.old.items < min (max self.now.table.longest LEAST) left) }
+    {
+        let len = self.table.longest.max(LEAST).min(left);
+        if marks.len() < len {
+            *marks = vec![in *marks.allocator(); 0u32; len]?;
+        }
+        Ok(())
+    }
+
+    /// Marks each place from a start up to one at which a pattern begins.
+    fn mark(
+        &self,
+        haystack: &[u8],
+        span: Span,
+        start: usize,
+        begun: Begun,
+        marks: &mut [u32],
+        tally: &mut Tally,
+    ) -> Result<(), Damaged>
+        requires safe { IsSafe self.now }
+        requires valid { IsValidSpan haystack.now span }
+        requires leads { LeadsOn self.now begun.code }
+        requires after { start ≤ begun.at }
+        requires inside { begun.at < span.end }
+        requires room { begun.at - start < length marks.old }
+        ensures marks { ForBackward self.now (λ tables. IsBegun tables haystack.now span.end begun → IsOkAnd result
+            (λ _. AreMarks tables haystack.now span.end marks.new start start (begun.at + 1))) }
+        ensures others { tally.new ≡ record tally.old { scanned = tally.new.scanned } }
+        ensures most { tally.new.scanned ≤ tally.old.scanned + (begun.at - start) }
+        ensures all { IfOk result (λ _. tally.new.scanned ≡ tally.old.scanned + (begun.at - start)) }
+    {
+        prove!(span.end <= haystack.len());
+        marks[begun.at - start] = begun.code;
+        let mut place = (begun.code % ENDS) as usize;
+        for at in (start..begun.at).rev() {
+            let code = self.read(place, haystack, at, tally)?;
+            marks[at - start] = code;
+            place = (code % ENDS) as usize;
+        }
+        Ok(())
+    }
+
+    /// The leftmost match of the rest of a span, from a place on. Memory is asked for only where a pattern occurs in
+    /// the rest, and there is no room for the marks of a block.
+    pub fn next_match(
+        &self,
+        haystack: &[u8],
+        span: Span,
+        at: usize,
+        marks: &mut Marks,
+        tally: &mut Tally,
+    ) -> Result<Option<Match>, Stopped>
+        requires safe { IsSafe self.now }
+        requires valid { IsValidSpan haystack.now span }
+        requires placed { IsPlaced self.now.table.longest span at marks.old }
+        ensures leftmost { ForBackward self.now (λ tables. AreMarked tables haystack.now span at marks.old
+            → IfOk result (IsLeftmost tables.search.query tables.search.ignore_case haystack.now
+            (between at span.end))) }
+        ensures marked { ForBackward self.now (λ tables. AreMarked tables haystack.now span at marks.old
+            → IfOk result (λ answer. AreMarked tables haystack.now span (place_behind span answer) marks.new)) }
+        ensures refused { ForBackward self.now (λ tables. AreMarked tables haystack.now span at marks.old
+            → IfErr result (IsRefused tables haystack.now at span.end)) }
+        ensures lies { IfOk result (λ answer. IfSome answer (IsMatchBy self.now span at)) }
+        ensures placed { IfOk result
+            (λ answer. IsPlaced self.now.table.longest span (place_behind span answer) marks.new) }
+        ensures further { (marks.old.known ≤ marks.new.known) × (marks.new.known ≤ span.end) }
+        ensures bounded { ScansTwice (between marks.old.known marks.new.known) tally.old tally.new }
+        ensures least { IfOk result (λ _. tally.old.scanned + looked_by self.now.table.longest span marks.new.known
+            ≤ tally.new.scanned + looked_by self.now.table.longest span marks.old.known) }
+        ensures more { length marks.old.numbers.items ≤ length marks.new.numbers.items }
+        ensures no_room { IfErr result (λ error. error ≡ Stopped.OutOfMemory
+            → length marks.old.numbers.items < min (max self.now.table.longest LEAST) (span.end - at)) }
+        ensures ended { at ≡ span.end → IsOkAnd result (λ answer. answer ≡ None) }
+    {
+        let mut from = at;
+        while from < span.end {
+            self.mark_from(haystack, span, from, marks, tally)?;
+            let found = self.next_marked(haystack, span, from, marks)?;
+            if found.is_some() {
+                return Ok(found);
+            }
+            from = marks.known;
+        }
+        Ok(None)
+    }
+
+    /// Marks the block that begins at a place, unless it is known what begins there.
+    fn mark_from(
+        &self,
+        haystack: &[u8],
+        span: Span,
+        from: usize,
+        marks: &mut Marks,
+        tally: &mut Tally,
+    ) -> Result<(), Stopped>
+        requires safe { IsSafe self.now }
+        requires valid { IsValidSpan haystack.now span }
+        requires more { from < span.end }
+        requires placed { IsPlaced self.now.table.longest span from marks.old }
+        ensures marked { ForBackward self.now (λ tables. AreMarked tables haystack.now span from marks.old
+            → IfOk result (λ _. AreMarked tables haystack.now span from marks.new)) }
+        ensures refused { ForBackward self.now (λ tables. IfErr result
+            (IsRefused tables haystack.now from span.end)) }
+        ensures placed { IfOk result (λ _. IsPlaced self.now.table.longest span from marks.new) }
+        ensures known { IfOk result (λ _. from < marks.new.known) }
+        ensures further { (marks.old.known ≤ marks.new.known) × (marks.new.known ≤ span.end) }
+        ensures bounded { ScansTwice (between marks.old.known marks.new.known) tally.old tally.new }
+        ensures least { IfOk result (λ _. tally.old.scanned + looked_by self.now.table.longest span marks.new.known
+            ≤ tally.new.scanned + looked_by self.now.table.longest span marks.old.known) }
+        ensures more { length marks.old.numbers.items ≤ length marks.new.numbers.items }
+        ensures no_room { IfErr result (λ error. error ≡ Stopped.OutOfMemory
+            → length marks.old.numbers.items < min (max self.now.table.longest LEAST) (span.end - from)) }
+    {
+        if from < marks.known {
+            return Ok(());
+        }
+        let block = self.block_at(span, from);
+        marks.first = from;
+        marks.upto = from;
+        marks.known = block.end;
+        if let Some(begun) = self.last_begun(haystack, span, block, tally)? {
+            self.make_room(&mut marks.numbers, span.end - from)?;
+            self.mark(haystack, span, from, begun, &mut marks.numbers, tally)?;
+            marks.upto = begun.at + 1;
+        }
+        Ok(())
+    }
+
+    /// The match that begins at the first marked place, from one on, at which a pattern begins.
+    fn next_marked(
+        &self,
+        haystack: &[u8],
+        span: Span,
+        from: usize,
+        marks: &Marks,
+    ) -> Result<Option<Match>, Damaged>
+        requires safe { IsSafe self.now }
+        requires valid { IsValidSpan haystack.now span }
+        requires placed { IsPlaced self.now.table.longest span from marks.now }
+        ensures found { ForBackward self.now (λ tables. AreMarked tables haystack.now span from marks.now
+            → IsOkAnd result (λ answer. MatchOption answer
+            (NoneFrom tables haystack.now span.end from marks.now.known)
+            (IsLeftmostMatch tables.search.query tables.search.ignore_case haystack.now (between from span.end)))) }
+        ensures lies { IfOk result (λ answer. IfSome answer (IsMatchBy self.now span from)) }
+        ensures known { IfOk result (λ answer. IfSome answer (λ found. found.start < marks.now.known)) }
+    {
+        for at in from..marks.upto {
+            let code = marks.numbers[at - marks.first];
+            if code >= ENDS {
+                return Ok(Some(self.match_at(haystack, span, at, code)?));
+            }
+        }
+        Ok(None)
+    }
+
+    /// The match that begins at a place with a mark.
+    fn match_at(&self, haystack: &[u8], span: Span, at: usize, code: u32) -> Result<Match, Damaged>
+        requires safe { IsSafe self.now }
+        requires valid { IsValidSpan haystack.now span }
+        requires inside { at < span.end }
+        requires ends { 2 ^ 31 ≤ code }
+        ensures leftmost { ForBackward self.now (λ tables. IsMark tables haystack.now span.end at code
+            → IsOkAnd result (IsLeftmostMatch tables.search.query tables.search.ignore_case haystack.now
+            (between at span.end))) }
+        ensures lies { IfOk result (IsMatchBy self.now span at) }
+        ensures here { IfOk result (λ found. found.start ≡ at) }
+    {
+        prove!(span.end <= haystack.len());
+        let place = (code - ENDS) as usize + self.table.width;
+        let longest = *self.table.rows.get(place).ok_or(Damaged)?;
+        let pattern = *self.best.get(longest as usize).ok_or(Damaged)? as usize;
+        let len = self.lens.len_of(pattern)?;
+        if len == 0 || len > self.table.longest || len > span.end - at {
+            return Err(Damaged);
+        }
+        let end = at + len;
+        Ok(Match::must(pattern, Span { start: at, end }))
+    }
+}
+
+/// No mark, and no room for any.
+pub fn no_marks(alloc: Global, span: Span) -> Marks
+    ensures numbers { result.numbers.items ≡ [] }
+    ensures places { (result.first ≡ span.start) × (result.upto ≡ span.start) × (result.known ≡ span.start) }
+{
+    Marks {
+        numbers: Vec::new(alloc),
+        first: span.start,
+        upto: span.start,
+        known: span.start,
+    }
+}
+
+/// Where a list goes on behind an answer.
+pub fn place_after(span: Span, answer: &Option<Match>) -> usize
+    ensures { result ≡ place_behind span answer.now }
+{
+    match answer {
+        Some(found) => found.end(),
+        None => span.end,
+    }
+}

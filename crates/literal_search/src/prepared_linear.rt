@@ -1,0 +1,201 @@
+//! A search for all leftmost matches, in time that does not depend on the patterns, as numbers in an array that its
+//! caller lends. It does not trust the array, either.
+ghost use Rattle.std.specs.Prelude.{◌≡◌, ◌+◌, ◌-◌, ◌*◌, ◌<◌, ◌≤◌, ◌↔◌, length, slice_index};
+ghost use Rattle.std.specs.Prelude.{IfOk, IfSome, IsTrue, MatchOption, MatchResult, None, OnErr, ⊤};
+ghost use Rattle.std.specs.Result.{IsOkAnd};
+ghost use Rattle.literal_base.specs.Occurs.{IsValidSpan, between};
+ghost use Rattle.literal_search.specs.Linear.{ScansTwice, looked_by};
+ghost use Rattle.literal_search.specs.LinearMatchesValue.{GivesInSpan, place_behind};
+ghost use Rattle.literal_search.specs.Prepared.{LiesIn, longest_in};
+ghost use Rattle.literal_search.specs.PreparedLinear.{ForLinear, HasLinearParts, IsWholeLinear, linear_matches_for};
+ghost use Rattle.literal_search.specs.PreparedLinear.{back_tables_in};
+ghost use Rattle.literal_search.specs.SearchValue.{SearchValue};
+ghost use Rattle.literal_search.specs.Inside.Backward.{AreBackFor, IsSafe, back_tables_by, lens_of};
+
+use crate::backward::{Backward, Lens, Marks, no_marks, place_after};
+use crate::prepared::{Damaged, Front, LENGTHS_AT, LINEAR_VERSION, is_checked, split};
+use literal_base::count::Tally;
+use literal_base::{Match, Span};
+use std::alloc::{AllocError, Global};
+use std::marker::Model;
+
+/// A search for all leftmost matches by numbers that [`Linear::prepare`](crate::Linear::prepare) wrote into an array,
+/// which may be longer. Contracts see the array.
+#[derive(Drop)]
+pub struct PreparedLinear<'p> {
+    front: Front<'p>,
+    /// For each pattern the best of those that stand in front of it.
+    best: &'p [u32],
+}
+
+impl<'p> Model for PreparedLinear<'p> {
+    ghost use Rattle.std.specs.Prelude.{List, ℕ};
+    ghost use Rattle.literal_search.specs.Inside.PreparedLinear.{AreLinearLent};
+
+    ghost Value = { List ℕ };
+
+    ghost view = { λ p. p.front.numbers.now };
+
+    ghost invariant = { λ p. AreLinearLent p.front p.best };
+}
+
+impl<'p> PreparedLinear<'p> {
+    /// The search by the numbers in an array, where its first numbers say that it is one, it is as long as they say,
+    /// and its classes lie in a row. No more of it is read: [`PreparedLinear::is_whole`] goes over all of it.
+    pub fn new(numbers: &'p [u32]) -> Result<PreparedLinear<'p>, Damaged>
+        ensures { MatchResult result (λ prepared. (prepared ≡ numbers.now) × HasLinearParts numbers.now)
+            (λ _. ¬ HasLinearParts numbers.now) }
+    {
+        let front = split(numbers, LINEAR_VERSION)?;
+        let end = LENGTHS_AT + front.lengths.len() + front.rows.len();
+        let is_short = numbers.len() - end < front.lengths.len();
+        if is_short || front.rows.len() <= front.width || !front.table(0, None).classes_fit() {
+            return Err(Damaged);
+        }
+        let best = &numbers[end..end + front.lengths.len()];
+        Ok(PreparedLinear { front, best })
+    }
+
+    /// Whether the check over all numbers of the search is right, as [`Prepared::is_whole`](crate::Prepared::is_whole)
+    /// says it.
+    pub fn is_whole(&self) -> bool
+        ensures { IsTrue result ↔ IsWholeLinear self.now }
+    {
+        let front = &self.front;
+        let end = LENGTHS_AT + front.lengths.len() + front.rows.len() + self.best.len();
+        is_checked(front.numbers, end)
+    }
+
+    /// All matches in a span of the haystack, one after another, for which the same holds as for
+    /// [`Linear::find_iter_in`](crate::Linear::find_iter_in). With numbers that were changed it may give others, or
+    /// [`Damaged`]; but each lies in the span, is not empty, begins behind the one before it, and names one of the
+    /// patterns. Memory is asked for once, and for no empty span.
+    pub fn find_iter_in<'s, 'h>(
+        &'s self,
+        alloc: Global,
+        haystack: &'h [u8],
+        span: Span,
+    ) -> Result<PreparedLinearMatches<'s, 'p, 'h>, AllocError>
+        requires { IsValidSpan haystack.now span }
+        ensures ok { IfOk result (λ matches. matches ≡ record {
+          numbers = self.now;
+          haystack = haystack.now;
+          span = span;
+          at = span.start;
+          known = span.start;
+        }) }
+        ensures no_memory { OnErr result (span.start < span.end) }
+    {
+        prove!(span.end <= haystack.len());
+        let mut marks = no_marks(alloc, span);
+        self.backward()
+            .make_room(&mut marks.numbers, span.end - span.start)?;
+        Ok(PreparedLinearMatches {
+            prepared: self,
+            haystack,
+            span,
+            at: span.start,
+            marks,
+        })
+    }
+
+    /// What a search from the right reads.
+    fn backward(&self) -> Backward<'_>
+        ensures safe { IsSafe result }
+        ensures is_for { ForLinear self.now (λ search. AreBackFor search result) }
+        ensures tables { (search : SearchValue) → back_tables_by search result ≡ back_tables_in search self.now }
+        ensures longest { result.table.longest ≡ longest_in self.now }
+        ensures patterns { length (lens_of result.lens) ≡ slice_index self.now 3 }
+    {
+        Backward {
+            table: self.front.table(0, None),
+            best: self.best,
+            lens: Lens::Numbers(self.front.lengths),
+        }
+    }
+}
+
+/// What [`PreparedLinear::find_iter_in`] goes over. Contracts see the array, the haystack, the span, the place from
+/// which the list goes on, and up to which place it has looked. After [`Damaged`], or its first `None`, it stands at
+/// the end of the span, and has ended.
+#[derive(Drop)]
+pub struct PreparedLinearMatches<'s, 'p, 'h> {
+    prepared: &'s PreparedLinear<'p>,
+    haystack: &'h [u8],
+    span: Span,
+    at: usize,
+    marks: Marks,
+}
+
+impl<'s, 'p, 'h> Model for PreparedLinearMatches<'s, 'p, 'h> {
+    ghost use Rattle.literal_base.specs.Occurs.{IsValidSpan};
+    ghost use Rattle.literal_search.specs.PreparedLinear.{PreparedLinearMatchesValue};
+    ghost use Rattle.literal_search.specs.Inside.PreparedLinear.{GoesOnBy};
+
+    ghost Value = { PreparedLinearMatchesValue };
+
+    ghost view = { λ m. record {
+      numbers = m.prepared.now;
+      haystack = m.haystack.now;
+      span = m.span;
+      at = m.at;
+      known = m.marks.known;
+    } };
+
+    ghost invariant = { λ m. IsValidSpan m.haystack.now m.span
+        × GoesOnBy m.prepared.now m.haystack.now m.span m.at m.marks };
+}
+
+impl<'s, 'p, 'h> PreparedLinearMatches<'s, 'p, 'h> {
+    /// The next match, as [`LinearMatches`](crate::LinearMatches) gives them, and `None` behind the last. With numbers
+    /// that were changed each still begins behind the one before it; after `None` or [`Damaged`] there is only `None`.
+    pub fn next_match(&mut self) -> Result<Option<Match>, Damaged>
+        ensures prepared { ForLinear self.old.numbers (λ search. IsOkAnd result (λ answer.
+            GivesInSpan (linear_matches_for search self.old) answer (linear_matches_for search self.new))) }
+        ensures inside { IfOk result (λ answer. IfSome answer (LiesIn (between self.old.at self.old.span.end))) }
+        ensures pattern { IfOk result (λ answer. IfSome answer
+            (λ found. found.pattern < slice_index self.old.numbers 3)) }
+        ensures goes_on { MatchResult result (λ answer. self.new.at ≡ place_behind self.old.span answer)
+            (λ _. self.new.at ≡ self.old.span.end) }
+        ensures ended { self.old.at ≡ self.old.span.end → IsOkAnd result (λ answer. answer ≡ None) }
+        ensures same { self.new ≡ record self.old { at = self.new.at; known = self.new.known } }
+    {
+        self.next_counted(&mut Tally::new())
+    }
+
+    /// Answers as `next_match`, and adds each byte that it looks up to a tally, as
+    /// [`LinearMatches::next_counted`](crate::LinearMatches::next_counted) does: a whole iteration looks up at most
+    /// twice the bytes of the span, whatever the numbers are.
+    pub fn next_counted(&mut self, tally: &mut Tally) -> Result<Option<Match>, Damaged>
+        ensures prepared { ForLinear self.old.numbers (λ search. IsOkAnd result (λ answer.
+            GivesInSpan (linear_matches_for search self.old) answer (linear_matches_for search self.new))) }
+        ensures inside { IfOk result (λ answer. IfSome answer (LiesIn (between self.old.at self.old.span.end))) }
+        ensures pattern { IfOk result (λ answer. IfSome answer
+            (λ found. found.pattern < slice_index self.old.numbers 3)) }
+        ensures goes_on { MatchResult result (λ answer. self.new.at ≡ place_behind self.old.span answer)
+            (λ _. self.new.at ≡ self.old.span.end) }
+        ensures ended { self.old.at ≡ self.old.span.end → IsOkAnd result (λ answer. answer ≡ None) }
+        ensures same { self.new ≡ record self.old { at = self.new.at; known = self.new.known } }
+        ensures further { (self.old.known ≤ self.new.known) × (self.new.known ≤ self.old.span.end) }
+        ensures bounded { ScansTwice (between self.old.known self.new.known) tally.old tally.new }
+        ensures least { IfOk result (λ _. tally.old.scanned
+            + looked_by (longest_in self.old.numbers) self.old.span self.new.known
+            ≤ tally.new.scanned + looked_by (longest_in self.old.numbers) self.old.span self.old.known) }
+    {
+        let answer = self
+            .prepared
+            .backward()
+            .next_match(self.haystack, self.span, self.at, &mut self.marks, tally);
+        match answer {
+            Ok(answer) => {
+                self.at = place_after(self.span, &answer);
+                Ok(answer)
+            }
+            Err(_) => {
+                self.at = self.span.end;
+                self.marks.pass_to(self.span.end);
+                Err(Damaged)
+            }
+        }
+    }
+}
