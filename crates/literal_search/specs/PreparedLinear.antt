@@ -81,7 +81,7 @@ pub record IsPreparedLinear (search : SearchValue) (numbers : List ℕ) : Type 0
 abbrev pub ForLinear : List ℕ → (SearchValue → Type 0) → Type 0
 ForLinear numbers P = (search : SearchValue) → IsPreparedLinear search numbers → P search
 
--- how many places a search takes: those in front, two for each pattern, and the rows of all states
+-- how many places a search takes: those of the header, two for each pattern, and the rows of all states
 unfoldable pub TakesLinearPlaces : SearchValue → ℕ → Type 0
 TakesLinearPlaces search needed =
     HoldsInClasses (λ texts width. (rows : ℕ) × IsRowsLength Standard (reversed texts) width rows

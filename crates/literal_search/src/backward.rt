@@ -25,7 +25,7 @@ const LEAST: usize = 1024;
 pub struct Backward<'t> {
     /// The numbers of an automaton for all that occurs of the reversed patterns.
     pub table: Table<'t>,
-    /// For each pattern the best of those that stand in front of it.
+    /// For each pattern the best of those that are prefixes of it.
     pub best: &'t [u32],
     pub lens: Lens<'t>,
 }

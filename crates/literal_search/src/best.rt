@@ -14,7 +14,11 @@ use std::alloc::{AllocError, Global};
 impl<'p> Recognised<'p> {
     /// For each pattern the best, by a kind of match, of those that are a suffix of it. Where there is no pattern, no
     /// memory is asked for.
-    pub(crate) fn best_suffixes(&self, alloc: Global, kind: MatchKind) -> Result<Vec<u32>, AllocError>
+    pub(crate) fn best_suffixes(
+        &self,
+        alloc: Global,
+        kind: MatchKind,
+    ) -> Result<Vec<u32>, AllocError>
         requires { Recognise self.now }
         ensures best { IfOk result (λ best. AreBest kind (symbols_of self.now) best.items
             (length self.now.patterns.now)) }

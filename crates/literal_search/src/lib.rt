@@ -29,7 +29,6 @@ mod best;
 mod builder;
 mod classes;
 mod copied;
-mod suffixes;
 mod grow;
 pub mod laws;
 mod linear;
@@ -45,6 +44,7 @@ mod rows;
 mod scan;
 mod standing;
 mod stream;
+mod suffixes;
 mod walk;
 mod window;
 

@@ -18,9 +18,9 @@ ghost use Rattle.literal_search.specs.declared.prepared.PrepareError.TheVariants
 
 use crate::backward::{Backward, Lens, Marks, no_marks};
 use crate::classes::{ClassNumbers, classes_for};
-use crate::ends::Recognised;
 use crate::prepared::{self, PrepareError};
 use crate::rows::{Rows, rows_for};
+use crate::suffixes::Recognised;
 use crate::walk::Table;
 use crate::{BuildError, copies, longest_len};
 use literal_base::count::Tally;

@@ -17,10 +17,10 @@ ghost use Rattle.literal_search.specs.Inside.Standing.{HaveSameToCome, IsStandin
 ghost use Rattle.literal_search.specs.Inside.Standing.{overlapping_value, standing_at, standing_value, tables_of};
 
 use crate::classes::{ClassNumbers, classes_for};
-use crate::suffixes::{Lists, Recognised};
 use crate::prepared::{OVERLAPPING_VERSION, PrepareError, write};
 use crate::rows::{Rows, rows_for};
 use crate::standing::Standing;
+use crate::suffixes::{Lists, Recognised};
 use crate::walk::{Stop, Table};
 use crate::{BuildError, copies};
 use literal_base::count::Tally;

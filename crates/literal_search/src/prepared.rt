@@ -219,7 +219,10 @@ impl<'p> Prepared<'p> {
     pub fn is_whole(&self) -> bool
         ensures { IsTrue result ↔ IsWhole self.now }
     {
-        let end = LENGTHS_AT + self.header.lengths.len() + self.header.rows.len() + FINGERPRINTS_LEN;
+        let end = LENGTHS_AT
+            + self.header.lengths.len()
+            + self.header.rows.len()
+            + FINGERPRINTS_LEN;
         is_checked(self.header.numbers, end)
     }
 

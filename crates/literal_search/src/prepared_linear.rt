@@ -13,7 +13,7 @@ ghost use Rattle.literal_search.specs.SearchValue.{SearchValue};
 ghost use Rattle.literal_search.specs.Inside.Backward.{AreBackFor, IsSafe, back_tables_by, lens_of};
 
 use crate::backward::{Backward, Lens, Marks, no_marks, place_after};
-use crate::prepared::{Damaged, Front, LENGTHS_AT, LINEAR_VERSION, is_checked, split};
+use crate::prepared::{Damaged, Header, LENGTHS_AT, LINEAR_VERSION, is_checked, split};
 use literal_base::count::Tally;
 use literal_base::{Match, Span};
 use std::alloc::{AllocError, Global};
@@ -23,8 +23,8 @@ use std::marker::Model;
 /// which may be longer. Contracts see the array.
 #[derive(Drop)]
 pub struct PreparedLinear<'p> {
-    front: Front<'p>,
-    /// For each pattern the best of those that stand in front of it.
+    header: Header<'p>,
+    /// For each pattern the best of those that are prefixes of it.
     best: &'p [u32],
 }
 
@@ -34,9 +34,9 @@ impl<'p> Model for PreparedLinear<'p> {
 
     ghost Value = { List ℕ };
 
-    ghost view = { λ p. p.front.numbers.now };
+    ghost view = { λ p. p.header.numbers.now };
 
-    ghost invariant = { λ p. AreLinearLent p.front p.best };
+    ghost invariant = { λ p. AreLinearLent p.header p.best };
 }
 
 impl<'p> PreparedLinear<'p> {
@@ -46,14 +46,14 @@ impl<'p> PreparedLinear<'p> {
         ensures { MatchResult result (λ prepared. (prepared ≡ numbers.now) × HasLinearParts numbers.now)
             (λ _. ¬ HasLinearParts numbers.now) }
     {
-        let front = split(numbers, LINEAR_VERSION)?;
-        let end = LENGTHS_AT + front.lengths.len() + front.rows.len();
-        let is_short = numbers.len() - end < front.lengths.len();
-        if is_short || front.rows.len() <= front.width || !front.table(0, None).classes_fit() {
+        let header = split(numbers, LINEAR_VERSION)?;
+        let end = LENGTHS_AT + header.lengths.len() + header.rows.len();
+        let is_short = numbers.len() - end < header.lengths.len();
+        if is_short || header.rows.len() <= header.width || !header.table(0, None).classes_fit() {
             return Err(Damaged);
         }
-        let best = &numbers[end..end + front.lengths.len()];
-        Ok(PreparedLinear { front, best })
+        let best = &numbers[end..end + header.lengths.len()];
+        Ok(PreparedLinear { header, best })
     }
 
     /// Whether the check over all numbers of the search is right, as [`Prepared::is_whole`](crate::Prepared::is_whole)
@@ -61,9 +61,9 @@ impl<'p> PreparedLinear<'p> {
     pub fn is_whole(&self) -> bool
         ensures { IsTrue result ↔ IsWholeLinear self.now }
     {
-        let front = &self.front;
-        let end = LENGTHS_AT + front.lengths.len() + front.rows.len() + self.best.len();
-        is_checked(front.numbers, end)
+        let header = &self.header;
+        let end = LENGTHS_AT + header.lengths.len() + header.rows.len() + self.best.len();
+        is_checked(header.numbers, end)
     }
 
     /// All matches in a span of the haystack, one after another, for which the same holds as for
@@ -108,9 +108,9 @@ impl<'p> PreparedLinear<'p> {
         ensures patterns { length (lens_of result.lens) ≡ slice_index self.now 3 }
     {
         Backward {
-            table: self.front.table(0, None),
+            table: self.header.table(0, None),
             best: self.best,
-            lens: Lens::Numbers(self.front.lengths),
+            lens: Lens::Numbers(self.header.lengths),
         }
     }
 }

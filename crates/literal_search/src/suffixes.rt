@@ -72,7 +72,12 @@ impl<'p> Recognised<'p> {
     }
 
     /// The patterns that are a suffix of a pattern, in order, and none where it is not the first of its equals.
-    fn suffixes_of(&self, alloc: Global, links: &[u32], pattern: usize) -> Result<Vec<u32>, AllocError>
+    fn suffixes_of(
+        &self,
+        alloc: Global,
+        links: &[u32],
+        pattern: usize,
+    ) -> Result<Vec<u32>, AllocError>
         requires recognise { Recognise self.now }
         requires links { AreOutputLinks (symbols_of self.now) links.now 0 }
         requires is_pattern { pattern < length self.now.patterns.now }

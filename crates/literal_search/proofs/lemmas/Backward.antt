@@ -17,7 +17,7 @@ use Rattle.literal_base.specs.declared.packed.MatchKind.{MatchKind}
 use Rattle.literal_base.specs.declared.packed.MatchKind.TheVariants.{LeftmostFirst, LeftmostLongest}
 use Rattle.literal_base.specs.declared.search.MatchKind.TheVariants.{Standard}
 use Rattle.literal_search.specs.Inside.Classes.{symbols_in}
-use Rattle.literal_search.specs.Inside.Ends.{IsEnd}
+use Rattle.literal_search.specs.Inside.Suffixes.{IsSuffix}
 use Rattle.literal_search.specs.Inside.Backward.{AreBackFor, BeginsBest, IsMark, IsRead, StandsDown, back_tables_by}
 use Rattle.literal_search.specs.Inside.Backward.{best_by, lens_of, named_by}
 use Rattle.literal_search.specs.Inside.Walk.{IsAt, text_of}
@@ -158,7 +158,7 @@ module _ (p : BackTables) (are : AreBackTables p) (haystack : List ℕ) (bytes :
       nothing_before = omega arith
 
       -- what ends with what was read begins there
-      end_begins : (i : ℕ) → IsEnd (texts_back p) (read at from) i
+      end_begins : (i : ℕ) → IsSuffix (texts_back p) (read at from) i
           → Occurs p.search.query.patterns p.search.ignore_case haystack (between at from) i at
       end_begins i is =
           let text = text_of p.classes haystack (between at from) in
@@ -167,15 +167,15 @@ module _ (p : BackTables) (are : AreBackTables p) (haystack : List ℕ) (bytes :
           valid i
           at (omega (arith, known, back_count words, below)) (omega arith) after
           (ap (λ n. starts_with nat_eq (drop n text) (pattern_at words i)) nothing_before
-          ∙ end_is_front words text i is)
+          ∙ end_is_prefix words text i is)
 
       -- and what begins there ends so
       begin_ends : (i : ℕ) → Occurs p.search.query.patterns p.search.ignore_case haystack (between at from) i at
-          → IsEnd (texts_back p) (read at from) i
+          → IsSuffix (texts_back p) (read at from) i
       begin_ends i occurs =
           let text = text_of p.classes haystack (between at from) in
           let below = occurs.is_pattern in
-          front_is_end words text i (omega (arith, known))
+          prefix_is_end words text i (omega (arith, known))
           (ap (λ n. starts_with nat_eq (drop n text) (pattern_at words i)) (sym nothing_before)
           ∙ stands_where p.search.ignore_case p.classes p.search.query.patterns are.tells haystack bytes
           (between at from)
@@ -191,7 +191,7 @@ module _ (p : BackTables) (are : AreBackTables p) (haystack : List ℕ) (bytes :
           let below = is.is.is_pattern in
           let one = are.best.each first (omega (arith, known, back_count words, below)) in
           let best = get_or p.best first 0 in
-          let end : IsEnd (texts_back p) text best = record {
+          let end : IsSuffix (texts_back p) text best = record {
             is_pattern = one.is.is_pattern;
             ends = ends_on text (pattern_at (texts_back p) first) (pattern_at (texts_back p) best) is.is.ends
                 one.is.ends;
@@ -246,7 +246,7 @@ module _ (p : BackTables) (are : AreBackTables p) (haystack : List ℕ) (bytes :
             ∙ reverse-append (symbol ∷ []) rest)
 
         alive : ¬ (code ≡ nothing)
-        alive dead = always_held (texts_back p) (read (at + 1) from ++ symbol ∷ [])
+        alive dead = always_live (texts_back p) (read (at + 1) from ++ symbol ∷ [])
             (at_dead Standard (texts_back p) p.width p.rows are.recognises (read (at + 1) from) place
             (stands.is_at are.recognises) symbol below code code_is dead).0
 

@@ -80,7 +80,7 @@ pub record BeginsBest (p : BackTables) (haystack : List ℕ) (end at i : ℕ) : 
 abbrev pub named_by : BackTables → ℕ → ℕ
 named_by p code = slice_index p.rows (code - 2 ^ 31 + p.width)
 
--- and the best of its ends
+-- and the best of its suffixes
 abbrev pub best_by : BackTables → ℕ → ℕ
 best_by p code = slice_index p.best (named_by p code)
 

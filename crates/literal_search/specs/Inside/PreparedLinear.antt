@@ -3,16 +3,16 @@ use Rattle.std.specs.Prelude.{◌≡◌, ℕ, List}
 use Rattle.std.specs.Borrow.{Bor}
 use Rattle.literal_base.specs.declared.search.Span.{Span}
 use Rattle.literal_search.specs.Inside.Backward.{AreMarked, HasRoom, IsPlaced}
-use Rattle.literal_search.specs.Inside.Prepared.{IsFront}
+use Rattle.literal_search.specs.Inside.Prepared.{IsHeader}
 use Rattle.literal_search.specs.Prepared.{longest_in}
 use Rattle.literal_search.specs.PreparedLinear.{ForLinear, HasLinearParts, back_tables_in, best_in}
 use Rattle.literal_search.specs.declared.backward.Marks.{Marks}
-use Rattle.literal_search.specs.declared.prepared.Front.{Front}
+use Rattle.literal_search.specs.declared.prepared.Header.{Header}
 use Rattle.literal_search.specs.declared.prepared.TheConstants.{LINEAR_VERSION}
 
 -- the parts of an array that begins as a prepared search for all leftmost matches
-pub record AreLinearLent (f : Front) (best : Bor (List ℕ)) : Type 0 where
-  pub front : IsFront LINEAR_VERSION f
+pub record AreLinearLent (f : Header) (best : Bor (List ℕ)) : Type 0 where
+  pub header : IsHeader LINEAR_VERSION f
   pub parts : HasLinearParts f.numbers.now
   pub best_are : best.now ≡ best_in f.numbers.now
 

@@ -10,25 +10,25 @@ pub returns-clause-safe : goal.returns-clause-safe
 returns-clause-safe c =
     let p = c.self.inside in
     let lent = c.self.invariant in
-    let front = lent.front in
-    let long = classes_long front in
-    let known = parts_end p.front p.front.numbers.now refl front in
-    subst (λ (t : Table). IsSafe (record { table = t; best = p.best; lens = Numbers p.front.lengths }))
+    let header = lent.header in
+    let long = classes_long header in
+    let known = parts_end p.header p.header.numbers.now refl header in
+    subst (λ (t : Table). IsSafe (record { table = t; best = p.best; lens = Numbers p.header.lengths }))
     (sym c.table.ensures) (record {
       each = long;
       fits = λ byte below. omega (
         arith,
-        lent.parts.classes byte 0 (omega (arith, below, long, ap (λ (l : List ℕ). length l) front.classes_are)),
-        ap (λ (l : List ℕ). get_or l byte 0) front.classes_are,
-        front.width_is,
+        lent.parts.classes byte 0 (omega (arith, below, long, ap (λ (l : List ℕ). length l) header.classes_are)),
+        ap (λ (l : List ℕ). get_or l byte 0) header.classes_are,
+        header.width_is,
       );
-      small = front.small;
-      row = omega (arith, lent.parts.row, known.0, known.1, front.width_is);
+      small = header.small;
+      row = omega (arith, lent.parts.row, known.0, known.1, header.width_is);
       few = omega (arith, lent.parts.parts.few, known.1);
     })
 
 pub returns-clause-patterns : goal.returns-clause-patterns
 returns-clause-patterns c =
     let p = c.self.inside in
-    subst (λ (n : List ℕ). length p.front.lengths.now ≡ get_or n 3 0) c.self.view_is
-    (parts_end p.front p.front.numbers.now refl c.self.invariant.front).1
+    subst (λ (n : List ℕ). length p.header.lengths.now ≡ get_or n 3 0) c.self.view_is
+    (parts_end p.header p.header.numbers.now refl c.self.invariant.header).1

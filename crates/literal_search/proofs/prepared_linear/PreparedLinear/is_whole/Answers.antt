@@ -8,16 +8,16 @@ use Rattle.literal_search.proofs.prepared_linear.PreparedLinear.is_whole.Goals a
 pub returns : goal.returns
 returns c =
     let p = c.self.inside in
-    let numbers = p.front.numbers.now in
+    let numbers = p.header.numbers.now in
     let lent = c.self.invariant in
     let fits = lent.parts.fits in
-    let lengths = ap (λ (l : List ℕ). length l) lent.front.lengths_are
+    let lengths = ap (λ (l : List ℕ). length l) lent.header.lengths_are
     ∙ length_part numbers 262 (rows_at numbers) (omega arith) (omega arith) in
-    let rows = ap (λ (l : List ℕ). length l) lent.front.rows_are
+    let rows = ap (λ (l : List ℕ). length l) lent.header.rows_are
     ∙ length_part numbers (rows_at numbers) (rows_end numbers) (omega arith) (omega arith) in
     let best = ap (λ (l : List ℕ). length l) lent.best_are
     ∙ length_part numbers (rows_end numbers) (linear_len numbers) (omega arith) (omega arith) in
-    let end_is : 262 + length p.front.lengths.now + length p.front.rows.now + length p.best.now ≡ linear_len numbers =
+    let end_is : 262 + length p.header.lengths.now + length p.header.rows.now + length p.best.now ≡ linear_len numbers =
     omega (arith, lengths, rows, best) in
     let check_is = ap (λ end. check_of (slice_range numbers 2 end)) end_is in (
       λ same. subst IsWholeLinear c.self.view_is
