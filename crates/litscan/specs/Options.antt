@@ -15,6 +15,8 @@ no_options = record {
   numbers = false;
   offsets = false;
   only = false;
+  alone = false;
+  whole = false;
   named = None;
   listed = None;
   quiet = false;
@@ -25,7 +27,7 @@ no_options = record {
 }
 
 -- the options with what a letter asks for, and None if it is no option without argument. The letters are in turn: b, c,
--- h, H, i and y, l, L, n, o, q, s, v, V, ?, and a and F, which change nothing
+-- h, H, i and y, l, L, n, o, q, s, v, V, w, x, ?, and a and F, which change nothing
 abbrev pub with_letter : Options → ℕ → Option Options
 with_letter options letter =
     if letter == 98 then Some (record options { offsets = true })
@@ -41,6 +43,8 @@ with_letter options letter =
     else if letter == 115 then Some (record options { untold = true })
     else if letter == 118 then Some (record options { others = true })
     else if letter == 86 then Some (record options { version = true })
+    else if letter == 119 then Some (record options { alone = true })
+    else if letter == 120 then Some (record options { whole = true })
     else if letter == 63 then Some (record options { help = true })
     else if letter == 97 || letter == 70 then Some options
     else None
@@ -77,6 +81,7 @@ letter_named name =
     else if bytes_eq name (codes "--ignore-case") then Some 105
     else if bytes_eq name (codes "--invert-match") then Some 118
     else if bytes_eq name (codes "--line-number") then Some 110
+    else if bytes_eq name (codes "--line-regexp") then Some 120
     else if bytes_eq name (codes "--max-count") then Some 109
     else if bytes_eq name (codes "--no-filename") then Some 104
     else if bytes_eq name (codes "--no-messages") then Some 115
@@ -87,6 +92,7 @@ letter_named name =
     else if bytes_eq name (codes "--text") then Some 97
     else if bytes_eq name (codes "--version") then Some 86
     else if bytes_eq name (codes "--with-filename") then Some 72
+    else if bytes_eq name (codes "--word-regexp") then Some 119
     else None
 
 -- the number with a digit more behind it, if it is one and the number stays below 2^64

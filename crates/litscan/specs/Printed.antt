@@ -5,11 +5,10 @@ use Rattle.std.specs.Fmt.{decimal}
 use Rattle.std.specs.Io.KnownBytes.{Consumes}
 use Rattle.std.specs.List.{count_by, flat_map, slice_range}
 use Rattle.std.specs.Option.{IsSome}
-use Rattle.literal_base.specs.Greedy.{IsGreedy}
 use Rattle.literal_base.specs.MatchValue.{MatchValue}
-use Rattle.literal_base.specs.Occurs.{one_occurs}
 use Rattle.literal_search.specs.SearchValue.{SearchValue}
 use Rattle.std.specs.declared.io.ErrorKind.{ErrorKind}
+use Rattle.litscan.specs.Asked.{AreMatches, one_asked}
 use Rattle.litscan.specs.Fault.{IsReadFault, IsWriteFault}
 use Rattle.litscan.specs.Lines.{lines_of, with_feed}
 use Rattle.litscan.specs.Options.{is_enough, is_silent, limit_of}
@@ -51,11 +50,10 @@ abbrev pub StopsScan : Option ErrorKind → Option ErrorKind → Fault → Type 
 StopsScan read_failure write_failure fault =
     (IsReadFault read_failure fault × (fault ≡ OutOfMemory)) ⊎ IsWriteFault write_failure fault
 
--- whether a line counts: a pattern occurs in it, or none where the others are asked for
-abbrev pub counts : SearchValue → Bool → List ℕ → Bool
-counts search others line =
-    if others then not (one_occurs search.query.patterns search.ignore_case line)
-    else one_occurs search.query.patterns search.ignore_case line
+-- whether a line counts: a pattern occurs in it as is asked for, or none does where the others are asked for
+abbrev pub counts : SearchValue → Options → List ℕ → Bool
+counts search options line =
+    if options.others then not (one_asked search options line) else one_asked search options line
 
 -- what stands in front of what is printed of a file of this name: the name and a colon, if that is asked for
 abbrev pub printed_name : Options → List ℕ → List ℕ
@@ -75,11 +73,11 @@ printed_matches options name number offset line all =
     (λ found. printed_part options name number (offset + found.start) (slice_range line found.start found.end))
     all
 
--- what is printed of a line that counts: all of it, or its matches from the left that do not overlap
+-- what is printed of a line that counts: all of it, or its matches
 abbrev pub PrintsFound : Bool → SearchValue → Options → List ℕ → ℕ → ℕ → List ℕ → List ℕ → Type 0
 PrintsFound false search options name number offset line out = out ≡ printed_part options name number offset line
 PrintsFound true search options name number offset line out = (all : List MatchValue)
-    × IsGreedy search.query search.ignore_case line 0 all
+    × AreMatches search options line 0 all
     × (out ≡ printed_matches options name number offset line all)
 
 -- what is printed of a line, by whether it counts
@@ -92,7 +90,7 @@ PrintsLine true search options name number offset line out =
 abbrev pub PrintsLines : SearchValue → Options → List ℕ → ℕ → ℕ → List (List ℕ) → List ℕ → Type 0
 PrintsLines search options name number offset [] out = out ≡ []
 PrintsLines search options name number offset (line ∷ more) out = (first rest : List ℕ)
-    × PrintsLine (counts search options.others line) search options name number offset line first
+    × PrintsLine (counts search options line) search options name number offset line first
     × PrintsLines search options name (number + 1) (offset + length line + 1) more rest × (out ≡ first ++ rest)
 
 -- nothing is printed of lines where only their number, names of files, or nothing is asked for
@@ -117,4 +115,4 @@ abbrev pub Prints : SearchValue → Options → List ℕ → List ℕ → List �
 Prints search options name text out = (lines : List ℕ)
     × PrintsUnlessSilent (is_silent options) search options name 1 0 (lines_of text) lines
     × (out ≡ lines
-    ++ printed_behind options.listed options name (count_by (counts search options.others) (lines_of text)))
+    ++ printed_behind options.listed options name (count_by (counts search options) (lines_of text)))

@@ -2,6 +2,7 @@
 ghost use Rattle.std.specs.Prelude.{◌≡◌, ◌⊎◌, ◌||◌, ℕ, List, Option, IfErr, IfOk, map, nat_lt, true};
 ghost use Rattle.std.specs.Io.KnownBytes.{Appends};
 ghost use Rattle.std.specs.List.{flat_map};
+ghost use Rattle.literal_base.specs.declared.packed.MatchKind.TheVariants.{LeftmostLongest};
 ghost use Rattle.litscan.specs.Fault.{IsWriteFault};
 ghost use Rattle.litscan.specs.Files.{AreSearched, PrintsFile, PrintsText, Searched, input_name, status_for};
 ghost use Rattle.litscan.specs.Printed.{Reads, stops};
@@ -59,6 +60,7 @@ pub fn scan_files<W: Write>(
     names: &[Vec<u8>],
     writer: &mut Device<W>,
 ) -> Result<Found, Fault>
+    requires { search.now.query.kind ≡ LeftmostLongest }
     ensures searched { IfOk result (λ found. (all : List Searched)
         × AreSearched search.now options (map (λ name. name.items) names.now) found all
         × Appends (W.contents writer.old.inner) (W.contents writer.new.inner) (flat_map (λ one. one.out) all)) }
@@ -87,6 +89,7 @@ fn scan_file<W: Write>(
     name: &[u8],
     writer: &mut Device<W>,
 ) -> Result<Scanned, Fault>
+    requires { search.now.query.kind ≡ LeftmostLongest }
     ensures printed { IfOk result (λ scanned. (text : Option (List ℕ)) × (out : List ℕ)
         × PrintsFile search.now options name.now text scanned out
         × Appends (W.contents writer.old.inner) (W.contents writer.new.inner) out) }
@@ -94,7 +97,14 @@ fn scan_file<W: Write>(
 {
     if is_input(name) {
         let mut reader = buffered(rt.alloc(), rt.stdin())?;
-        return scan_told(rt, search, options, b"(standard input)", &mut reader, writer);
+        return scan_told(
+            rt,
+            search,
+            options,
+            b"(standard input)",
+            &mut reader,
+            writer,
+        );
     }
     match open(rt, name) {
         Ok(file) => {
@@ -115,6 +125,7 @@ fn scan_told<R: BufRead, W: Write>(
     reader: &mut Device<R>,
     writer: &mut Device<W>,
 ) -> Result<Scanned, Fault>
+    requires { search.now.query.kind ≡ LeftmostLongest }
     ensures printed { IfOk result (λ scanned. (text out : List ℕ)
         × Reads (stops options scanned) (R.remaining reader.old.inner) (R.remaining reader.new.inner) text
         × PrintsText search.now options name.now text scanned out

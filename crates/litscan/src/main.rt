@@ -1,6 +1,7 @@
 //! Prints the lines of files in which a word stands, or its matches: `litscan [OPTION...] WORDS [FILE...]`.
 #![tactic(auto)]
 
+mod asked;
 mod device;
 mod fault;
 mod files;
@@ -36,7 +37,9 @@ Prints the lines of each FILE in which one of the words occurs, as grep -F does.
   -e, --regexp=WORDS            look for these words
   -f, --file=FILE               look for the words in this file
   -i, -y, --ignore-case         ignore ASCII case
-  -v, --invert-match            take the lines in which no word occurs
+  -v, --invert-match            take the lines that else would not count
+  -w, --word-regexp             take words only where no letter, digit or _ is next to them
+  -x, --line-regexp             take lines only that are a word as a whole
   -m, --max-count=N             read no more of a file once N lines count
   -b, --byte-offset             print the offset of each line, or match, in the file
   -n, --line-number             print the number of each line

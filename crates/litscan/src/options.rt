@@ -18,6 +18,10 @@ pub struct Options {
     pub offsets: bool,
     /// `-o`: whether the matches in a line are printed in place of it.
     pub only: bool,
+    /// `-w`: whether words count only where they stand alone.
+    pub alone: bool,
+    /// `-x`: whether words count only where they are the whole line, whatever `alone` is.
+    pub whole: bool,
     /// `-H`, `-h`: whether the name of its file is printed in front of what is printed, if that is asked for.
     pub named: Option<bool>,
     /// `-l`, `-L`: whether the names of the files in which a line counts are printed, or of the others, in place of
@@ -47,6 +51,8 @@ impl Options {
             numbers: false,
             offsets: false,
             only: false,
+            alone: false,
+            whole: false,
             named: None,
             listed: None,
             quiet: false,
@@ -76,6 +82,8 @@ impl Options {
             b's' => options.untold = true,
             b'v' => options.others = true,
             b'V' => options.version = true,
+            b'w' => options.alone = true,
+            b'x' => options.whole = true,
             b'?' => options.help = true,
             b'a' | b'F' => {}
             _ => return None,
@@ -134,6 +142,7 @@ pub fn letter_named(name: &str) -> Option<u8>
         "--ignore-case" => b'i',
         "--invert-match" => b'v',
         "--line-number" => b'n',
+        "--line-regexp" => b'x',
         "--max-count" => b'm',
         "--no-filename" => b'h',
         "--no-messages" => b's',
@@ -144,6 +153,7 @@ pub fn letter_named(name: &str) -> Option<u8>
         "--text" => b'a',
         "--version" => b'V',
         "--with-filename" => b'H',
+        "--word-regexp" => b'w',
         _ => return None,
     };
     Some(letter)

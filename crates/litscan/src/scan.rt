@@ -3,8 +3,9 @@ ghost use Rattle.std.specs.Prelude.{◌≡◌, ◌<◌, ◌≤◌, ◌+◌, ◌^
 ghost use Rattle.std.specs.Prelude.{IfErr, IfOk, MatchOption, MatchResult, OnOk};
 ghost use Rattle.std.specs.List.{count_by};
 ghost use Rattle.std.specs.Io.KnownBytes.{Appends};
-ghost use Rattle.literal_base.specs.Greedy.{IsGreedy};
 ghost use Rattle.literal_base.specs.MatchValue.{MatchValue};
+ghost use Rattle.literal_base.specs.declared.packed.MatchKind.TheVariants.{LeftmostLongest};
+ghost use Rattle.litscan.specs.Asked.{AreMatches};
 ghost use Rattle.litscan.specs.Fault.{IsWriteFault};
 ghost use Rattle.litscan.specs.Lines.{last_line, lines_of};
 ghost use Rattle.litscan.specs.Options.{is_silent};
@@ -12,6 +13,7 @@ ghost use Rattle.litscan.specs.Printed.{CannotRead, Prints, PrintsUnlessSilent, 
 ghost use Rattle.litscan.specs.Printed.{printed_behind, printed_listed, printed_matches, printed_name, printed_part};
 ghost use Rattle.litscan.specs.Printed.{stops};
 
+use crate::asked::{has_asked, next_asked};
 use crate::device::Device;
 use crate::fault::Fault;
 use crate::options::{Options, is_enough};
@@ -38,11 +40,12 @@ pub fn scan<R: BufRead, W: Write>(
     reader: &mut Device<R>,
     writer: &mut Device<W>,
 ) -> Result<Scanned, Fault>
+    requires { search.now.query.kind ≡ LeftmostLongest }
     ensures scanned { IfOk result (λ scanned. (text out : List ℕ)
         × Reads (stops options scanned) (R.remaining reader.old.inner) (R.remaining reader.new.inner) text
         × Appends (W.contents writer.old.inner) (W.contents writer.new.inner) out
         × Prints search.now options name.now text out
-        × (scanned.count ≡ count_by (counts search.now options.others) (lines_of text))) }
+        × (scanned.count ≡ count_by (counts search.now options) (lines_of text))) }
     ensures failed { IfOk result (λ scanned. CannotRead reader.new.failure
         (ReadsTooMany (R.remaining reader.old.inner) (R.remaining reader.new.inner)) scanned.failed) }
     ensures error { IfErr result (StopsScan reader.new.failure writer.new.failure) }
@@ -116,11 +119,12 @@ fn scan_lines<R: BufRead, W: Write>(
     reader: &mut Device<R>,
     writer: &mut Device<W>,
 ) -> Result<Scanned, Fault>
+    requires { search.now.query.kind ≡ LeftmostLongest }
     ensures scanned { IfOk result (λ scanned. (text out : List ℕ)
         × Reads (stops options scanned) (R.remaining reader.old.inner) (R.remaining reader.new.inner) text
         × Appends (W.contents writer.old.inner) (W.contents writer.new.inner) out
         × PrintsUnlessSilent (is_silent options) search.now options name.now 1 0 (lines_of text) out
-        × (scanned.count ≡ count_by (counts search.now options.others) (lines_of text))) }
+        × (scanned.count ≡ count_by (counts search.now options) (lines_of text))) }
     ensures failed { IfOk result (λ scanned. CannotRead reader.new.failure
         (ReadsTooMany (R.remaining reader.old.inner) (R.remaining reader.new.inner)) scanned.failed) }
     ensures error { IfErr result (StopsScan reader.new.failure writer.new.failure) }
@@ -212,10 +216,11 @@ fn take_last<W: Write>(
     last: &[u8],
     writer: &mut Device<W>,
 ) -> Result<u64, Fault>
-    requires { offset + length last.now < 2 ^ 64 }
+    requires longest { search.now.query.kind ≡ LeftmostLongest }
+    requires inside { offset + length last.now < 2 ^ 64 }
     ensures few { IfOk result (λ count. count ≤ 1) }
     ensures counted { IfOk result (λ count.
-        count ≡ count_by (counts search.now options.others) (last_line last.now)) }
+        count ≡ count_by (counts search.now options) (last_line last.now)) }
     ensures printed { OnOk result ((out : List ℕ)
         × Appends (W.contents writer.old.inner) (W.contents writer.new.inner) out
         × PrintsUnlessSilent (is_silent options) search.now options name.now number offset (last_line last.now) out) }
@@ -238,10 +243,11 @@ fn take_line<W: Write>(
     line: &[u8],
     writer: &mut Device<W>,
 ) -> Result<u64, Fault>
-    requires { offset + length line.now < 2 ^ 64 }
+    requires longest { search.now.query.kind ≡ LeftmostLongest }
+    requires inside { offset + length line.now < 2 ^ 64 }
     ensures few { IfOk result (λ count. count ≤ 1) }
     ensures counted { IfOk result (λ count.
-        count ≡ count_by (counts search.now options.others) (line.now ∷ [])) }
+        count ≡ count_by (counts search.now options) (line.now ∷ [])) }
     ensures printed { OnOk result ((out : List ℕ)
         × Appends (W.contents writer.old.inner) (W.contents writer.new.inner) out
         × PrintsUnlessSilent (is_silent options) search.now options name.now number offset (line.now ∷ []) out) }
@@ -269,9 +275,10 @@ fn prints_nothing(options: Options) -> bool
 
 /// Whether a line counts.
 fn counts(search: &Search, options: Options, line: &[u8]) -> bool
-    ensures { result ≡ counts search.now options.others line.now }
+    requires { search.now.query.kind ≡ LeftmostLongest }
+    ensures { result ≡ counts search.now options line.now }
 {
-    search.is_match(line) != options.others
+    has_asked(search, options, line) != options.others
 }
 
 /// Prints the matches in a line, each as a line of its own. Answers 1 if there is one, and else 0.
@@ -284,18 +291,21 @@ fn print_matches<W: Write>(
     line: &[u8],
     writer: &mut Device<W>,
 ) -> Result<u64, Fault>
-    requires { offset + length line.now < 2 ^ 64 }
+    requires longest { search.now.query.kind ≡ LeftmostLongest }
+    requires inside { offset + length line.now < 2 ^ 64 }
     ensures printed { IfOk result (λ count. (all : List MatchValue)
-        × IsGreedy search.now.query search.now.ignore_case line.now 0 all
+        × AreMatches search.now options line.now 0 all
         × Appends (W.contents writer.old.inner) (W.contents writer.new.inner)
         (printed_matches options name.now number offset line.now all) × (count ≡ min 1 (length all))) }
     ensures error { IfErr result (IsWriteFault writer.new.failure) }
 {
     let mut count = 0;
-    for found in search.find_iter(line) {
+    let mut from = 0;
+    while let Some(found) = next_asked(search, options, line, from) {
         let start = offset + found.start() as u64;
         print_part(options, name, number, start, found.span().of(line), writer)?;
         count = 1;
+        from = found.end();
     }
     Ok(count)
 }
