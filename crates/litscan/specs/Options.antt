@@ -4,6 +4,8 @@ use Rattle.std.specs.Prelude.{None, codes, if◌then◌else◌, min, nat_lt, opt
 use Rattle.std.specs.Char.{is_ascii_digit}
 use Rattle.std.specs.Str.{bytes_eq}
 use Rattle.std.specs.Option.{is_some}
+use Rattle.litscan.specs.declared.options.Color.{Color}
+use Rattle.litscan.specs.declared.options.Color.TheVariants.{Always, Auto, Never}
 use Rattle.litscan.specs.declared.options.Options.{Options}
 
 -- no option is given
@@ -19,6 +21,7 @@ no_options = record {
   whole = false;
   named = None;
   listed = None;
+  color = Never;
   quiet = false;
   untold = false;
   most = None;
@@ -48,6 +51,24 @@ with_letter options letter =
     else if letter == 63 then Some (record options { help = true })
     else if letter == 97 || letter == 70 then Some options
     else None
+
+-- when colours are printed, where it is known whether standard output is a terminal
+abbrev pub color_for : Bool → Color → Color
+color_for is_terminal Auto = if is_terminal then Always else Never
+color_for is_terminal color = color
+
+-- the options, where it is known whether standard output is a terminal
+abbrev pub on_output : Bool → Options → Options
+on_output is_terminal options = record options { color = color_for is_terminal options.color }
+
+-- whether colours are always printed
+abbrev pub is_always : Color → Bool
+is_always Always = true
+is_always _ = false
+
+-- whether all that is printed is printed in colours
+abbrev pub is_colored : Options → Bool
+is_colored options = is_always options.color
 
 -- whether no line is printed: only their number, the names of files, or nothing is asked for
 abbrev pub is_silent : Options → Bool
@@ -93,6 +114,18 @@ letter_named name =
     else if bytes_eq name (codes "--version") then Some 86
     else if bytes_eq name (codes "--with-filename") then Some 72
     else if bytes_eq name (codes "--word-regexp") then Some 119
+    else None
+
+-- whether this is the long name of the option for colours
+abbrev pub is_color : List ℕ → Bool
+is_color name = bytes_eq name (codes "--color") || bytes_eq name (codes "--colour")
+
+-- when colours are printed, by the argument of that option, if it is one
+abbrev pub color_named : List ℕ → Option Color
+color_named name =
+    if bytes_eq name (codes "always") || bytes_eq name (codes "yes") || bytes_eq name (codes "force") then Some Always
+    else if bytes_eq name (codes "never") || bytes_eq name (codes "no") || bytes_eq name (codes "none") then Some Never
+    else if bytes_eq name (codes "auto") || bytes_eq name (codes "tty") || bytes_eq name (codes "if-tty") then Some Auto
     else None
 
 -- the number with a digit more behind it, if it is one and the number stays below 2^64

@@ -2,6 +2,7 @@
 #![tactic(auto)]
 
 mod asked;
+mod color;
 mod device;
 mod fault;
 mod files;
@@ -49,6 +50,7 @@ Prints the lines of each FILE in which one of the words occurs, as grep -F does.
   -c, --count                   print how many lines count
   -l, --files-with-matches      print the names of the files in which a line counts
   -L, --files-without-match     print the names of the files in which none does
+  --color[=WHEN], --colour      print matches, names and numbers in colours: WHEN is always, never, or auto
   -q, --quiet, --silent         print nothing
   -s, --no-messages             say nothing of files that cannot be read
   -a, -F, --text, --fixed-strings  change nothing
@@ -98,7 +100,8 @@ fn explain(rt: &HostRuntime, text: &str) -> Result<u8, Fault> {
 fn search_files(rt: &HostRuntime, request: &Request) -> Result<u8, Fault> {
     let words = words_of(rt, request.sources.as_slice())?;
     let search = search_for(rt.alloc(), request.options.ignore_case, words.as_slice())?;
-    let room = if rt.stdout().is_terminal() { 0 } else { BLOCK };
+    let is_terminal = rt.stdout().is_terminal();
+    let room = if is_terminal { 0 } else { BLOCK };
     let writer = BufWriter::with_capacity(rt.alloc(), room, rt.stdout()).or(Err(
         Fault::OutOfMemory,
     ))?;
@@ -106,7 +109,7 @@ fn search_files(rt: &HostRuntime, request: &Request) -> Result<u8, Fault> {
     let found = scan_files(
         rt,
         &search,
-        request.options,
+        request.options.on_output(is_terminal),
         request.files.as_slice(),
         &mut writer,
     )?;

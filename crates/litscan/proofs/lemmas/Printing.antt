@@ -10,9 +10,9 @@ use Rattle.literal_base.specs.MatchValue.{MatchValue}
 use Rattle.literal_search.specs.SearchValue.{SearchValue}
 use Rattle.litscan.specs.Asked.{AreMatches, one_asked}
 use Rattle.litscan.specs.Lines.{with_feed}
-use Rattle.litscan.specs.Options.{is_silent}
-use Rattle.litscan.specs.Printed.{PrintsFound, PrintsLine, PrintsLines, PrintsUnlessSilent, counts, printed_matches}
-use Rattle.litscan.specs.Printed.{printed_part}
+use Rattle.litscan.specs.Options.{is_colored, is_silent}
+use Rattle.litscan.specs.Printed.{PrintsFound, PrintsLine, PrintsLines, PrintsUnlessSilent, PrintsWhole, counts}
+use Rattle.litscan.specs.Printed.{printed_matches}
 use Rattle.litscan.specs.declared.options.Options.{Options}
 use Rattle.litscan.proofs.lemmas.Asked.{one_asked_if, told_by_first}
 
@@ -178,16 +178,15 @@ module _ (search : SearchValue) (options : Options) (name : List ℕ) where
       is ∙ one ∙ sym (ap (λ b. 0 + cond b 1 0) (counts_matched line (found ∷ more) kept greedy))
 
   -- a whole line
-  pub prints_whole : (number offset : ℕ) (line : List ℕ)
+  pub prints_whole : (number offset : ℕ) (line out : List ℕ)
       → (is_silent options || (options.only && options.others)) ≡ false → options.only ≡ false
       → counts search options line ≡ true
-      → PrintsUnlessSilent (is_silent options) search options name number offset (line ∷ [])
-      (printed_part options name number offset line)
-  prints_whole number offset line loud all counted =
-      let out = printed_part options name number offset line in
+      → PrintsWhole (is_colored options) search options name number offset line out
+      → PrintsUnlessSilent (is_silent options) search options name number offset (line ∷ []) out
+  prints_whole number offset line out loud all counted whole =
       one_line number offset line out (not_asked (is_silent options) options.only options.others loud).0
       (subst (λ b. PrintsLine b search options name number offset line out) (sym counted)
-      (subst (λ b. PrintsFound b search options name number offset line out) (sym all) refl))
+      (subst (λ b. PrintsFound b search options name number offset line out) (sym all) whole))
 
   -- nothing of a line
   pub prints_nothing : (number offset : ℕ) (line : List ℕ)

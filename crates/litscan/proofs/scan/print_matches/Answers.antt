@@ -5,7 +5,7 @@ use Rattle.std.proofs.lemmas.List.{flat_map_more, length_push}
 use Rattle.std.specs.Io.KnownBytes.{Appends}
 use Rattle.literal_base.specs.declared.search.Span.{Span}
 use Rattle.litscan.specs.Asked.{AreMatches}
-use Rattle.litscan.specs.Printed.{printed_matches, printed_part}
+use Rattle.litscan.specs.Printed.{printed_match, printed_matches, printed_part}
 use Rattle.litscan.proofs.scan.print_matches.Goals as goal
 
 pub loop-found-init : goal.loop-found-init
@@ -32,8 +32,8 @@ loop-found-preserved g c =
     let bytes : c.of.result.now ≡ slice_range line found.start found.end =
     c.of.ensures ∙ ap (λ (s : Span). slice_range line s.start s.end) c.span.ensures.span in
     let longer = length_push so_far.all found in
-    let here = Appends (g.W.Write.contents c.loop-found.writer.inner) (g.W.Write.contents c.print_part.new.writer.inner)
-    in
+    let here = Appends (g.W.Write.contents c.loop-found.writer.inner)
+    (g.W.Write.contents c.print_match.new.writer.inner) in
     record {
       all = so_far.all ++ found ∷ [];
       inside = omega (arith, c.end-from.ensures.end, first.whole, first.occurs.occurs.before_end);
@@ -46,12 +46,15 @@ loop-found-preserved g c =
       written =
           subst (Appends _ _)
           (flat_map_more
-          (λ it. printed_part options name number (c.args.offset + it.start) (slice_range line it.start it.end)) []
+          (λ it. printed_part options name number (c.args.offset + it.start)
+          (printed_match options (slice_range line it.start it.end))) []
           so_far.all found)
           (Appends-trans _ _ _ (printed_matches options name number c.args.offset line so_far.all) _ so_far.written
-          (subst (λ at. here (printed_part options name number at (slice_range line found.start found.end))) place
-          (subst (λ these. here (printed_part options name number (c.args.offset + c.start.result) these)) bytes
-          c.in_ok-print_part.ensures.printed)));
+          (subst (λ at. here (printed_part options name number at
+          (printed_match options (slice_range line found.start found.end)))) place
+          (subst (λ these. here (printed_part options name number (c.args.offset + c.start.result)
+          (printed_match options these))) bytes
+          c.in_ok-print_match.ensures.printed)));
       counted = omega (arith, longer);
     }
 
