@@ -1,4 +1,5 @@
 -- Lemmas that several proofs share, by topic.
+pub mod Asked
 pub mod Lines
 pub mod Printing
 pub mod Reading

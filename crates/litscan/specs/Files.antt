@@ -1,6 +1,6 @@
 -- What is printed of files, and said of those that cannot be read.
 use Rattle.std.specs.Prelude.{◌≡◌, ◌≢◌, ℕ, ◌==◌, ◌&&◌, ◌||◌, ◌++◌, Bool, List, [], Option, Some, None, codes, true}
-use Rattle.std.specs.Prelude.{if◌then◌else◌, length, map, nat_lt, not, slice_index}
+use Rattle.std.specs.Prelude.{false, if◌then◌else◌, length, map, nat_lt, not, slice_index}
 use Rattle.std.specs.List.{All, count_by, list_any}
 use Rattle.std.specs.declared.io.ErrorKind.{ErrorKind}
 use Rattle.std.specs.declared.io.ErrorKind.TheVariants as kind
@@ -23,11 +23,13 @@ input_name name = if is_input name then codes "(standard input)" else name
 abbrev pub PrintsText : SearchValue → Options → List ℕ → List ℕ → Scanned → List ℕ → Type 0
 PrintsText search options name text scanned out =
     Prints search options name text out
-    × (scanned.count ≡ count_by (counts search options.others) (lines_of text))
+    × (scanned.count ≡ count_by (counts search options) (lines_of text))
 
--- what is printed of a file of this name, of which this was read if it could be opened, and what its scan found
+-- what is printed of a file of this name, of which this was read if it could be opened, and what its scan found;
+-- standard input is open
 abbrev pub PrintsFile : SearchValue → Options → List ℕ → Option (List ℕ) → Scanned → List ℕ → Type 0
-PrintsFile search options name None scanned out = (out ≡ []) × (scanned ≡ record { count = 0; failed = true })
+PrintsFile search options name None scanned out =
+    (is_input name ≡ false) × (out ≡ []) × (scanned ≡ record { count = 0; failed = true })
 PrintsFile search options name (Some text) scanned out = PrintsText search options (input_name name) text scanned out
 
 -- a file that was searched: its name, what was read of it if it could be opened, what was found, and what was printed

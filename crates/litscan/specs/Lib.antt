@@ -1,3 +1,4 @@
+pub mod Asked
 pub mod DeviceValue
 pub mod Fault
 pub mod Files

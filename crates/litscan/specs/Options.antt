@@ -4,6 +4,8 @@ use Rattle.std.specs.Prelude.{None, codes, if◌then◌else◌, min, nat_lt, opt
 use Rattle.std.specs.Char.{is_ascii_digit}
 use Rattle.std.specs.Str.{bytes_eq}
 use Rattle.std.specs.Option.{is_some}
+use Rattle.litscan.specs.declared.options.Color.{Color}
+use Rattle.litscan.specs.declared.options.Color.TheVariants.{Always, Auto, Never}
 use Rattle.litscan.specs.declared.options.Options.{Options}
 
 -- no option is given
@@ -15,8 +17,11 @@ no_options = record {
   numbers = false;
   offsets = false;
   only = false;
+  alone = false;
+  whole = false;
   named = None;
   listed = None;
+  color = Never;
   quiet = false;
   untold = false;
   most = None;
@@ -25,7 +30,7 @@ no_options = record {
 }
 
 -- the options with what a letter asks for, and None if it is no option without argument. The letters are in turn: b, c,
--- h, H, i and y, l, L, n, o, q, s, v, V, ?, and a and F, which change nothing
+-- h, H, i and y, l, L, n, o, q, s, v, V, w, x, ?, and a and F, which change nothing
 abbrev pub with_letter : Options → ℕ → Option Options
 with_letter options letter =
     if letter == 98 then Some (record options { offsets = true })
@@ -41,9 +46,29 @@ with_letter options letter =
     else if letter == 115 then Some (record options { untold = true })
     else if letter == 118 then Some (record options { others = true })
     else if letter == 86 then Some (record options { version = true })
+    else if letter == 119 then Some (record options { alone = true })
+    else if letter == 120 then Some (record options { whole = true })
     else if letter == 63 then Some (record options { help = true })
     else if letter == 97 || letter == 70 then Some options
     else None
+
+-- when colours are printed, where it is known whether standard output is a terminal
+abbrev pub color_for : Bool → Color → Color
+color_for is_terminal Auto = if is_terminal then Always else Never
+color_for is_terminal color = color
+
+-- the options, where it is known whether standard output is a terminal
+abbrev pub on_output : Bool → Options → Options
+on_output is_terminal options = record options { color = color_for is_terminal options.color }
+
+-- whether colours are always printed
+abbrev pub is_always : Color → Bool
+is_always Always = true
+is_always _ = false
+
+-- whether all that is printed is printed in colours
+abbrev pub is_colored : Options → Bool
+is_colored options = is_always options.color
 
 -- whether no line is printed: only their number, the names of files, or nothing is asked for
 abbrev pub is_silent : Options → Bool
@@ -77,6 +102,7 @@ letter_named name =
     else if bytes_eq name (codes "--ignore-case") then Some 105
     else if bytes_eq name (codes "--invert-match") then Some 118
     else if bytes_eq name (codes "--line-number") then Some 110
+    else if bytes_eq name (codes "--line-regexp") then Some 120
     else if bytes_eq name (codes "--max-count") then Some 109
     else if bytes_eq name (codes "--no-filename") then Some 104
     else if bytes_eq name (codes "--no-messages") then Some 115
@@ -87,6 +113,19 @@ letter_named name =
     else if bytes_eq name (codes "--text") then Some 97
     else if bytes_eq name (codes "--version") then Some 86
     else if bytes_eq name (codes "--with-filename") then Some 72
+    else if bytes_eq name (codes "--word-regexp") then Some 119
+    else None
+
+-- whether this is the long name of the option for colours
+abbrev pub is_color : List ℕ → Bool
+is_color name = bytes_eq name (codes "--color") || bytes_eq name (codes "--colour")
+
+-- when colours are printed, by the argument of that option, if it is one
+abbrev pub color_named : List ℕ → Option Color
+color_named name =
+    if bytes_eq name (codes "always") || bytes_eq name (codes "yes") || bytes_eq name (codes "force") then Some Always
+    else if bytes_eq name (codes "never") || bytes_eq name (codes "no") || bytes_eq name (codes "none") then Some Never
+    else if bytes_eq name (codes "auto") || bytes_eq name (codes "tty") || bytes_eq name (codes "if-tty") then Some Auto
     else None
 
 -- the number with a digit more behind it, if it is one and the number stays below 2^64

@@ -5,14 +5,13 @@ use Rattle.std.specs.Fmt.{decimal}
 use Rattle.std.specs.Io.KnownBytes.{Consumes}
 use Rattle.std.specs.List.{count_by, flat_map, slice_range}
 use Rattle.std.specs.Option.{IsSome}
-use Rattle.literal_base.specs.Greedy.{IsGreedy}
 use Rattle.literal_base.specs.MatchValue.{MatchValue}
-use Rattle.literal_base.specs.Occurs.{one_occurs}
 use Rattle.literal_search.specs.SearchValue.{SearchValue}
 use Rattle.std.specs.declared.io.ErrorKind.{ErrorKind}
+use Rattle.litscan.specs.Asked.{AreMatches, one_asked}
 use Rattle.litscan.specs.Fault.{IsReadFault, IsWriteFault}
 use Rattle.litscan.specs.Lines.{lines_of, with_feed}
-use Rattle.litscan.specs.Options.{is_enough, is_silent, limit_of}
+use Rattle.litscan.specs.Options.{is_colored, is_enough, is_silent, limit_of}
 use Rattle.litscan.specs.declared.fault.Fault.{Fault}
 use Rattle.litscan.specs.declared.fault.Fault.TheVariants.{OutOfMemory}
 use Rattle.litscan.specs.declared.options.Options.{Options}
@@ -51,35 +50,80 @@ abbrev pub StopsScan : Option ErrorKind → Option ErrorKind → Fault → Type 
 StopsScan read_failure write_failure fault =
     (IsReadFault read_failure fault × (fault ≡ OutOfMemory)) ⊎ IsWriteFault write_failure fault
 
--- whether a line counts: a pattern occurs in it, or none where the others are asked for
-abbrev pub counts : SearchValue → Bool → List ℕ → Bool
-counts search others line =
-    if others then not (one_occurs search.query.patterns search.ignore_case line)
-    else one_occurs search.query.patterns search.ignore_case line
+-- whether a line counts: a pattern occurs in it as is asked for, or none does where the others are asked for
+abbrev pub counts : SearchValue → Options → List ℕ → Bool
+counts search options line =
+    if options.others then not (one_asked search options line) else one_asked search options line
 
--- what stands in front of what is printed of a file of this name: the name and a colon, if that is asked for
+-- what turns a colour of a terminal on, by its number, where colours are asked for
+abbrev pub color_on : Options → List ℕ → List ℕ
+color_on options color =
+    if is_colored options then 27 ∷ codes "[" ++ color ++ codes "m" ++ 27 ∷ codes "[K" else []
+
+-- what turns it off
+abbrev pub color_off : Options → List ℕ
+color_off options = if is_colored options then 27 ∷ codes "[m" ++ 27 ∷ codes "[K" else []
+
+-- bytes as they are printed in a colour, where colours are asked for
+abbrev pub in_color : Options → List ℕ → List ℕ → List ℕ
+in_color options color bytes = color_on options color ++ bytes ++ color_off options
+
+-- a colon, in cyan
+abbrev pub printed_colon : Options → List ℕ
+printed_colon options = in_color options (codes "36") (codes ":")
+
+-- a match, in bold red
+abbrev pub printed_match : Options → List ℕ → List ℕ
+printed_match options bytes = in_color options (codes "01;31") bytes
+
+-- a number, in green, and a colon
+abbrev pub printed_number : Options → ℕ → List ℕ
+printed_number options number = in_color options (codes "32") (decimal number) ++ printed_colon options
+
+-- what stands in front of what is printed of a file of this name: the name, in magenta, and a colon, if that is asked
+-- for
 abbrev pub printed_name : Options → List ℕ → List ℕ
-printed_name options name = if unwrap_or options.named false then name ++ codes ":" else []
+printed_name options name =
+    if unwrap_or options.named false then in_color options (codes "35") name ++ printed_colon options else []
 
--- bytes as they are printed: in front the name of their file, the number of their line, and their offset in the text,
--- where these are asked for, each with a colon, and a line feed behind
+-- what stands in front of a line or match: the name of its file, the number of its line, and its offset in the text,
+-- where these are asked for, each with a colon
+abbrev pub printed_head : Options → List ℕ → ℕ → ℕ → List ℕ
+printed_head options name number offset =
+    printed_name options name ++ (if options.numbers then printed_number options number else [])
+    ++ (if options.offsets then printed_number options offset else [])
+
+-- bytes as they are printed: behind what stands in front of them, and with a line feed
 abbrev pub printed_part : Options → List ℕ → ℕ → ℕ → List ℕ → List ℕ
-printed_part options name number offset bytes =
-    printed_name options name ++ (if options.numbers then decimal number ++ codes ":" else [])
-    ++ (if options.offsets then decimal offset ++ codes ":" else []) ++ with_feed bytes
+printed_part options name number offset bytes = printed_head options name number offset ++ with_feed bytes
 
 -- matches in a line of this number, which begins at this offset of the text, as they are printed
 abbrev pub printed_matches : Options → List ℕ → ℕ → ℕ → List ℕ → List MatchValue → List ℕ
 printed_matches options name number offset line all =
     flat_map
-    (λ found. printed_part options name number (offset + found.start) (slice_range line found.start found.end))
+    (λ found. printed_part options name number (offset + found.start)
+    (printed_match options (slice_range line found.start found.end)))
     all
 
--- what is printed of a line that counts: all of it, or its matches from the left that do not overlap
+-- a line from a place on, with these matches in it as they are printed
+abbrev pub marked_from : Options → List ℕ → ℕ → List MatchValue → List ℕ
+marked_from options line at [] = slice_range line at (length line)
+marked_from options line at (found ∷ more) = slice_range line at found.start
+    ++ printed_match options (slice_range line found.start found.end) ++ marked_from options line found.end more
+
+-- what is printed of a whole line: it, or where colours are asked for, it with its matches in them
+abbrev pub PrintsWhole : Bool → SearchValue → Options → List ℕ → ℕ → ℕ → List ℕ → List ℕ → Type 0
+PrintsWhole false search options name number offset line out = out ≡ printed_part options name number offset line
+PrintsWhole true search options name number offset line out = (all : List MatchValue)
+    × AreMatches search options line 0 all
+    × (out ≡ printed_part options name number offset (marked_from options line 0 all))
+
+-- what is printed of a line that counts: all of it, or its matches
 abbrev pub PrintsFound : Bool → SearchValue → Options → List ℕ → ℕ → ℕ → List ℕ → List ℕ → Type 0
-PrintsFound false search options name number offset line out = out ≡ printed_part options name number offset line
+PrintsFound false search options name number offset line out =
+    PrintsWhole (is_colored options) search options name number offset line out
 PrintsFound true search options name number offset line out = (all : List MatchValue)
-    × IsGreedy search.query search.ignore_case line 0 all
+    × AreMatches search options line 0 all
     × (out ≡ printed_matches options name number offset line all)
 
 -- what is printed of a line, by whether it counts
@@ -92,7 +136,7 @@ PrintsLine true search options name number offset line out =
 abbrev pub PrintsLines : SearchValue → Options → List ℕ → ℕ → ℕ → List (List ℕ) → List ℕ → Type 0
 PrintsLines search options name number offset [] out = out ≡ []
 PrintsLines search options name number offset (line ∷ more) out = (first rest : List ℕ)
-    × PrintsLine (counts search options.others line) search options name number offset line first
+    × PrintsLine (counts search options line) search options name number offset line first
     × PrintsLines search options name (number + 1) (offset + length line + 1) more rest × (out ≡ first ++ rest)
 
 -- nothing is printed of lines where only their number, names of files, or nothing is asked for
@@ -102,13 +146,15 @@ PrintsUnlessSilent false search options name number offset lines out =
     PrintsLines search options name number offset lines out
 
 -- the name of a file as a line, where a line counts and such files are asked for, or where none does and others are
-abbrev pub printed_listed : Bool → List ℕ → ℕ → List ℕ
-printed_listed true name count = if nat_lt 0 count then with_feed name else []
-printed_listed false name count = if nat_lt 0 count then [] else with_feed name
+abbrev pub printed_listed : Bool → Options → List ℕ → ℕ → List ℕ
+printed_listed true options name count =
+    if nat_lt 0 count then with_feed (in_color options (codes "35") name) else []
+printed_listed false options name count =
+    if nat_lt 0 count then [] else with_feed (in_color options (codes "35") name)
 
 -- what is printed behind the lines of a file, so many of which count: nothing, its name, or this number
 abbrev pub printed_behind : Option Bool → Options → List ℕ → ℕ → List ℕ
-printed_behind (Some found) options name count = if options.quiet then [] else printed_listed found name count
+printed_behind (Some found) options name count = if options.quiet then [] else printed_listed found options name count
 printed_behind None options name count =
     if options.count && not options.quiet then printed_name options name ++ with_feed (decimal count) else []
 
@@ -117,4 +163,4 @@ abbrev pub Prints : SearchValue → Options → List ℕ → List ℕ → List �
 Prints search options name text out = (lines : List ℕ)
     × PrintsUnlessSilent (is_silent options) search options name 1 0 (lines_of text) lines
     × (out ≡ lines
-    ++ printed_behind options.listed options name (count_by (counts search options.others) (lines_of text)))
+    ++ printed_behind options.listed options name (count_by (counts search options) (lines_of text)))

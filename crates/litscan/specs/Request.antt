@@ -1,12 +1,14 @@
 -- What the words of a command line ask for.
 use Rattle.std.specs.Prelude.{◌≡◌, ◌⊎◌, ℕ, ◌==◌, ◌&&◌, ◌||◌, Bool, List, [], ◌∷◌, ◌++◌, drop, length}
-use Rattle.std.specs.Prelude.{Option, Some, None, Result, Ok, Err, codes, if◌then◌else◌, map, nat_lt, not}
+use Rattle.std.specs.Prelude.{Option, Some, None, Result, Ok, Err, codes, if◌then◌else◌, map, nat_lt}
 use Rattle.std.specs.Prelude.{option_and_then, slice_index, unwrap_or}
 use Rattle.std.specs.List.{after_first, before_first}
 use Rattle.std.specs.Option.{option_map}
 use Rattle.std.specs.Str.{bytes_eq}
 use Rattle.litscan.specs.declared.fault.Fault.{Fault}
 use Rattle.litscan.specs.declared.fault.Fault.TheVariants.{OutOfMemory, Usage}
+use Rattle.litscan.specs.declared.options.Color.{Color}
+use Rattle.litscan.specs.declared.options.Color.TheVariants.{Auto}
 use Rattle.litscan.specs.declared.options.Options.{Options}
 use Rattle.litscan.specs.declared.request.Next.{Next}
 use Rattle.litscan.specs.declared.request.Next.TheVariants.{Any, Argument}
@@ -14,7 +16,8 @@ use Rattle.litscan.specs.declared.request.Next.TheVariants as next
 use Rattle.litscan.specs.declared.request.Request.{Request}
 use Rattle.litscan.specs.declared.request.Source.{Source}
 use Rattle.litscan.specs.declared.request.Source.TheVariants as source
-use Rattle.litscan.specs.Options.{letter_named, no_options, number_of, takes_argument, with_letter}
+use Rattle.litscan.specs.Options.{color_named, is_color, letter_named, no_options, number_of, takes_argument}
+use Rattle.litscan.specs.Options.{with_letter}
 
 -- where words come from, as contracts see it: the lines of some bytes, or of a file of this name
 pub data SourceValue : Type 0 where
@@ -83,16 +86,29 @@ with_letters (letter ∷ more) request =
 abbrev pub is_equals : ℕ → Bool
 is_equals byte = byte == 61
 
--- the request with an option by its long name, or by that, an equals sign and its argument. None where no option has
--- the name, or one with an argument has none
+-- the request with colours printed so
+abbrev pub with_color : Color → RequestValue → RequestValue
+with_color color request = record request { options = record request.options { color = color } }
+
+-- the request with an option by its long name. None where no option has it
+abbrev pub with_name : List ℕ → RequestValue → Option RequestValue
+with_name name request =
+    if is_color name then Some (with_color Auto request)
+    else option_and_then (λ letter. with_letters (letter ∷ []) request) (letter_named name)
+
+-- the request with an option by its long name, and its argument. None where no option with an argument has the name
+abbrev pub with_named : List ℕ → List ℕ → RequestValue → Option RequestValue
+with_named name argument request =
+    if is_color name then option_map (λ color. with_color color request) (color_named argument)
+    else option_and_then (λ letter. if takes_argument letter then with_argument letter argument request else None)
+    (letter_named name)
+
+-- the request with an option by its long name, or by that, an equals sign and its argument
 abbrev pub with_long : List ℕ → RequestValue → Option RequestValue
 with_long word request =
     let name = before_first is_equals word in
-    option_and_then (λ letter.
-    if not (nat_lt (length name) (length word)) then with_letters (letter ∷ []) request
-    else if takes_argument letter then with_argument letter (after_first is_equals word) request
-    else None)
-    (letter_named name)
+    if nat_lt (length name) (length word) then with_named name (after_first is_equals word) request
+    else with_name word request
 
 -- whether a word is an option: a dash, and something behind it
 abbrev pub is_option : List ℕ → Bool

@@ -2,8 +2,10 @@
 ghost use Rattle.std.specs.Prelude.{◌≡◌, ◌⊎◌, ◌||◌, ℕ, List, Option, IfErr, IfOk, map, nat_lt, true};
 ghost use Rattle.std.specs.Io.KnownBytes.{Appends};
 ghost use Rattle.std.specs.List.{flat_map};
+ghost use Rattle.literal_base.specs.declared.packed.MatchKind.TheVariants.{LeftmostLongest};
 ghost use Rattle.litscan.specs.Fault.{IsWriteFault};
 ghost use Rattle.litscan.specs.Files.{AreSearched, PrintsFile, PrintsText, Searched, input_name, status_for};
+ghost use Rattle.litscan.specs.Printed.{Reads, stops};
 ghost use Rattle.litscan.specs.declared.fault.Fault.TheVariants.{OutOfMemory};
 
 use crate::device::Device;
@@ -58,6 +60,7 @@ pub fn scan_files<W: Write>(
     names: &[Vec<u8>],
     writer: &mut Device<W>,
 ) -> Result<Found, Fault>
+    requires { search.now.query.kind ≡ LeftmostLongest }
     ensures searched { IfOk result (λ found. (all : List Searched)
         × AreSearched search.now options (map (λ name. name.items) names.now) found all
         × Appends (W.contents writer.old.inner) (W.contents writer.new.inner) (flat_map (λ one. one.out) all)) }
@@ -86,19 +89,27 @@ fn scan_file<W: Write>(
     name: &[u8],
     writer: &mut Device<W>,
 ) -> Result<Scanned, Fault>
+    requires { search.now.query.kind ≡ LeftmostLongest }
     ensures printed { IfOk result (λ scanned. (text : Option (List ℕ)) × (out : List ℕ)
         × PrintsFile search.now options name.now text scanned out
         × Appends (W.contents writer.old.inner) (W.contents writer.new.inner) out) }
     ensures error { IfErr result (λ fault. IsWriteFault writer.new.failure fault ⊎ (fault ≡ OutOfMemory)) }
 {
     if is_input(name) {
-        let reader = buffered(rt.alloc(), rt.stdin())?;
-        return scan_told(rt, search, options, b"(standard input)", reader, writer);
+        let mut reader = buffered(rt.alloc(), rt.stdin())?;
+        return scan_told(
+            rt,
+            search,
+            options,
+            b"(standard input)",
+            &mut reader,
+            writer,
+        );
     }
     match open(rt, name) {
         Ok(file) => {
-            let reader = buffered(rt.alloc(), file)?;
-            scan_told(rt, search, options, name, reader, writer)
+            let mut reader = buffered(rt.alloc(), file)?;
+            scan_told(rt, search, options, name, &mut reader, writer)
         }
         Err(ErrorKind::OutOfMemory) => Err(Fault::OutOfMemory),
         Err(kind) => Ok(not_opened(rt, options, name, kind)),
@@ -106,21 +117,22 @@ fn scan_file<W: Write>(
 }
 
 /// Searches a text. If it cannot be read to its end that is told of, but for `-s`.
-fn scan_told<R: BufRead + Drop, W: Write>(
+fn scan_told<R: BufRead, W: Write>(
     rt: &HostRuntime,
     search: &Search,
     options: Options,
     name: &[u8],
-    reader: Device<R>,
+    reader: &mut Device<R>,
     writer: &mut Device<W>,
 ) -> Result<Scanned, Fault>
+    requires { search.now.query.kind ≡ LeftmostLongest }
     ensures printed { IfOk result (λ scanned. (text out : List ℕ)
+        × Reads (stops options scanned) (R.remaining reader.old.inner) (R.remaining reader.new.inner) text
         × PrintsText search.now options name.now text scanned out
         × Appends (W.contents writer.old.inner) (W.contents writer.new.inner) out) }
     ensures error { IfErr result (λ fault. IsWriteFault writer.new.failure fault ⊎ (fault ≡ OutOfMemory)) }
 {
-    let mut reader = reader;
-    let scanned = scan(rt.alloc(), search, options, name, &mut reader, writer)?;
+    let scanned = scan(rt.alloc(), search, options, name, reader, writer)?;
     if scanned.failed && !options.untold {
         tell(
             rt,

@@ -20,6 +20,6 @@ pub fn lines_are_printed_in_turn()
         (name line out : List ℕ) → PrintsLines search options name 1 0 (front ++ line ∷ more) out
         → (before part after : List ℕ) × (out ≡ before ++ (part ++ after))
         × PrintsLines search options name 1 0 front before
-        × PrintsLine (counts search options.others line) search options name (length front + 1)
+        × PrintsLine (counts search options line) search options name (length front + 1)
         (length (flat_map with_feed front)) line part }
 {}

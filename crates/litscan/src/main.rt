@@ -1,6 +1,8 @@
 //! Prints the lines of files in which a word stands, or its matches: `litscan [OPTION...] WORDS [FILE...]`.
 #![tactic(auto)]
 
+mod asked;
+mod color;
 mod device;
 mod fault;
 mod files;
@@ -36,7 +38,9 @@ Prints the lines of each FILE in which one of the words occurs, as grep -F does.
   -e, --regexp=WORDS            look for these words
   -f, --file=FILE               look for the words in this file
   -i, -y, --ignore-case         ignore ASCII case
-  -v, --invert-match            take the lines in which no word occurs
+  -v, --invert-match            take the lines that else would not count
+  -w, --word-regexp             take words only where no letter, digit or _ is next to them
+  -x, --line-regexp             take lines only that are a word as a whole
   -m, --max-count=N             read no more of a file once N lines count
   -b, --byte-offset             print the offset of each line, or match, in the file
   -n, --line-number             print the number of each line
@@ -46,6 +50,7 @@ Prints the lines of each FILE in which one of the words occurs, as grep -F does.
   -c, --count                   print how many lines count
   -l, --files-with-matches      print the names of the files in which a line counts
   -L, --files-without-match     print the names of the files in which none does
+  --color[=WHEN], --colour      print matches, names and numbers in colours: WHEN is always, never, or auto
   -q, --quiet, --silent         print nothing
   -s, --no-messages             say nothing of files that cannot be read
   -a, -F, --text, --fixed-strings  change nothing
@@ -95,7 +100,8 @@ fn explain(rt: &HostRuntime, text: &str) -> Result<u8, Fault> {
 fn search_files(rt: &HostRuntime, request: &Request) -> Result<u8, Fault> {
     let words = words_of(rt, request.sources.as_slice())?;
     let search = search_for(rt.alloc(), request.options.ignore_case, words.as_slice())?;
-    let room = if rt.stdout().is_terminal() { 0 } else { BLOCK };
+    let is_terminal = rt.stdout().is_terminal();
+    let room = if is_terminal { 0 } else { BLOCK };
     let writer = BufWriter::with_capacity(rt.alloc(), room, rt.stdout()).or(Err(
         Fault::OutOfMemory,
     ))?;
@@ -103,7 +109,7 @@ fn search_files(rt: &HostRuntime, request: &Request) -> Result<u8, Fault> {
     let found = scan_files(
         rt,
         &search,
-        request.options,
+        request.options.on_output(is_terminal),
         request.files.as_slice(),
         &mut writer,
     )?;

@@ -1,7 +1,19 @@
 //! What is asked for of each file, and the letters and names that ask for it.
 ghost use Rattle.std.specs.Prelude.{◌≡◌};
-ghost use Rattle.litscan.specs.Options.{is_enough, is_silent, letter_named, limit_of, no_options, number_of};
-ghost use Rattle.litscan.specs.Options.{takes_argument, with_digit, with_letter};
+ghost use Rattle.litscan.specs.Options.{color_named, is_color, is_colored, is_enough, is_silent, letter_named};
+ghost use Rattle.litscan.specs.Options.{limit_of, no_options, number_of, on_output, takes_argument, with_digit};
+ghost use Rattle.litscan.specs.Options.{with_letter};
+
+/// When colours are printed.
+#[derive(Clone, Copy)]
+pub enum Color {
+    /// Never.
+    Never,
+    /// Where standard output is a terminal.
+    Auto,
+    /// Always.
+    Always,
+}
 
 /// What is asked for of each file.
 #[derive(Clone, Copy)]
@@ -18,11 +30,17 @@ pub struct Options {
     pub offsets: bool,
     /// `-o`: whether the matches in a line are printed in place of it.
     pub only: bool,
+    /// `-w`: whether words count only where they stand alone.
+    pub alone: bool,
+    /// `-x`: whether words count only where they are the whole line, whatever `alone` is.
+    pub whole: bool,
     /// `-H`, `-h`: whether the name of its file is printed in front of what is printed, if that is asked for.
     pub named: Option<bool>,
     /// `-l`, `-L`: whether the names of the files in which a line counts are printed, or of the others, in place of
     /// lines.
     pub listed: Option<bool>,
+    /// `--color`: when names, numbers and matches are printed in colours.
+    pub color: Color,
     /// `-q`: whether nothing is printed.
     pub quiet: bool,
     /// `-s`: whether nothing is said of files that cannot be read.
@@ -47,8 +65,11 @@ impl Options {
             numbers: false,
             offsets: false,
             only: false,
+            alone: false,
+            whole: false,
             named: None,
             listed: None,
+            color: Color::Never,
             quiet: false,
             untold: false,
             most: None,
@@ -76,11 +97,38 @@ impl Options {
             b's' => options.untold = true,
             b'v' => options.others = true,
             b'V' => options.version = true,
+            b'w' => options.alone = true,
+            b'x' => options.whole = true,
             b'?' => options.help = true,
             b'a' | b'F' => {}
             _ => return None,
         }
         Some(options)
+    }
+
+    /// With colours always or never, by whether standard output is a terminal where that is to tell.
+    pub fn on_output(self, is_terminal: bool) -> Options
+        ensures { result ≡ on_output is_terminal self }
+    {
+        let mut options = self;
+        if let Color::Auto = options.color {
+            options.color = if is_terminal {
+                Color::Always
+            } else {
+                Color::Never
+            };
+        }
+        options
+    }
+
+    /// Whether colours are always printed.
+    pub fn is_colored(self) -> bool
+        ensures { result ≡ is_colored self }
+    {
+        match self.color {
+            Color::Always => true,
+            _ => false,
+        }
     }
 
     /// Whether no line is printed: only their number, the names of files, or nothing is asked for.
@@ -134,6 +182,7 @@ pub fn letter_named(name: &str) -> Option<u8>
         "--ignore-case" => b'i',
         "--invert-match" => b'v',
         "--line-number" => b'n',
+        "--line-regexp" => b'x',
         "--max-count" => b'm',
         "--no-filename" => b'h',
         "--no-messages" => b's',
@@ -144,9 +193,30 @@ pub fn letter_named(name: &str) -> Option<u8>
         "--text" => b'a',
         "--version" => b'V',
         "--with-filename" => b'H',
+        "--word-regexp" => b'w',
         _ => return None,
     };
     Some(letter)
+}
+
+/// Whether this is the long name of the option for colours.
+pub fn is_color(name: &str) -> bool
+    ensures { result ≡ is_color name.now }
+{
+    name == "--color" || name == "--colour"
+}
+
+/// When colours are printed, by the argument of that option, if it is one.
+pub fn color_named(when: &str) -> Option<Color>
+    ensures { result ≡ color_named when.now }
+{
+    let color = match when {
+        "always" | "yes" | "force" => Color::Always,
+        "never" | "no" | "none" => Color::Never,
+        "auto" | "tty" | "if-tty" => Color::Auto,
+        _ => return None,
+    };
+    Some(color)
 }
 
 /// The number that these digits write, if it is below 2^64, and there is one.

@@ -2,11 +2,13 @@
 ghost use Rattle.std.specs.Prelude.{◌≡◌, ◌⊎◌, None, Some, MatchResult, map, string_bytes};
 ghost use Rattle.litscan.specs.Request.{Becomes, asked_by, completed, is_long, is_option, no_request, request_of};
 ghost use Rattle.litscan.specs.Request.{value_of_request, value_of_source, with_any, with_argument, with_behind};
-ghost use Rattle.litscan.specs.Request.{with_file, with_files, with_letters, with_long, with_source, with_word};
-ghost use Rattle.litscan.specs.Request.{with_words};
+ghost use Rattle.litscan.specs.Request.{with_file, with_files, with_letters, with_long, with_name, with_named};
+ghost use Rattle.litscan.specs.Request.{with_source, with_word, with_words};
 
 use crate::fault::Fault;
-use crate::options::{Options, letter_named, number_of, takes_argument};
+use crate::options::{
+    Color, Options, color_named, is_color, letter_named, number_of, takes_argument,
+};
 use std::alloc::Global;
 
 /// Where words come from.
@@ -117,9 +119,32 @@ impl Request {
         ensures { Becomes result (with_long word.now (value_of_request self.old)) (value_of_request self.new) }
     {
         let Some((name, argument)) = word.split_once('=') else {
-            let letter = letter_named(word).ok_or(Fault::Usage)?;
-            return self.take_letters(alloc, &[letter]);
+            return self.take_name(alloc, word);
         };
+        self.take_named(alloc, name, argument)
+    }
+
+    /// Takes an option by its long name.
+    fn take_name(&mut self, alloc: Global, name: &str) -> Result<(), Fault>
+        ensures { Becomes result (with_name name.now (value_of_request self.old)) (value_of_request self.new) }
+    {
+        if is_color(name) {
+            self.options.color = Color::Auto;
+            return Ok(());
+        }
+        let letter = letter_named(name).ok_or(Fault::Usage)?;
+        self.take_letters(alloc, &[letter])
+    }
+
+    /// Takes an option by its long name, and its argument.
+    fn take_named(&mut self, alloc: Global, name: &str, argument: &str) -> Result<(), Fault>
+        ensures { Becomes result (with_named name.now argument.now (value_of_request self.old))
+            (value_of_request self.new) }
+    {
+        if is_color(name) {
+            self.options.color = color_named(argument).ok_or(Fault::Usage)?;
+            return Ok(());
+        }
         let letter = letter_named(name).ok_or(Fault::Usage)?;
         if !takes_argument(letter) {
             return Err(Fault::Usage);

@@ -3,15 +3,18 @@ ghost use Rattle.std.specs.Prelude.{◌≡◌, ◌<◌, ◌≤◌, ◌+◌, ◌^
 ghost use Rattle.std.specs.Prelude.{IfErr, IfOk, MatchOption, MatchResult, OnOk};
 ghost use Rattle.std.specs.List.{count_by};
 ghost use Rattle.std.specs.Io.KnownBytes.{Appends};
-ghost use Rattle.literal_base.specs.Greedy.{IsGreedy};
 ghost use Rattle.literal_base.specs.MatchValue.{MatchValue};
+ghost use Rattle.literal_base.specs.declared.packed.MatchKind.TheVariants.{LeftmostLongest};
+ghost use Rattle.litscan.specs.Asked.{AreMatches};
 ghost use Rattle.litscan.specs.Fault.{IsWriteFault};
 ghost use Rattle.litscan.specs.Lines.{last_line, lines_of};
-ghost use Rattle.litscan.specs.Options.{is_silent};
-ghost use Rattle.litscan.specs.Printed.{CannotRead, Prints, PrintsUnlessSilent, Reads, ReadsTooMany, StopsScan, counts};
-ghost use Rattle.litscan.specs.Printed.{printed_behind, printed_listed, printed_matches, printed_name, printed_part};
-ghost use Rattle.litscan.specs.Printed.{stops};
+ghost use Rattle.litscan.specs.Options.{is_colored, is_silent};
+ghost use Rattle.litscan.specs.Printed.{CannotRead, Prints, PrintsUnlessSilent, PrintsWhole, Reads, ReadsTooMany};
+ghost use Rattle.litscan.specs.Printed.{StopsScan, counts, marked_from, printed_behind, printed_head, printed_listed};
+ghost use Rattle.litscan.specs.Printed.{printed_match, printed_matches, printed_name, printed_part, stops};
 
+use crate::asked::{has_asked, next_asked};
+use crate::color::{MATCH, NAME, print_colon, print_colored, print_number};
 use crate::device::Device;
 use crate::fault::Fault;
 use crate::options::{Options, is_enough};
@@ -38,11 +41,12 @@ pub fn scan<R: BufRead, W: Write>(
     reader: &mut Device<R>,
     writer: &mut Device<W>,
 ) -> Result<Scanned, Fault>
+    requires { search.now.query.kind ≡ LeftmostLongest }
     ensures scanned { IfOk result (λ scanned. (text out : List ℕ)
         × Reads (stops options scanned) (R.remaining reader.old.inner) (R.remaining reader.new.inner) text
         × Appends (W.contents writer.old.inner) (W.contents writer.new.inner) out
         × Prints search.now options name.now text out
-        × (scanned.count ≡ count_by (counts search.now options.others) (lines_of text))) }
+        × (scanned.count ≡ count_by (counts search.now options) (lines_of text))) }
     ensures failed { IfOk result (λ scanned. CannotRead reader.new.failure
         (ReadsTooMany (R.remaining reader.old.inner) (R.remaining reader.new.inner)) scanned.failed) }
     ensures error { IfErr result (StopsScan reader.new.failure writer.new.failure) }
@@ -67,7 +71,7 @@ fn print_behind<W: Write>(
         return Ok(());
     }
     if let Some(found) = options.listed {
-        return print_listed(found, name, count, writer);
+        return print_listed(found, options, name, count, writer);
     }
     if options.count {
         print_name(options, name, writer)?;
@@ -79,18 +83,19 @@ fn print_behind<W: Write>(
 /// Prints the name of a file as a line, where a line counts, or where none does.
 fn print_listed<W: Write>(
     found: bool,
+    options: Options,
     name: &[u8],
     count: u64,
     writer: &mut Device<W>,
 ) -> Result<(), Fault>
     ensures printed { OnOk result (Appends (W.contents writer.old.inner) (W.contents writer.new.inner)
-        (printed_listed found name.now count)) }
+        (printed_listed found options name.now count)) }
     ensures error { IfErr result (IsWriteFault writer.new.failure) }
 {
     if found != (count > 0) {
         return Ok(());
     }
-    writer.write_all(name)?;
+    print_colored(options, NAME, name, writer)?;
     writer.write_all(b"\n")
 }
 
@@ -103,8 +108,8 @@ fn print_name<W: Write>(options: Options, name: &[u8], writer: &mut Device<W>) -
     if !options.named.unwrap_or(false) {
         return Ok(());
     }
-    writer.write_all(name)?;
-    writer.write_all(b":")
+    print_colored(options, NAME, name, writer)?;
+    print_colon(options, writer)
 }
 
 /// Reads a text until enough lines count, prints what is asked for of those that do, and says how many these are.
@@ -116,11 +121,12 @@ fn scan_lines<R: BufRead, W: Write>(
     reader: &mut Device<R>,
     writer: &mut Device<W>,
 ) -> Result<Scanned, Fault>
+    requires { search.now.query.kind ≡ LeftmostLongest }
     ensures scanned { IfOk result (λ scanned. (text out : List ℕ)
         × Reads (stops options scanned) (R.remaining reader.old.inner) (R.remaining reader.new.inner) text
         × Appends (W.contents writer.old.inner) (W.contents writer.new.inner) out
         × PrintsUnlessSilent (is_silent options) search.now options name.now 1 0 (lines_of text) out
-        × (scanned.count ≡ count_by (counts search.now options.others) (lines_of text))) }
+        × (scanned.count ≡ count_by (counts search.now options) (lines_of text))) }
     ensures failed { IfOk result (λ scanned. CannotRead reader.new.failure
         (ReadsTooMany (R.remaining reader.old.inner) (R.remaining reader.new.inner)) scanned.failed) }
     ensures error { IfErr result (StopsScan reader.new.failure writer.new.failure) }
@@ -212,10 +218,11 @@ fn take_last<W: Write>(
     last: &[u8],
     writer: &mut Device<W>,
 ) -> Result<u64, Fault>
-    requires { offset + length last.now < 2 ^ 64 }
+    requires longest { search.now.query.kind ≡ LeftmostLongest }
+    requires inside { offset + length last.now < 2 ^ 64 }
     ensures few { IfOk result (λ count. count ≤ 1) }
     ensures counted { IfOk result (λ count.
-        count ≡ count_by (counts search.now options.others) (last_line last.now)) }
+        count ≡ count_by (counts search.now options) (last_line last.now)) }
     ensures printed { OnOk result ((out : List ℕ)
         × Appends (W.contents writer.old.inner) (W.contents writer.new.inner) out
         × PrintsUnlessSilent (is_silent options) search.now options name.now number offset (last_line last.now) out) }
@@ -238,10 +245,11 @@ fn take_line<W: Write>(
     line: &[u8],
     writer: &mut Device<W>,
 ) -> Result<u64, Fault>
-    requires { offset + length line.now < 2 ^ 64 }
+    requires longest { search.now.query.kind ≡ LeftmostLongest }
+    requires inside { offset + length line.now < 2 ^ 64 }
     ensures few { IfOk result (λ count. count ≤ 1) }
     ensures counted { IfOk result (λ count.
-        count ≡ count_by (counts search.now options.others) (line.now ∷ [])) }
+        count ≡ count_by (counts search.now options) (line.now ∷ [])) }
     ensures printed { OnOk result ((out : List ℕ)
         × Appends (W.contents writer.old.inner) (W.contents writer.new.inner) out
         × PrintsUnlessSilent (is_silent options) search.now options name.now number offset (line.now ∷ []) out) }
@@ -256,7 +264,7 @@ fn take_line<W: Write>(
     if !counts(search, options, line) {
         return Ok(0);
     }
-    print_part(options, name, number, offset, line, writer)?;
+    print_line(search, options, name, number, offset, line, writer)?;
     Ok(1)
 }
 
@@ -269,9 +277,10 @@ fn prints_nothing(options: Options) -> bool
 
 /// Whether a line counts.
 fn counts(search: &Search, options: Options, line: &[u8]) -> bool
-    ensures { result ≡ counts search.now options.others line.now }
+    requires { search.now.query.kind ≡ LeftmostLongest }
+    ensures { result ≡ counts search.now options line.now }
 {
-    search.is_match(line) != options.others
+    has_asked(search, options, line) != options.others
 }
 
 /// Prints the matches in a line, each as a line of its own. Answers 1 if there is one, and else 0.
@@ -284,23 +293,68 @@ fn print_matches<W: Write>(
     line: &[u8],
     writer: &mut Device<W>,
 ) -> Result<u64, Fault>
-    requires { offset + length line.now < 2 ^ 64 }
+    requires longest { search.now.query.kind ≡ LeftmostLongest }
+    requires inside { offset + length line.now < 2 ^ 64 }
     ensures printed { IfOk result (λ count. (all : List MatchValue)
-        × IsGreedy search.now.query search.now.ignore_case line.now 0 all
+        × AreMatches search.now options line.now 0 all
         × Appends (W.contents writer.old.inner) (W.contents writer.new.inner)
         (printed_matches options name.now number offset line.now all) × (count ≡ min 1 (length all))) }
     ensures error { IfErr result (IsWriteFault writer.new.failure) }
 {
     let mut count = 0;
-    for found in search.find_iter(line) {
+    let mut from = 0;
+    while let Some(found) = next_asked(search, options, line, from) {
         let start = offset + found.start() as u64;
-        print_part(options, name, number, start, found.span().of(line), writer)?;
+        print_match(options, name, number, start, found.span().of(line), writer)?;
         count = 1;
+        from = found.end();
     }
     Ok(count)
 }
 
-/// Prints a line, or a match in it.
+/// Prints a match in a line, as a line of its own.
+fn print_match<W: Write>(
+    options: Options,
+    name: &[u8],
+    number: u64,
+    offset: u64,
+    bytes: &[u8],
+    writer: &mut Device<W>,
+) -> Result<(), Fault>
+    ensures printed { OnOk result (Appends (W.contents writer.old.inner) (W.contents writer.new.inner)
+        (printed_part options name.now number offset (printed_match options bytes.now))) }
+    ensures error { IfErr result (IsWriteFault writer.new.failure) }
+{
+    print_head(options, name, number, offset, writer)?;
+    print_colored(options, MATCH, bytes, writer)?;
+    writer.write_all(b"\n")
+}
+
+/// Prints a line that counts, with the matches in it in colours where these are asked for.
+fn print_line<W: Write>(
+    search: &Search,
+    options: Options,
+    name: &[u8],
+    number: u64,
+    offset: u64,
+    line: &[u8],
+    writer: &mut Device<W>,
+) -> Result<(), Fault>
+    requires { search.now.query.kind ≡ LeftmostLongest }
+    ensures printed { OnOk result ((out : List ℕ)
+        × Appends (W.contents writer.old.inner) (W.contents writer.new.inner) out
+        × PrintsWhole (is_colored options) search.now options name.now number offset line.now out) }
+    ensures error { IfErr result (IsWriteFault writer.new.failure) }
+{
+    if !options.is_colored() {
+        return print_part(options, name, number, offset, line, writer);
+    }
+    print_head(options, name, number, offset, writer)?;
+    print_marked(search, options, line, writer)?;
+    writer.write_all(b"\n")
+}
+
+/// Prints a line.
 fn print_part<W: Write>(
     options: Options,
     name: &[u8],
@@ -313,13 +367,51 @@ fn print_part<W: Write>(
         (printed_part options name.now number offset bytes.now)) }
     ensures error { IfErr result (IsWriteFault writer.new.failure) }
 {
-    print_name(options, name, writer)?;
-    if options.numbers {
-        write!(writer, "{number}:")?;
-    }
-    if options.offsets {
-        write!(writer, "{offset}:")?;
-    }
+    print_head(options, name, number, offset, writer)?;
     writer.write_all(bytes)?;
     writer.write_all(b"\n")
+}
+
+/// Prints a line with the matches in it in colours.
+fn print_marked<W: Write>(
+    search: &Search,
+    options: Options,
+    line: &[u8],
+    writer: &mut Device<W>,
+) -> Result<(), Fault>
+    requires { search.now.query.kind ≡ LeftmostLongest }
+    ensures printed { OnOk result ((all : List MatchValue) × AreMatches search.now options line.now 0 all
+        × Appends (W.contents writer.old.inner) (W.contents writer.new.inner)
+        (marked_from options line.now 0 all)) }
+    ensures error { IfErr result (IsWriteFault writer.new.failure) }
+{
+    let mut from = 0;
+    while let Some(found) = next_asked(search, options, line, from) {
+        writer.write_all(&line[from..found.start()])?;
+        print_colored(options, MATCH, found.span().of(line), writer)?;
+        from = found.end();
+    }
+    writer.write_all(&line[from..])
+}
+
+/// Prints what stands in front of a line, or of a match.
+fn print_head<W: Write>(
+    options: Options,
+    name: &[u8],
+    number: u64,
+    offset: u64,
+    writer: &mut Device<W>,
+) -> Result<(), Fault>
+    ensures printed { OnOk result (Appends (W.contents writer.old.inner) (W.contents writer.new.inner)
+        (printed_head options name.now number offset)) }
+    ensures error { IfErr result (IsWriteFault writer.new.failure) }
+{
+    print_name(options, name, writer)?;
+    if options.numbers {
+        print_number(options, number, writer)?;
+    }
+    if options.offsets {
+        print_number(options, offset, writer)?;
+    }
+    Ok(())
 }

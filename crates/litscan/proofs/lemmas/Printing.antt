@@ -3,19 +3,18 @@ use Rattle.std.proofs.Common.{◌≡◌, ◌+◌, ◌&&◌, ◌||◌, ℕ, Bool,
 use Rattle.std.proofs.Common.{Option, None, Some, inl, inr}
 use Rattle.std.proofs.Common.{refl, sym, ap, ◌∙◌, arith, subst, append_assoc, append-nil, length-append}
 use Rattle.std.specs.List.{count_by, flat_map}
-use Rattle.std.proofs.lemmas.Bool.{cases_Bool}
+use Rattle.std.proofs.lemmas.Bool.{cases_Bool, cond-false, cond-true}
 use Rattle.std.proofs.lemmas.List.Sums.{sum_by-append}
 use Rattle.std.specs.Option.{is_some}
-use Rattle.literal_base.specs.Greedy.{IsGreedy}
 use Rattle.literal_base.specs.MatchValue.{MatchValue}
-use Rattle.literal_base.specs.Occurs.{one_occurs}
-use Rattle.literal_base.proofs.lemmas.Met.{is_some_where_one_occurs, one_occurs_if}
 use Rattle.literal_search.specs.SearchValue.{SearchValue}
+use Rattle.litscan.specs.Asked.{AreMatches, one_asked}
 use Rattle.litscan.specs.Lines.{with_feed}
-use Rattle.litscan.specs.Options.{is_silent}
-use Rattle.litscan.specs.Printed.{PrintsFound, PrintsLine, PrintsLines, PrintsUnlessSilent, counts, printed_matches}
-use Rattle.litscan.specs.Printed.{printed_part}
+use Rattle.litscan.specs.Options.{is_colored, is_silent}
+use Rattle.litscan.specs.Printed.{PrintsFound, PrintsLine, PrintsLines, PrintsUnlessSilent, PrintsWhole, counts}
+use Rattle.litscan.specs.Printed.{printed_matches}
 use Rattle.litscan.specs.declared.options.Options.{Options}
+use Rattle.litscan.proofs.lemmas.Asked.{one_asked_if, told_by_first}
 
 -- the first match, if there is one
 abbrev first_of : List MatchValue → Option MatchValue
@@ -76,11 +75,11 @@ module _ (search : SearchValue) (options : Options) (name : List ℕ) where
       → PrintsLines search options name number offset (front ++ line ∷ more) out
       → (before part after : List ℕ) × (out ≡ before ++ (part ++ after))
       × PrintsLines search options name number offset front before
-      × PrintsLine (counts search options.others line) search options name at behind line part
+      × PrintsLine (counts search options line) search options name at behind line part
   prints_in_turn number offset at behind [] more line out at_is behind_is printed =
       let number_is : number ≡ at = omega arith in
       let offset_is : offset ≡ behind = omega arith in
-      let test = counts search options.others line in (
+      let test = counts search options line in (
         [],
         printed.0,
         printed.1,
@@ -120,25 +119,22 @@ module _ (search : SearchValue) (options : Options) (name : List ℕ) where
 
   -- a line counts by its matches
   counts_matched : (line : List ℕ) (all : List MatchValue) → options.others ≡ false
-      → IsGreedy search.query search.ignore_case line 0 all → counts search options.others line ≡ is_some (first_of all)
+      → AreMatches search options line 0 all → counts search options line ≡ is_some (first_of all)
   counts_matched line [] kept nothing =
-      ap (λ others. counts search others line) kept
-      ∙ sym (is_some_where_one_occurs search.query search.ignore_case line None nothing)
-  counts_matched line (found ∷ more) kept greedy =
-      ap (λ others. counts search others line) kept
-      ∙ sym (is_some_where_one_occurs search.query search.ignore_case line (Some found) greedy.0)
+      cond-false options.others _ _ kept ∙ sym (told_by_first search options line None nothing)
+  counts_matched line (found ∷ more) kept matches =
+      cond-false options.others _ _ kept ∙ sym (told_by_first search options line (Some found) matches.0)
 
-  -- where no pattern occurs in a line that counts, it has no match
-  nothing_matched : (line : List ℕ) → options.others ≡ true → counts search options.others line ≡ true
-      → IsGreedy search.query search.ignore_case line 0 []
-  nothing_matched line others counted = λ i at occurs.
-      not_both (one_occurs search.query.patterns search.ignore_case line)
-      (one_occurs_if search.query.patterns search.ignore_case line i at occurs)
-      (sym (ap (λ o. counts search o line) others) ∙ counted)
+  -- where the others are asked for, a line that counts has no match
+  nothing_matched : (line : List ℕ) → options.others ≡ true → counts search options line ≡ true
+      → AreMatches search options line 0 []
+  nothing_matched line others counted = λ i at o.
+      not_both (one_asked search options line) (one_asked_if search options line i at o)
+      (sym (cond-true options.others _ _ others) ∙ counted)
 
   -- one line, of which something may be printed
   one_line : (number offset : ℕ) (line out : List ℕ) → is_silent options ≡ false
-      → PrintsLine (counts search options.others line) search options name number offset line out
+      → PrintsLine (counts search options line) search options name number offset line out
       → PrintsUnlessSilent (is_silent options) search options name number offset (line ∷ []) out
   one_line number offset line out loud printed =
       subst (λ silent. PrintsUnlessSilent silent search options name number offset (line ∷ []) out) (sym loud)
@@ -147,7 +143,7 @@ module _ (search : SearchValue) (options : Options) (name : List ℕ) where
   -- the matches in a line
   pub prints_matches : (number offset : ℕ) (line : List ℕ) (all : List MatchValue)
       → (is_silent options || (options.only && options.others)) ≡ false → options.only ≡ true
-      → IsGreedy search.query search.ignore_case line 0 all
+      → AreMatches search options line 0 all
       → PrintsUnlessSilent (is_silent options) search options name number offset (line ∷ [])
       (printed_matches options name number offset line all)
   prints_matches number offset line all loud only greedy =
@@ -155,8 +151,8 @@ module _ (search : SearchValue) (options : Options) (name : List ℕ) where
       let out = printed_matches options name number offset line all in
       one_line number offset line out asked.0 (by (asked.1 only) all greedy)
     where
-      by : options.others ≡ false → (all : List MatchValue) → IsGreedy search.query search.ignore_case line 0 all
-          → PrintsLine (counts search options.others line) search options name number offset line
+      by : options.others ≡ false → (all : List MatchValue) → AreMatches search options line 0 all
+          → PrintsLine (counts search options line) search options name number offset line
           (printed_matches options name number offset line all)
       by kept [] greedy =
           subst (λ b. PrintsLine b search options name number offset line [])
@@ -171,8 +167,8 @@ module _ (search : SearchValue) (options : Options) (name : List ℕ) where
   -- a line counts once if it has a match
   pub counts_once : (line : List ℕ) (all : List MatchValue) (count : ℕ)
       → (is_silent options || (options.only && options.others)) ≡ false → options.only ≡ true
-      → IsGreedy search.query search.ignore_case line 0 all → count ≡ min 1 (length all)
-      → count ≡ count_by (counts search options.others) (line ∷ [])
+      → AreMatches search options line 0 all → count ≡ min 1 (length all)
+      → count ≡ count_by (counts search options) (line ∷ [])
   counts_once line [] count loud only greedy is =
       let kept = (not_asked (is_silent options) options.only options.others loud).1 only in
       is ∙ sym (ap (λ b. 0 + cond b 1 0) (counts_matched line [] kept greedy))
@@ -182,16 +178,15 @@ module _ (search : SearchValue) (options : Options) (name : List ℕ) where
       is ∙ one ∙ sym (ap (λ b. 0 + cond b 1 0) (counts_matched line (found ∷ more) kept greedy))
 
   -- a whole line
-  pub prints_whole : (number offset : ℕ) (line : List ℕ)
+  pub prints_whole : (number offset : ℕ) (line out : List ℕ)
       → (is_silent options || (options.only && options.others)) ≡ false → options.only ≡ false
-      → counts search options.others line ≡ true
-      → PrintsUnlessSilent (is_silent options) search options name number offset (line ∷ [])
-      (printed_part options name number offset line)
-  prints_whole number offset line loud all counted =
-      let out = printed_part options name number offset line in
+      → counts search options line ≡ true
+      → PrintsWhole (is_colored options) search options name number offset line out
+      → PrintsUnlessSilent (is_silent options) search options name number offset (line ∷ []) out
+  prints_whole number offset line out loud all counted whole =
       one_line number offset line out (not_asked (is_silent options) options.only options.others loud).0
       (subst (λ b. PrintsLine b search options name number offset line out) (sym counted)
-      (subst (λ b. PrintsFound b search options name number offset line out) (sym all) refl))
+      (subst (λ b. PrintsFound b search options name number offset line out) (sym all) whole))
 
   -- nothing of a line
   pub prints_nothing : (number offset : ℕ) (line : List ℕ)
@@ -207,9 +202,9 @@ module _ (search : SearchValue) (options : Options) (name : List ℕ) where
       ]
     where
       by : options.only ≡ true → options.others ≡ true
-          → PrintsLine (counts search options.others line) search options name number offset line []
+          → PrintsLine (counts search options line) search options name number offset line []
       by only others =
-          elim (cases_Bool (counts search options.others line)) [
+          elim (cases_Bool (counts search options line)) [
             | inl counted ↦
                 subst (λ b. PrintsLine b search options name number offset line []) (sym counted)
                 (subst (λ b. PrintsFound b search options name number offset line []) (sym only)

@@ -13,8 +13,8 @@ returns-then-is_input-clause-printed g c =
     (λ scanned found. (
       Some found.0,
       found.1,
-      subst (λ name. PrintsText c.args.search.now c.args.options name found.0 scanned found.1) (sym shown) found.2,
-      found.3,
+      subst (λ name. PrintsText c.args.search.now c.args.options name found.0 scanned found.1) (sym shown) found.3,
+      found.4,
     ))
     c.scan_told.ensures.printed
 
@@ -27,7 +27,7 @@ returns-in_ok-reader-in-Ok-clause-printed g c =
     (λ scanned found. (
       Some found.0,
       found.1,
-      subst (λ name. PrintsText c.args.search.now c.args.options name found.0 scanned found.1) (sym shown) found.2,
-      found.3,
+      subst (λ name. PrintsText c.args.search.now c.args.options name found.0 scanned found.1) (sym shown) found.3,
+      found.4,
     ))
     c.scan_told-in-Ok.ensures.printed

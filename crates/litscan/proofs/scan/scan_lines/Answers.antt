@@ -32,7 +32,7 @@ loop-number-preserved g c =
     let dfa = c.args.search.now in
     let options = c.args.options in
     let prints = PrintsUnlessSilent (is_silent options) dfa options c.args.name.now in
-    let test = counts dfa options.others in
+    let test = counts dfa options in
     let number = c.loop-number.number in
     let offset = c.loop-number.offset in
     let line = c.read_line.new.line.items in
@@ -68,7 +68,7 @@ returns-then-not-fed-clause-scanned g c =
     let dfa = c.args.search.now in
     let options = c.args.options in
     let prints = PrintsUnlessSilent (is_silent options) dfa options c.args.name.now in
-    let test = counts dfa options.others in
+    let test = counts dfa options in
     let number = c.loop-number.number in
     let offset = c.loop-number.offset in
     let last = c.read_line.new.line.items in
@@ -106,7 +106,7 @@ returns-then-is_enough-clause-scanned g c =
       reads_front _ _ _ _ (flat_map with_feed so_far.seen) enough so_far.read,
       so_far.written,
       subst (λ all. prints 1 0 all so_far.out) (sym lines) so_far.printed,
-      so_far.counted ∙ ap (count_by (counts dfa options.others)) (sym lines),
+      so_far.counted ∙ ap (count_by (counts dfa options)) (sym lines),
     )
 
 pub returns-in-Err-clause-scanned : goal.returns-in-Err-clause-scanned
@@ -123,7 +123,7 @@ returns-in-Err-clause-scanned g c =
       reads_front _ _ _ _ (flat_map with_feed so_far.seen) (ap (λ found. stops options found) is) so_far.read,
       so_far.written,
       subst (λ all. prints 1 0 all so_far.out) (sym lines) so_far.printed,
-      ap (λ found. found.count) is ∙ so_far.counted ∙ ap (count_by (counts dfa options.others)) (sym lines),
+      ap (λ found. found.count) is ∙ so_far.counted ∙ ap (count_by (counts dfa options)) (sym lines),
     ))
 
 pub returns-in_default-clause-scanned : goal.returns-in_default-clause-scanned
@@ -138,7 +138,7 @@ returns-in_default-clause-scanned g c =
       begins_with _ _ (flat_map with_feed so_far.seen) so_far.read,
       so_far.written,
       subst (λ all. prints 1 0 all so_far.out) (sym lines) so_far.printed,
-      so_far.counted ∙ ap (count_by (counts dfa options.others)) (sym lines),
+      so_far.counted ∙ ap (count_by (counts dfa options)) (sym lines),
     )
 
 pub returns-in_default-clause-failed : goal.returns-in_default-clause-failed
@@ -160,7 +160,7 @@ returns-clause-scanned g c =
       begins_with _ _ (flat_map with_feed so_far.seen) so_far.read,
       so_far.written,
       subst (λ all. prints 1 0 all so_far.out) (sym lines) so_far.printed,
-      so_far.counted ∙ ap (count_by (counts dfa options.others)) (sym lines),
+      so_far.counted ∙ ap (count_by (counts dfa options)) (sym lines),
     )
 
 pub returns-clause-failed : goal.returns-clause-failed

@@ -15,7 +15,7 @@ invariant-loop-number g l = record {
   read : Consumes (g.R.Read.remaining l.fn.reader.inner) (g.R.Read.remaining l.reader.inner) (flat_map with_feed seen);
   number : l.number ≡ length seen + 1;
   offset : l.offset ≡ length (flat_map with_feed seen) + 0;
-  counted : l.count ≡ count_by (counts l.search l.options.others) seen;
+  counted : l.count ≡ count_by (counts l.search l.options) seen;
   written : Appends (g.W.Write.contents l.fn.writer.inner) (g.W.Write.contents l.writer.inner) out;
   printed : PrintsUnlessSilent (is_silent l.options) l.search l.options l.name 1 0 seen out;
 }

@@ -1,7 +1,7 @@
 use Rattle.std.proofs.Common.{◌∙◌, sym, []}
 use Rattle.std.proofs.KnownBytes.{Appends-nil}
 use Rattle.std.proofs.lemmas.Result.{IfOk-weaker}
-use Rattle.litscan.specs.Printed.{printed_matches, printed_part}
+use Rattle.litscan.specs.Printed.{printed_matches}
 use Rattle.litscan.proofs.lemmas.Printing.{counts_once, prints_matches, prints_nothing, prints_whole}
 use Rattle.litscan.proofs.scan.take_line.Goals as goal
 
@@ -35,10 +35,10 @@ returns-then-options-clause-printed g c =
 
 pub returns-clause-printed : goal.returns-clause-printed
 returns-clause-printed g c =
-    let line = c.args.line.now in (
-      printed_part c.args.options c.args.name.now c.args.number c.args.offset line,
-      c.in_ok-print_part.ensures.printed,
-      prints_whole c.args.search.now c.args.options c.args.name.now c.args.number c.args.offset line
+    let whole = c.in_ok-print_line.ensures.printed in (
+      whole.0,
+      whole.1,
+      prints_whole c.args.search.now c.args.options c.args.name.now c.args.number c.args.offset c.args.line.now whole.0
           (sym c.prints_nothing.ensures ∙ c.if-prints_nothing.false) c.if-options.false
-          (sym c.counts-2.ensures ∙ c.if-not-counts.false),
+          (sym c.counts-2.ensures ∙ c.if-not-counts.false) whole.2,
     )

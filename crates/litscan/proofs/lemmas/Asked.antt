@@ -1,0 +1,202 @@
+-- Occurrences of words in a line that are as is asked for. For `asked` and `scan`.
+use Rattle.std.proofs.Common.{◌≡◌, ℕ, ◌+◌, ◌<◌, ◌≤◌, ◌&&◌, Bool, true, false, List, [], length, get_or}
+use Rattle.std.proofs.Common.{Option, Some, None, MatchOption, is_some, slice_range}
+use Rattle.std.proofs.Common.{sym, subst, ◌∙◌, arith, inl, inr}
+use Rattle.std.proofs.lemmas.Bool.{and_from, and_parts, both_ways, cases_Bool, cases_lt, cond-false}
+use Rattle.std.proofs.lemmas.Bool.{le-leb, leb-true}
+use Rattle.std.proofs.lemmas.List.{get_or_default}
+use Rattle.std.proofs.lemmas.List.Folds.{Any-from_list_any, list_any_at}
+use Rattle.std.proofs.lemmas.List.FromFn.{get_or-range_with_len, length-range_with_len}
+use Rattle.std.proofs.lemmas.Slice.Eq.{bytes_eq-Decides}
+use Rattle.std.specs.List.{list_any, range_with_len}
+use Rattle.literal_base.specs.Leftmost.{IsBetter, IsLeftmostMatch}
+use Rattle.literal_base.specs.MatchValue.{MatchValue}
+use Rattle.literal_base.specs.Occurs.{Occurs, between, case_folded, one_occurs, pattern_at}
+use Rattle.literal_base.specs.Occurs.{rest_from, stands_at}
+use Rattle.literal_base.proofs.lemmas.Met.{occurs_if, one_occurs_if}
+use Rattle.literal_base.specs.declared.packed.MatchKind.TheVariants.{LeftmostLongest}
+use Rattle.literal_base.specs.declared.search.Span.{Span}
+use Rattle.literal_search.specs.SearchValue.{SearchValue}
+use Rattle.litscan.specs.Asked.{IsFirstAsked, NothingAsked, OccursAsked, is_asked, one_asked}
+use Rattle.litscan.specs.declared.options.Options.{Options}
+
+module _ (search : SearchValue) (options : Options) (line : List ℕ) where
+  abbrev size : ℕ → ℕ
+  size i = length (pattern_at search.query.patterns i)
+
+  -- what occurs in a span occurs in another one that it lies in as well
+  pub occurs_in : {a b : Span} {i at : ℕ} → Occurs search.query.patterns search.ignore_case line a i at
+      → b.start ≤ at → at + length (pattern_at search.query.patterns i) ≤ b.end
+      → Occurs search.query.patterns search.ignore_case line b i at
+  occurs_in o after before = record {
+    is_pattern = o.is_pattern;
+    after_start = after;
+    before_end = before;
+    same = o.same;
+  }
+
+  pub asked_in : {a b : Span} {i at : ℕ} → OccursAsked search options line a i at
+      → b.start ≤ at → at + length (pattern_at search.query.patterns i) ≤ b.end
+      → OccursAsked search options line b i at
+  asked_in o after before = record { occurs = occurs_in o.occurs after before; asked = o.asked }
+
+  -- of the patterns that occur at the place of a leftmost match none is longer
+  pub none_longer : {span : Span} {found : MatchValue} → search.query.kind ≡ LeftmostLongest
+      → IsLeftmostMatch search.query search.ignore_case line span found → (i : ℕ)
+      → Occurs search.query.patterns search.ignore_case line span i found.start
+      → found.start + length (pattern_at search.query.patterns i) ≤ found.end
+  none_longer {span} {found} kind leftmost i occurs =
+      elim (cases_lt (size found.pattern) (size i)) [
+        | inl longer ↦
+            absurd (leftmost.best i
+            (subst (λ k. IsBetter k search.query.patterns i found.pattern) (sym kind) (inl longer)) occurs)
+        | inr not_longer ↦ omega (arith, leftmost.whole, not_longer)
+      ]
+
+  -- what is as is asked for, and begins where a leftmost match does that is not, is shorter
+  pub is_shorter : {span : Span} {found : MatchValue} → search.query.kind ≡ LeftmostLongest
+      → IsLeftmostMatch search.query search.ignore_case line span found
+      → is_asked options line found.start found.end ≡ false → (i : ℕ)
+      → OccursAsked search options line span i found.start
+      → found.start + length (pattern_at search.query.patterns i) + 1 ≤ found.end
+  is_shorter {span} {found} kind leftmost other i o =
+      let most = none_longer kind leftmost i o.occurs in
+      elim (cases_lt (found.start + size i) found.end) [
+        | inl less ↦ omega (arith, less)
+        | inr not_less ↦
+            let same : found.start + size i ≡ found.end = omega (arith, most, not_less) in
+            absurd (both_ways (is_asked options line found.start found.end) other
+            (subst (λ end. is_asked options line found.start end ≡ true) same o.asked))
+      ]
+
+  -- what is first in a span is so in another one, whose other places in front begin nothing that is asked for
+  pub first_from : {a b : Span} {found : MatchValue} → b.start ≤ a.start → a.end ≡ b.end
+      → ((i at : ℕ) → OccursAsked search options line b i at → a.start ≤ at)
+      → IsFirstAsked search options line a found → IsFirstAsked search options line b found
+  first_from {a} {b} {found} after end begins is = record {
+    occurs = asked_in is.occurs (omega (arith, is.occurs.occurs.after_start, after))
+        (omega (arith, is.occurs.occurs.before_end, end));
+    whole = is.whole;
+    first = λ i at o. is.first i at (asked_in o (begins i at o) (omega (arith, o.occurs.before_end, end)));
+    longest = λ i o. is.longest i (asked_in o (begins i found.start o) (omega (arith, o.occurs.before_end, end)));
+  }
+
+  -- the first that is as is asked for, where the leftmost match is not so, and a shorter one at its place is
+  pub first_shorter : {span : Span} {found shorter : MatchValue} {start end : ℕ}
+      → search.query.kind ≡ LeftmostLongest → IsLeftmostMatch search.query search.ignore_case line span found
+      → is_asked options line found.start found.end ≡ false → start ≡ found.start → end + 1 ≡ found.end
+      → shorter.start ≡ start → IsFirstAsked search options line (between start end) shorter
+      → IsFirstAsked search options line span shorter
+  first_shorter {span} {found} {shorter} {start} {end} kind leftmost other start_is end_is place is = record {
+    occurs = asked_in is.occurs (omega (arith, place, start_is, leftmost.occurs.after_start))
+        (omega (arith, is.occurs.occurs.before_end, end_is, leftmost.whole, leftmost.occurs.before_end));
+    whole = is.whole;
+    first = λ i at o.
+        elim (cases_lt at found.start) [
+          | inl before ↦ absurd (leftmost.earliest i at before o.occurs)
+          | inr behind ↦ omega (arith, behind, place, start_is)
+        ];
+    longest = λ i o.
+        let here = subst (λ at. OccursAsked search options line span i at) (place ∙ start_is) o in
+        let less = is_shorter kind leftmost other i here in
+        is.longest i (asked_in o (omega (arith, place)) (omega (arith, less, place, start_is, end_is)));
+  }
+
+  -- what is as is asked for begins behind the leftmost match, where that is not so, and no shorter one at its place is
+  pub begins_behind : {span : Span} {found : MatchValue} {start end : ℕ} → search.query.kind ≡ LeftmostLongest
+      → IsLeftmostMatch search.query search.ignore_case line span found
+      → is_asked options line found.start found.end ≡ false → start ≡ found.start → end + 1 ≡ found.end
+      → ((i : ℕ) → ¬ OccursAsked search options line (between start end) i start)
+      → (i at : ℕ) → OccursAsked search options line span i at → found.start + 1 ≤ at
+  begins_behind {span} {found} {start} {end} kind leftmost other start_is end_is none i at o =
+      elim (cases_lt found.start at) [
+        | inl behind ↦ omega (arith, behind)
+        | inr not_behind ↦
+            elim (cases_lt at found.start) [
+              | inl before ↦ absurd (leftmost.earliest i at before o.occurs)
+              | inr not_before ↦
+                  let place : at ≡ found.start = omega (arith, not_behind, not_before) in
+                  let here = subst (λ at. OccursAsked search options line span i at) place o in
+                  let less = is_shorter kind leftmost other i here in
+                  absurd (none i (subst (λ at. OccursAsked search options line (between start end) i at)
+                  (sym start_is) (asked_in here (omega (arith, start_is)) (omega (arith, less, end_is)))))
+            ]
+      ]
+
+  abbrev here_by : ℕ → List ℕ → Bool
+  here_by at bytes = stands_at search.ignore_case bytes line at && is_asked options line at (at + length bytes)
+
+  abbrev here : ℕ → Bool
+  here at = list_any (here_by at) search.query.patterns
+
+  abbrev places : List ℕ
+  places = range_with_len 0 (length line + 1)
+
+  -- what occurs as is asked for is told by the test
+  pub one_asked_if : (i at : ℕ) → OccursAsked search options line (rest_from line 0) i at
+      → one_asked search options line ≡ true
+  one_asked_if i at o =
+      let bytes = pattern_at search.query.patterns i in
+      let there = case_folded search.ignore_case (slice_range line at (at + length bytes)) in
+      let below : at < length line + 1 = omega (arith, o.occurs.before_end) in
+      let is : get_or places at 0 ≡ at = get_or-range_with_len 0 (length line + 1) at 0 below ∙ omega arith in
+      let stands : stands_at search.ignore_case bytes line at ≡ true =
+      and_from _ _ (le-leb (at + length bytes) (length line) o.occurs.before_end)
+      ((bytes_eq-Decides there (case_folded search.ignore_case bytes)).1 o.occurs.same) in
+      let one : here at ≡ true =
+      list_any_at (here_by at) search.query.patterns i [] o.occurs.is_pattern (and_from _ _ stands o.asked) in
+      list_any_at here places at 0 (omega (arith, length-range_with_len 0 (length line + 1)))
+      (subst (λ place. here place ≡ true) (sym is) one)
+
+  pub asked_if : one_asked search options line ≡ true
+      → (i : ℕ) × (at : ℕ) × OccursAsked search options line (rest_from line 0) i at
+  asked_if told =
+      let place = Any-from_list_any here places told in
+      let found = Any-from_list_any (here_by place.1) search.query.patterns place.4 in
+      let is : found.1 ≡ pattern_at search.query.patterns found.0 =
+      sym (get_or_default search.query.patterns found.0 [] found.1 found.2 ∙ found.3) in
+      let both = subst (λ bytes. here_by place.1 bytes ≡ true) is found.4 in
+      let halves = and_parts _ _ both in
+      let parts = and_parts _ _ halves.0 in (
+        found.0,
+        place.1,
+        record {
+          occurs = record {
+            is_pattern = found.2;
+            after_start = omega arith;
+            before_end = leb-true _ _ parts.0;
+            same = (bytes_eq-Decides _ _).0 parts.1;
+          };
+          asked = halves.1;
+        },
+      )
+
+  -- the first match as is asked for, if there is one, tells what the test does
+  pub told_by_first : (answer : Option MatchValue)
+      → MatchOption answer (NothingAsked search options line (rest_from line 0))
+      (IsFirstAsked search options line (rest_from line 0)) → is_some answer ≡ one_asked search options line
+  told_by_first None nothing =
+      elim (cases_Bool (one_asked search options line)) [
+        | inl told ↦ let o = asked_if told in absurd (nothing o.0 o.1 o.2)
+        | inr other ↦ sym other
+      ]
+  told_by_first (Some found) is = sym (one_asked_if found.pattern found.start is.occurs)
+
+  -- where all is as is asked for, the test tells whether a pattern occurs
+  pub told_by_any : options.whole ≡ false → options.alone ≡ false
+      → one_occurs search.query.patterns search.ignore_case line ≡ one_asked search options line
+  told_by_any any_place any_side =
+      elim (cases_Bool (one_occurs search.query.patterns search.ignore_case line)) [
+        | inl told ↦
+            let o = occurs_if search.query.patterns search.ignore_case line told in
+            let asked = cond-false options.whole _ _ any_place ∙ cond-false options.alone _ _ any_side in
+            told ∙ sym (one_asked_if o.0 o.1 (record { occurs = o.2; asked = asked }))
+        | inr other ↦
+            elim (cases_Bool (one_asked search options line)) [
+              | inl told ↦
+                  let o = asked_if told in
+                  absurd (both_ways _ other
+                  (one_occurs_if search.query.patterns search.ignore_case line o.0 o.1 o.2.occurs))
+              | inr none ↦ other ∙ sym none
+            ]
+      ]

@@ -1,0 +1,44 @@
+use Rattle.std.proofs.Common.{◌≡◌, ◌++◌, ◌∷◌, ◌∙◌, [], List, ℕ, append_assoc, refl, subst, sym, Bool}
+use Rattle.std.proofs.KnownBytes.{Appends-trans}
+use Rattle.std.proofs.lemmas.Result.{on_ok_weaker}
+use Rattle.std.specs.Io.KnownBytes.{Appends}
+use Rattle.litscan.specs.Printed.{PrintsWhole, marked_from, printed_head, printed_part}
+use Rattle.litscan.proofs.scan.print_line.Goals as goal
+
+-- the line behind what stands in front of it, and a line feed
+in_line : (head line : List ℕ) → (head ++ line) ++ 10 ∷ [] ≡ head ++ (line ++ 10 ∷ [])
+in_line head line = append_assoc head line (10 ∷ [])
+
+pub returns-then-not-is_colored-clause-printed : goal.returns-then-not-is_colored-clause-printed
+returns-then-not-is_colored-clause-printed g c =
+    let name = c.args.name.now in
+    let line = c.args.line.now in
+    let whole = λ (b : Bool). PrintsWhole b c.args.search.now c.args.options name c.args.number c.args.offset line
+    (printed_part c.args.options name c.args.number c.args.offset line) in
+    on_ok_weaker c.print_part.result
+    (λ written. (
+      printed_part c.args.options name c.args.number c.args.offset line,
+      written,
+      subst whole (sym (sym c.is_colored.ensures ∙ c.if-not-is_colored.true)) refl,
+    ))
+    c.print_part.ensures.printed
+
+pub returns-clause-printed : goal.returns-clause-printed
+returns-clause-printed g c =
+    let options = c.args.options in
+    let name = c.args.name.now in
+    let line = c.args.line.now in
+    let marked = c.in_ok-print_marked.ensures.printed in
+    let head = printed_head options name c.args.number c.args.offset in
+    let shown = marked_from options line 0 marked.0 in
+    let whole = λ (b : Bool). PrintsWhole b c.args.search.now options name c.args.number c.args.offset line
+    (printed_part options name c.args.number c.args.offset shown) in
+    on_ok_weaker c.write_all.result
+    (λ written. (
+      printed_part options name c.args.number c.args.offset shown,
+      subst (Appends _ _) (in_line head shown)
+          (Appends-trans _ _ _ (head ++ shown) (10 ∷ [])
+          (Appends-trans _ _ _ head shown c.in_ok-print_head.ensures.printed marked.2) written),
+      subst whole (sym (sym c.is_colored.ensures ∙ c.if-not-is_colored.false)) (marked.0, marked.1, refl),
+    ))
+    c.write_all.ensures.written

@@ -1,0 +1,60 @@
+-- Which occurrences of words in a line are looked for.
+use Rattle.std.specs.Prelude.{◌≡◌, ℕ, ◌+◌, ◌-◌, ◌≤◌, ◌==◌, ◌&&◌, ◌||◌, Bool, true, List, [], ◌∷◌, length}
+use Rattle.std.specs.Prelude.{if◌then◌else◌, nat_lt, not, slice_index}
+use Rattle.std.specs.Char.{is_ascii_alphanumeric}
+use Rattle.std.specs.List.{list_any, range_with_len}
+use Rattle.literal_base.specs.MatchValue.{MatchValue}
+use Rattle.literal_base.specs.Occurs.{Occurs, pattern_at, rest_from, stands_at}
+use Rattle.literal_base.specs.declared.search.Span.{Span}
+use Rattle.literal_search.specs.SearchValue.{SearchValue}
+use Rattle.litscan.specs.declared.options.Options.{Options}
+
+-- whether a byte is one of a word: an ASCII letter, a digit, or an underscore
+abbrev pub is_word_byte : ℕ → Bool
+is_word_byte byte = is_ascii_alphanumeric byte || byte == 95
+
+-- whether no such byte stands right before a place of a line, nor right behind another
+abbrev pub stands_alone : List ℕ → ℕ → ℕ → Bool
+stands_alone line start end =
+    not (nat_lt 0 start && is_word_byte (slice_index line (start - 1)))
+    && not (nat_lt end (length line) && is_word_byte (slice_index line end))
+
+-- whether what stands in a line from a place to another is as is asked for: the whole line, alone, or anything
+abbrev pub is_asked : Options → List ℕ → ℕ → ℕ → Bool
+is_asked options line start end =
+    if options.whole then (start == 0) && (end == length line)
+    else if options.alone then stands_alone line start end else true
+
+-- a pattern occurs whole in a span of a line, at a place, and is there as is asked for
+pub record OccursAsked (search : SearchValue) (options : Options) (line : List ℕ) (span : Span)
+    (i at : ℕ) : Type 0 where
+  pub occurs : Occurs search.query.patterns search.ignore_case line span i at
+  pub asked : is_asked options line at (at + length (pattern_at search.query.patterns i)) ≡ true
+
+-- whether a pattern occurs in a line as is asked for
+abbrev pub one_asked : SearchValue → Options → List ℕ → Bool
+one_asked search options line =
+    list_any (λ at. list_any (λ bytes.
+    stands_at search.ignore_case bytes line at && is_asked options line at (at + length bytes)) search.query.patterns)
+    (range_with_len 0 (length line + 1))
+
+-- the match is an occurrence in a span of a line that is as is asked for; no other begins before it, and none at its
+-- place is longer
+pub record IsFirstAsked (search : SearchValue) (options : Options) (line : List ℕ) (span : Span)
+    (found : MatchValue) : Type 0 where
+  pub occurs : OccursAsked search options line span found.pattern found.start
+  pub whole : found.end ≡ found.start + length (pattern_at search.query.patterns found.pattern)
+  pub first : (i at : ℕ) → OccursAsked search options line span i at → found.start ≤ at
+  pub longest : (i : ℕ) → OccursAsked search options line span i found.start
+      → found.start + length (pattern_at search.query.patterns i) ≤ found.end
+
+-- nothing occurs in a span of a line as is asked for
+abbrev pub NothingAsked : SearchValue → Options → List ℕ → Span → Type 0
+NothingAsked search options line span = (i at : ℕ) → ¬ OccursAsked search options line span i at
+
+-- the matches in a line from a place on: the first, of those that begin there the longest, and the matches from its end
+-- on
+abbrev pub AreMatches : SearchValue → Options → List ℕ → ℕ → List MatchValue → Type 0
+AreMatches search options line at [] = NothingAsked search options line (rest_from line at)
+AreMatches search options line at (found ∷ more) =
+    IsFirstAsked search options line (rest_from line at) found × AreMatches search options line found.end more
