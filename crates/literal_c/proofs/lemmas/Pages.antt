@@ -75,7 +75,8 @@ module _ (query : Query) (ignore_case : Bool) (haystack : List ℕ) where
       → AreNext query ignore_case haystack end at all found.start
   up_to_next end at next all found are is =
       subst (λ l. AreNext query ignore_case haystack end at l found.start) (append-nil all)
-      (joined end at next found.start all [] are (is.occurs.after_start, λ i p early occurs. is.earliest i p early occurs))
+      (joined end at next found.start all [] are
+      (is.occurs.after_start, λ i p early occurs. is.earliest i p early occurs))
 
   -- where nothing is left, they are the greedy list
   pub greedy : (at next : ℕ) (all : List MatchValue)

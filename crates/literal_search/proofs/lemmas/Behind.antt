@@ -12,7 +12,8 @@ use Rattle.literal_base.specs.Occurs.{NoneIsEmpty, pattern_at}
 use Rattle.literal_base.specs.declared.search.MatchKind.{MatchKind}
 use Rattle.literal_base.specs.declared.search.MatchKind.TheVariants.{LeftmostFirst, LeftmostLongest, Standard}
 use Rattle.literal_search.specs.Inside.Grown.{ending_live, failure_of, fallback}
-use Rattle.literal_search.specs.Words.{begins_one, ending, first_equal, live_suffix, in_question, is_matched, one_stands}
+use Rattle.literal_search.specs.Words.{begins_one, ending, first_equal, live_suffix, in_question, is_matched}
+use Rattle.literal_search.specs.Words.{one_stands}
 use Rattle.literal_search.proofs.lemmas.Grown.{same_test, stands_nowhere, whole_longer}
 use Rattle.literal_search.proofs.lemmas.Live.{NoneBefore, any_in_question, any_in_question_at, live_on, live_push}
 use Rattle.literal_search.proofs.lemmas.Live.{none_position, matched_longer}
@@ -163,7 +164,8 @@ module _ (kind : MatchKind) (patterns : List (List ℕ)) where
       by_matched false = sym (live_push kind patterns more (symbol ∷ []))
 
   -- the pattern that ends with a text ends with its live suffix
-  pub ending_by_live : (text : List ℕ) → ending kind patterns text ≡ ending_live kind patterns (live_suffix kind patterns text)
+  pub ending_by_live : (text : List ℕ) → ending kind patterns text
+      ≡ ending_live kind patterns (live_suffix kind patterns text)
   ending_by_live [] = refl
   ending_by_live (symbol ∷ more) =
       by_begun (begins_one kind patterns (symbol ∷ more)) refl (ending_by_live more)

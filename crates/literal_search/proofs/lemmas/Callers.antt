@@ -175,15 +175,15 @@ module _ {F : Type 0}
       → FoldsTo (WritesMatch step haystack) first all last
       → last.text.items ++ slice_range haystack last.at (length haystack)
       ≡ first.text.items ++ replaced haystack replacements first.at all
-  written_behind first last [] live_suffix nothing stays =
+  written_behind first last [] held nothing stays =
       ap (λ (w : WritingValue F). w.text.items ++ slice_range haystack w.at (length haystack)) (sym stays)
-  written_behind first last (found ∷ more) live_suffix greedy run =
+  written_behind first last (found ∷ more) held greedy run =
       let next = run.0 in
       let one = run.1 in
       let replacement = pattern_at replacements found.pattern in
       let between = slice_range haystack first.at found.start in
       let rest = replaced haystack replacements found.end more in
-      let called = writes first.writer found one.bytes one.before one.behind next.writer live_suffix
+      let called = writes first.writer found one.bytes one.before one.behind next.writer held
       greedy.0.occurs.is_pattern one.calls in
       let items_are : next.text.items ≡ (first.text.items ++ between) ++ replacement =
       ap (λ (v : Vec ℕ). v.items) (sym one.leaves)
@@ -207,7 +207,7 @@ pub replaced_by_calls : {F : Type 0}
     → found.pattern < length searched.query.patterns → step f found bytes before (Ok tt) behind next
     → holds next × (behind.now.items ≡ before.now.items ++ pattern_at replacements found.pattern))
     → IsReplaced searched haystack replacements answer
-replaced_by_calls {step = step} {searched = searched} {haystack = haystack} written replacements one_for_each holds live_suffix
+replaced_by_calls {step = step} {searched = searched} {haystack = haystack} written replacements one_for_each holds held
     writes =
     record {
       one_for_each = one_for_each;
@@ -215,7 +215,7 @@ replaced_by_calls {step = step} {searched = searched} {haystack = haystack} writ
       are_greedy = written.are_greedy;
       is_replaced = written.ends
           ∙ (written_behind step searched haystack replacements holds writes written.first written.last written.matches
-          (subst holds (sym written.begins.0) live_suffix)
+          (subst holds (sym written.begins.0) held)
           (subst (λ at. IsGreedy searched.query searched.ignore_case haystack at written.matches)
           (sym written.begins.2) written.are_greedy) written.is_written
           ∙ (ap (λ items. items ++ replaced haystack replacements written.first.at written.matches) written.begins.1

@@ -18,7 +18,8 @@ use Rattle.std.specs.Ordering.{nat_cmp}
 use Rattle.std.specs.Option.{unwrap_or}
 use Rattle.literal_base.specs.declared.search.MatchKind.TheVariants.{Standard}
 use Rattle.literal_base.specs.Occurs.{NoneIsEmpty, pattern_at}
-use Rattle.literal_search.specs.Inside.Suffixes.{AreSuffixes, ComesLater, HasSuffix, HasUpTo, IsSuffix, IsOutputLink, IsNextEqual}
+use Rattle.literal_search.specs.Inside.Suffixes.{AreSuffixes, ComesLater, HasSuffix, HasUpTo, IsSuffix, IsOutputLink}
+use Rattle.literal_search.specs.Inside.Suffixes.{IsNextEqual}
 use Rattle.literal_search.specs.Inside.Suffixes.{left_from}
 use Rattle.literal_search.specs.Inside.Lists.{AreHeads, AreOutputLinks}
 use Rattle.literal_search.specs.Table.{nothing}
@@ -199,7 +200,8 @@ module _ (patterns : List (List ℕ)) (some : NoneIsEmpty patterns) (few : lengt
       ]
 
   pub links_on : (links : List ℕ) (pattern link : ℕ) → AreOutputLinks patterns links (pattern + 1)
-      → pattern < length patterns → IsOutputLink patterns pattern link → AreOutputLinks patterns (set links pattern link) pattern
+      → pattern < length patterns → IsOutputLink patterns pattern link
+          → AreOutputLinks patterns (set links pattern link) pattern
   links_on links pattern link are below is = record {
     long = length-set links pattern link ∙ are.long;
     each = λ i from inside. elim (cases_lt pattern i) [

@@ -17,7 +17,8 @@ use Rattle.literal_base.specs.Kinds.{root_kind_of}
 use Rattle.literal_base.specs.Leftmost.{IsBetter}
 use Rattle.literal_base.specs.Occurs.{NoneIsEmpty, pattern_at}
 use Rattle.literal_search.specs.Inside.Walk.{IsBest, from_match}
-use Rattle.literal_search.specs.Words.{begins_one, ending, first_equal, live_suffix, in_question, is_matched, one_stands}
+use Rattle.literal_search.specs.Words.{begins_one, ending, first_equal, live_suffix, in_question, is_matched}
+use Rattle.literal_search.specs.Words.{one_stands}
 use Rattle.literal_search.proofs.lemmas.Live.{NoneBefore, any_in_question, any_in_question_at, none_any}
 use Rattle.literal_search.proofs.lemmas.Live.{none_position, stands_longer}
 use Rattle.literal_search.proofs.lemmas.Live.{first_in_question, none_stands_longer, one_stands_longer}
@@ -367,7 +368,8 @@ module _ (kind : MatchKind) (patterns : List (List ℕ)) where
           let same = from_more symbol text unstood in
           let longer = from_more symbol (text ++ more)
           (none_stands_longer (root_kind_of kind) patterns (symbol ∷ text) more unbegun unstood) in
-          let live_is : live_suffix (root_kind_of kind) patterns (symbol ∷ text) ≡ live_suffix (root_kind_of kind) patterns text =
+          let live_is : live_suffix (root_kind_of kind) patterns (symbol ∷ text)
+              ≡ live_suffix (root_kind_of kind) patterns text =
           cond-false _ _ _ unbegun ∙ cond-false _ _ _ (matched_is (symbol ∷ text) ∙ unstood) in
           let rest = further (sym live_is ∙ none) in (
             longer ∙ (rest.0 ∙ ap (λ u. u ++ more) (sym same)),
@@ -385,7 +387,8 @@ module _ (kind : MatchKind) (patterns : List (List ℕ)) where
     where
       by_test : (b s : Bool) → begins_one (root_kind_of kind) patterns (symbol ∷ text) ≡ b
           → one_stands patterns (symbol ∷ text) ≡ s
-          → (live_suffix (root_kind_of kind) patterns text ≡ Some word → from_match patterns text ≡ from_match patterns word)
+          → (live_suffix (root_kind_of kind) patterns text ≡ Some word → from_match patterns text
+              ≡ from_match patterns word)
           → from_match patterns (symbol ∷ text) ≡ from_match patterns word
       by_test true s begun stood further =
           let live_is : live_suffix (root_kind_of kind) patterns (symbol ∷ text)
@@ -396,7 +399,8 @@ module _ (kind : MatchKind) (patterns : List (List ℕ)) where
           let live_is : live_suffix (root_kind_of kind) patterns (symbol ∷ text) ≡ None =
           cond-false _ _ _ unbegun ∙ cond-true _ _ _ (matched_is (symbol ∷ text) ∙ stood) in cc
       by_test false false unbegun unstood further =
-          let live_is : live_suffix (root_kind_of kind) patterns (symbol ∷ text) ≡ live_suffix (root_kind_of kind) patterns text =
+          let live_is : live_suffix (root_kind_of kind) patterns (symbol ∷ text)
+              ≡ live_suffix (root_kind_of kind) patterns text =
           cond-false _ _ _ unbegun ∙ cond-false _ _ _ (matched_is (symbol ∷ text) ∙ unstood) in
           from_more symbol text unstood ∙ further (sym live_is ∙ is)
 
@@ -430,7 +434,8 @@ module _ (kind : MatchKind) (patterns : List (List ℕ)) where
           let live_is : live_suffix (root_kind_of kind) patterns (symbol ∷ text) ≡ None =
           cond-false _ _ _ unbegun ∙ cond-true _ _ _ matched in cc
       by_test false false unbegun matched further =
-          let live_is : live_suffix (root_kind_of kind) patterns (symbol ∷ text) ≡ live_suffix (root_kind_of kind) patterns text =
+          let live_is : live_suffix (root_kind_of kind) patterns (symbol ∷ text)
+              ≡ live_suffix (root_kind_of kind) patterns text =
           cond-false _ _ _ unbegun ∙ cond-false _ _ _ matched in
           further (sym live_is ∙ is)
 

@@ -163,7 +163,8 @@ module _ (t : Texts) (states : List State) (lists rows : List ℕ) (g : IsGrowin
   list_at n d below =
       (g.each n d below).listed ∙ ap (list_for t.kind (texts_of t)) (sym (word_at t states n d below))
 
--- the failure link of a word with one symbol more, where the first pattern that is both, and the live suffix otherwise, are known
+-- the failure link of a word with one symbol more, where the first pattern that is both, and the live suffix
+-- otherwise, are known
 pub link_next : (kind : MatchKind) (patterns words : List (List ℕ)) (width : ℕ) (word : List ℕ) (symbol : ℕ)
     (whole : Option ℕ) (behind failure : ℕ) → NoneIsEmpty patterns
     → whole ≡ first_equal kind patterns (word ++ symbol ∷ [])

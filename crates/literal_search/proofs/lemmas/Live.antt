@@ -258,7 +258,8 @@ live_push kind patterns (symbol ∷ text) more =
         on : (s : Bool) → is_matched kind patterns (symbol ∷ text) ≡ s
             → live_on kind patterns (if is_matched kind patterns
             (symbol ∷ text) then None else live_suffix kind patterns text) more
-            ≡ (if is_matched kind patterns (symbol ∷ (text ++ more)) then None else live_suffix kind patterns (text ++ more))
+            ≡ (if is_matched kind patterns (symbol ∷ (text ++ more)) then None
+            else live_suffix kind patterns (text ++ more))
         on true is = ap (λ o. live_on kind patterns o more) (cond-true _ _ _ is)
             ∙ sym (cond-true _ _ _ (matched_longer kind patterns (symbol ∷ text) more is))
         on false is = ap (λ o. live_on kind patterns o more) (cond-false _ _ _ is)

@@ -1,6 +1,7 @@
 -- Searches by an array that is lent.
 use Rattle.std.proofs.Common.{◌≡◌, ℕ, ◌+◌, ◌-◌, ◌<◌, ◌≤◌, ◌^◌, Bool, List, [], drop, length, get_or, map}
-use Rattle.std.proofs.Common.{Bor, Err, IfErr, IfOk, IfSome, MatchOption, None, Ok, Option, Result, Some, min, refl, ◌%◌}
+use Rattle.std.proofs.Common.{Bor, Err, IfErr, IfOk, IfSome, MatchOption, None, Ok, Option, Result, Some, min, refl}
+use Rattle.std.proofs.Common.{◌%◌}
 use Rattle.std.proofs.Common.{sym, ap, subst, ◌∙◌, arith}
 use Rattle.std.proofs.lemmas.List.{ext_get_or, get_or-drop, get_or-map, length-drop, length-map, length-take}
 use Rattle.std.specs.List.{slice_range}
@@ -20,7 +21,8 @@ use Rattle.literal_base.specs.MatchValue.{MatchValue}
 use Rattle.literal_search.specs.Inside.Prepared.{Puts, RefusesArray, numbers_for}
 use Rattle.literal_search.specs.Inside.Search.{IsSound, patterns_in, search_value}
 use Rattle.literal_search.specs.Prepared.{IsPrepared, RefusesToPrepare, TakesPlaces, WritesPrepared, classes_in}
-use Rattle.literal_search.specs.Prepared.{fingerprints_by, prepared_len, fingerprints_part, rows_end, rows_in, shortest_by}
+use Rattle.literal_search.specs.Prepared.{fingerprints_by, prepared_len, fingerprints_part, rows_end, rows_in}
+use Rattle.literal_search.specs.Prepared.{shortest_by}
 use Rattle.literal_search.specs.Prepared.{width_in}
 use Rattle.literal_search.specs.declared.prepared.Prepared.TheInside.{Inside as Lent}
 use Rattle.literal_search.specs.declared.prepared.TheConstants.{PREPARED_VERSION}
@@ -106,7 +108,8 @@ module _ (p : Lent) (lent : IsLent p) (fingerprints : Option (Bor FingerprintsVa
         (prepared.fingerprints (omega (arith, some, lent.shortest)))
 
     pub table_for : ((P : FingerprintsValue → Type 0) → IfSome p.fingerprints P → IfSome fingerprints (λ f. P f.now))
-        → IsTableOf (record (table_of p.header) { shortest = p.shortest; fingerprints = fingerprints }) query ignore_case
+        → IsTableOf (record (table_of p.header) { shortest = p.shortest; fingerprints = fingerprints })
+            query ignore_case
     table_for behind = record {
       classes = are_classes lent.header prepared;
       tells = tells lent.header prepared;

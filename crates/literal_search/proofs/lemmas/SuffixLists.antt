@@ -83,7 +83,8 @@ module _ (patterns : List (List ℕ)) where
           (are.each i before first)))
       | inr past ↦
           let is : count ≡ i = omega arith in
-          subst (λ n. AreSuffixes patterns (pattern_at patterns n) 0 (ends ++ list) (get_or (started ends starts list) n 0)
+          subst (λ n. AreSuffixes patterns (pattern_at patterns n) 0 (ends ++ list)
+          (get_or (started ends starts list) n 0)
           (get_or (started ends starts list) (n + 1) 0)) is
           (added (subst (λ n. ending Standard patterns (pattern_at patterns n) ≡ Some n) (sym is) first))
     ];
@@ -110,7 +111,8 @@ module _ (patterns : List (List ℕ)) where
           ++ list)) [] 0
 
       added : ending Standard patterns (pattern_at patterns count) ≡ Some count
-          → AreSuffixes patterns (pattern_at patterns count) 0 (ends ++ list) (get_or (started ends starts list) count 0)
+          → AreSuffixes patterns (pattern_at patterns count) 0 (ends ++ list)
+          (get_or (started ends starts list) count 0)
           (get_or (started ends starts list) (count + 1) 0)
       added first =
           ends_moved (pattern_at patterns count) 0 list (ends ++ list) 0 (length list) (length ends)

@@ -191,7 +191,8 @@ module _ (kind : search.MatchKind) (patterns : List (List ℕ)) (width : ℕ) (r
     live_more : live_suffix kind patterns (word_of recognises.words at.state ++ symbol ∷ [])
         ≡ live_suffix kind patterns (text ++ symbol ∷ [])
     live_more =
-        sym (ap (λ o. live_on kind patterns o (symbol ∷ [])) at.live_suffix) ∙ live_push kind patterns text (symbol ∷ [])
+        sym (ap (λ o. live_on kind patterns o (symbol ∷ [])) at.live_suffix)
+        ∙ live_push kind patterns text (symbol ∷ [])
 
     leads_more : MatchOption (live_suffix kind patterns (text ++ symbol ∷ [])) (code ≡ nothing)
         (LeadsTo kind patterns recognises.words width code)
@@ -279,7 +280,8 @@ module _ (kind : search.MatchKind) (patterns : List (List ℕ)) (width : ℕ) (r
       where
         by_live : (o : Option (List ℕ)) → live_suffix kind patterns (text ++ symbol ∷ []) ≡ o
             → MatchOption o (code ≡ nothing) (LeadsTo kind patterns recognises.words width code)
-            → (live_suffix kind patterns (text ++ symbol ∷ []) ≡ None) × (ending kind patterns (text ++ symbol ∷ []) ≡ None)
+            → (live_suffix kind patterns (text ++ symbol ∷ []) ≡ None)
+            × (ending kind patterns (text ++ symbol ∷ []) ≡ None)
         by_live None is dead = (is, ends_by None is)
         by_live (Some word) is to = by_ending (ending kind patterns word) refl
           where
@@ -693,7 +695,8 @@ always_live patterns (symbol ∷ text) is =
     by_begun true begun further =
         let some : live_suffix Standard patterns (symbol ∷ text) ≡ Some (symbol ∷ text) = cond-true _ _ _ begun in cc
     by_begun false unbegun further =
-        let same : live_suffix Standard patterns (symbol ∷ text) ≡ live_suffix Standard patterns text = cond-false _ _ _ unbegun in
+        let same : live_suffix Standard patterns (symbol ∷ text)
+            ≡ live_suffix Standard patterns text = cond-false _ _ _ unbegun in
         further (sym same ∙ is)
 
 -- what ends where a walk stands

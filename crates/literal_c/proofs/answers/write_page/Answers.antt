@@ -1,4 +1,5 @@
-use Rattle.std.proofs.Common.{◌≡◌, ◌<◌, ◌+◌, IfSome, Option, length, drop, map, take, refl, sym, ap, ◌∙◌, subst, inr, arith}
+use Rattle.std.proofs.Common.{◌≡◌, ◌<◌, ◌+◌, IfSome, Option, length, drop, map, take, refl, sym, ap, ◌∙◌, subst, inr}
+use Rattle.std.proofs.Common.{arith}
 use Rattle.std.proofs.lemmas.List.{drop-drop, drop-set-lt}
 use Rattle.literal_base.specs.Leftmost.{IsLeftmost, IsLeftmostMatch}
 use Rattle.literal_base.specs.MatchValue.{MatchValue}

@@ -37,7 +37,8 @@ link_at c =
     let isnt = c.if-state-eq0.false in
     else_of_link g.texts g.states.items g.lists.items g.rows.items c.requires.grows c.args.state c.args.class
     c.index.result.now (omega (arith, isnt)) c.requires.is_state
-    (λ none. c.if-failure.false (ap (λ (s : State). s.failure) c.index.ensures ∙ none)) c.requires.is_class c.requires.filled
+    (λ none. c.if-failure.false (ap (λ (s : State). s.failure) c.index.ensures
+    ∙ none)) c.requires.is_class c.requires.filled
 
 place_is : (c : goal.After-place_of) → c.place_of.result ≡ (link_at c).0
 place_is c =
@@ -64,7 +65,8 @@ returns c =
     let isnt = c.if-state-eq0.false in
     let at = else_of_link g.texts g.states.items g.lists.items g.rows.items c.requires.grows c.args.state c.args.class
     c.index.result.now (omega (arith, isnt)) c.requires.is_state
-    (λ none. c.if-failure.false (ap (λ (s : State). s.failure) c.index.ensures ∙ none)) c.requires.is_class c.requires.filled
+    (λ none. c.if-failure.false (ap (λ (s : State). s.failure) c.index.ensures
+    ∙ none)) c.requires.is_class c.requires.filled
     in
     let place_is : c.place_of.result ≡ at.0 =
     c.place_of.ensures at.0 at.1 at.3 (ap (λ (s : State). s.failure) c.index.ensures ∙ at.2) in

@@ -39,7 +39,8 @@ index-equal-requires c =
     length-map r.patterns.now (λ (p : Vec ℕ). symbols_in r.classes.now p.items) in
     let p = c.loop-pattern.pattern - 1 in
     let below : p < length texts = omega (arith, known) in
-    let first = first_equal_of texts c.requires.some (omega (arith, known, c.requires.few)) p c.longest_suffix-first.result
+    let first = first_equal_of texts c.requires.some (omega (arith, known, c.requires.few)) p
+    c.longest_suffix-first.result
     below c.longest_suffix-first.ensures in
     omega (arith, first.below, c.loop-pattern.invariant.heads.long, c.loop-pattern.heads.ok.0)
 
@@ -51,7 +52,8 @@ index_mut-requires-in-loop-pattern c =
     length-map r.patterns.now (λ (p : Vec ℕ). symbols_in r.classes.now p.items) in
     let p = c.loop-pattern.pattern - 1 in
     let below : p < length texts = omega (arith, known) in
-    let first = first_equal_of texts c.requires.some (omega (arith, known, c.requires.few)) p c.longest_suffix-first.result
+    let first = first_equal_of texts c.requires.some (omega (arith, known, c.requires.few)) p
+    c.longest_suffix-first.result
     below c.longest_suffix-first.ensures in
     omega (arith, first.below, c.loop-pattern.invariant.heads.long, c.loop-pattern.heads.ok.0)
 
@@ -85,7 +87,8 @@ loop-pattern-preserved c =
             | then-equal w ↦ link_to_shorter texts some few p c.longest_suffix-first.result equal below after is.same
                 w.if-equal.true c.if-equal.link (w.link-is ∙ w.longest_suffix-link.ensures)
             | else-equal w ↦ subst (IsOutputLink texts p) (sym w.link-is)
-                (link_to_equal texts some few p c.longest_suffix-first.result equal below after is.same w.if-equal.false)
+                (link_to_equal texts some few p c.longest_suffix-first.result equal below after is.same
+                w.if-equal.false)
           ]);
       heads = heads_on texts some few heads p c.longest_suffix-first.result before below is;
     }

@@ -28,7 +28,8 @@ loop-next-init c =
     let below : c.args.pattern < length texts = omega (arith, known, c.requires.is_pattern) in
     let is = first_equal_of texts some few c.args.pattern c.longest_suffix.result below c.longest_suffix.ensures in
     let first : ending Standard texts (pattern_at texts c.args.pattern) ≡ Some c.args.pattern =
-    subst (λ (f : ℕ). ending Standard texts (pattern_at texts f) ≡ Some f) c.if-longest_suffix-pattern.false is.first_is in
+    subst (λ (f : ℕ). ending Standard texts (pattern_at texts f)
+    ≡ Some f) c.if-longest_suffix-pattern.false is.first_is in
     subst (λ (list : List ℕ). HasUpTo texts (pattern_at texts c.args.pattern) list c.args.pattern)
     (sym c.new-list.ensures.items) (up_to_first texts some few c.args.pattern first)
 
@@ -82,5 +83,6 @@ returns-clause-none c = λ other.
     let below : c.args.pattern < length texts = omega (arith, known, c.requires.is_pattern) in
     let is = first_equal_of texts c.requires.recognise.some few c.args.pattern c.longest_suffix.result below
     c.longest_suffix.ensures in
-    absurd (other (subst (λ (f : ℕ). ending Standard texts (pattern_at texts f) ≡ Some f) c.if-longest_suffix-pattern.false
+    absurd (other (subst (λ (f : ℕ). ending Standard texts (pattern_at texts f)
+    ≡ Some f) c.if-longest_suffix-pattern.false
     is.first_is))
