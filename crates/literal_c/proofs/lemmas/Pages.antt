@@ -36,8 +36,8 @@ module _ (query : Query) (ignore_case : Bool) (haystack : List ℕ) where
     omega (arith, a.0, b.0),
     λ i p before is.
         elim (cases_lt p next) [
-        | inl early ↦ a.1 i p early is
-        | inr late ↦ b.1 i p before (from at next end i p late is)
+          | inl early ↦ a.1 i p early is
+          | inr late ↦ b.1 i p before (from at next end i p late is)
         ],
   )
 
@@ -49,8 +49,8 @@ module _ (query : Query) (ignore_case : Bool) (haystack : List ℕ) where
     whole = is.whole;
     earliest = λ i p early occurs.
         elim (cases_lt p next) [
-        | inl before ↦ none.1 i p before occurs
-        | inr late ↦ is.earliest i p early (from at next end i p late occurs)
+          | inl before ↦ none.1 i p before occurs
+          | inr late ↦ is.earliest i p early (from at next end i p late occurs)
         ];
     best = λ i better occurs.
         is.best i better (from at next end i found.start is.occurs.after_start occurs);
@@ -85,8 +85,8 @@ module _ (query : Query) (ignore_case : Bool) (haystack : List ℕ) where
       → IsGreedy query ignore_case haystack at all
   greedy at next [] a none = λ i p is.
       elim (cases_lt p next) [
-      | inl before ↦ a.1 i p before is
-      | inr late ↦ none i p (from at next (length haystack) i p late is)
+        | inl before ↦ a.1 i p before is
+        | inr late ↦ none i p (from at next (length haystack) i p late is)
       ]
   greedy at next (found ∷ more) a none = (a.0, greedy found.end next more a.1 none)
 

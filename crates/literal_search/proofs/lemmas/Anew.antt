@@ -40,7 +40,7 @@ module _ (kind : MatchKind) (patterns : List (List ℕ)) where
           cond-false _ _ _ unbegun ∙ cond-true _ _ _ (matched_is (symbol ∷ text) ∙ stood) in cc
       by_test false false unbegun unstood further =
           let live_is : live_suffix (root_kind_of kind) patterns (symbol ∷ text)
-              ≡ live_suffix (root_kind_of kind) patterns text =
+          ≡ live_suffix (root_kind_of kind) patterns text =
           cond-false _ _ _ unbegun ∙ cond-false _ _ _ (matched_is (symbol ∷ text) ∙ unstood) in
           cond-false _ _ _ (none_stands_longer (root_kind_of kind) patterns (symbol ∷ text) more unbegun unstood)
           ∙ further (sym live_is ∙ is)

@@ -201,7 +201,7 @@ module _ (patterns : List (List ℕ)) (some : NoneIsEmpty patterns) (few : lengt
 
   pub links_on : (links : List ℕ) (pattern link : ℕ) → AreOutputLinks patterns links (pattern + 1)
       → pattern < length patterns → IsOutputLink patterns pattern link
-          → AreOutputLinks patterns (set links pattern link) pattern
+      → AreOutputLinks patterns (set links pattern link) pattern
   links_on links pattern link are below is = record {
     long = length-set links pattern link ∙ are.long;
     each = λ i from inside. elim (cases_lt pattern i) [

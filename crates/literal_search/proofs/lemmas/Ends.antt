@@ -369,7 +369,7 @@ module _ (kind : MatchKind) (patterns : List (List ℕ)) where
           let longer = from_more symbol (text ++ more)
           (none_stands_longer (root_kind_of kind) patterns (symbol ∷ text) more unbegun unstood) in
           let live_is : live_suffix (root_kind_of kind) patterns (symbol ∷ text)
-              ≡ live_suffix (root_kind_of kind) patterns text =
+          ≡ live_suffix (root_kind_of kind) patterns text =
           cond-false _ _ _ unbegun ∙ cond-false _ _ _ (matched_is (symbol ∷ text) ∙ unstood) in
           let rest = further (sym live_is ∙ none) in (
             longer ∙ (rest.0 ∙ ap (λ u. u ++ more) (sym same)),
@@ -388,7 +388,7 @@ module _ (kind : MatchKind) (patterns : List (List ℕ)) where
       by_test : (b s : Bool) → begins_one (root_kind_of kind) patterns (symbol ∷ text) ≡ b
           → one_stands patterns (symbol ∷ text) ≡ s
           → (live_suffix (root_kind_of kind) patterns text ≡ Some word → from_match patterns text
-              ≡ from_match patterns word)
+          ≡ from_match patterns word)
           → from_match patterns (symbol ∷ text) ≡ from_match patterns word
       by_test true s begun stood further =
           let live_is : live_suffix (root_kind_of kind) patterns (symbol ∷ text)
@@ -400,7 +400,7 @@ module _ (kind : MatchKind) (patterns : List (List ℕ)) where
           cond-false _ _ _ unbegun ∙ cond-true _ _ _ (matched_is (symbol ∷ text) ∙ stood) in cc
       by_test false false unbegun unstood further =
           let live_is : live_suffix (root_kind_of kind) patterns (symbol ∷ text)
-              ≡ live_suffix (root_kind_of kind) patterns text =
+          ≡ live_suffix (root_kind_of kind) patterns text =
           cond-false _ _ _ unbegun ∙ cond-false _ _ _ (matched_is (symbol ∷ text) ∙ unstood) in
           from_more symbol text unstood ∙ further (sym live_is ∙ is)
 
@@ -435,7 +435,7 @@ module _ (kind : MatchKind) (patterns : List (List ℕ)) where
           cond-false _ _ _ unbegun ∙ cond-true _ _ _ matched in cc
       by_test false false unbegun matched further =
           let live_is : live_suffix (root_kind_of kind) patterns (symbol ∷ text)
-              ≡ live_suffix (root_kind_of kind) patterns text =
+          ≡ live_suffix (root_kind_of kind) patterns text =
           cond-false _ _ _ unbegun ∙ cond-false _ _ _ matched in
           further (sym live_is ∙ is)
 

@@ -109,7 +109,7 @@ module _ (p : Lent) (lent : IsLent p) (fingerprints : Option (Bor FingerprintsVa
 
     pub table_for : ((P : FingerprintsValue → Type 0) → IfSome p.fingerprints P → IfSome fingerprints (λ f. P f.now))
         → IsTableOf (record (table_of p.header) { shortest = p.shortest; fingerprints = fingerprints })
-            query ignore_case
+        query ignore_case
     table_for behind = record {
       classes = are_classes lent.header prepared;
       tells = tells lent.header prepared;

@@ -696,7 +696,7 @@ always_live patterns (symbol ∷ text) is =
         let some : live_suffix Standard patterns (symbol ∷ text) ≡ Some (symbol ∷ text) = cond-true _ _ _ begun in cc
     by_begun false unbegun further =
         let same : live_suffix Standard patterns (symbol ∷ text)
-            ≡ live_suffix Standard patterns text = cond-false _ _ _ unbegun in
+        ≡ live_suffix Standard patterns text = cond-false _ _ _ unbegun in
         further (sym same ∙ is)
 
 -- what ends where a walk stands

@@ -40,7 +40,7 @@ loop-found-preserved c =
         leftmost.occurs.after_start,
       );
       others = scanned_on c.args.tally.now c.loop-found.tally c.match_at_counted.new.tally so_far.others
-      c.in-Some.ensures.bounded.others;
+          c.in-Some.ensures.bounded.others;
       linear = omega (
         arith,
         so_far.linear,
