@@ -3,6 +3,7 @@ import ctypes
 import itertools
 import os
 import random
+import time
 import unittest
 
 import library
@@ -40,9 +41,25 @@ def prepared_for_all(words, ignore_case=False):
     return array, needed.value
 
 
+def prepared_linear(words, kind=0, ignore_case=False):
+    """The array of a search for all leftmost matches in linear time, and its length."""
+    needed = ctypes.c_size_t()
+    assert CALLS.literal_prepare_linear(kind, ignore_case, *joined(words), None, 0, needed) == TOO_SHORT
+    array = (ctypes.c_uint32 * needed.value)()
+    assert CALLS.literal_prepare_linear(kind, ignore_case, *joined(words), array, needed.value, needed) == OK
+    return array, needed.value
+
+
 def fields(struct):
     """The values of a struct's fields."""
     return tuple(getattr(struct, name) for name, _ in struct._fields_)
+
+
+CHECKS = (
+    (prepared, CALLS.literal_check_prepared),
+    (prepared_for_all, CALLS.literal_check_overlapping),
+    (prepared_linear, CALLS.literal_check_linear),
+)
 
 
 class Statuses(unittest.TestCase):
@@ -209,6 +226,42 @@ class SoFar(unittest.TestCase):
             self.assertEqual((status, fields(found), next_at.value), wanted, (length, start, more))
 
 
+class Linear(unittest.TestCase):
+    def spans(self, array, text, room):
+        """All matches, by pages with room for so many, and their count."""
+        found, page, number, at, all_found = (Match * room)(), Page(), ctypes.c_size_t(), 0, []
+        while True:
+            status = CALLS.literal_find_all_linear_in(*array, text, len(text), at, len(text), found, room, page)
+            self.assertEqual(status, OK)
+            all_found += [fields(it) for it in found[: page.written]]
+            if page.is_last:
+                break
+            at = page.next
+        self.assertEqual(CALLS.literal_count_linear_in(*array, text, len(text), 0, len(text), number), OK)
+        self.assertEqual(number.value, len(all_found))
+        return all_found
+
+    def test_same_matches(self):
+        chance = random.Random(7)
+        for _ in range(300):
+            words = [bytes(chance.choices(b"abA", k=chance.randint(1, 4))) for _ in range(chance.randint(0, 5))]
+            text, kind = bytes(chance.choices(b"aabbAc", k=chance.randint(0, 60))), chance.choice((0, 1))
+            room, page = (Match * 60)(), Page()
+            array, linear = (it(words, kind, kind == 1) for it in (prepared, prepared_linear))
+            self.assertEqual(CALLS.literal_find_all_in(*array, text, len(text), 0, len(text), room, 60, page), OK)
+            wanted = [fields(it) for it in room[: page.written]]
+            for size in (1, 3, 60):
+                self.assertEqual(self.spans(linear, text, size), wanted, (words, text, size))
+
+    def test_no_pattern_spoils_the_time(self):
+        """Behind each match the other search looks at as many bytes as the long word has, some 10^10 in all."""
+        array, text = prepared_linear([b"a" * 10_000 + b"b", b"a"]), b"a" * (1 << 20)
+        number, began = ctypes.c_size_t(), time.monotonic()
+        self.assertEqual(CALLS.literal_count_linear_in(*array, text, len(text), 0, len(text), number), OK)
+        self.assertEqual(number.value, 1 << 20)
+        self.assertLess(time.monotonic() - began, 1)
+
+
 class Arrays(unittest.TestCase):
     def test_a_copy_is_whole(self):
         array, length = prepared(WORDS, 1, True)
@@ -227,8 +280,7 @@ class Arrays(unittest.TestCase):
             self.assertEqual(CALLS.literal_check_prepared(array, given), DAMAGED)
 
     def test_each_damaged_word_is_noticed(self):
-        checks = (prepared, CALLS.literal_check_prepared), (prepared_for_all, CALLS.literal_check_overlapping)
-        for prepare, check in checks:
+        for prepare, check in CHECKS:
             array, length = prepare(WORDS)
             for at in range(length):
                 array[at] ^= 1
@@ -238,9 +290,8 @@ class Arrays(unittest.TestCase):
 
     def test_two_flipped_bits_are_noticed(self):
         """The top bits of each two words, the check among them, and any bits of two."""
-        checks = (prepared, CALLS.literal_check_prepared), (prepared_for_all, CALLS.literal_check_overlapping)
         chance = random.Random(4)
-        for prepare, check in checks:
+        for prepare, check in CHECKS:
             array, length = prepare(WORDS)
             pairs = [((one, 31), (other, 31)) for one, other in itertools.combinations(range(length), 2)]
             for _ in range(20000):
@@ -256,8 +307,7 @@ class Arrays(unittest.TestCase):
 
     def test_lost_words_are_noticed(self):
         """The top bits of all words, and all words behind the version."""
-        checks = (prepared, CALLS.literal_check_prepared), (prepared_for_all, CALLS.literal_check_overlapping)
-        for prepare, check in checks:
+        for prepare, check in CHECKS:
             array, length = prepare(WORDS)
             zeros = (ctypes.c_uint32 * length)(array[0])
             self.assertEqual(check(zeros, length), DAMAGED)
@@ -282,6 +332,8 @@ class Arrays(unittest.TestCase):
         for lent, given in (None, 0), (array, length), (for_all, 1), (for_all, longer - 1):
             asked = (lent, given, TEXT, len(TEXT))
             self.assertEqual(CALLS.literal_find_overlapping_in(*asked, 0, len(TEXT), found, 2, page), DAMAGED)
+            self.assertEqual(CALLS.literal_find_all_linear_in(*asked, 0, len(TEXT), found, 2, page), DAMAGED)
+            self.assertEqual(CALLS.literal_count_linear_in(*asked, 0, len(TEXT), number), DAMAGED)
 
     def assert_page(self, copy, start, room, page):
         """What a page of four matches by any array is like."""
@@ -335,6 +387,24 @@ class Arrays(unittest.TestCase):
                 self.assert_page(copy, 9, room, page)
         self.assertEqual(seen, {OK, DAMAGED})
 
+    def test_what_a_damaged_linear_array_finds_lies_inside(self):
+        chance, (array, length) = random.Random(5), prepared_linear([*WORDS, b"e", b"le", b"e"], 1, True)
+        seen = set()
+        for _ in range(5000):
+            copy = (ctypes.c_uint32 * length)(*array)
+            for _ in range(chance.randint(1, 3)):
+                word = chance.choice((0, 1, 2, 255, 2**31, 2**32 - 1, chance.randrange(2**32)))
+                copy[chance.randrange(length)] = word
+            room, page = (Match * 5)(*[Match(*BEFORE)] * 5), Page()
+            status = CALLS.literal_find_all_linear_in(copy, length, TEXT, len(TEXT), 9, 50, room, 4, page)
+            seen.add(status)
+            self.assertEqual(fields(room[4]), BEFORE)
+            if status == OK:
+                ends = [9, *(it for found in room[: page.written] for it in fields(found)[1:])]
+                self.assertTrue(ends == sorted(ends) and ends[-1] <= 50, ends)
+                self.assert_page(copy, 9, room, page)
+        self.assertEqual(seen, {OK, DAMAGED})
+
 
 @unittest.skipUnless("refuse.so" in os.environ.get("LD_PRELOAD", ""), "run by bindings/test")
 class RefusedMemory(unittest.TestCase):
@@ -342,6 +412,7 @@ class RefusedMemory(unittest.TestCase):
 
     def test_all_requests_refused(self):
         process, array, asked = ctypes.CDLL(None), prepared(WORDS), (0, False, *joined(WORDS))
+        linear = prepared_linear(WORDS)
         found, page, answers = Match(*BEFORE), Page(*BEFORE), (Answer * 1)(Answer(7, Match(*BEFORE)))
         room, ends, text = (Match * 1)(found), (ctypes.c_size_t * 1)(5), (TEXT, len(TEXT))
         lent, needed, number = (ctypes.c_uint32 * 4)(*BEFORE), ctypes.c_size_t(7), ctypes.c_size_t(7)
@@ -353,12 +424,15 @@ class RefusedMemory(unittest.TestCase):
             CALLS.literal_find_each(*asked, *text, ends, 1, answers, 1),
             CALLS.literal_prepare(*asked, lent, 4, needed),
             CALLS.literal_prepare_overlapping(*asked[1:], lent, 4, needed),
+            CALLS.literal_prepare_linear(*asked, lent, 4, needed),
+            CALLS.literal_find_all_linear_in(*linear, *text, 0, 5, room, 1, page),
+            CALLS.literal_count_linear_in(*linear, *text, 0, 5, number),
             CALLS.literal_can_search(*asked[2:]),
             CALLS.literal_check_prepared(*array),
             CALLS.literal_count_in(*array, *text, 0, len(TEXT), number),
         )
         process.unsetenv(b"REFUSED_REQUEST")
-        self.assertEqual(statuses, (*6 * [OUT_OF_MEMORY], *3 * [OK]))
+        self.assertEqual(statuses, (*9 * [OUT_OF_MEMORY], *3 * [OK]))
         self.assertEqual([fields(it) for it in (found, room[0], answers[0].found, page)], 4 * [BEFORE])
         self.assertEqual((answers[0].status, needed.value, tuple(lent[:3]), number.value), (7, 7, BEFORE, 3))
 

@@ -1,20 +1,21 @@
 //! What is written for C.
-ghost use Rattle.std.specs.Prelude.{◌≡◌, ◌+◌, ◌-◌, ◌≤◌, Bool, IfOk, OnOk, length};
+ghost use Rattle.std.specs.Prelude.{◌≡◌, ◌+◌, ◌-◌, ◌≤◌, Bool, IfOk, OnOk, length, slice_index};
 ghost use Rattle.std.specs.List.{AllZip};
 ghost use Rattle.std.specs.Result.{IsOkAnd};
 ghost use Rattle.literal_base.specs.Occurs.{IsValidSpan};
 ghost use Rattle.literal_base.specs.Query.{Query};
 ghost use Rattle.literal_search.specs.Prepared.{ForPrepared};
+ghost use Rattle.literal_search.specs.PreparedLinear.{ForLinear};
 ghost use Rattle.literal_c.specs.Answers.{IsAnswer, IsCount, IsPage, MayBeAnswer, MayBePage};
 ghost use Rattle.literal_c.specs.Answers.{answer_for_c as answer_value, match_for_c as match_value};
 ghost use Rattle.literal_search.specs.OverlappingMatchesValue.{OverlappingMatchesValue};
-ghost use Rattle.literal_c.specs.Inside.Given.{AreGiven};
+ghost use Rattle.literal_c.specs.Inside.Given.{AreGiven, Begins};
 ghost use Rattle.literal_c.specs.Overlapping.{IsOverlappingPage};
 
 use crate::finder::{Finder, Occurrences};
 use crate::pieces::Pieces;
 use crate::{LITERAL_NONE, LITERAL_OK, LiteralAnswer, LiteralMatch, LiteralPage};
-use literal_search::{Damaged, Match, Prepared, Span};
+use literal_search::{Damaged, Match, Prepared, PreparedLinearMatches, Span};
 
 /// A match as C has it.
 pub fn match_for_c(found: &Match) -> LiteralMatch
@@ -120,6 +121,62 @@ pub fn write_overlapping<M: Occurrences + Drop>(
         next,
         is_last,
     })
+}
+
+/// Writes what an iteration gives that begins with a span, as much as there is room for, and says how much and what is
+/// left.
+pub fn write_linear(
+    mut matches: PreparedLinearMatches<'_, '_, '_>,
+    span: Span,
+    found: &mut [LiteralMatch],
+) -> Result<LiteralPage, Damaged>
+    requires begins { Begins matches span }
+    ensures page { ForLinear matches.entry.numbers (λ search. IsOkAnd result
+        (IsPage search.query search.ignore_case matches.entry.haystack span found.old found.new)) }
+    ensures inside { IfOk result (MayBePage span (slice_index matches.entry.numbers 3) found.new) }
+    ensures goes_on { IfOk result (λ page. span.start + page.written ≤ page.next) }
+{
+    let mut next = span.start;
+    let mut written: usize = 0;
+    for place in found.iter_mut() {
+        let Some(it) = matches.next_match()? else {
+            return Ok(LiteralPage {
+                written,
+                next,
+                is_last: 1,
+            });
+        };
+        *place = match_for_c(&it);
+        written += 1;
+        next = it.end();
+    }
+    let is_last = match matches.next_match()? {
+        None => 1,
+        Some(_) => 0,
+    };
+    Ok(LiteralPage {
+        written,
+        next,
+        is_last,
+    })
+}
+
+/// How many matches an iteration gives that begins with a span.
+pub fn count_linear(
+    mut matches: PreparedLinearMatches<'_, '_, '_>,
+    span: Span,
+) -> Result<usize, Damaged>
+    requires begins { Begins matches span }
+    ensures count { ForLinear matches.entry.numbers (λ search. IsOkAnd result
+        (IsCount search.query search.ignore_case matches.entry.haystack span)) }
+    ensures most { IfOk result (λ count. count ≤ span.end - span.start) }
+{
+    let _ = span;
+    let mut count = 0;
+    while let Some(_) = matches.next_match()? {
+        count += 1;
+    }
+    Ok(count)
 }
 
 /// Answers for each haystack, of which there are as many as answers.

@@ -2,6 +2,8 @@
 use Rattle.std.specs.Prelude.{◌≡◌, ◌⊎◌, ℕ, ◌≤◌, List, length, take}
 use Rattle.std.specs.List.{All}
 use Rattle.literal_base.specs.MatchValue.{MatchValue}
+use Rattle.literal_base.specs.declared.search.Span.{Span}
+use Rattle.literal_search.specs.PreparedLinear.{PreparedLinearMatchesValue}
 use Rattle.literal_c.specs.Answers.{match_of}
 use Rattle.literal_c.specs.declared.LiteralMatch.{LiteralMatch}
 use Rattle.literal_c.specs.declared.LiteralPage.{LiteralPage}
@@ -17,3 +19,9 @@ pub record AreGiven (MayGive : MatchValue → Type 0) (start : ℕ) (new : List 
   pub matches : All (λ found. MayGive (match_of found)) (take page.written new)
   pub reached : IsReached MayGive start page.next
   pub rest : (page.is_last ≡ 1) ⊎ ((page.is_last ≡ 0) × (page.written ≡ length new))
+
+-- an iteration begins with a span
+pub record Begins (m : PreparedLinearMatchesValue) (span : Span) : Type 0 where
+  pub ordered : span.start ≤ span.end
+  pub span_is : m.span ≡ span
+  pub at : m.at ≡ span.start

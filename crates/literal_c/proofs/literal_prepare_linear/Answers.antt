@@ -1,0 +1,11 @@
+use Rattle.std.proofs.Common.{inl, refl}
+use Rattle.literal_c.proofs.literal_prepare_linear.Goals as goal
+
+pub returns-in-Ok-prepare-clause-status : goal.returns-in-Ok-prepare-clause-status
+returns-in-Ok-prepare-clause-status c = inl (record {
+  bad_arguments = (λ is. absurd (cc), λ refused. absurd (refused c.in-Ok.ensures.0));
+  no_searcher = (λ is. absurd (cc), λ both. absurd (both.1 c.in-Ok.ensures.1));
+  searched = (λ _. (c.in-Ok.ensures.0, c.in-Ok.ensures.1), λ _. inl refl);
+  out_of_memory = λ is. absurd (cc);
+  too_large = λ is. absurd (cc);
+})
