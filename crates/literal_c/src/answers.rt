@@ -150,14 +150,17 @@ pub fn write_linear(
         written += 1;
         next = it.end();
     }
-    let is_last = match matches.next_match()? {
-        None => 1,
-        Some(_) => 0,
-    };
+    if let Some(it) = matches.next_match()? {
+        return Ok(LiteralPage {
+            written,
+            next: it.start(),
+            is_last: 0,
+        });
+    }
     Ok(LiteralPage {
         written,
         next,
-        is_last,
+        is_last: 1,
     })
 }
 

@@ -1,6 +1,6 @@
 -- Matches that are written for C, one after another, and pages of them.
 -- For `write_page`, `write_overlapping`, `count_matches` and the laws.
-use Rattle.std.proofs.Common.{◌≡◌, ℕ, ◌+◌, ◌<◌, ◌≤◌, Bool, List, [], ◌∷◌, ◌++◌, length, map, take}
+use Rattle.std.proofs.Common.{◌≡◌, ℕ, ◌+◌, ◌<◌, ◌≤◌, Bool, List, [], ◌∷◌, ◌++◌, drop, length, map, take}
 use Rattle.std.proofs.Common.{Some, refl, sym, ap, ◌∙◌, subst, add-one, append-nil, arith, inl, inr}
 use Rattle.std.proofs.lemmas.Bool.{cases_lt}
 use Rattle.std.proofs.Math.ListN.{set}
@@ -15,12 +15,14 @@ use Rattle.literal_base.specs.MatchValue.{MatchValue}
 use Rattle.literal_base.specs.Occurs.{NothingOccurs, Occurs, between, rest_from}
 use Rattle.literal_base.specs.Query.{Query}
 use Rattle.literal_search.specs.OverlappingMatchesValue.{GivesOverlapping, OverlappingMatchesValue}
-use Rattle.literal_c.specs.Answers.{AreNext, BeginsNone, MayBeFound, match_of}
+use Rattle.literal_c.specs.Answers.{AreNext, BeginsNone, IsPage, MayBeFound, match_of}
 use Rattle.literal_c.specs.declared.LiteralMatch.{LiteralMatch}
+use Rattle.literal_c.specs.declared.LiteralPage.{LiteralPage}
+use Rattle.literal_base.specs.declared.search.Span.{Span}
 
 module _ (query : Query) (ignore_case : Bool) (haystack : List ℕ) where
   -- an occurrence behind a place is one behind an earlier place, and the other way round
-  pub from : (at next end i p : ℕ) → next ≤ p → Occurs query.patterns ignore_case haystack (between at end) i p
+  from : (at next end i p : ℕ) → next ≤ p → Occurs query.patterns ignore_case haystack (between at end) i p
       → Occurs query.patterns ignore_case haystack (between next end) i p
   from at next end i p behind is = record {
     is_pattern = is.is_pattern;
@@ -69,7 +71,7 @@ module _ (query : Query) (ignore_case : Bool) (haystack : List ℕ) where
   joined end at next last (found ∷ more) second a b = (a.0, joined end found.end next last more second a.1 b)
 
   -- up to where the next match begins
-  pub up_to_next : (end at next : ℕ) (all : List MatchValue) (found : MatchValue)
+  up_to_next : (end at next : ℕ) (all : List MatchValue) (found : MatchValue)
       → AreNext query ignore_case haystack end at all next
       → IsLeftmostMatch query ignore_case haystack (between next end) found
       → AreNext query ignore_case haystack end at all found.start
@@ -103,6 +105,29 @@ module _ (query : Query) (ignore_case : Bool) (haystack : List ℕ) where
       subst (λ all. AreNext query ignore_case haystack end at all found.end) (sym list)
       (joined end at next found.end (map match_of (take i written)) (match_of found ∷ []) before
       (here, none_here end found.end))
+
+  -- a full page, behind whose last match there is another
+  pub full_page : (span : Span) (old new : List LiteralMatch) (i written next : ℕ) (found : MatchValue) → written ≡ i
+      → length new ≡ length old → i ≡ length new
+      → AreNext query ignore_case haystack span.end span.start (map match_of (take i new)) next
+      → drop i new ≡ drop i old
+      → IsLeftmostMatch query ignore_case haystack (between next span.end) found
+      → IsPage query ignore_case haystack span old new
+      (let p : LiteralPage = record { written = written; next = found.start; is_last = 0 } in p)
+  full_page span old new i written next found count len full are others leftmost =
+      subst (λ n. IsPage query ignore_case haystack span old new
+      (let p : LiteralPage = record { written = n; next = found.start; is_last = 0 } in p)) (sym count) (record {
+        len = len;
+        fits = omega (arith, full);
+        matches = up_to_next span.end span.start next (map match_of (take i new)) found are leftmost;
+        others = others;
+        rest = inr (
+          refl,
+          full,
+          found.pattern,
+          from next found.start span.end found.pattern found.start (omega arith) leftmost.occurs,
+        );
+      })
 
 -- a match that may be in the rest of a span may be in the span
 pub may_be_in_all : (start next end patterns : ℕ) (found : MatchValue) → start ≤ next

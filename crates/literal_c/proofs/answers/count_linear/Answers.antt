@@ -9,7 +9,7 @@ use Rattle.literal_search.specs.Prepared.{LiesIn}
 use Rattle.literal_search.specs.PreparedLinear.{IsPreparedLinear, PreparedLinearMatchesValue}
 use Rattle.literal_c.specs.Answers.{AreNext}
 use Rattle.literal_c.proofs.lemmas.Linear.{leftmost_in, on_in}
-use Rattle.literal_c.proofs.lemmas.Pages.{joined}
+use Rattle.literal_c.proofs.lemmas.Pages.{joined, none_here}
 use Rattle.literal_c.proofs.answers.count_linear.Goals as goal
 
 pub loop-matches-preserved : goal.loop-matches-preserved
@@ -43,7 +43,7 @@ loop-matches-preserved c =
             all ++ it ∷ [],
             subst (AreNext search.query search.ignore_case first.haystack stop start (all ++ it ∷ [])) (sym behind)
                 (joined search.query search.ignore_case first.haystack stop start m.at it.end all (it ∷ []) are_next
-                (leftmost, refl)),
+                (leftmost, none_here search.query search.ignore_case first.haystack stop it.end)),
             omega (arith, count, length-append all (it ∷ [])),
           );
     }

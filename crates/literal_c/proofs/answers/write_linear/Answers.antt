@@ -12,7 +12,7 @@ use Rattle.literal_search.specs.PreparedLinear.{IsPreparedLinear, PreparedLinear
 use Rattle.literal_c.specs.Answers.{AreNext, IsPage, MayBeFound, MayBePage, match_of}
 use Rattle.literal_c.specs.declared.LiteralMatch.{LiteralMatch}
 use Rattle.literal_c.proofs.lemmas.Linear.{leftmost_in, none_in, on_in}
-use Rattle.literal_c.proofs.lemmas.Pages.{all_more, may_be_in_all, one_more}
+use Rattle.literal_c.proofs.lemmas.Pages.{all_more, full_page, may_be_in_all, one_more}
 use Rattle.literal_c.proofs.answers.write_linear.Goals as goal
 
 pub loop-place-preserved : goal.loop-place-preserved
@@ -112,3 +112,24 @@ returns-in_default-clause-inside c =
       end = so_far.before;
       rest = inl refl;
     })
+
+pub returns-in-Some-2-clause-page : goal.returns-in-Some-2-clause-page
+returns-in-Some-2-clause-page c = λ search is.
+    let first = c.args.matches in
+    let m = c.loop-place.matches in
+    let stop = c.args.span.end in
+    let so_far = c.loop-place.invariant in
+    let it = c.in-Some-2.it in
+    let stop_is : m.span.end ≡ stop =
+    ap (λ (v : PreparedLinearMatchesValue). v.span.end) so_far.same
+    ∙ ap (λ (s : Span). s.end) c.requires.begins.span_is in
+    let leftmost = leftmost_in first m c.loop-place.next stop so_far.same so_far.stands stop_is search it
+    (subst (λ (o : Option MatchValue). IsLeftmost search.query search.ignore_case m.haystack
+    (between m.at m.span.end) o) c.in-Some-2.is
+    (c.in_ok-it-2.ensures.prepared search (subst (λ (l : List ℕ). IsPreparedLinear search l)
+    (sym (ap (λ (v : PreparedLinearMatchesValue). v.numbers) so_far.same)) is)).leftmost) in
+    subst (λ at. IsPage search.query search.ignore_case first.haystack c.args.span c.args.found.now c.loop-place.found
+    (record { written = c.loop-place.written; next = at; is_last = 0 })) (sym c.start.ensures.start)
+    (full_page search.query search.ignore_case first.haystack c.args.span c.args.found.now c.loop-place.found
+    c.loop-place.place-index c.loop-place.written c.loop-place.next it so_far.count (omega arith) (omega arith)
+    (so_far.matches search is) so_far.others leftmost)

@@ -3,9 +3,9 @@ use Rattle.std.proofs.Common.{arith}
 use Rattle.std.proofs.lemmas.List.{drop-drop, drop-set-lt}
 use Rattle.literal_base.specs.Leftmost.{IsLeftmost, IsLeftmostMatch}
 use Rattle.literal_base.specs.MatchValue.{MatchValue}
-use Rattle.literal_base.specs.Occurs.{Occurs, between}
-use Rattle.literal_c.specs.Answers.{AreNext, MayBeFound, match_of}
-use Rattle.literal_c.proofs.lemmas.Pages.{all_more, from, may_be_in_all, one_more, up_to_next}
+use Rattle.literal_base.specs.Occurs.{between}
+use Rattle.literal_c.specs.Answers.{AreNext, IsPage, MayBeFound, match_of}
+use Rattle.literal_c.proofs.lemmas.Pages.{all_more, full_page, may_be_in_all, one_more}
 use Rattle.literal_c.proofs.answers.write_page.Goals as goal
 
 pub loop-place-preserved : goal.loop-place-preserved
@@ -50,30 +50,15 @@ loop-place-preserved g c =
 pub returns-in-Some-2-clause-page : goal.returns-in-Some-2-clause-page
 returns-in-Some-2-clause-page g c = λ query ignore_case is.
     let haystack = c.args.haystack.now in
-    let start = c.args.span.start in
-    let stop = c.args.span.end in
     let next = c.loop-place.next in
     let found = c.loop-place.found in
     let it = c.in-Some-2.it in
     let so_far = c.loop-place.invariant in
-    let begins = sym c.start.ensures.start in
-    let leftmost : IsLeftmostMatch query ignore_case haystack (between next stop) it =
-    subst (λ (o : Option MatchValue). IsLeftmost query ignore_case haystack (between next stop) o) c.in-Some-2.is
-    (c.in_ok-find_in.ensures.found query ignore_case is) in
-    record {
-      len = omega arith;
-      fits = omega arith;
-      matches = subst (λ n. AreNext query ignore_case haystack stop start (map match_of (take n found)) c.start.result)
-          (sym so_far.count)
-          (subst (AreNext query ignore_case haystack stop start _) begins
-          (up_to_next query ignore_case haystack stop start next _ it (so_far.matches query ignore_case is) leftmost));
-      others = subst (λ n. drop n found ≡ drop n c.args.found.now) (sym so_far.count) so_far.others;
-      rest = inr (
-        refl,
-        omega arith,
-        it.pattern,
-        subst (λ at. Occurs query.patterns ignore_case haystack (between at stop) it.pattern at) begins
-            (from query ignore_case haystack next it.start stop it.pattern it.start (omega arith)
-            leftmost.occurs),
-      );
-    }
+    let leftmost : IsLeftmostMatch query ignore_case haystack (between next c.args.span.end) it =
+    subst (λ (o : Option MatchValue). IsLeftmost query ignore_case haystack (between next c.args.span.end) o)
+    c.in-Some-2.is (c.in_ok-find_in.ensures.found query ignore_case is) in
+    subst (λ at. IsPage query ignore_case haystack c.args.span c.args.found.now found
+    (record { written = c.loop-place.written; next = at; is_last = 0 })) (sym c.start.ensures.start)
+    (full_page query ignore_case haystack c.args.span c.args.found.now found c.loop-place.place-index
+    c.loop-place.written next it so_far.count (omega arith) (omega arith) (so_far.matches query ignore_case is)
+    so_far.others leftmost)
