@@ -13,10 +13,14 @@ use Rattle.litscan.specs.declared.options.Options.{Options}
 abbrev pub is_word_byte : ℕ → Bool
 is_word_byte byte = is_ascii_alphanumeric byte || byte == 95
 
+-- whether such a byte stands right before a place of a line
+abbrev pub is_behind_word : List ℕ → ℕ → Bool
+is_behind_word line at = nat_lt 0 at && is_word_byte (slice_index line (at - 1))
+
 -- whether no such byte stands right before a place of a line, nor right behind another
 abbrev pub stands_alone : List ℕ → ℕ → ℕ → Bool
 stands_alone line start end =
-    not (nat_lt 0 start && is_word_byte (slice_index line (start - 1)))
+    not (is_behind_word line start)
     && not (nat_lt end (length line) && is_word_byte (slice_index line end))
 
 -- whether what stands in a line from a place to another is as is asked for: the whole line, alone, or anything

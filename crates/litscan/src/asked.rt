@@ -2,8 +2,8 @@
 ghost use Rattle.std.specs.Prelude.{◌≡◌, ◌≤◌, ◌<◌, ℕ, length, true, IfSome, MatchOption};
 ghost use Rattle.literal_base.specs.Occurs.{IsValidSpan, between, rest_from};
 ghost use Rattle.literal_base.specs.declared.packed.MatchKind.TheVariants.{LeftmostLongest};
-ghost use Rattle.litscan.specs.Asked.{IsFirstAsked, NothingAsked, OccursAsked, is_asked, is_word_byte, one_asked};
-ghost use Rattle.litscan.specs.Asked.{stands_alone};
+ghost use Rattle.litscan.specs.Asked.{IsFirstAsked, NothingAsked, OccursAsked, is_asked, is_behind_word};
+ghost use Rattle.litscan.specs.Asked.{is_word_byte, one_asked, stands_alone};
 
 use crate::options::Options;
 use literal_search::{Match, Search, Span};
@@ -61,6 +61,9 @@ fn asked_at(
         (λ found. (found.start ≡ start) × IsFirstAsked search.now options line.now (between start end) found) }
     ensures not_empty { IfSome result (λ found. found.start < found.end) }
 {
+    if options.alone && is_behind_word(line, start) {
+        return None;
+    }
     let mut rest = Span { start, end };
     while let Some(found) = search.find_in(line, rest) {
         if found.start() != start {
@@ -109,9 +112,16 @@ fn stands_alone(line: &[u8], span: Span) -> bool
     requires { IsValidSpan line.now span }
     ensures { result ≡ stands_alone line.now span.start span.end }
 {
-    let before = span.start > 0 && is_word_byte(line[span.start - 1]);
-    let behind = span.end < line.len() && is_word_byte(line[span.end]);
-    !before && !behind
+    let before_word = span.end < line.len() && is_word_byte(line[span.end]);
+    !is_behind_word(line, span.start) && !before_word
+}
+
+/// Whether a byte of a word stands right before a place of a line.
+fn is_behind_word(line: &[u8], at: usize) -> bool
+    requires { at ≤ length line.now }
+    ensures { result ≡ is_behind_word line.now at }
+{
+    at > 0 && is_word_byte(line[at - 1])
 }
 
 /// Whether a byte is one of a word.

@@ -1,7 +1,9 @@
 //! What follows from the definitions.
-ghost use Rattle.std.specs.Prelude.{◌≡◌, ◌+◌, ◌++◌, ◌∷◌, ℕ, List, length};
+ghost use Rattle.std.specs.Prelude.{◌≡◌, ◌+◌, ◌++◌, ◌∷◌, ◌<◌, ◌↔◌, ℕ, List, false, length, true};
 ghost use Rattle.std.specs.List.{flat_map};
+ghost use Rattle.literal_base.specs.Occurs.{AreEqualBytes, one_occurs, pattern_at};
 ghost use Rattle.literal_search.specs.SearchValue.{SearchValue};
+ghost use Rattle.litscan.specs.Asked.{one_asked};
 ghost use Rattle.litscan.specs.Lines.{AreLinesOf, lines_of, with_feed};
 ghost use Rattle.litscan.specs.Printed.{PrintsLine, PrintsLines, counts};
 ghost use Rattle.litscan.specs.declared.options.Options.{Options};
@@ -22,4 +24,15 @@ pub fn lines_are_printed_in_turn()
         × PrintsLines search options name 1 0 front before
         × PrintsLine (counts search options line) search options name (length front + 1)
         (length (flat_map with_feed front)) line part }
+{}
+
+/// With neither `-w` nor `-x` what is asked for is that a word occurs, and with `-x` that the line is one of the words,
+/// with case ignored where that is asked for.
+pub fn lines_are_asked_for()
+    ensures any { (search : SearchValue) (options : Options) (line : List ℕ) → options.whole ≡ false
+        → options.alone ≡ false
+        → one_asked search options line ≡ one_occurs search.query.patterns search.ignore_case line }
+    ensures whole { (search : SearchValue) (options : Options) (line : List ℕ) → options.whole ≡ true
+        → (one_asked search options line ≡ true) ↔ ((i : ℕ) × (i < length search.query.patterns)
+        × AreEqualBytes search.ignore_case line (pattern_at search.query.patterns i)) }
 {}
