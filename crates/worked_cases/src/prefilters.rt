@@ -83,17 +83,32 @@ pub fn choice(text: &mut String, alloc: Global, case: &Case<'_>) -> Result<(), R
 /// Writes the kind of a prefilter, or that there is none.
 fn push_choice(text: &mut String, built: &Option<Prefilter>) -> Result<(), AllocError> {
     match built {
-        Some(prefilter) => write!(text, "{prefilter:?}"),
+        Some(prefilter) => push_kind(text, prefilter),
         None => text.push_str(NO_PREFILTER),
     }
 }
 
+/// Writes the kind of a prefilter.
+fn push_kind(text: &mut String, prefilter: &Prefilter) -> Result<(), AllocError> {
+    write!(text, "{prefilter:?}")
+}
+
 /// The kind of prefilter that is built, and what it and a copy of it say of a span.
 pub fn prefilter(text: &mut String, alloc: Global, case: &Case<'_>) -> Result<(), Refusal> {
-    let Some(prefilter) = prefilter_for(alloc, case)? else {
-        return push_word(text, NO_PREFILTER);
-    };
-    push_told(text, alloc, case, &prefilter)?;
+    match prefilter_for(alloc, case)? {
+        Some(prefilter) => push_both(text, alloc, case, &prefilter),
+        None => push_word(text, NO_PREFILTER),
+    }
+}
+
+/// Writes the same of a prefilter and of a copy of it.
+fn push_both(
+    text: &mut String,
+    alloc: Global,
+    case: &Case<'_>,
+    prefilter: &Prefilter,
+) -> Result<(), Refusal> {
+    push_told(text, alloc, case, prefilter)?;
     let mut of_copy = String::new(alloc);
     push_told(&mut of_copy, alloc, case, &prefilter.try_clone()?)?;
     Ok(push_also(text, of_copy.as_str())?)
@@ -106,7 +121,8 @@ fn push_told(
     case: &Case<'_>,
     prefilter: &Prefilter,
 ) -> Result<(), Refusal> {
-    write!(text, "{prefilter:?}, ")?;
+    push_kind(text, prefilter)?;
+    text.push_str(", ")?;
     push_answers(text, alloc, case, prefilter)
 }
 
@@ -127,8 +143,13 @@ fn push_choices(
     for pattern in patterns {
         builder.add(pattern.as_slice())?;
         text.push_str(before)?;
-        push_choice(text, &builder.build()?)?;
+        push_built(text, &builder)?;
         before = ", ";
     }
     Ok(())
+}
+
+/// Writes the kind of prefilter that a builder builds.
+fn push_built(text: &mut String, builder: &Builder) -> Result<(), AllocError> {
+    push_choice(text, &builder.build()?)
 }
