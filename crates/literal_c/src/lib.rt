@@ -671,11 +671,12 @@ pub extern "C" fn literal_find_overlapping_in(
     }
 }
 
-/// Answers as [`literal_find_all_in`], by a search that [`literal_prepare_linear`] wrote. A page looks at no byte more
-/// often than twice, whatever the patterns are, and behind `next` at no more than twice as many as the longest pattern
-/// has, or at some thousands: so pages with room for as many matches take time in proportion to the haystack.
-/// [`LITERAL_OUT_OF_MEMORY`] comes only where there is a byte to search, as for marks of as many bytes as the longest
-/// pattern has memory is asked for. After it what was lent is as it was.
+/// Answers as [`literal_find_all_in`], by a search that [`literal_prepare_linear`] wrote. A call looks at no byte more
+/// often than twice, whatever the patterns are. Behind its matches it looks for one more, and beyond that at most twice
+/// as far as the longest pattern is long, or some thousand bytes; the next page begins behind these matches anew. So
+/// pages with room for as many matches as that pattern has bytes take time in proportion to the haystack. Memory for
+/// marks of as many bytes as that pattern has, or 1,024, is asked for once: [`LITERAL_OUT_OF_MEMORY`] comes only where
+/// there is a byte to search, and what was lent is then as it was.
 #[unsafe(no_mangle)]
 pub extern "C" fn literal_find_all_linear_in(
     alloc: Global,

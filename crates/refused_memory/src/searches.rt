@@ -164,27 +164,26 @@ fn find_iter_of_linear(rt: HostRuntime) -> Result<(), AllocError> {
     Ok(())
 }
 
-/// The same by an array that is prepared.
-fn iterate_by(alloc: Global, array: &[u32]) -> Result<usize, AllocError> {
+/// The first of them by an array that is prepared.
+fn first_by(alloc: Global, array: &[u32]) -> Result<Option<Match>, AllocError> {
     let prepared = PreparedLinear::new(array).or(Err(AllocError))?;
     let mut matches = prepared.find_iter_in(alloc, b"ABqb", Span { start: 0, end: 4 })?;
-    let mut count: usize = 0;
-    while let Ok(Some(_)) = matches.next_match() {
-        count = count.saturating_add(1);
-    }
-    Ok(count)
+    matches.next_match().or(Err(AllocError))
 }
 
 #[test]
 fn find_iter_of_prepared_linear(rt: HostRuntime) -> Result<(), AllocError> {
-    let search = build_linear(rt.alloc()).or(Err(AllocError))?;
-    let mut array = [0; 1024];
+    let built = build_linear(rt.alloc()).or(Err(AllocError));
+    let (search, mut array) = (built?, [0; 1024]);
     assert!(rt; search.prepare(&mut array).is_ok());
-    let count = match iterate_by(rt.alloc(), &array) {
-        Ok(count) => count,
-        Err(_) => iterate_by(rt.alloc(), &array).expect(&rt, "it was refused again"),
+    let first = match first_by(rt.alloc(), &array) {
+        Ok(first) => first,
+        Err(_) => {
+            assert_finds_nothing(&rt, &search);
+            first_by(rt.alloc(), &array).expect(&rt, "it was refused again")
+        }
     };
-    assert!(rt; count == 2);
+    assert_place(&rt, first, 0, (0, 2));
     Ok(())
 }
 
