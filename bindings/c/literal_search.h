@@ -317,8 +317,8 @@ int32_t literal_count_in(const uint32_t *prepared, size_t prepared_len, const ui
 
 /* As literal_find_all_in, by an array that literal_prepare_linear wrote: the same matches, with no byte looked at more
  * often than twice by a call, whatever the patterns are. Behind its matches a call looks for one more, and beyond that
- * at most twice as far as the longest pattern is long, or some thousand bytes; the next page begins behind these matches
- * anew. So with room for as many matches as that pattern has bytes, all pages together take time in proportion to the
+ * at most twice as far as the longest pattern is long, or some thousand bytes; the next page begins anew where that one
+ * begins. So with room for as many matches as that pattern has bytes, all pages together take time in proportion to the
  * haystack. While it runs, a call takes 4 bytes of memory for each byte of the longest pattern, or 4 KiB.
  *
  * LITERAL_OK             found and page are written, also where no pattern occurs (then page->written is 0)

@@ -673,7 +673,7 @@ pub extern "C" fn literal_find_overlapping_in(
 
 /// Answers as [`literal_find_all_in`], by a search that [`literal_prepare_linear`] wrote. A call looks at no byte more
 /// often than twice, whatever the patterns are. Behind its matches it looks for one more, and beyond that at most twice
-/// as far as the longest pattern is long, or some thousand bytes; the next page begins behind these matches anew. So
+/// as far as the longest pattern is long, or some thousand bytes; the next page begins anew where that one begins. So
 /// pages with room for as many matches as that pattern has bytes take time in proportion to the haystack. Memory for
 /// marks of as many bytes as that pattern has, or 1,024, is asked for once: [`LITERAL_OUT_OF_MEMORY`] comes only where
 /// there is a byte to search, and what was lent is then as it was.
