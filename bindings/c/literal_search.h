@@ -244,14 +244,14 @@ int32_t literal_check_overlapping(const uint32_t *prepared, size_t prepared_len)
 int32_t literal_check_linear(const uint32_t *prepared, size_t prepared_len);
 
 /* The functions that follow search by an array that literal_prepare wrote, literal_find_overlapping_in by one of
- * literal_prepare_overlapping, and the last two by one of literal_prepare_linear. They look at its version and its lengths, and not at all of it: an array that has not
- * those of such a search, as one that is too short or of the other kind, is always LITERAL_DAMAGED, if the other
- * arguments are right. Of an array with other words each of them still returns, and writes to the lent places alone;
- * what it finds lies in the bytes that were searched, and its pattern is below prepared[3], where the array says how
- * many patterns there are. A page is the last, or fills the room for matches, and of literal_find_all_in page->next is
- * at least as many bytes behind start as the page has matches: with room for one, a loop over pages ends. But the
- * answer need not be right, whether that is LITERAL_DAMAGED or not, and with LITERAL_DAMAGED some places for matches or
- * answers may be written. */
+ * literal_prepare_overlapping, and the last two by one of literal_prepare_linear. They look at its version and its
+ * lengths, and not at all of it: an array that has not those of such a search, as one that is too short or of the other
+ * kind, is always LITERAL_DAMAGED, if the other arguments are right. Of an array with other words each of them still
+ * returns, and writes to the lent places alone; what it finds lies in the bytes that were searched, and its pattern is
+ * below prepared[3], where the array says how many patterns there are. A page is the last, or fills the room for
+ * matches, and of literal_find_all_in page->next is at least as many bytes behind start as the page has matches: with
+ * room for one, a loop over pages ends. But the answer need not be right, whether that is LITERAL_DAMAGED or not, and
+ * with LITERAL_DAMAGED some places for matches or answers may be written. */
 
 /* As literal_find.
  *
