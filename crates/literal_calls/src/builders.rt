@@ -1,6 +1,7 @@
 //! Builders, their configuration and limits, and what they build.
 ghost use Rattle.std.specs.Prelude.{◌≤◌};
 
+use crate::asserted::assert_prints;
 use literal_packed::laws::{builders_keep_their_limit, none_is_for_good};
 use literal_prefilters::count::Tally;
 use literal_prefilters::packed::{Builder, Config, MatchKind, Searcher};
@@ -46,7 +47,12 @@ fn keeps_the_limit_of_its_making(rt: HostRuntime) -> Result<(), Fail> {
     config.pattern_limit(3);
     assert_limit(&rt, &mut old, 2)?;
     assert_limit(&rt, &mut copied, 2)?;
-    assert_limit(&rt, &mut config.builder(rt.alloc()), 3)?;
+    assert_limit(&rt, &mut config.builder(rt.alloc()), 3)
+}
+
+#[test]
+fn keeps_its_limit_by_law(rt: HostRuntime) -> Result<(), Fail> {
+    let mut config = Config::new();
     let mut by_law = builders_keep_their_limit(rt.alloc(), config.pattern_limit(2), 3);
     assert_limit(&rt, &mut by_law, 2)
 }
@@ -81,12 +87,27 @@ fn assert_finds_bar(rt: &impl Abort, searcher: &Searcher) {
     assert!(rt; searcher.minimum_len() == 0);
 }
 
+/// A searcher for these two words.
+fn of_two(alloc: Global) -> Result<Searcher, Fail> {
+    Ok(Searcher::new(alloc, TWO)?.ok_or("nothing is built")?)
+}
+
 #[test]
 fn searchers_are_made_of_all_items(rt: HostRuntime) -> Result<(), Fail> {
-    let searcher = Searcher::new(rt.alloc(), TWO)?.ok_or("nothing is built")?;
+    let searcher = of_two(rt.alloc())?;
     assert_finds_bar(&rt, &searcher);
-    assert_finds_bar(&rt, &searcher.try_clone()?);
     assert!(rt; searcher.find_all(b"foobar", &mut Tally::new())?.len() == 2);
+    Ok(())
+}
+
+#[test]
+fn copies_of_searchers_find_the_same(rt: HostRuntime) -> Result<(), Fail> {
+    assert_finds_bar(&rt, &of_two(rt.alloc())?.try_clone()?);
+    Ok(())
+}
+
+#[test]
+fn an_empty_item_makes_no_searcher(rt: HostRuntime) -> Result<(), Fail> {
     assert!(rt; Searcher::new(rt.alloc(), [b"foo".as_slice(), b"", b"bar"])?.is_none());
     Ok(())
 }
@@ -97,41 +118,56 @@ fn extends_by_all_items(rt: HostRuntime) -> Result<(), Fail> {
     builder.extend(TWO)?;
     assert_keeps(&rt, &builder, 2)?;
     assert_finds_bar(&rt, &builder.build()?.ok_or("nothing is built")?);
+    Ok(())
+}
+
+#[test]
+fn an_empty_item_ends_what_is_kept(rt: HostRuntime) -> Result<(), Fail> {
+    let mut builder = Searcher::builder(rt.alloc());
     builder.extend([b"more".as_slice(), b""])?;
     assert_keeps(&rt, &builder, 0)
+}
+
+/// Adds a pattern. What that promises is of no use to those who call this, and makes their proofs long.
+fn add(builder: &mut Builder, pattern: &[u8]) -> Result<(), AllocError> {
+    builder.add(pattern)?;
+    Ok(())
 }
 
 /// A builder that keeps `foo`.
 fn of_foo(alloc: Global) -> Result<Builder, AllocError> {
     let mut builder = Builder::new(alloc);
-    builder.add(b"foo")?;
+    add(&mut builder, b"foo")?;
     Ok(builder)
 }
 
-/// A copy of a builder of `foo` that keeps `bar` too.
-fn copy_with_bar(builder: &Builder) -> Result<Builder, AllocError> {
+/// What is built of a copy of a builder of `foo` that keeps `bar` too finds it.
+fn assert_copy_finds_bar(rt: &impl Abort, builder: &Builder) -> Result<(), Fail> {
     let mut copy = builder.try_clone()?;
-    copy.add(b"bar")?;
-    Ok(copy)
+    add(&mut copy, b"bar")?;
+    assert_finds_bar(rt, &copy.build()?.ok_or("nothing is built")?);
+    Ok(())
 }
 
-/// What is built before a builder takes more finds no more.
-#[test]
-fn builds_more_than_once(rt: HostRuntime) -> Result<(), Fail> {
-    let builder = of_foo(rt.alloc())?;
+/// What is built of a builder of `foo` finds no more once a copy of it takes more.
+fn assert_finds_no_more(rt: &impl Abort, builder: &Builder) -> Result<(), Fail> {
     let before = builder.build()?.ok_or("nothing is built")?;
-    let copy = copy_with_bar(&builder)?;
-    assert_keeps(&rt, &builder, 1)?;
-    assert_finds_bar(&rt, &copy.build()?.ok_or("nothing is built")?);
+    assert_copy_finds_bar(rt, builder)?;
+    assert_keeps(rt, builder, 1)?;
     assert!(rt; before.find(b"xbar").is_none());
     Ok(())
+}
+
+#[test]
+fn builds_more_than_once(rt: HostRuntime) -> Result<(), Fail> {
+    assert_finds_no_more(&rt, &of_foo(rt.alloc())?)
 }
 
 /// The length of what builders of a configuration find of `a` and `ab`.
 fn found_by(alloc: Global, config: &Config) -> Result<Option<usize>, Fail> {
     let mut builder = config.builder(alloc);
-    builder.add(b"a")?;
-    builder.add(b"ab")?;
+    add(&mut builder, b"a")?;
+    add(&mut builder, b"ab")?;
     let built = builder.build()?.ok_or("nothing is built")?;
     Ok(built.find(b"ab").map(|it| it.len()))
 }
@@ -169,9 +205,8 @@ fn answers_none_for_good(rt: HostRuntime) -> Result<(), Fail> {
 #[test]
 fn prints_something(rt: HostRuntime) -> Result<(), Fail> {
     let builder = of_foo(rt.alloc())?;
-    assert!(rt; !format!(in rt.alloc(); "{:?}", Config::new())?.is_empty());
-    assert!(rt; !format!(in rt.alloc(); "{builder:?}")?.is_empty());
-    let built = builder.build()?;
-    assert!(rt; !format!(in rt.alloc(); "{built:?}")?.is_empty());
+    assert_prints(&rt, rt.alloc(), &Config::new())?;
+    assert_prints(&rt, rt.alloc(), &builder)?;
+    assert_prints(&rt, rt.alloc(), &builder.build()?)?;
     Ok(())
 }

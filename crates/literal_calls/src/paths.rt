@@ -8,6 +8,7 @@ use literal_prefilters::prefilter::{
     StartBytesThree, StartBytesTwo,
 };
 use literal_prefilters::{alphabet, byte_frequencies, count, int, primitives, search};
+use std::process::Abort;
 use std::test::Fail;
 
 #[test]
@@ -79,18 +80,28 @@ fn search_stands_at_the_root(rt: HostRuntime) {
     assert!(rt; start_kind == literal_prefilters::StartKind::Unanchored);
 }
 
+/// A prefilter proposes where `ob` stands, by its call and that of its trait.
+fn assert_proposes(rt: &impl Abort, pre: &prefilter::Prefilter) {
+    let span = search::Span { start: 0, end: 6 };
+    let candidate: prefilter::Candidate = pre.find_in(b"foobar", span);
+    assert!(rt; candidate.into_option().is_some());
+    let by_trait = PrefilterI::find_in(pre, b"foobar", span, &mut count::Tally::new());
+    assert!(rt; by_trait.into_option().is_some());
+}
+
 #[test]
 fn prefilters_stand_in_their_module(rt: HostRuntime) -> Result<(), Fail> {
     let kind = search::MatchKind::Standard;
     let mut builder: prefilter::Builder = prefilter::Builder::new(rt.alloc(), kind);
     builder.add(b"ob")?;
     let pre: prefilter::Prefilter = builder.build()?.ok_or("there is no prefilter")?;
-    let span = search::Span { start: 0, end: 6 };
-    let candidate: prefilter::Candidate = pre.find_in(b"foobar", span);
-    assert!(rt; candidate.into_option().is_some());
-    let by_trait = PrefilterI::find_in(&pre, b"foobar", span, &mut count::Tally::new());
-    assert!(rt; by_trait.into_option().is_some());
-    // the builder alone makes these kinds
+    assert_proposes(&rt, &pre);
+    Ok(())
+}
+
+/// The builder alone makes these kinds.
+#[test]
+fn kinds_of_prefilters_stand_in_their_module(rt: HostRuntime) {
     let starts: (
         Option<StartBytesOne>,
         Option<StartBytesTwo>,
@@ -103,6 +114,10 @@ fn prefilters_stand_in_their_module(rt: HostRuntime) -> Result<(), Fail> {
     ) = (None, None, None);
     let exact: (Option<Memmem>, Option<Packed>) = (None, None);
     assert!(rt; starts.0.is_none() && rares.0.is_none() && exact.0.is_none());
+}
+
+#[test]
+fn tables_stand_in_their_module(rt: HostRuntime) -> Result<(), Fail> {
     let mut patterns: Patterns = Patterns::new(rt.alloc());
     patterns.add(b"ob")?;
     let table: Option<prefilter::ByteTable> = prefilter::ByteTable::start(&patterns, false);
@@ -110,21 +125,36 @@ fn prefilters_stand_in_their_module(rt: HostRuntime) -> Result<(), Fail> {
     Ok(())
 }
 
+/// Where `ob` stands in `foobar`.
+const FOUND: search::Span = search::Span { start: 2, end: 4 };
+
 #[test]
 fn packed_stands_at_its_path(rt: HostRuntime) -> Result<(), Fail> {
     let mut builder: Builder = Config::new().builder(rt.alloc());
     builder.add(b"ob")?;
     let searcher: Searcher = builder.build()?.ok_or("no searcher")?;
     let mut matches: FindIter<'_, '_> = searcher.find_iter(b"foobar");
-    assert!(rt; matches.next().is_some_and(|it| it.range() == (2..4)));
-    let mut tally = count::Tally::new();
+    assert!(rt; matches.next() == Some(search::Match::must(0, FOUND)));
+    Ok(())
+}
+
+#[test]
+fn patterns_stand_at_their_path(rt: HostRuntime) -> Result<(), Fail> {
     let mut patterns: Patterns = Patterns::new(rt.alloc());
     patterns.add(b"ob")?;
     let items: PatternIter<'_> = patterns.iter();
     let (id, pattern): (primitives::PatternID, Pattern<'_>) = items.last().ok_or("no pattern")?;
     assert!(rt; id == primitives::PatternID::ZERO && pattern.len() == 2);
+    Ok(())
+}
+
+#[test]
+fn rabin_karp_stands_at_its_path(rt: HostRuntime) -> Result<(), Fail> {
+    let mut tally = count::Tally::new();
+    let mut patterns: Patterns = Patterns::new(rt.alloc());
+    patterns.add(b"ob")?;
     let found = RabinKarp::new(&patterns, &mut tally)?.find_at(&patterns, b"foobar", 0, &mut tally);
-    assert!(rt; found.is_some_and(|it| it.range() == (2..4)));
+    assert!(rt; found == Some(search::Match::must(0, FOUND)));
     let mut rolling = Rolling::new(2);
     rolling.push(b'o', &mut tally);
     assert!(rt; rolling.value() == 111);

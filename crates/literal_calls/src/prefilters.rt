@@ -1,4 +1,5 @@
 //! Prefilters, confirming searches, and their copies.
+use crate::asserted::assert_prints;
 use literal_prefilters::count::Tally;
 use literal_prefilters::prefilter::{Builder, Candidate, ConfirmingSearch, Prefilter, PrefilterI};
 use literal_prefilters::{Match, MatchKind, PatternID, Span, packed};
@@ -18,8 +19,8 @@ fn tells_where_a_candidate_begins(rt: HostRuntime) -> Result<(), Fail> {
 }
 
 /// A prefilter for these patterns.
-fn prefilter(alloc: Global, kind: MatchKind, patterns: &[&[u8]]) -> Result<Prefilter, Fail> {
-    let mut builder = Builder::new(alloc, kind).ascii_case_insensitive(false);
+pub fn prefilter(alloc: Global, kind: MatchKind, patterns: &[&[u8]]) -> Result<Prefilter, Fail> {
+    let mut builder = Builder::new(alloc, kind);
     for bytes in patterns {
         builder.add(bytes)?;
     }
@@ -61,11 +62,12 @@ fn copies_propose_the_same(rt: HostRuntime) -> Result<(), Fail> {
 /// An empty pattern leaves a builder without a prefilter.
 #[test]
 fn builds_nothing_where_nothing_suits(rt: HostRuntime) -> Result<(), Fail> {
-    let mut builder = Builder::new(rt.alloc(), MatchKind::Standard);
-    builder.add(b"foo")?;
-    builder.add(b"")?;
+    let mut builder = Builder::new(rt.alloc(), MatchKind::Standard).ascii_case_insensitive(false);
+    for bytes in [b"foo".as_slice(), b""] {
+        builder.add(bytes)?;
+    }
     assert!(rt; builder.build()?.is_none());
-    assert!(rt; !format!(in rt.alloc(); "{builder:?}")?.is_empty());
+    assert_prints(&rt, rt.alloc(), &builder)?;
     Ok(())
 }
 

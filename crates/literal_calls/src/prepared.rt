@@ -11,7 +11,14 @@ use std::test::Fail;
 /// The search for two words with case ignored, in an array that it fills.
 fn filled(alloc: Global) -> Result<Vec<u32>, Fail> {
     let words = [b"password".as_slice(), b"secret"];
-    let search = Search::new(alloc, MatchKind::LeftmostFirst, true, words)?;
+    filled_by(
+        alloc,
+        &Search::new(alloc, MatchKind::LeftmostFirst, true, words)?,
+    )
+}
+
+/// An array that a search fills.
+fn filled_by(alloc: Global, search: &Search) -> Result<Vec<u32>, Fail> {
     let Err(PrepareError::ArrayTooShort(needed)) = search.prepare(&mut []) else {
         return Err(Fail::from("an empty array is filled"));
     };
@@ -96,7 +103,11 @@ fn damaged_arrays_are_not_whole(rt: HostRuntime) -> Result<(), Fail> {
 /// The search for all that occurs of three words with case ignored, in an array that it fills.
 fn filled_for_all(alloc: Global) -> Result<Vec<u32>, Fail> {
     let words = [b"append".as_slice(), b"app", b"end"];
-    let search = Overlapping::new(alloc, true, words)?;
+    filled_by_overlapping(alloc, &Overlapping::new(alloc, true, words)?)
+}
+
+/// An array that a search for all that occurs fills.
+fn filled_by_overlapping(alloc: Global, search: &Overlapping) -> Result<Vec<u32>, Fail> {
     let Err(PrepareError::ArrayTooShort(needed)) = search.prepare(&mut []) else {
         return Err(Fail::from("an empty array is filled"));
     };

@@ -15,37 +15,44 @@ fn example_of_a_search(rt: HostRuntime) -> Result<(), Fail> {
     Ok(())
 }
 
-/// What all calls answer of two words with case ignored, each in its own case.
-fn assert_searches(rt: &impl Abort, search: &Search, haystack: &[u8]) {
+/// The second of two words twice, each time in another case than its own.
+const HAYSTACK: &[u8] = b"A SECRET, a Secret";
+
+/// What all matches are, one after another.
+fn assert_searches(rt: &impl Abort, search: &Search) {
     let [first, second] = [Span { start: 2, end: 8 }, Span { start: 12, end: 18 }];
-    assert!(rt; search.patterns_len() == 2 && search.is_match(haystack));
-    assert!(rt; search.find(haystack) == Some(Match::must(1, first)));
-    let mut matches = search.find_iter(haystack);
+    assert!(rt; search.patterns_len() == 2 && search.is_match(HAYSTACK));
+    assert!(rt; search.find(HAYSTACK) == Some(Match::must(1, first)));
+    let mut matches = search.find_iter(HAYSTACK);
     assert!(rt; matches.next() == Some(Match::must(1, first)));
     assert!(rt; matches.next_counted(&mut Tally::new()) == Some(Match::must(1, second)));
     assert!(rt; matches.next().is_none() && matches.next().is_none());
+}
+
+/// Where the first match stands, and where the first end is, by all calls.
+fn assert_finds_first(rt: &impl Abort, search: &Search) {
+    let (whole, tally) = (Span { start: 0, end: 18 }, &mut Tally::new());
+    let first = Match::must(1, Span { start: 2, end: 8 });
+    assert!(rt; search.find_in_counted(HAYSTACK, whole, tally) == Some(first));
+    assert!(rt; search.find_in_once(HAYSTACK, whole, tally) == Some(first));
+    assert!(rt;
+        search
+            .find_in(HAYSTACK, Span { start: 3, end: 17 })
+            .is_none()
+    );
+    assert!(rt; search.earliest_end(HAYSTACK, whole) == Some(8));
+    assert!(rt; search.earliest_end_counted(HAYSTACK, whole, tally) == Some(8));
+    assert!(rt; search.earliest_end_once(HAYSTACK, whole, tally) == Some(8));
 }
 
 #[test]
 fn finds_all_matches(rt: HostRuntime) -> Result<(), Fail> {
     let words = [b"password".as_slice(), b"secret"];
     let search = Search::new(rt.alloc(), MatchKind::LeftmostFirst, true, words)?;
-    let haystack = b"A SECRET, a Secret";
-    assert_searches(&rt, &search, haystack);
-    assert!(rt; search.find_all(haystack)?.len() == 2);
-    let tally = &mut Tally::new();
-    assert!(rt; search.find_all_counted(haystack, tally)?.len() == 2);
-    let whole = Span { start: 0, end: 18 };
-    assert!(rt; search.find_in_counted(haystack, whole, tally) == search.find(haystack));
-    assert!(rt; search.find_in_once(haystack, whole, tally) == search.find(haystack));
-    assert!(rt;
-        search
-            .find_in(haystack, Span { start: 3, end: 17 })
-            .is_none()
-    );
-    assert!(rt; search.earliest_end(haystack, whole) == Some(8));
-    assert!(rt; search.earliest_end_counted(haystack, whole, tally) == Some(8));
-    assert!(rt; search.earliest_end_once(haystack, whole, tally) == Some(8));
+    assert_searches(&rt, &search);
+    assert_finds_first(&rt, &search);
+    assert!(rt; search.find_all(HAYSTACK)?.len() == 2);
+    assert!(rt; search.find_all_counted(HAYSTACK, &mut Tally::new())?.len() == 2);
     Ok(())
 }
 
@@ -93,13 +100,23 @@ fn lists_what_lies_in_a_span(rt: HostRuntime) -> Result<(), Fail> {
     Ok(())
 }
 
+/// What a search for `ab` and `abc` finds, the longest of them and in either case.
+fn assert_finds_abc(rt: &impl Abort, search: &Search) {
+    let found = Match::must(1, Span { start: 1, end: 4 });
+    assert!(rt; search.find(b"xABC") == Some(found) && search.patterns_len() == 2);
+}
+
 #[test]
 fn copies_find_the_same(rt: HostRuntime) -> Result<(), Fail> {
     let words = [b"ab".as_slice(), b"abc"];
     let search = Search::new(rt.alloc(), MatchKind::LeftmostLongest, true, words)?;
-    let copy = search.try_clone()?;
-    assert!(rt; copy.find(b"xABC") == Some(Match::must(1, Span { start: 1, end: 4 })));
-    assert!(rt; copy.find(b"xABC") == search.find(b"xABC") && copy.patterns_len() == 2);
+    assert_finds_abc(&rt, &search);
+    assert_finds_abc(&rt, &search.try_clone()?);
+    Ok(())
+}
+
+#[test]
+fn copies_of_none_find_nothing(rt: HostRuntime) -> Result<(), Fail> {
     let none = Search::builder().build(rt.alloc(), [])?.try_clone()?;
     assert!(rt; none.find(b"xABC").is_none());
     Ok(())
@@ -115,20 +132,31 @@ fn example_of_linear(rt: HostRuntime) -> Result<(), Fail> {
     Ok(())
 }
 
+/// What lies behind the first match, in lists.
+fn assert_lists(rt: &impl Abort, search: &Linear) -> Result<(), AllocError> {
+    let rest = Span { start: 3, end: 18 };
+    let second = Match::must(1, Span { start: 12, end: 18 });
+    assert!(rt; search.find_all_in(HAYSTACK, rest)?.as_slice() == [second].as_slice());
+    let counted = search.find_all_in_counted(HAYSTACK, rest, &mut Tally::new())?;
+    assert!(rt; counted.as_slice() == [second].as_slice());
+    Ok(())
+}
+
+/// The same, one after another.
+fn assert_iterates(rt: &impl Abort, search: &Linear) -> Result<(), AllocError> {
+    let mut matches = search.find_iter_in(HAYSTACK, Span { start: 3, end: 18 })?;
+    assert!(rt; matches.next() == Some(Match::must(1, Span { start: 12, end: 18 })));
+    assert!(rt; matches.next_counted(&mut Tally::new()).is_none() && matches.next().is_none());
+    Ok(())
+}
+
 #[test]
 fn finds_all_in_linear_time(rt: HostRuntime) -> Result<(), Fail> {
     let words = [b"password".as_slice(), b"secret"];
     let search = Linear::new(rt.alloc(), MatchKind::LeftmostFirst, true, words)?;
-    let haystack = b"A SECRET, a Secret";
-    assert!(rt; search.patterns_len() == 2 && search.find_all(haystack)?.len() == 2);
-    let rest = Span { start: 3, end: 18 };
-    let second = Match::must(1, Span { start: 12, end: 18 });
-    assert!(rt; search.find_all_in(haystack, rest)?.as_slice() == [second].as_slice());
-    let counted = search.find_all_in_counted(haystack, rest, &mut Tally::new())?;
-    assert!(rt; counted.as_slice() == [second].as_slice());
-    let mut matches = search.find_iter_in(haystack, rest)?;
-    assert!(rt; matches.next() == Some(second));
-    assert!(rt; matches.next_counted(&mut Tally::new()).is_none() && matches.next().is_none());
+    assert!(rt; search.patterns_len() == 2 && search.find_all(HAYSTACK)?.len() == 2);
+    assert_lists(&rt, &search)?;
+    assert_iterates(&rt, &search)?;
     Ok(())
 }
 

@@ -1,5 +1,7 @@
 //! Texts of which more may follow, and texts that are read piece by piece.
-use literal_search::{Match, MatchKind, ReplaceStreamError, Search, SoFar, Span, Tally};
+use literal_search::{
+    BuildError, Match, MatchKind, ReplaceStreamError, Search, SoFar, Span, Tally,
+};
 use std::alloc::Global;
 use std::io::{self, ErrorKind, Read, Write};
 use std::process::Abort;
@@ -106,11 +108,16 @@ fn a_failed_read_ends_it(rt: HostRuntime) -> Result<(), Fail> {
     Ok(())
 }
 
+/// A search for `abcd` and `bc`, the first of them.
+fn of_two(alloc: Global) -> Result<Search, BuildError> {
+    let words = [b"abcd".as_slice(), b"bc"];
+    Search::new(alloc, MatchKind::LeftmostFirst, false, words)
+}
+
 /// With few bytes read, where it would read more before it searches.
 #[test]
 fn known_matches_come_before_an_error(rt: HostRuntime) -> Result<(), Fail> {
-    let words = [b"abcd".as_slice(), b"bc"];
-    let search = Search::new(rt.alloc(), MatchKind::LeftmostFirst, false, words)?;
+    let search = of_two(rt.alloc())?;
     let pieces = Pieces {
         rest: b"xabcdabc?",
         step: 3,
@@ -200,8 +207,7 @@ impl Write for Narrow {
 #[test]
 fn what_is_known_is_written_before_an_error(rt: HostRuntime) -> Result<(), Fail> {
     let alloc = rt.alloc();
-    let words = [b"abcd".as_slice(), b"bc"];
-    let search = Search::new(alloc, MatchKind::LeftmostFirst, false, words)?;
+    let search = of_two(alloc)?;
     let mut pieces = Pieces {
         rest: b"xabcdabc?",
         step: 3,
@@ -211,6 +217,12 @@ fn what_is_known_is_written_before_an_error(rt: HostRuntime) -> Result<(), Fail>
     let failed = search.replace_stream(alloc, &mut pieces, &mut written, &[b"12", b"3"]);
     assert!(rt; matches!(failed, Err(ReplaceStreamError::ReadFailed(_))));
     assert!(rt; written.as_slice() == b"x12".as_slice());
+    Ok(())
+}
+
+#[test]
+fn a_failed_write_ends_it(rt: HostRuntime) -> Result<(), Fail> {
+    let (alloc, search) = (rt.alloc(), of_two(rt.alloc())?);
     let (mut text, mut narrow) = (b"xabcd".as_slice(), Narrow { room: 2 });
     let full = search.replace_stream(alloc, &mut text, &mut narrow, &[b"12", b"3"]);
     assert!(rt; matches!(full, Err(ReplaceStreamError::WriteFailed(_))));

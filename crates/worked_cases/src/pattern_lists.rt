@@ -3,7 +3,7 @@ ghost use Rattle.std.specs.Prelude.{◌≤◌, length};
 
 use crate::case::Case;
 use crate::refusal::Refusal;
-use crate::told::NONE;
+use crate::told::{NONE, push_word};
 use literal_prefilters::PatternID;
 use literal_prefilters::count::Tally;
 use literal_prefilters::packed::pattern::Patterns;
@@ -13,19 +13,13 @@ use std::alloc::{AllocError, Global};
 /// The patterns of the case, none of which may be empty.
 pub fn patterns_of(alloc: Global, case: &Case<'_>) -> Result<Patterns, Refusal> {
     let mut patterns = Patterns::new(alloc);
-    add_all(&mut patterns, case.patterns(alloc)?.as_slice())?;
-    Ok(patterns)
-}
-
-/// Adds patterns in turn.
-fn add_all(patterns: &mut Patterns, list: &[Vec<u8>]) -> Result<(), Refusal> {
-    for bytes in list {
+    for bytes in case.patterns(alloc)?.iter() {
         if bytes.is_empty() || patterns.len() >= PatternID::LIMIT {
             return Err(Refusal::Unmet);
         }
         patterns.add(bytes.as_slice())?;
     }
-    Ok(())
+    Ok(patterns)
 }
 
 /// How many patterns there are, and in which order they are tried.
@@ -70,28 +64,16 @@ pub fn matches_at(text: &mut String, alloc: Global, case: &Case<'_>) -> Result<(
     if patterns.is_empty() {
         return Err(Refusal::Unmet);
     }
-    Ok(push_places(text, &patterns, haystack.as_slice(), ignore_case)?)
-}
-
-/// Writes the places of a haystack at which the first pattern stands.
-fn push_places(
-    text: &mut String,
-    patterns: &Patterns,
-    haystack: &[u8],
-    ignore_case: bool,
-) -> Result<(), AllocError>
-    requires { 1 ≤ length patterns.now.patterns }
-{
     let mut tally = Tally::new();
     let mut before = "";
     for at in 0..=haystack.len() {
-        if patterns.matches_at(PatternID::ZERO, haystack, at, ignore_case, &mut tally) {
+        if patterns.matches_at(PatternID::ZERO, &haystack, at, ignore_case, &mut tally) {
             write!(text, "{before}{at}")?;
             before = " ";
         }
     }
     if before.is_empty() {
-        text.push_str(NONE)?;
+        push_word(text, NONE)?;
     }
     Ok(())
 }

@@ -39,19 +39,7 @@ fn agrees(text: &mut String, alloc: Global, number: usize, line: &str) -> Result
     if refused.is_none() && came.as_str() == wanted {
         return Ok(true);
     }
-    push_other(text, number, case, wanted, came.as_str())?;
+    writeln!(text, "  line {number}: {case}\n    wanted {wanted}")?;
+    writeln!(text, "    came   {came}")?;
     Ok(false)
-}
-
-/// Writes what came of the row of a line in place of the wanted answer.
-fn push_other(
-    text: &mut String,
-    number: usize,
-    case: &str,
-    wanted: &str,
-    came: &str,
-) -> Result<(), AllocError> {
-    writeln!(text, "  line {number}: {case}")?;
-    writeln!(text, "    wanted {wanted}")?;
-    writeln!(text, "    came   {came}")
 }

@@ -1,11 +1,10 @@
 //! Callers of byte classes, each run once.
+use crate::asserted::assert_prints;
 use literal_base::alphabet::{ByteClassSet, ByteClasses, ByteSet};
 use literal_callers::classes::{
     classes_of, copied, count_of_classes, count_of_elements, elements_taken, have_their_class,
     last_bytes, next_after_all, runs_collected,
 };
-use std::alloc::{AllocError, Global};
-use std::fmt::Debug;
 use std::process::Abort;
 use std::test::Fail;
 
@@ -87,11 +86,5 @@ fn holds_bytes(rt: HostRuntime) -> Result<(), Fail> {
     assert_prints(&rt, rt.alloc(), &set)?;
     assert_prints(&rt, rt.alloc(), &ByteClassSet::empty())?;
     assert_prints(&rt, rt.alloc(), &ByteClasses::empty())?;
-    Ok(())
-}
-
-/// What is printed of a value has a byte.
-fn assert_prints<T: Debug>(rt: &impl Abort, alloc: Global, it: &T) -> Result<(), AllocError> {
-    assert!(rt; !format!(in alloc; "{it:?}")?.is_empty());
     Ok(())
 }

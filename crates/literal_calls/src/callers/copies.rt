@@ -12,10 +12,20 @@ fn copies_are_equal(rt: HostRuntime) -> Result<(), Fail> {
     assert!(rt; copy.into_option() == Some(3));
     let copy = copy_of_input(&Input::new(b"foobar").span(Span { start: 1, end: 4 }))?;
     assert!(rt; copy.get_span() == Span { start: 1, end: 4 });
+    Ok(())
+}
+
+#[test]
+fn copies_of_patterns_have_their_bytes(rt: HostRuntime) -> Result<(), Fail> {
     let mut patterns = Patterns::new(rt.alloc());
     patterns.add(b"foo")?;
     let copy = copy_of_pattern(&patterns.get(PatternID::ZERO))?;
     assert!(rt; copy.bytes() == b"foo".as_slice());
+    Ok(())
+}
+
+#[test]
+fn copies_of_configurations_build_the_same(rt: HostRuntime) -> Result<(), Fail> {
     let mut config = Config::new();
     config
         .match_kind(MatchKind::LeftmostLongest)

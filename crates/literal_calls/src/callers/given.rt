@@ -30,13 +30,18 @@ fn finds_words_of_each_list(rt: HostRuntime) -> Result<(), Fail> {
 }
 
 #[test]
-fn confirms_and_adds_words(rt: HostRuntime) -> Result<(), Fail> {
+fn confirms_words(rt: HostRuntime) -> Result<(), Fail> {
     let kind = packed::MatchKind::LeftmostFirst;
     let words = [b"ab".as_slice()];
     let span = Span { start: 0, end: 3 };
     let answer = first_confirmed(rt.alloc(), kind, true, words.as_slice(), b"xAB", span)?;
     let first: Option<Match> = answer.ok_or("no prefilter")?.first;
     assert_is_ab(&rt, first);
+    Ok(())
+}
+
+#[test]
+fn adds_words(rt: HostRuntime) -> Result<(), Fail> {
     let mut builder = Builder::new(rt.alloc());
     add_all(&mut builder, WORDS.as_slice())?;
     assert!(rt; builder.len() == 3);

@@ -1,4 +1,5 @@
 //! Laws that make a call: each is run once, and what it answers is looked at.
+use crate::prefilters::prefilter;
 use literal_prefilters::count::Tally;
 use literal_prefilters::laws::{
     confirming_searches_cover_their_patterns, none_without_a_byte, none_without_an_occurrence,
@@ -8,7 +9,7 @@ use literal_prefilters::packed::laws::{
     find_is_find_in, iteration_is_bounded, list_is_iteration, none_if_nothing_occurs,
 };
 use literal_prefilters::packed::{self, Searcher};
-use literal_prefilters::prefilter::{Builder, Candidate, ConfirmingSearch, Prefilter};
+use literal_prefilters::prefilter::{Candidate, ConfirmingSearch};
 use literal_prefilters::{Match, MatchKind, Span};
 use std::alloc::Global;
 use std::process::Abort;
@@ -27,36 +28,42 @@ fn assert_finds(rt: &impl Abort, searcher: &Searcher) {
     assert!(rt; iteration_is_bounded(searcher, HAYSTACK).next().is_none());
 }
 
+/// A searcher for `bar` and `foo`.
+fn searcher(alloc: Global) -> Result<Searcher, Fail> {
+    let built = Searcher::new(alloc, [b"bar".as_slice(), b"foo"])?;
+    Ok(built.ok_or("nothing is built")?)
+}
+
 #[test]
 fn searchers_keep_their_laws(rt: HostRuntime) -> Result<(), Fail> {
-    let built = Searcher::new(rt.alloc(), [b"bar".as_slice(), b"foo"])?;
-    let searcher = built.ok_or("nothing is built")?;
-    assert_finds(&rt, &searcher);
+    assert_finds(&rt, &searcher(rt.alloc())?);
+    Ok(())
+}
+
+#[test]
+fn lists_are_iterations(rt: HostRuntime) -> Result<(), Fail> {
+    let searcher = searcher(rt.alloc())?;
     let (listed, given) = list_is_iteration(rt.alloc(), &searcher, HAYSTACK, &mut Tally::new())?;
     assert!(rt; listed.len() == 2 && listed.as_slice() == given.as_slice());
     Ok(())
 }
 
-/// A prefilter with case kept.
-fn prefilter(alloc: Global, words: &[&[u8]]) -> Result<Prefilter, Fail> {
-    let mut builder = Builder::new(alloc, MatchKind::LeftmostFirst);
-    for word in words {
-        builder.add(word)?;
-    }
-    Ok(builder.build()?.ok_or("there is no prefilter")?)
-}
-
-/// A table has no first byte in one span, and one at the end of the other; an exact prefilter has its word in part, and
-/// whole.
+/// A table has no first byte in one span, and one at the end of the other.
 #[test]
-fn prefilters_keep_their_laws(rt: HostRuntime) -> Result<(), Fail> {
-    let pre = prefilter(rt.alloc(), &[b"bar", b"foo"])?;
+fn tables_keep_their_laws(rt: HostRuntime) -> Result<(), Fail> {
+    let pre = prefilter(rt.alloc(), MatchKind::LeftmostFirst, &[b"bar", b"foo"])?;
     prefilters_reach_254_bytes(&pre);
     let without = none_without_a_byte(&pre, HAYSTACK, Span { start: 2, end: 4 });
     assert!(rt; without.into_option().is_none());
     let with = none_without_a_byte(&pre, HAYSTACK, Span { start: 2, end: 5 });
     assert!(rt; matches!(&with, Candidate::PossibleStartOfMatch(4)));
-    let exact = prefilter(rt.alloc(), &[b"foo"])?;
+    Ok(())
+}
+
+/// The word stands in one span in part, and in the other whole.
+#[test]
+fn exact_prefilters_keep_their_laws(rt: HostRuntime) -> Result<(), Fail> {
+    let exact = prefilter(rt.alloc(), MatchKind::LeftmostFirst, &[b"foo"])?;
     let cut = none_without_an_occurrence(&exact, HAYSTACK, Span { start: 1, end: 3 });
     assert!(rt; cut.into_option().is_none());
     let whole = none_without_an_occurrence(&exact, HAYSTACK, Span { start: 1, end: 4 });

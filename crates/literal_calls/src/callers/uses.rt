@@ -38,6 +38,11 @@ fn two_words(alloc: Global) -> Result<Vec<String>, AllocError> {
 fn builds_of_words(rt: HostRuntime) -> Result<(), Fail> {
     let words = two_words(rt.alloc())?;
     assert_finds_ab(&rt, built_of_words(rt.alloc(), &words)?);
+    Ok(())
+}
+
+#[test]
+fn extends_and_adds(rt: HostRuntime) -> Result<(), Fail> {
     let mut builder = Builder::new(rt.alloc());
     extend_and_add(&mut builder, AB_AND_A, b"c")?;
     assert!(rt; builder.len() == 3);
@@ -45,10 +50,15 @@ fn builds_of_words(rt: HostRuntime) -> Result<(), Fail> {
 }
 
 #[test]
-fn goes_over_patterns(rt: HostRuntime) -> Result<(), Fail> {
-    let mut patterns = Patterns::new(rt.alloc());
+fn goes_over_no_patterns(rt: HostRuntime) {
+    let patterns = Patterns::new(rt.alloc());
     let mut items = patterns.iter();
     assert!(rt; next_at_end(&mut items).is_none() && next_at_end(&mut items).is_none());
+}
+
+#[test]
+fn goes_over_patterns(rt: HostRuntime) -> Result<(), Fail> {
+    let mut patterns = Patterns::new(rt.alloc());
     patterns.add(b"a")?;
     patterns.add(b"bc")?;
     patterns.set_match_kind(MatchKind::LeftmostLongest)?;

@@ -1,0 +1,10 @@
+//! What tests assert of values of any type.
+use std::alloc::{AllocError, Global};
+use std::fmt::Debug;
+use std::process::Abort;
+
+/// What is printed of a value has a byte.
+pub fn assert_prints<T: Debug>(rt: &impl Abort, alloc: Global, it: &T) -> Result<(), AllocError> {
+    assert!(rt; !format!(in alloc; "{it:?}")?.is_empty());
+    Ok(())
+}
