@@ -202,7 +202,7 @@ impl<'t> Backward<'t> {
     }
 
     /// Makes room for the marks of a block, where so many bytes are left.
-    pub fn make_room(&self, marks: &mut Vec<u32>, left: usize) -> Result<(), AllocError>
+    pub(crate) fn make_room(&self, marks: &mut Vec<u32>, left: usize) -> Result<(), AllocError>
         ensures ok { IfOk result (λ _. min (max self.now.table.longest LEAST) left ≤ length marks.new.items) }
         ensures more { length marks.old.items ≤ length marks.new.items }
         ensures no_memory { OnErr result (length marks.old.items < min (max self.now.table.longest LEAST) left) }
