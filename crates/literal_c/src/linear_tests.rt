@@ -66,7 +66,7 @@ fn prepares_for_linear_time(rt: HostRuntime) -> Result<(), Fail> {
     assert!(rt; status == LITERAL_BAD_ARGUMENTS && needed == 5);
     let status = literal_prepare_linear(alloc, 2, true, b"a", &[1], array, &mut needed);
     assert!(rt; status == LITERAL_BAD_ARGUMENTS && literal_check_linear(array) == LITERAL_OK);
-    assert!(rt; literal_check_linear(&array[..9]) == LITERAL_DAMAGED);
+    assert!(rt; literal_check_linear(&[7, 8, 9]) == LITERAL_DAMAGED);
     Ok(())
 }
 

@@ -21,19 +21,20 @@ fn filled(alloc: Global) -> Result<Vec<u32>, Fail> {
 
 #[test]
 fn finds_all_by_an_array(rt: HostRuntime) -> Result<(), Fail> {
-    let mut array = filled(rt.alloc())?;
+    let array = filled(rt.alloc())?;
     let prepared = PreparedLinear::new(&array)?;
     assert!(rt; prepared.is_whole() && Prepared::new(&array).is_err());
-    let haystack = b"A SECRET, a Secret, a password";
-    let rest = Span { start: 3, end: 29 };
-    let mut matches = prepared.find_iter_in(rt.alloc(), haystack, rest)?;
+    let rest = Span { start: 3, end: 18 };
+    let mut matches = prepared.find_iter_in(rt.alloc(), b"A SECRET, a Secret", rest)?;
     let second = Match::must(1, Span { start: 12, end: 18 });
     assert!(rt; matches.next_counted(&mut Tally::new())? == Some(second));
     assert!(rt; matches.next_match()?.is_none() && matches.next_match()?.is_none());
-    let whole = Span { start: 18, end: 30 };
-    let mut matches = prepared.find_iter_in(rt.alloc(), haystack, whole)?;
-    let last = Match::must(0, Span { start: 22, end: 30 });
-    assert!(rt; matches.next_match()? == Some(last));
+    Ok(())
+}
+
+#[test]
+fn refuses_a_shorter_array(rt: HostRuntime) -> Result<(), Fail> {
+    let mut array = filled(rt.alloc())?;
     assert!(rt; array.pop().is_some());
     assert!(rt; PreparedLinear::new(&array).is_err());
     Ok(())
