@@ -77,10 +77,10 @@ fn finds_all_in_linear_pages(rt: HostRuntime) -> Result<(), Fail> {
     let (mut found, mut page) = ([BEFORE, BEFORE], NO_PAGE);
     let array = &prepared;
     let status = literal_find_all_linear_in(alloc, array, TEXT, 0, 51, &mut found, &mut page);
-    assert!(rt; status == LITERAL_OK && page.written == 2 && page.next == 33 && page.is_last == 0);
+    assert!(rt; status == LITERAL_OK && page.written == 2 && page.next == 43 && page.is_last == 0);
     assert_match(&rt, &found[0], (1, 13, 18));
     assert_match(&rt, &found[1], (0, 28, 33));
-    let status = literal_find_all_linear_in(alloc, array, TEXT, 33, 51, &mut found, &mut page);
+    let status = literal_find_all_linear_in(alloc, array, TEXT, 43, 51, &mut found, &mut page);
     assert!(rt; status == LITERAL_OK && page.written == 1 && page.next == 50 && page.is_last == 1);
     assert_match(&rt, &found[0], (2, 43, 50));
     let status = literal_find_all_linear_in(alloc, array, TEXT, 2, 52, &mut found, &mut page);

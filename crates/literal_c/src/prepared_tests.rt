@@ -110,12 +110,12 @@ fn finds_pages_by_an_array(rt: HostRuntime) -> Result<(), Fail> {
         is_last: 7,
     };
     let status = literal_find_all_in(&prepared, TEXT, 0, 50, &mut found, &mut page);
-    assert!(rt; status == LITERAL_OK && page.written == 2 && page.next == 33 && page.is_last == 0);
+    assert!(rt; status == LITERAL_OK && page.written == 2 && page.next == 43 && page.is_last == 0);
     assert_match(&rt, &found[0], (1, 13, 18));
     assert_match(&rt, &found[1], (0, 28, 33));
     let status = literal_find_all_in(&prepared, TEXT, 33, 49, &mut found, &mut page);
     assert!(rt; status == LITERAL_OK && page.written == 0 && page.next == 33 && page.is_last == 1);
-    let status = literal_find_all_in(&prepared, TEXT, 33, 50, &mut found, &mut page);
+    let status = literal_find_all_in(&prepared, TEXT, 43, 50, &mut found, &mut page);
     assert!(rt; status == LITERAL_OK && page.written == 1 && page.next == 50 && page.is_last == 1);
     assert_match(&rt, &found[0], (2, 43, 50));
     assert_match(&rt, &found[1], (0, 28, 33));

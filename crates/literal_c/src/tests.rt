@@ -61,11 +61,11 @@ fn finds_all_in_pages(rt: HostRuntime) -> Result<(), Fail> {
     let status = literal_find_all(
         alloc, kind, true, WORDS, &ENDS, TEXT, 0, &mut found, &mut page,
     );
-    assert!(rt; status == LITERAL_OK && page.written == 2 && page.next == 33 && page.is_last == 0);
+    assert!(rt; status == LITERAL_OK && page.written == 2 && page.next == 43 && page.is_last == 0);
     assert_match(&rt, &found[0], (1, 13, 18));
     assert_match(&rt, &found[1], (0, 28, 33));
     let status = literal_find_all(
-        alloc, kind, true, WORDS, &ENDS, TEXT, 33, &mut found, &mut page,
+        alloc, kind, true, WORDS, &ENDS, TEXT, 43, &mut found, &mut page,
     );
     assert!(rt; status == LITERAL_OK && page.written == 1 && page.next == 50 && page.is_last == 1);
     assert_match(&rt, &found[0], (2, 43, 50));
