@@ -18,7 +18,7 @@ ghost use Rattle.literal_search.specs.Linear.{ScansTwice};
 ghost use Rattle.literal_search.specs.Overlapping.{IsOverlapping};
 ghost use Rattle.literal_search.specs.Prepared.{RefusesToPrepare};
 ghost use Rattle.literal_search.specs.SearchValue.{CanBeKept, ScansWithin, ScansListAtMost};
-ghost use Rattle.literal_promise.specs.AnyList.{RefusesAnyList, searched_for};
+ghost use Rattle.literal_promise.specs.AnyList.{IsKeptOrWritten, RefusesAnyList, searched_for};
 
 use literal_base::laws::greedy_is_unique;
 use literal_search::laws::{iterations_give_each_occurrence_once, iterations_scan_at_most};
@@ -94,6 +94,8 @@ pub fn search_any_list(
     ensures by_array { IfOk result (λ any. MatchResult any.by_array
         (IsLeftmost (searched_for asked.now).query asked.now.ignore_case haystack.now span)
         (RefusesToPrepare (searched_for asked.now).query asked.now.ignore_case array.old)) }
+    ensures array { IfOk result (λ any. IsKeptOrWritten (searched_for asked.now) array.old array.new any.by_array) }
+    ensures array_as_before { OnErr result (array.new ≡ array.old) }
     ensures listed_each { IfOk result (λ _. listed.old.scanned + length haystack.now ≤ listed.new.scanned) }
     ensures iterated_each { IfOk result (λ _. iterated.old.scanned + length haystack.now ≤ iterated.new.scanned) }
 {
@@ -190,8 +192,9 @@ fn by_array(
     span: Span,
 ) -> Result<Option<Match>, PrepareError>
     requires { IsValidSpan haystack.now span }
-    ensures { MatchResult result (IsLeftmost search.now.query search.now.ignore_case haystack.now span)
+    ensures found { MatchResult result (IsLeftmost search.now.query search.now.ignore_case haystack.now span)
         (RefusesToPrepare search.now.query search.now.ignore_case array.old) }
+    ensures array { IsKeptOrWritten search.now array.old array.new result }
 {
     let places = search.prepare(array)?;
     let Ok(prepared) = Prepared::new(&array[..places]) else {

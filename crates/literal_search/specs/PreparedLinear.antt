@@ -15,7 +15,7 @@ use Rattle.literal_search.specs.Table.{Recognises}
 use Rattle.literal_search.specs.declared.prepared.PrepareError.{PrepareError}
 use Rattle.literal_search.specs.declared.prepared.TheConstants.{LENGTHS_AT, LINEAR_VERSION}
 
--- what a search from the right reads: classes of bytes, rows, for each pattern the best of those that stand in front of
+-- what a search from the right reads: classes of bytes, rows, for each pattern the best of those that are prefixes of
 -- it, and how long the longest is
 pub record BackTables : Type 0 where
   pub search : SearchValue
@@ -30,7 +30,7 @@ abbrev pub texts_back : BackTables → List (List ℕ)
 texts_back t = reversed (map (symbols_in t.classes) t.search.query.patterns)
 
 -- each byte has a class, by which those of the patterns are told from others; the rows are for all that occurs of the
--- reversed texts, and for each of these the best end is known; none is empty
+-- reversed texts, and for each of these the best suffix is known; none is empty
 pub record AreBackTables (t : BackTables) : Type 0 where
   pub classes : AreClasses t.classes t.width
   pub tells : Tells t.search.ignore_case t.classes t.search.query.patterns

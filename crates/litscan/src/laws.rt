@@ -1,9 +1,9 @@
 //! What follows from the definitions.
 ghost use Rattle.std.specs.Prelude.{◌≡◌, ◌+◌, ◌++◌, ◌∷◌, ◌<◌, ◌↔◌, ℕ, List, false, length, true};
 ghost use Rattle.std.specs.List.{flat_map};
-ghost use Rattle.literal_base.specs.Occurs.{AreEqualBytes, one_occurs, pattern_at};
+ghost use Rattle.literal_base.specs.Occurs.{AreEqualBytes, one_occurs, pattern_at, rest_from};
 ghost use Rattle.literal_search.specs.SearchValue.{SearchValue};
-ghost use Rattle.litscan.specs.Asked.{one_asked};
+ghost use Rattle.litscan.specs.Asked.{OccursAsked, one_asked};
 ghost use Rattle.litscan.specs.Lines.{AreLinesOf, lines_of, with_feed};
 ghost use Rattle.litscan.specs.Printed.{PrintsLine, PrintsLines, counts};
 ghost use Rattle.litscan.specs.declared.options.Options.{Options};
@@ -26,9 +26,12 @@ pub fn lines_are_printed_in_turn()
         (length (flat_map with_feed front)) line part }
 {}
 
-/// With neither `-w` nor `-x` what is asked for is that a word occurs, and with `-x` that the line is one of the words,
-/// with case ignored where that is asked for.
+/// The test is true exactly if some word occurs in the line as is asked for. With neither `-w` nor `-x` that is that a
+/// word occurs, and with `-x` that the line is one of the words, with case ignored where that is asked for.
 pub fn lines_are_asked_for()
+    ensures occurs { (search : SearchValue) (options : Options) (line : List ℕ)
+        → (one_asked search options line ≡ true)
+        ↔ ((i : ℕ) × (at : ℕ) × OccursAsked search options line (rest_from line 0) i at) }
     ensures any { (search : SearchValue) (options : Options) (line : List ℕ) → options.whole ≡ false
         → options.alone ≡ false
         → one_asked search options line ≡ one_occurs search.query.patterns search.ignore_case line }

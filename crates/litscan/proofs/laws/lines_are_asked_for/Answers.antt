@@ -17,6 +17,12 @@ length-folded false bytes = refl
 all_of : (line : List ℕ) (n : ℕ) → n ≡ length line → slice_range line 0 (0 + n) ≡ line
 all_of line n is = ap (λ k. take k line) (omega (arith, is)) ∙ take-length line
 
+pub returns-clause-occurs : goal.returns-clause-occurs
+returns-clause-occurs c = λ search options line. (
+  asked_if search options line,
+  λ it. one_asked_if search options line it.0 it.1 it.2,
+)
+
 pub returns-clause-any : goal.returns-clause-any
 returns-clause-any c = λ search options line any_place any_side.
     sym (told_by_any search options line any_place any_side)
