@@ -1,6 +1,6 @@
 -- The best match in a text as the text grows: where it changes, it is known by the pattern that ends there.
 use Rattle.std.proofs.Common.{◌≡◌, ℕ, ◌-◌, ◌<◌, ◌≤◌, ◌&&◌, Bool, true, false, List, [], ◌∷◌, ◌++◌, suc, zero, length}
-use Rattle.std.proofs.Common.{get_or, drop}
+use Rattle.std.proofs.Common.{drop}
 use Rattle.std.proofs.Common.{Option, Some, None, inl, inr, ◌⊎◌, nat_eq}
 use Rattle.std.proofs.Common.{append-nil, length-append, refl, sym, ap, ◌∙◌, arith}
 use Rattle.std.proofs.lemmas.Bool.{and_parts, cases_lt, cond-false, cond-true, false_from_ne_true, false≢true}
@@ -19,6 +19,7 @@ use Rattle.literal_base.specs.Occurs.{NoneIsEmpty, pattern_at}
 use Rattle.literal_search.specs.Inside.Walk.{IsBest, from_match}
 use Rattle.literal_search.specs.Words.{begins_one, ending, first_equal, live_suffix, in_question, is_matched}
 use Rattle.literal_search.specs.Words.{one_stands}
+use Rattle.literal_search.proofs.lemmas.Grown.{stands_nowhere}
 use Rattle.literal_search.proofs.lemmas.Live.{NoneBefore, any_in_question, any_in_question_at, none_any}
 use Rattle.literal_search.proofs.lemmas.Live.{none_position, stands_longer}
 use Rattle.literal_search.proofs.lemmas.Live.{first_in_question, none_stands_longer, one_stands_longer}
@@ -77,21 +78,6 @@ whole_of kind patterns (symbol ∷ more) = first_equal (root_kind_of kind) patte
 abbrev pub pushed : List ℕ → ℕ → List ℕ
 pushed [] symbol = []
 pushed (first ∷ more) symbol = first ∷ (more ++ symbol ∷ [])
-
--- no pattern is a prefix of an empty text if none is empty
-none_stands_nowhere : (patterns : List (List ℕ)) → NoneIsEmpty patterns → one_stands patterns [] ≡ false
-none_stands_nowhere patterns some = false_from_ne_true _ (λ is.
-    let one = Any-from_list_any (λ e. starts_with nat_eq [] e) patterns is in
-    let split = (starts_is Decides-eqb [] one.1 _ refl).0 one.4 in
-    let long = some one.0 one.1 one.2 in
-    let read : length (get_or patterns one.0 one.1) ≡ length one.1 = ap (λ (l : List ℕ). length l) one.3 in
-    absurd (omega (
-      arith,
-      long,
-      read,
-      ap (λ (l : List ℕ). length l) split,
-      length-append one.1 (drop (length one.1) []),
-    )))
 
 module _ (kind : MatchKind) (patterns : List (List ℕ)) where
   matched_is : (text : List ℕ) → is_matched (root_kind_of kind) patterns text ≡ one_stands patterns text
@@ -311,7 +297,7 @@ module _ (kind : MatchKind) (patterns : List (List ℕ)) where
       ≡ pushed (from_match patterns text) symbol
   from_match_push some [] symbol ends =
       from_more symbol [] (false_from_ne_true _ (λ is.
-      let none : one_stands patterns [] ≡ false = none_stands_nowhere patterns some in
+      let none : one_stands patterns [] ≡ false = stands_nowhere patterns some in
       let unstood = stays_unstood [] symbol none (sym (ap (whole_of kind patterns) (from_standing symbol [] is))
       ∙ ends) in
       false≢true (sym unstood ∙ is)))

@@ -11,13 +11,10 @@ use Rattle.literal_base.specs.Leftmost.{IsLeftmostMatch}
 use Rattle.literal_base.specs.MatchValue.{MatchValue}
 use Rattle.literal_base.specs.Occurs.{NothingOccurs, Occurs, between}
 use Rattle.literal_base.specs.Query.{Query}
-use Rattle.literal_search.specs.Inside.Backward.{IsBegun}
 use Rattle.literal_search.specs.Inside.Linear.{IsGreedyUpTo}
 use Rattle.literal_search.specs.Linear.{IsGreedyIn}
 use Rattle.literal_search.specs.LinearMatchesValue.{GivesInSpan, LinearMatchesValue}
-use Rattle.literal_search.specs.PreparedLinear.{BackTables}
 use Rattle.literal_search.specs.SearchValue.{SearchValue}
-use Rattle.literal_search.specs.declared.backward.Begun.{Begun}
 
 -- the list of a rest of the haystack
 pub greedy_rest : (query : Query) (ignore_case : Bool) (haystack : List ℕ) (at : ℕ) (all : List MatchValue)
@@ -114,9 +111,3 @@ module _ (search : SearchValue) (haystack : List ℕ) where
           before_end = leftmost.occurs.before_end;
           same = leftmost.occurs.same;
         })
-
-pub begun_occurs : (tables : BackTables) (haystack : List ℕ) (span : Span) (begun : Begun) → span.start ≤ begun.at
-    → IsBegun tables haystack span.end begun
-    → ¬ NothingOccurs tables.search.query.patterns tables.search.ignore_case haystack span
-begun_occurs tables haystack span begun after is =
-    occurs_in tables.search haystack span begun.at _ after (is.mark.best is.ends).occurs
