@@ -1,4 +1,5 @@
 //! `Search`, `Linear` and `Overlapping`.
+use crate::asserted::assert_prints_as;
 use literal_base::count::Tally;
 use literal_search::{BuildError, Linear, Match, MatchKind, Overlapping, PatternID, Search, Span};
 use std::alloc::{AllocError, Global};
@@ -83,6 +84,42 @@ fn tells_what_it_was_built_of(rt: HostRuntime) -> Result<(), Fail> {
     assert!(rt; search.pattern(PatternID::must(3)).is_none());
     let none = Search::builder().build(rt.alloc(), [])?;
     assert!(rt; none.min_pattern_len() == 0 && none.pattern(PatternID::must(0)).is_none());
+    Ok(())
+}
+
+/// There are three states, and a row has a number for each of two bytes, and two more: 48 bytes, and those of the
+/// pattern.
+#[test]
+fn tells_how_many_bytes_it_takes(rt: HostRuntime) -> Result<(), Fail> {
+    let search = Search::builder().build(rt.alloc(), [b"ab".as_slice()])?;
+    assert!(rt; search.memory_usage() == 50);
+    let wanted = "Search { kind: LeftmostFirst, ignore_case: false, patterns: 1 }";
+    assert_prints_as(&rt, rt.alloc(), &search, wanted)?;
+    Ok(())
+}
+
+/// The states of the reversed pattern are as many; one number more is for the pattern.
+#[test]
+fn linear_tells_how_many_bytes_it_takes(rt: HostRuntime) -> Result<(), Fail> {
+    let search = Linear::new(
+        rt.alloc(),
+        MatchKind::LeftmostLongest,
+        true,
+        [b"ab".as_slice()],
+    )?;
+    assert!(rt; search.memory_usage() == 54);
+    let wanted = "Linear { kind: LeftmostLongest, ignore_case: true, patterns: 1 }";
+    assert_prints_as(&rt, rt.alloc(), &search, wanted)?;
+    Ok(())
+}
+
+/// The list of the pattern has one number, and two places tell where it begins and ends.
+#[test]
+fn overlapping_tells_how_many_bytes_it_takes(rt: HostRuntime) -> Result<(), Fail> {
+    let search = Overlapping::new(rt.alloc(), false, [b"ab".as_slice()])?;
+    assert!(rt; search.memory_usage() == 70);
+    let wanted = "Overlapping { ignore_case: false, patterns: 1 }";
+    assert_prints_as(&rt, rt.alloc(), &search, wanted)?;
     Ok(())
 }
 

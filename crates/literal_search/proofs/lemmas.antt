@@ -23,6 +23,7 @@ pub mod LentTables
 pub mod Failures
 pub mod Lists
 pub mod Longest
+pub mod Memory
 pub mod Numbers
 pub mod Overlapping
 pub mod Places

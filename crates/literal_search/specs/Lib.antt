@@ -6,6 +6,7 @@ pub mod Inside
 pub mod Linear
 pub mod LinearMatchesValue
 pub mod MatchesValue
+pub mod Memory
 pub mod Overlapping
 pub mod OverlappingMatchesValue
 pub mod Prepared

@@ -3,7 +3,7 @@
 //! [`Overlapping`] everything that occurs.
 #![tactic(auto)]
 
-ghost use Rattle.std.specs.Prelude.{◌≡◌, ◌+◌, ◌-◌, ◌<◌, ◌≤◌, ◌↔◌, ◌++◌, ◌∷◌, [], ℕ, length, map, take};
+ghost use Rattle.std.specs.Prelude.{◌≡◌, ◌+◌, ◌-◌, ◌^◌, ◌<◌, ◌≤◌, ◌↔◌, ◌++◌, ◌∷◌, [], ℕ, length, map, take};
 ghost use Rattle.std.specs.Prelude.{IfErr, IfOk, IfSome, IsNone, IsTrue, MatchOption, OnErr};
 ghost use Rattle.literal_base.specs.Greedy.{IsGreedy, RefusesList};
 ghost use Rattle.literal_base.specs.Kinds.{root_kind_of};
@@ -21,6 +21,7 @@ ghost use Rattle.literal_search.specs.Inside.Scan.{IsTableOf, match_by};
 ghost use Rattle.literal_search.specs.Inside.Search.{IsShortestOf};
 ghost use Rattle.literal_search.specs.Linear.{IsGreedyIn};
 ghost use Rattle.literal_search.specs.MatchesValue.{GivesMatch, most_to_come};
+ghost use Rattle.literal_search.specs.Memory.{TakesBytes, total_len};
 ghost use Rattle.literal_search.specs.Prepared.{AreShort, RefusesToPrepare, TakesPlaces, WritesPrepared};
 ghost use Rattle.literal_search.specs.declared.prepared.PrepareError.TheVariants.{PatternTooLong};
 
@@ -494,6 +495,15 @@ impl Search {
         Ok(prepared::LENGTHS_AT + self.patterns.len() + rows.len() + prepared::FINGERPRINTS_LEN)
     }
 
+    /// How many bytes its table and its patterns take: 4 for each number in the rows of all states, and one for each
+    /// byte of a pattern. It leaves out what the allocator rounds up and lists keep free, where each pattern lies and
+    /// how long it is, and what does not grow with the patterns.
+    pub fn memory_usage(&self) -> u128
+        ensures { TakesBytes self.now result }
+    {
+        self.rows.as_slice().len() as u128 * 4 + total_bytes(&self.patterns)
+    }
+
     /// Which of the patterns that match at one place is taken.
     pub fn match_kind(&self) -> MatchKind
         ensures { result ≡ self.now.query.kind }
@@ -543,6 +553,18 @@ impl Search {
     }
 }
 
+/// Says which match is taken, whether ASCII case is ignored, and how many patterns there are.
+impl fmt::Debug for Search {
+    fn fmt<W: fmt::Write>(&self, f: &mut fmt::Formatter<W>) -> fmt::Result {
+        let (kind, ignore_case) = (self.match_kind(), self.ignores_case());
+        let patterns = self.patterns_len();
+        write!(
+            f,
+            "Search {{ kind: {kind:?}, ignore_case: {ignore_case}, patterns: {patterns} }}"
+        )
+    }
+}
+
 /// Copies of the patterns that an iterator gives.
 fn copies<'a, I: IntoIterator<Item = &'a [u8]>>(
     alloc: Global,
@@ -587,6 +609,18 @@ fn shortest_len(patterns: &[Vec<u8>]) -> usize
         shortest = shortest.min(pattern.len());
     }
     shortest
+}
+
+/// How many bytes some patterns have together.
+fn total_bytes(patterns: &[Vec<u8>]) -> u128
+    ensures total { result ≡ total_len (map (λ pattern. pattern.items) patterns.now) }
+    ensures small { result < 2 ^ 127 }
+{
+    let mut total: u128 = 0;
+    for pattern in patterns {
+        total += pattern.len() as u128;
+    }
+    total
 }
 
 /// Adds a copy of a pattern. Without memory the list stays as it was.

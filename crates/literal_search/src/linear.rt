@@ -9,6 +9,7 @@ ghost use Rattle.literal_search.specs.SearchValue.{BuildsSearch, CanBeKept, Refu
 ghost use Rattle.literal_search.specs.Linear.{IsGreedyIn, NeedFewReversed, NeedTooManyReversed, ScansTwice};
 ghost use Rattle.literal_search.specs.Linear.{looked_upto, reversed};
 ghost use Rattle.literal_search.specs.LinearMatchesValue.{GivesInSpan, most_in_span, place_behind};
+ghost use Rattle.literal_search.specs.Memory.{TakesLinearBytes};
 ghost use Rattle.literal_search.specs.Inside.Backward.{AreBackFor, AreMarked, IsPlaced, IsSafe, back_tables_by};
 ghost use Rattle.literal_search.specs.Inside.Linear.{AreParts, linear_value, patterns_of, tables_of};
 ghost use Rattle.literal_search.specs.Prepared.{AreShort};
@@ -22,11 +23,12 @@ use crate::prepared::{self, PrepareError};
 use crate::rows::{Rows, rows_for};
 use crate::suffixes::Recognised;
 use crate::walk::Table;
-use crate::{BuildError, copies, longest_len};
+use crate::{BuildError, copies, longest_len, total_bytes};
 use literal_base::count::Tally;
 use literal_base::packed::MatchKind;
 use literal_base::{Match, Span, search};
 use std::alloc::{AllocError, Global};
+use std::fmt;
 use std::marker::Model;
 
 /// Searches for all leftmost matches of any number of patterns, and looks up at most twice as many bytes as there are,
@@ -236,12 +238,39 @@ impl Linear {
         Ok(prepared::LENGTHS_AT + parts.patterns.len() + rows.len() + parts.best.len())
     }
 
+    /// How many bytes its table and its patterns take: 4 for each number in the rows of all states and for each
+    /// pattern, and one for each byte of a pattern. It leaves out what that of a [`Search`](crate::Search) does.
+    pub fn memory_usage(&self) -> u128
+        ensures { TakesLinearBytes self.now result }
+    {
+        let Parts {
+            patterns,
+            rows,
+            best,
+            ..
+        } = &self.parts;
+        let numbers = rows.as_slice().len() as u128 + best.len() as u128;
+        numbers * 4 + total_bytes(patterns)
+    }
+
     /// How many patterns there are, none of them empty.
     pub fn patterns_len(&self) -> usize
         ensures len { result ≡ length self.now.query.patterns }
         ensures patterns { CanBeKept self.now.query.patterns }
     {
         self.parts.patterns.len()
+    }
+}
+
+/// Says which match is taken, whether ASCII case is ignored, and how many patterns there are.
+impl fmt::Debug for Linear {
+    fn fmt<W: fmt::Write>(&self, f: &mut fmt::Formatter<W>) -> fmt::Result {
+        let (kind, ignore_case) = (self.parts.kind, self.parts.ignore_case);
+        let patterns = self.patterns_len();
+        write!(
+            f,
+            "Linear {{ kind: {kind:?}, ignore_case: {ignore_case}, patterns: {patterns} }}"
+        )
     }
 }
 

@@ -8,6 +8,7 @@ ghost use Rattle.literal_base.specs.Given.{CanBeTaken};
 ghost use Rattle.literal_search.specs.SearchValue.{CanBeKept, NeedFewStates, NeedTooManyStates, RefusesSearch};
 ghost use Rattle.literal_search.specs.Earliest.{ScansToEnd};
 ghost use Rattle.literal_search.specs.Inside.Walk.{FindsEnd, IsRow};
+ghost use Rattle.literal_search.specs.Memory.{TakesListedBytes};
 ghost use Rattle.literal_search.specs.Overlapping.{BuildsOverlapping};
 ghost use Rattle.literal_search.specs.OverlappingMatchesValue.{GivesOverlapping, IsNextToCome, IsToCome};
 ghost use Rattle.literal_search.specs.OverlappingMatchesValue.{gone_on, most_overlapping};
@@ -22,11 +23,12 @@ use crate::rows::{Rows, rows_for};
 use crate::standing::Standing;
 use crate::suffixes::{Lists, Recognised};
 use crate::walk::{Stop, Table};
-use crate::{BuildError, copies};
+use crate::{BuildError, copies, total_bytes};
 use literal_base::count::Tally;
 use literal_base::search::MatchKind;
 use literal_base::{Match, Span};
 use std::alloc::Global;
+use std::fmt;
 use std::marker::Model;
 
 /// Searches for every occurrence of any number of patterns: those that overlap others, and those that stand within
@@ -170,12 +172,40 @@ impl Overlapping {
         )
     }
 
+    /// How many bytes its table and its patterns take: 4 for each number in the rows of all states and in the lists, 8
+    /// for each place where a list begins, or the last ends, and one for each byte of a pattern. It leaves out what
+    /// that of a [`Search`](crate::Search) does.
+    pub fn memory_usage(&self) -> u128
+        ensures { TakesListedBytes self.now result }
+    {
+        let Parts {
+            patterns,
+            rows,
+            lists,
+            ..
+        } = &self.parts;
+        let numbers = rows.as_slice().len() as u128 + lists.ends.len() as u128;
+        numbers * 4 + lists.starts().len() as u128 * 8 + total_bytes(patterns)
+    }
+
     /// How many patterns there are, none of them empty.
     pub fn patterns_len(&self) -> usize
         ensures len { result ≡ length self.now.patterns }
         ensures patterns { CanBeKept self.now.patterns }
     {
         self.parts.patterns.len()
+    }
+}
+
+/// Says whether ASCII case is ignored, and how many patterns there are.
+impl fmt::Debug for Overlapping {
+    fn fmt<W: fmt::Write>(&self, f: &mut fmt::Formatter<W>) -> fmt::Result {
+        let ignore_case = self.parts.ignore_case;
+        let patterns = self.patterns_len();
+        write!(
+            f,
+            "Overlapping {{ ignore_case: {ignore_case}, patterns: {patterns} }}"
+        )
     }
 }
 

@@ -274,7 +274,7 @@ module _ (t : Tables) (tables : AreTables t) where
   }
 
   module _ (sized : AreSized t) where
-    have_tables : (P : ℕ → List ℕ → List ℕ → Type 0) → P (length t.rows) t.ends t.starts
+    pub have_tables : (P : ℕ → List ℕ → List ℕ → Type 0) → P (length t.rows) t.ends t.starts
         → HaveTables (overlapping_value t) P
     have_tables P holds = (
       t.classes,

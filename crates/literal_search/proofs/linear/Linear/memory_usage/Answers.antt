@@ -1,0 +1,18 @@
+use Rattle.std.proofs.Common.{◌+◌, ◌*◌, ℕ, List, ap, arith, length, map, subst}
+use Rattle.std.specs.Global.{Vec}
+use Rattle.literal_search.specs.Memory.{TakesLinearBytes, total_len}
+use Rattle.literal_search.specs.SearchValue.{SearchValue}
+use Rattle.literal_search.proofs.lemmas.Memory.{takes_linear_bytes}
+use Rattle.literal_search.proofs.linear.Linear.memory_usage.Goals as goal
+
+pub returns : goal.returns
+returns c =
+    let bytes = (length c.as_slice.result.now + c.len.result) * 4 + c.total_bytes.result in
+    subst (λ (v : SearchValue). TakesLinearBytes v bytes) c.self.view_is
+    (takes_linear_bytes c.self.inside.parts c.self.invariant bytes (omega (
+      arith,
+      c.len.ensures,
+      c.total_bytes.ensures.total,
+      ap (λ (l : List (Vec ℕ)). total_len (map (λ pattern. pattern.items) l)) c.deref.ensures.value,
+      ap (λ (l : List ℕ). length l) c.as_slice.ensures,
+    )))
