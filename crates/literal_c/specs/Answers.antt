@@ -73,8 +73,8 @@ answer_for_c None = record { status = LITERAL_NONE; found = record { pattern = 0
 answer_for_c (Some found) = record { status = LITERAL_OK; found = match_for_c found }
 
 -- the answer of a search of the whole haystack, as C has it
-abbrev pub IsAnswer : Query → Bool → List ℕ → LiteralAnswer → Type 0
-IsAnswer query ignore_case haystack answer =
+abbrev pub IsAnswerForC : Query → Bool → List ℕ → LiteralAnswer → Type 0
+IsAnswerForC query ignore_case haystack answer =
     (found : Option MatchValue) × IsLeftmost query ignore_case haystack (whole_of haystack) found
     × (answer ≡ answer_for_c found)
 

@@ -6,7 +6,7 @@ ghost use Rattle.literal_base.specs.Occurs.{IsValidSpan};
 ghost use Rattle.literal_base.specs.Query.{Query};
 ghost use Rattle.literal_search.specs.Prepared.{ForPrepared};
 ghost use Rattle.literal_search.specs.PreparedLinear.{ForLinear};
-ghost use Rattle.literal_c.specs.Answers.{IsAnswer, IsCount, IsPage, MayBeAnswer, MayBePage};
+ghost use Rattle.literal_c.specs.Answers.{IsAnswerForC, IsCount, IsPage, MayBeAnswer, MayBePage};
 ghost use Rattle.literal_c.specs.Answers.{answer_for_c as answer_value, match_for_c as match_value};
 ghost use Rattle.literal_search.specs.OverlappingMatchesValue.{OverlappingMatchesValue};
 ghost use Rattle.literal_c.specs.Inside.Given.{AreGiven, Begins};
@@ -190,7 +190,7 @@ pub fn answer_each<F: Finder>(
 ) -> Result<(), Damaged>
     requires { length haystacks ≡ length answers.old }
     ensures answers { (query : Query) (ignore_case : Bool) → F.is_for search.now query ignore_case
-        → IsOkAnd result (λ _. AllZip (IsAnswer query ignore_case) haystacks.entry answers.new) }
+        → IsOkAnd result (λ _. AllZip (IsAnswerForC query ignore_case) haystacks.entry answers.new) }
     ensures inside { OnOk result (AllZip (MayBeAnswer (F.patterns search.now)) haystacks.entry answers.new) }
 {
     let mut i = 0;

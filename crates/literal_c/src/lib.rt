@@ -20,7 +20,7 @@ ghost use Rattle.literal_search.specs.PreparedLinear.{ForLinear, IsWholeLinear, 
 ghost use Rattle.literal_search.specs.PreparedOverlapping.{ForOverlapping, HasLongLists, RefusesOverlapping};
 ghost use Rattle.literal_search.specs.PreparedOverlapping.{IsWholeOverlapping, WritesOverlapping};
 ghost use Rattle.literal_search.specs.declared.prepared.PrepareError.TheVariants.{ArrayTooShort};
-ghost use Rattle.literal_c.specs.Answers.{IsAnswer, IsCount, IsPage, MayBeFound, MayBeAnswer, MayBePage};
+ghost use Rattle.literal_c.specs.Answers.{IsAnswerForC, IsCount, IsPage, MayBeFound, MayBeAnswer, MayBePage};
 ghost use Rattle.literal_c.specs.Answers.{match_of};
 ghost use Rattle.literal_c.specs.Arguments.{Agree, IsOverlappingStatusBy, IsStatus, IsStatusBy, NeedTooMany};
 ghost use Rattle.literal_c.specs.Arguments.{IsLinearStatusBy, argument_query, linear_for_c};
@@ -269,7 +269,8 @@ pub extern "C" fn literal_find_each(
     ensures status { IsStatus (Agree kind patterns.now ends.now × AreEnds (length haystacks.now) 0 haystack_ends.now
         × (length answers.old ≡ length haystack_ends.now)) (pieces patterns.now 0 ends.now)
         (NeedTooMany kind ignore_case patterns.now ends.now) result }
-    ensures answers { result ≡ LITERAL_OK → AllZip (IsAnswer (argument_query kind patterns.now ends.now) ignore_case)
+    ensures answers { result ≡ LITERAL_OK → AllZip
+        (IsAnswerForC (argument_query kind patterns.now ends.now) ignore_case)
         (pieces haystacks.now 0 haystack_ends.now) answers.new }
     ensures as_before { (result ≡ LITERAL_OK) ⊎ (answers.new ≡ answers.old) }
     ensures not_none { ¬ (result ≡ LITERAL_NONE) }
@@ -585,7 +586,7 @@ pub extern "C" fn literal_find_each_in(
     ensures status { IsStatusBy prepared.now (AreEnds (length haystacks.now) 0 haystack_ends.now
         × (length answers.old ≡ length haystack_ends.now)) (λ status. status ≡ LITERAL_OK) result }
     ensures answers { ForPrepared prepared.now (λ query ignore_case. result ≡ LITERAL_OK
-        → AllZip (IsAnswer query ignore_case) (pieces haystacks.now 0 haystack_ends.now) answers.new) }
+        → AllZip (IsAnswerForC query ignore_case) (pieces haystacks.now 0 haystack_ends.now) answers.new) }
     ensures inside { result ≡ LITERAL_OK → AllZip (MayBeAnswer (slice_index prepared.now 3))
         (pieces haystacks.now 0 haystack_ends.now) answers.new }
     ensures refused { result ≡ LITERAL_BAD_ARGUMENTS → answers.new ≡ answers.old }

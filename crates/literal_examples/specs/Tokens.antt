@@ -11,14 +11,14 @@ Tiles from to [] = from ≡ to
 Tiles from to (token ∷ more) = (token.span.start ≡ from) × (from < token.span.end) × Tiles token.span.end to more
 
 -- the match that a token is, if it is one
-abbrev pub match_of : Span → Option ℕ → List MatchValue
-match_of span None = []
-match_of span (Some pattern) = record { pattern = pattern; start = span.start; end = span.end } ∷ []
+abbrev pub match_in : Span → Option ℕ → List MatchValue
+match_in span None = []
+match_in span (Some pattern) = record { pattern = pattern; start = span.start; end = span.end } ∷ []
 
 -- the matches among the tokens
 abbrev pub matched : List Token → List MatchValue
 matched [] = []
-matched (token ∷ more) = match_of token.span token.pattern ++ matched more
+matched (token ∷ more) = match_in token.span token.pattern ++ matched more
 
 -- what lies between two offsets, as a token if it is not empty
 abbrev pub gap : ℕ → ℕ → List Token

@@ -35,15 +35,15 @@ pub struct Fingerprints {
 
 impl Model for Fingerprints {
     ghost use Rattle.literal_fingerprints.specs.FingerprintsValue.{FingerprintsValue};
-    ghost use Rattle.literal_fingerprints.specs.Inside.Nibbles.{table_of};
+    ghost use Rattle.literal_fingerprints.specs.Inside.Nibbles.{half_table};
 
     ghost Value = { FingerprintsValue };
 
     ghost view = { λ f. record {
-      first = table_of f.first;
-      second = table_of f.second;
-      third = table_of f.third;
-      fourth = table_of f.fourth;
+      first = half_table f.first;
+      second = half_table f.second;
+      third = half_table f.third;
+      fourth = half_table f.fourth;
     } };
 
     ghost inverse = { λ f. record {

@@ -1,7 +1,7 @@
 //! Vectors of 16 bytes, lane by lane.
 ghost use Rattle.std.specs.Prelude.{◌≡◌, ◌≢◌, ℕ, ◌+◌, ◌/◌, ◌%◌, ◌<◌, ◌≤◌, length, slice_index, bit_and};
 ghost use Rattle.literal_fingerprints.specs.FingerprintsValue.{buckets_of};
-ghost use Rattle.literal_fingerprints.specs.Inside.Nibbles.{table_of};
+ghost use Rattle.literal_fingerprints.specs.Inside.Nibbles.{half_table};
 ghost use Rattle.literal_fingerprints.specs.Inside.Lanes.{HasLanes};
 
 use crate::nibbles::Nibbles;
@@ -51,7 +51,7 @@ fn by_high(table: &[u8; 16], bytes: u8x16) -> u8x16
 /// The buckets of each byte.
 #[inline(always)]
 pub fn look_up(nibbles: &Nibbles, bytes: u8x16) -> u8x16
-    ensures { HasLanes result (λ k. buckets_of (table_of nibbles.now) (slice_index bytes k)) }
+    ensures { HasLanes result (λ k. buckets_of (half_table nibbles.now) (slice_index bytes k)) }
 {
     both(by_low(&nibbles.low, bytes), by_high(&nibbles.high, bytes))
 }

@@ -2,7 +2,7 @@
 ghost use Rattle.std.specs.Prelude.{◌≡◌, ◌⊎◌, ℕ, ◌+◌, ◌<◌, ◌≤◌, bit_and, length, slice_index, true};
 ghost use Rattle.literal_base.specs.Occurs.{same_byte};
 ghost use Rattle.literal_fingerprints.specs.FingerprintsValue.{buckets_of, table_in};
-ghost use Rattle.literal_fingerprints.specs.Inside.Nibbles.{table_of};
+ghost use Rattle.literal_fingerprints.specs.Inside.Nibbles.{half_table};
 
 use literal_base::alphabet::opposite_ascii_case;
 
@@ -20,7 +20,7 @@ impl Nibbles {
     /// Those in 32 of these bytes, from a place on.
     pub fn from_bytes(bytes: &[u8], at: usize) -> Nibbles
         requires { at + 32 ≤ length bytes.now }
-        ensures { table_of result ≡ table_in bytes.now at }
+        ensures { half_table result ≡ table_in bytes.now at }
     {
         let (mut low, mut high) = ([0; HALVES], [0; HALVES]);
         low.copy_from_slice(&bytes[at..at + HALVES]);
@@ -30,7 +30,7 @@ impl Nibbles {
 
     /// The buckets of a byte.
     pub fn buckets(&self, byte: u8) -> u8
-        ensures { result ≡ buckets_of (table_of self.now) byte }
+        ensures { result ≡ buckets_of (half_table self.now) byte }
     {
         self.low[(byte % 16) as usize] & self.high[(byte / 16) as usize]
     }
@@ -40,7 +40,7 @@ impl Nibbles {
     pub fn shared(&self, ignore_case: bool, pattern: &[u8], place: usize) -> u8
         ensures { (byte : ℕ)
             → (place < length pattern.now → same_byte ignore_case byte (slice_index pattern.now place) ≡ true)
-            → bit_and result (buckets_of (table_of self.now) byte) ≡ result }
+            → bit_and result (buckets_of (half_table self.now) byte) ≡ result }
     {
         if place < pattern.len() {
             let byte = pattern[place];

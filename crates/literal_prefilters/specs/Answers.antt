@@ -16,7 +16,7 @@ candidate_of None = candidate.None
 candidate_of (Some start) = candidate.PossibleStartOfMatch start
 
 -- the match that an answer is, if it is one
-abbrev pub match_of : Candidate → Option MatchValue
-match_of candidate.None = None
-match_of (candidate.Match found) = Some found
-match_of (candidate.PossibleStartOfMatch start) = None
+abbrev pub answered_match : Candidate → Option MatchValue
+answered_match candidate.None = None
+answered_match (candidate.Match found) = Some found
+answered_match (candidate.PossibleStartOfMatch start) = None

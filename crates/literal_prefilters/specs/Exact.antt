@@ -8,7 +8,7 @@ use Rattle.literal_base.specs.Query.{Query}
 use Rattle.literal_packed.specs.Pairs.{counts_after}
 use Rattle.literal_prefilters.specs.declared.prefilter.Candidate.{Candidate}
 use Rattle.literal_prefilters.specs.declared.prefilter.Candidate.TheVariants as candidate
-use Rattle.literal_prefilters.specs.Answers.{match_of}
+use Rattle.literal_prefilters.specs.Answers.{answered_match}
 
 -- the search for one pattern, for which the kind of match makes no difference
 abbrev pub query_of_one : List ℕ → Query
@@ -34,4 +34,4 @@ IsExact query haystack span (candidate.PossibleStartOfMatch start) = ⊥
 pub record IsExactStep (query : Query) (haystack : List ℕ) (span : Span) (answer : Candidate)
     (old new : Counts) : Type 0 where
   pub exact : IsExact query haystack span answer
-  pub counted : new ≡ counts_after old query haystack span (match_of answer)
+  pub counted : new ≡ counts_after old query haystack span (answered_match answer)

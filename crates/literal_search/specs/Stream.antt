@@ -80,14 +80,14 @@ known None = []
 known (Some bytes) = bytes
 
 -- a piece of what was unread is read, and none once reading failed
-pub record Reads (old : StreamValue) (piece : List ℕ) (new : StreamValue) : Type 0 where
+pub record ReadsPiece (old : StreamValue) (piece : List ℕ) (new : StreamValue) : Type 0 where
   pub consumed : Consumes old.unread new.unread piece
   pub failed : IfSome old.failure (λ kind. (piece ≡ []) × (new.failure ≡ Some kind))
 
 -- a match is given, the leftmost one in what was read and what is known to follow: the search goes on behind it
 pub record GoesBehind (old : StreamValue) (found : MatchValue) (new : StreamValue) : Type 0 where
   pub piece : List ℕ
-  pub reads : Reads old piece new
+  pub reads : ReadsPiece old piece new
   pub leftmost : IsLeftmostAhead old.search old.offset (Some found) ((old.held ++ piece) ++ known new.unread)
   pub some : old.offset < found.end
   pub within : found.end ≤ old.offset + length (old.held ++ piece)
@@ -112,7 +112,7 @@ stream_over old piece new = record old {
 -- the text ends, no reading failed, and nothing occurs in what was ahead
 pub record EndsWhole (old new : StreamValue) : Type 0 where
   pub piece : List ℕ
-  pub reads : Reads old piece new
+  pub reads : ReadsPiece old piece new
   pub end : IsAtEnd new.unread
   pub no_failure : new.failure ≡ None
   pub nothing : IsLeftmostAhead old.search old.offset None (old.held ++ piece)
@@ -122,7 +122,7 @@ pub record EndsWhole (old new : StreamValue) : Type 0 where
 -- last bytes, one less than the longest pattern has
 pub record EndsFailed (old : StreamValue) (error : Error) (new : StreamValue) : Type 0 where
   pub piece : List ℕ
-  pub reads : Reads old piece new
+  pub reads : ReadsPiece old piece new
   pub failure : new.failure ≡ Some (error_kind error)
   pub nothing : (more : List ℕ) → PassesOver old.search old.offset
       (new.offset - (longest_of old.search.query.patterns - 1)) ((old.held ++ piece) ++ more)

@@ -8,7 +8,7 @@ ghost use Rattle.literal_base.specs.Occurs.{IsValidSpan, between};
 ghost use Rattle.literal_search.specs.Linear.{ScansTwice, looked_by};
 ghost use Rattle.literal_search.specs.LinearMatchesValue.{place_behind};
 ghost use Rattle.literal_search.specs.Inside.Backward.{AreMarked, AreMarks, ForBackward, IsBegun, IsBlock};
-ghost use Rattle.literal_search.specs.Inside.Backward.{IsLastBegun, IsMark, IsMatchBy, IsPlaced, IsRead, IsRefused};
+ghost use Rattle.literal_search.specs.Inside.Backward.{IsLastBegun, IsMark, IsMatchBy, IsPlaced, IsRead, StopsMarking};
 ghost use Rattle.literal_search.specs.Inside.Backward.{IsSafe, LeadsOn, NoneFrom, StandsDown, lens_of};
 
 use crate::prepared::Damaged;
@@ -266,7 +266,7 @@ impl<'t> Backward<'t> {
         ensures marked { ForBackward self.now (λ tables. AreMarked tables haystack.now span at marks.old
             → IfOk result (λ answer. AreMarked tables haystack.now span (place_behind span answer) marks.new)) }
         ensures refused { ForBackward self.now (λ tables. AreMarked tables haystack.now span at marks.old
-            → IfErr result (IsRefused tables haystack.now at span.end)) }
+            → IfErr result (StopsMarking tables haystack.now at span.end)) }
         ensures lies { IfOk result (λ answer. IfSome answer (IsMatchBy self.now span at)) }
         ensures placed { IfOk result
             (λ answer. IsPlaced self.now.table.longest span (place_behind span answer) marks.new) }
@@ -307,7 +307,7 @@ impl<'t> Backward<'t> {
         ensures marked { ForBackward self.now (λ tables. AreMarked tables haystack.now span from marks.old
             → IfOk result (λ _. AreMarked tables haystack.now span from marks.new)) }
         ensures refused { ForBackward self.now (λ tables. IfErr result
-            (IsRefused tables haystack.now from span.end)) }
+            (StopsMarking tables haystack.now from span.end)) }
         ensures placed { IfOk result (λ _. IsPlaced self.now.table.longest span from marks.new) }
         ensures known { IfOk result (λ _. from < marks.new.known) }
         ensures further { (marks.old.known ≤ marks.new.known) × (marks.new.known ≤ span.end) }

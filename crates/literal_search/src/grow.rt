@@ -11,7 +11,7 @@ ghost use Rattle.literal_search.specs.Inside.Classes.{AreClasses, symbols_in};
 ghost use Rattle.literal_search.specs.Inside.Grown.{AreWords, IsLonger, LeadsBy, ending_live, goes_on, fallback};
 ghost use Rattle.literal_search.specs.Inside.Grown.{list_for, up_to_whole};
 ghost use Rattle.literal_search.specs.States.{AreStates, HasTooManyStates, IsRowsLength};
-ghost use Rattle.literal_search.specs.Inside.Growing.{AreTexts, Grows, IsCode, IsState, list_in, texts_of};
+ghost use Rattle.literal_search.specs.Inside.Growing.{AreTexts, Grows, IsCode, IsStateAt, list_in, texts_of};
 ghost use Rattle.literal_search.specs.Inside.Growing.{word_in, words_of};
 
 use crate::walk::{ENDS, NOTHING};
@@ -272,7 +272,7 @@ impl<'p> Growing<'p> {
         requires behind { LeadsBy self.now.texts.kind (texts_of self.now.texts) (words_of self.now) self.now.texts.width
             behind (fallback self.now.texts.kind (texts_of self.now.texts) (word_of (words_of self.now) state) class) }
         ensures word { word_in (texts_of self.now.texts) result ≡ word_of (words_of self.now) state ++ class ∷ [] }
-        ensures state { IsState self.now.texts.kind (texts_of self.now.texts) (words_of self.now) self.now.texts.width
+        ensures state { IsStateAt self.now.texts.kind (texts_of self.now.texts) (words_of self.now) self.now.texts.width
             self.now.lists.items (length self.now.states.items) result }
     {
         let _ = class; // (its contract names it)
@@ -298,8 +298,8 @@ impl<'p> Growing<'p> {
     /// Adds a state, where the rows of so many are not too long, and answers the number in a row for it.
     fn add_state(&mut self, state: State) -> Result<u32, GrowError>
         requires grows { Grows self.old }
-        requires state { IsState self.old.texts.kind (texts_of self.old.texts) (words_of self.old) self.old.texts.width
-            self.old.lists.items (length self.old.states.items) state }
+        requires state { IsStateAt self.old.texts.kind (texts_of self.old.texts) (words_of self.old)
+            self.old.texts.width self.old.lists.items (length self.old.states.items) state }
         requires different { AreStates self.old.texts.kind (texts_of self.old.texts)
             (words_of self.old ++ word_in (texts_of self.old.texts) state ∷ []) }
         ensures grows { IfOk result (λ _. Grows self.new) }
@@ -322,8 +322,8 @@ impl<'p> Growing<'p> {
     /// Adds a state.
     fn push_state(&mut self, state: State) -> Result<(), AllocError>
         requires grows { Grows self.old }
-        requires state { IsState self.old.texts.kind (texts_of self.old.texts) (words_of self.old) self.old.texts.width
-            self.old.lists.items (length self.old.states.items) state }
+        requires state { IsStateAt self.old.texts.kind (texts_of self.old.texts) (words_of self.old)
+            self.old.texts.width self.old.lists.items (length self.old.states.items) state }
         requires few { (length self.old.states.items + 1) * stride_of self.old.texts.width ≤ 2 ^ 31 - 1 }
         ensures grows { IfOk result (λ _. Grows self.new) }
         ensures words { IfOk result (λ _. words_of self.new

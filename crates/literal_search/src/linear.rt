@@ -371,7 +371,7 @@ pub struct LinearMatches<'s, 'h> {
 
 impl<'s, 'h> Model for LinearMatches<'s, 'h> {
     ghost use Rattle.literal_search.specs.LinearMatchesValue.{LinearMatchesValue};
-    ghost use Rattle.literal_search.specs.Inside.Backward.{AreMarked, HasRoom, IsPlaced};
+    ghost use Rattle.literal_search.specs.Inside.Backward.{AreMarked, HasRoomForMarks, IsPlaced};
     ghost use Rattle.literal_search.specs.Inside.Linear.{AreParts, linear_value, tables_of};
     ghost use Rattle.literal_base.specs.Occurs.{IsValidSpan};
 
@@ -388,7 +388,7 @@ impl<'s, 'h> Model for LinearMatches<'s, 'h> {
     ghost invariant = { λ m. AreParts m.parts.now × IsValidSpan m.haystack.now m.span
         × IsPlaced m.parts.now.longest m.span m.at m.marks
         × AreMarked (tables_of m.parts.now) m.haystack.now m.span m.at m.marks
-        × HasRoom m.parts.now.longest m.span m.marks };
+        × HasRoomForMarks m.parts.now.longest m.span m.marks };
 }
 
 impl<'s, 'h> LinearMatches<'s, 'h> {

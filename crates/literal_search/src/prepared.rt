@@ -9,7 +9,7 @@ ghost use Rattle.literal_base.specs.Leftmost.{IsLeftmost};
 ghost use Rattle.literal_search.specs.Prepared.{AreShort, ForPrepared, HasAllParts, HasParts, IsWhole, LiesIn};
 ghost use Rattle.literal_search.specs.Prepared.{check_of, fingerprints_by, longest_in, shortest_by};
 ghost use Rattle.literal_search.specs.SearchValue.{ScansWithin};
-ghost use Rattle.literal_search.specs.Inside.Prepared.{IsHeader, Puts, RefusesArray, numbers_for, table_of};
+ghost use Rattle.literal_search.specs.Inside.Prepared.{IsHeader, Puts, RefusesArray, numbers_for, header_table};
 ghost use Rattle.literal_search.specs.Inside.Scan.{IsTableOf};
 
 use crate::classes::ClassNumbers;
@@ -110,7 +110,7 @@ impl<'p> Header<'p> {
     /// What a walk reads of them. By fingerprints go searches for the leftmost match alone.
     #[inline(always)]
     pub fn table<'t>(&'t self, shortest: usize, fingerprints: Option<&'t Fingerprints>) -> Table<'t>
-        ensures { result ≡ record (table_of self.now) { shortest = shortest; fingerprints = fingerprints.entry } }
+        ensures { result ≡ record (header_table self.now) { shortest = shortest; fingerprints = fingerprints.entry } }
     {
         Table {
             classes: self.classes,

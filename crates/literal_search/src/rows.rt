@@ -3,7 +3,7 @@ ghost use Rattle.std.specs.Prelude.{◌≡◌, ◌<◌, ◌≤◌, ◌^◌, ◌-
 ghost use Rattle.literal_base.specs.Occurs.{NoneIsEmpty};
 ghost use Rattle.literal_search.specs.Table.{Recognises};
 ghost use Rattle.literal_search.specs.Inside.Classes.{AreClasses, symbols_in};
-ghost use Rattle.literal_search.specs.Inside.Rows.{rows_in};
+ghost use Rattle.literal_search.specs.Inside.Rows.{numbers_of};
 ghost use Rattle.literal_search.specs.States.{HasTooManyStates, IsRowsLength};
 
 use crate::classes::Classes;
@@ -25,11 +25,11 @@ pub struct Rows {
 
 impl Model for Rows {
     ghost use Rattle.std.specs.Prelude.{List, ℕ};
-    ghost use Rattle.literal_search.specs.Inside.Rows.{rows_in};
+    ghost use Rattle.literal_search.specs.Inside.Rows.{numbers_of};
 
     ghost Value = { List ℕ };
 
-    ghost view = { λ r. rows_in r.numbers.items };
+    ghost view = { λ r. numbers_of r.numbers.items };
 }
 
 impl Rows {
@@ -82,7 +82,7 @@ pub(crate) fn copy_of_rows(
     rows: &Rows,
 ) -> Result<Rows, AllocError>
     ensures same { 0 < length patterns.now → IfOk result (λ copy. copy ≡ rows.now) }
-    ensures none { length patterns.now ≡ 0 → IfOk result (λ copy. copy ≡ rows_in []) }
+    ensures none { length patterns.now ≡ 0 → IfOk result (λ copy. copy ≡ numbers_of []) }
     ensures no_memory { OnErr result (0 < length patterns.now) }
 {
     let mut numbers = Vec::new(alloc);

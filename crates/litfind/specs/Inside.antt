@@ -2,7 +2,7 @@
 use Rattle.std.specs.Prelude.{ℕ, List, Option}
 use Rattle.litfind.specs.Lines.{AreLines}
 use Rattle.litfind.specs.Query.{Task, all_matches, leftmost_match}
-use Rattle.litfind.specs.Run.{IsWhole}
+use Rattle.litfind.specs.Run.{ReadsToEnd}
 use Rattle.litfind.specs.declared.engine.Mode.{Mode}
 use Rattle.litfind.specs.declared.engine.Mode.TheVariants as mode
 use Rattle.litfind.specs.declared.engine.ModeSearcher.{ModeSearcher}
@@ -22,5 +22,5 @@ searches_for (searcher.Leftmost search) = leftmost_match search.query search.ign
 -- the input was read to its end, and the text is its lines
 pub record ReadsLines (words : List (List ℕ)) (had has : Option (List ℕ)) (text : List ℕ) : Type 0 where
   pub input : List ℕ
-  pub read : IsWhole had has input
+  pub read : ReadsToEnd had has input
   pub lines : AreLines words input text

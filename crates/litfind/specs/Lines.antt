@@ -18,9 +18,9 @@ pub record IsLeftmostList (query : Query) (ignore_case : Bool) (input : List ℕ
     pub is_list : matches ≡ option_to_list found
 
 -- the matches that are printed: the greedy list of the whole input, or its leftmost match
-abbrev pub AreMatches : Task → List ℕ → List MatchValue → Type 0
-AreMatches (all_matches query) input matches = IsGreedy query false input 0 matches
-AreMatches (leftmost_match query ignore_case) input matches = IsLeftmostList query ignore_case input matches
+abbrev pub ArePrinted : Task → List ℕ → List MatchValue → Type 0
+ArePrinted (all_matches query) input matches = IsGreedy query false input 0 matches
+ArePrinted (leftmost_match query ignore_case) input matches = IsLeftmostList query ignore_case input matches
 
 -- the line of a match: the identifier of its pattern, and the offsets from which and up to which it stands, in decimal
 -- with one space between, and a line feed
@@ -29,13 +29,13 @@ line_of found = decimal found.pattern ++ codes " " ++ decimal found.start ++ cod
     "\n"
 
 -- the text is a line for each match of the input that is asked for
-pub record AreLinesOf (asked : Task) (input text : List ℕ) : Type 0 where
+pub record AreMatchLines (asked : Task) (input text : List ℕ) : Type 0 where
   pub matches : List MatchValue
-  pub found : AreMatches asked input matches
+  pub found : ArePrinted asked input matches
   pub lines : text ≡ flat_map line_of matches
 
 -- the text is a line for each match of the input that the words ask for
 pub record AreLines (words : List (List ℕ)) (input text : List ℕ) : Type 0 where
   pub asked : Task
   pub ask : words_ask words ≡ Some asked
-  pub lines : AreLinesOf asked input text
+  pub lines : AreMatchLines asked input text

@@ -5,7 +5,7 @@ use Rattle.std.specs.Io.KnownBytes.{Appends, Consumes, IsAtEnd}
 use Rattle.litfind.specs.Lines.{AreLines}
 
 -- of a reader and a writer that tell their bytes: these bytes were read, up to the end
-pub record IsWhole (had has : Option (List ℕ)) (input : List ℕ) : Type 0 where
+pub record ReadsToEnd (had has : Option (List ℕ)) (input : List ℕ) : Type 0 where
   pub bytes : Consumes had has input
   pub end : IsAtEnd has
 
@@ -30,14 +30,14 @@ pub record ReadBytes (had has : Option (List ℕ)) : Type 0 where
 -- the input was read to its end, and it has a line
 pub record HasLine (words : List (List ℕ)) (had has : Option (List ℕ)) : Type 0 where
   pub input : List ℕ
-  pub read : IsWhole had has input
+  pub read : ReadsToEnd had has input
   pub line : ¬ AreLines words input []
 
 -- the input was read to its end and all its lines were written, and the answer tells whether there is a line
 pub record WroteLines (words : List (List ℕ)) (had has held holds : Option (List ℕ)) (printed : Bool) : Type 0 where
   pub input : List ℕ
   pub text : List ℕ
-  pub read : IsWhole had has input
+  pub read : ReadsToEnd had has input
   pub lines : AreLines words input text
   pub written : Appends held holds text
   pub answer : IsTrue printed ↔ (text ≢ [])
@@ -46,6 +46,6 @@ pub record WroteLines (words : List (List ℕ)) (had has held holds : Option (Li
 pub record WroteFront (words : List (List ℕ)) (had has held holds : Option (List ℕ)) : Type 0 where
   pub input : List ℕ
   pub text : List ℕ
-  pub read : IsWhole had has input
+  pub read : ReadsToEnd had has input
   pub lines : AreLines words input text
   pub written : IsFront held holds text

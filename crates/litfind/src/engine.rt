@@ -4,12 +4,12 @@ ghost use Rattle.std.specs.Prelude.{MatchOption, IfSome, IsErrOf, List, [], ℕ,
 ghost use Rattle.std.specs.Io.KnownBytes.{Appends};
 ghost use Rattle.literal_base.specs.Occurs.{pattern_at};
 ghost use Rattle.literal_packed.specs.BuilderValue.{searcher_of};
-ghost use Rattle.litfind.specs.Lines.{AreLinesOf};
+ghost use Rattle.litfind.specs.Lines.{AreMatchLines};
 ghost use Rattle.litfind.specs.Inside.{ReadsLines, asked_of, searches_for};
 ghost use Rattle.litfind.specs.Query.{AreUnbuildable, IsUnbuildable, all_matches, builder_for, leftmost_match};
 ghost use Rattle.litfind.specs.Query.{mode_asks, words_ask};
 ghost use Rattle.literal_prefilters.specs.ConfirmingValue.{confirming_of, prefilter_builder};
-ghost use Rattle.litfind.specs.Run.{HasLine, IsFront, IsWhole, ReadBytes, ReadSome, WroteFront, WroteLines};
+ghost use Rattle.litfind.specs.Run.{HasLine, IsFront, ReadsToEnd, ReadBytes, ReadSome, WroteFront, WroteLines};
 
 use crate::device::{Failed, Sink, Source};
 use crate::fault::Fault;
@@ -154,8 +154,8 @@ fn searcher(alloc: Global, words: &[String]) -> Result<ModeSearcher, Fault>
 /// more time, as `checks/speed` shows.
 #[inline(never)]
 fn all_lines(alloc: Global, searcher: &Searcher, input: &[u8]) -> Result<String, AllocError>
-    ensures lines { IfOk result (λ text. AreLinesOf (all_matches searcher.now) input.now (string_bytes text)) }
-    ensures no_memory { OnErr result (¬ AreLinesOf (all_matches searcher.now) input.now []) }
+    ensures lines { IfOk result (λ text. AreMatchLines (all_matches searcher.now) input.now (string_bytes text)) }
+    ensures no_memory { OnErr result (¬ AreMatchLines (all_matches searcher.now) input.now []) }
 {
     let mut text = String::new(alloc);
     for found in searcher.find_iter(input) {
@@ -171,10 +171,10 @@ fn leftmost_line(
     search: &ConfirmingSearch,
     input: &[u8],
 ) -> Result<String, AllocError>
-    ensures lines { IfOk result (λ text. AreLinesOf (leftmost_match search.now.query search.now.ignore_case)
+    ensures lines { IfOk result (λ text. AreMatchLines (leftmost_match search.now.query search.now.ignore_case)
         input.now (string_bytes text)) }
     ensures no_memory { OnErr result
-        (¬ AreLinesOf (leftmost_match search.now.query search.now.ignore_case) input.now []) }
+        (¬ AreMatchLines (leftmost_match search.now.query search.now.ignore_case) input.now []) }
 {
     let mut text = String::new(alloc);
     let span = Span {
@@ -193,8 +193,8 @@ impl ModeSearcher {
     /// The lines of the matches in the whole input that the searcher is for. Memory is asked for only where
     /// there is one.
     fn lines(&self, alloc: Global, input: &[u8]) -> Result<String, AllocError>
-        ensures lines { IfOk result (λ text. AreLinesOf (searches_for self.now) input.now (string_bytes text)) }
-        ensures no_memory { OnErr result (¬ AreLinesOf (searches_for self.now) input.now []) }
+        ensures lines { IfOk result (λ text. AreMatchLines (searches_for self.now) input.now (string_bytes text)) }
+        ensures no_memory { OnErr result (¬ AreMatchLines (searches_for self.now) input.now []) }
     {
         match self {
             ModeSearcher::All(searcher) => all_lines(alloc, searcher, input),
@@ -207,7 +207,7 @@ impl ModeSearcher {
 fn read_to_end<R: Source>(alloc: Global, reader: &mut R) -> Result<Vec<u8>, Fault>
     requires readable { R.failed reader.old ≡ false }
     requires more { R.ended reader.old ≡ false }
-    ensures whole { IfOk result (λ input. IsWhole (R.remaining reader.old) (R.remaining reader.new) input.items) }
+    ensures whole { IfOk result (λ input. ReadsToEnd (R.remaining reader.old) (R.remaining reader.new) input.items) }
     ensures ended { OnOk result (R.ended reader.new ≡ true) }
     ensures some { ReadSome (R.remaining reader.old) (R.remaining reader.new) }
     ensures failed { IsErrOf result Fault.ReadFailed ↔ (R.failed reader.new ≡ true) }

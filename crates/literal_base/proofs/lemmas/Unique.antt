@@ -13,7 +13,7 @@ use Rattle.literal_base.specs.Leftmost.{IsBetter, IsLeftmostMatch, IsLeftmost}
 use Rattle.literal_base.specs.Greedy.{IsGreedy}
 
 -- matches with the same three numbers
-MatchValue-ext : (a b : MatchValue) → a.pattern ≡ b.pattern → a.start ≡ b.start → a.end ≡ b.end → a ≡ b
+pub MatchValue-ext : (a b : MatchValue) → a.pattern ≡ b.pattern → a.start ≡ b.start → a.end ≡ b.end → a ≡ b
 MatchValue-ext a b pattern start end =
     let by_pattern : ℕ → MatchValue = λ n. record { pattern = n; start = a.start; end = a.end } in
     let by_start : ℕ → MatchValue = λ n. record { pattern = b.pattern; start = n; end = a.end } in

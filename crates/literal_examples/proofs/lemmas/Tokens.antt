@@ -3,7 +3,7 @@
 use Rattle.std.proofs.Common.{◌≡◌, ℕ, ◌<◌, ◌≤◌, Bool, true, false, List, [], ◌∷◌, ◌++◌, None, IsSome, nat_lt, cond}
 use Rattle.std.proofs.Common.{append-nil, append_assoc, refl, inl, inr, sym, ap, ◌∙◌, subst, arith}
 use Rattle.std.proofs.lemmas.Bool.{ltb-true, ltb-false}
-use Rattle.literal_examples.specs.Tokens.{GapsAreWhole, Tiles, gap, match_of, matched}
+use Rattle.literal_examples.specs.Tokens.{GapsAreWhole, Tiles, gap, match_in, matched}
 use Rattle.literal_examples.specs.declared.tokens.Token.{Token}
 
 -- one token more
@@ -30,8 +30,8 @@ tiles_gap from at to tokens tiles ordered = by_test (nat_lt at to) refl
 pub matched-append : (a b : List Token) → matched (a ++ b) ≡ matched a ++ matched b
 matched-append [] b = refl
 matched-append (token ∷ more) b =
-    ap (λ ms. match_of token.span token.pattern ++ ms) (matched-append more b)
-    ∙ sym (append_assoc (match_of token.span token.pattern) (matched more) (matched b))
+    ap (λ ms. match_in token.span token.pattern ++ ms) (matched-append more b)
+    ∙ sym (append_assoc (match_in token.span token.pattern) (matched more) (matched b))
 
 -- what lies between two offsets is no match
 pub matched-gap : (at to : ℕ) (tokens : List Token) → matched (tokens ++ gap at to) ≡ matched tokens

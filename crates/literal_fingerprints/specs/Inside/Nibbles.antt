@@ -4,8 +4,8 @@ use Rattle.literal_fingerprints.specs.FingerprintsValue.{FingerprintsValue, Half
 use Rattle.literal_fingerprints.specs.declared.nibbles.Nibbles.{Nibbles}
 
 -- what contracts see of a table
-abbrev pub table_of : Nibbles → HalfTable
-table_of nibbles = record { low = nibbles.low; high = nibbles.high }
+abbrev pub half_table : Nibbles → HalfTable
+half_table nibbles = record { low = nibbles.low; high = nibbles.high }
 
 -- the eight halves of the tables
 abbrev pub halves_of : FingerprintsValue → List (List ℕ)

@@ -7,7 +7,7 @@ use Rattle.std.proofs.lemmas.List.FromFn.{length-map-range_with_len, get_or-map-
 use Rattle.std.proofs.lemmas.Nat.Bits.{shr_and_one}
 use Rattle.std.proofs.lemmas.Option.{slice_get-get_or}
 use Rattle.literal_packed.specs.Inside.Entries.{AreStarts, AreHeads, AreLonger, IsSingle, IsHead, IsLaidOut}
-use Rattle.literal_packed.specs.Inside.Entries.{start_at, len_at, part_at, buckets_of}
+use Rattle.literal_packed.specs.Inside.Entries.{start_at, len_at, part_at, entry_buckets}
 use Rattle.literal_packed.proofs.lemmas.Parts.{starts_ordered, part_len, part_entry}
 
 -- what the fields say, each by itself
@@ -35,24 +35,24 @@ opened firsts seconds starts longer single entries laid = record {
   single_is = laid.4;
 }
 
-pub buckets_len : (starts : List ℕ) (entries : List (ℕ × ℕ)) → length (buckets_of starts entries) ≡ 64
-unfolding buckets_of
+pub buckets_len : (starts : List ℕ) (entries : List (ℕ × ℕ)) → length (entry_buckets starts entries) ≡ 64
+unfolding entry_buckets
 buckets_len starts entries = length-map-range_with_len (part_at starts entries) 0 64
 
 pub buckets_at : (starts : List ℕ) (entries : List (ℕ × ℕ)) (k : ℕ) → k < 64
-    → get_or (buckets_of starts entries) k [] ≡ part_at starts entries k
-unfolding buckets_of
+    → get_or (entry_buckets starts entries) k [] ≡ part_at starts entries k
+unfolding entry_buckets
 buckets_at starts entries k below =
     get_or-map-range_with_len (part_at starts entries) 0 64 k k [] below (omega arith)
 
 -- the list is laid out, and these are its buckets
-pub record IsKept (firsts seconds : List (ℕ × ℕ)) (starts : List ℕ) (longer : ℕ) (single : Bool)
+pub record IsLaidOutAs (firsts seconds : List (ℕ × ℕ)) (starts : List ℕ) (longer : ℕ) (single : Bool)
     (entries : List (ℕ × ℕ)) (buckets : List (List (ℕ × ℕ))) : Type 0 where
   pub laid : IsLaidOut firsts seconds starts longer single entries
-  pub seen : buckets_of starts entries ≡ buckets
+  pub seen : entry_buckets starts entries ≡ buckets
 
 module _ {firsts seconds : List (ℕ × ℕ)} {starts : List ℕ} {longer : ℕ} {single : Bool} {entries : List (ℕ × ℕ)}
-    {buckets : List (List (ℕ × ℕ))} (is : IsKept firsts seconds starts longer single entries buckets)
+    {buckets : List (List (ℕ × ℕ))} (is : IsLaidOutAs firsts seconds starts longer single entries buckets)
     (k : ℕ) (below : k < 64) where
   abbrev start : ℕ → ℕ
   start i = start_at starts i
@@ -113,7 +113,7 @@ module _ {firsts seconds : List (ℕ × ℕ)} {starts : List ℕ} {longer : ℕ}
 -- the truth value tells of the buckets
 pub few_exactly_if_single : {firsts seconds : List (ℕ × ℕ)} {starts : List ℕ} {longer : ℕ} {single : Bool}
     {entries : List (ℕ × ℕ)} {buckets : List (List (ℕ × ℕ))}
-    → IsKept firsts seconds starts longer single entries buckets
+    → IsLaidOutAs firsts seconds starts longer single entries buckets
     → (IsTrue single ↔ ((k : ℕ) → k < 64 → length (get_or buckets k []) ≤ 1))
 few_exactly_if_single {starts = starts} {single = single} is =
     let told : IsSingle starts single = (opened _ _ _ _ _ _ is.laid).single_is in (

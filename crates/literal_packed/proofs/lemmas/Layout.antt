@@ -8,13 +8,13 @@ use Rattle.std.proofs.lemmas.Bool.{cases_lt}
 use Rattle.std.proofs.lemmas.List.{length-take-le}
 use Rattle.std.proofs.lemmas.List.Concat.{flat_map-append}
 use Rattle.std.proofs.lemmas.List.FromFn.{map-range_with_len_more}
-use Rattle.literal_packed.specs.Inside.Entries.{AreBucketsOf, AreStarts, start_at, part_at, buckets_of}
+use Rattle.literal_packed.specs.Inside.Entries.{AreBucketsOf, AreStarts, start_at, part_at, entry_buckets}
 use Rattle.literal_packed.proofs.lemmas.LaidOut.{buckets_at}
 use Rattle.literal_packed.proofs.lemmas.Lists.{range-push}
 use Rattle.literal_packed.proofs.lemmas.Parts.{in_bucket, starts_ordered}
 
 module _ (given : List (ℕ × ℕ)) (starts : List ℕ) (entries : List (ℕ × ℕ)) (are : AreStarts starts entries)
-    (of : AreBucketsOf given (buckets_of starts entries)) where
+    (of : AreBucketsOf given (entry_buckets starts entries)) where
   abbrev start : ℕ → ℕ
   start k = start_at starts k
 

@@ -19,8 +19,8 @@ part_at starts entries k = slice_range entries (start_at starts k) (start_at sta
 
 -- the 64 buckets. Abstract: where a `BucketEntries` is opened or dropped, a
 -- proof would have a list of 64 terms in sight
-unfoldable pub buckets_of : List ℕ → List (ℕ × ℕ) → List (List (ℕ × ℕ))
-buckets_of starts entries = map (part_at starts entries) (range_with_len 0 64)
+unfoldable pub entry_buckets : List ℕ → List (ℕ × ℕ) → List (List (ℕ × ℕ))
+entry_buckets starts entries = map (part_at starts entries) (range_with_len 0 64)
 
 -- the place in the list between the entries of the buckets before k and those of the others
 pub record IsStart (entries : List (ℕ × ℕ)) (k at : ℕ) : Type 0 where

@@ -6,7 +6,7 @@ ghost use Rattle.std.specs.Prelude.{IfOk, IsTrue, Some, slice_get, slice_index_o
 ghost use Rattle.std.specs.List.{range_with_len};
 ghost use Rattle.std.specs.List.Sorted.{IsNonDecreasingBy};
 ghost use Rattle.literal_packed.specs.Inside.Entries.{bucket_number, AreBucketsOf, AreStarts, AreHeads, AreLonger};
-ghost use Rattle.literal_packed.specs.Inside.Entries.{IsSingle, buckets_of, start_at};
+ghost use Rattle.literal_packed.specs.Inside.Entries.{IsSingle, entry_buckets, start_at};
 
 use literal_base::count::Tally;
 use literal_ids::PatternID;
@@ -35,11 +35,11 @@ pub struct BucketEntries {
 
 impl Model for BucketEntries {
     ghost use Rattle.std.specs.Prelude.{ℕ, List};
-    ghost use Rattle.literal_packed.specs.Inside.Entries.{buckets_of, IsLaidOut};
+    ghost use Rattle.literal_packed.specs.Inside.Entries.{entry_buckets, IsLaidOut};
 
     ghost Value = { List (List (ℕ × ℕ)) };
 
-    ghost view = { λ b. buckets_of b.starts b.list.items };
+    ghost view = { λ b. entry_buckets b.starts b.list.items };
 
     ghost invariant = { λ b. IsLaidOut b.firsts b.seconds b.starts b.longer b.single b.list.items };
 }
@@ -186,7 +186,7 @@ fn single_of(starts: &[usize; BUCKETS + 1]) -> bool
 /// of the buckets 36 and 37.
 fn worked_layout()
     ensures { (starts : List ℕ) (entries : List (ℕ × ℕ)) → AreStarts starts entries
-        → AreBucketsOf ((292, 0) ∷ (293, 1) ∷ (292, 2) ∷ []) (buckets_of starts entries)
+        → AreBucketsOf ((292, 0) ∷ (293, 1) ∷ (292, 2) ∷ []) (entry_buckets starts entries)
         → (entries ≡ (292, 0) ∷ (292, 2) ∷ (293, 1) ∷ [])
         × (map (start_at starts) (range_with_len 0 65) ≡ replicate 37 0 ++ 2 ∷ replicate 27 3) }
 {}

@@ -5,7 +5,7 @@ use Rattle.literal_prefilters.specs.Table.{size, rank_sum_of, AreDistances}
 
 -- what the fields keep: a table of one to three bytes, with their number, the sum of their ranks, and distances of at
 -- most 254
-pub record IsTable (t : Inside) : Type 0 where
+pub record IsByteTable (t : Inside) : Type 0 where
   pub whole : length t.distances ≡ 256
   pub counted : t.count ≡ size t.distances
   pub not_empty : 1 ≤ size t.distances

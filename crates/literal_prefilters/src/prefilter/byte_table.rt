@@ -47,11 +47,11 @@ impl Model for ByteTable {
 
     ghost Value = { List (Option ℕ) };
 
-    ghost use Rattle.literal_prefilters.specs.Inside.ByteTable.{IsTable};
+    ghost use Rattle.literal_prefilters.specs.Inside.ByteTable.{IsByteTable};
 
     ghost view = { λ t. t.distances };
 
-    ghost invariant = { IsTable };
+    ghost invariant = { IsByteTable };
 }
 
 /// A byte of a table in a haystack.

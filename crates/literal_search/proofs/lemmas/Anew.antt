@@ -5,7 +5,7 @@ use Rattle.std.proofs.lemmas.Bool.{cond-false, cond-true}
 use Rattle.literal_base.specs.declared.packed.MatchKind.{MatchKind}
 use Rattle.literal_base.specs.declared.packed.MatchKind.TheVariants.{LeftmostFirst, LeftmostLongest}
 use Rattle.literal_base.specs.Kinds.{root_kind_of}
-use Rattle.literal_search.specs.Inside.Walk.{BeginsAnew, Reads, from_match}
+use Rattle.literal_search.specs.Inside.Walk.{BeginsAnew, HasRead, from_match}
 use Rattle.literal_search.specs.Table.{stride_of}
 use Rattle.literal_search.specs.Words.{begins_one, live_suffix, is_matched, one_stands, word_of}
 use Rattle.literal_search.specs.declared.walk.Ended.{Ended}
@@ -47,7 +47,7 @@ module _ (kind : MatchKind) (patterns : List (List ℕ)) where
 
 -- so it is for a walk that is back there
 pub begins_anew : (width : ℕ) (rows : List ℕ) (start : ℕ) (text : List ℕ) (last : Option Ended)
-    → Reads width rows start text 0 last → BeginsAnew width rows text
+    → HasRead width rows start text 0 last → BeginsAnew width rows text
 begins_anew width rows start text last reads kind patterns recognises some more =
     let at = (reads.behind kind patterns recognises some).at in
     nothing_live kind patterns text more

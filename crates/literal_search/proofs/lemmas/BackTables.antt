@@ -17,7 +17,7 @@ use Rattle.literal_search.specs.declared.prepared.PrepareError.{PrepareError}
 use Rattle.literal_search.specs.declared.prepared.TheConstants.{LINEAR_VERSION}
 use Rattle.literal_search.proofs.lemmas.Numbers.{check_written, classes_written, ends_written, lengths_written}
 use Rattle.literal_search.proofs.lemmas.Numbers.{numbers_long, numbers_refused, numbers_written, rows_written}
-use Rattle.literal_search.proofs.lemmas.Walk.{table_of}
+use Rattle.literal_search.proofs.lemmas.Walk.{rows_are_table}
 
 -- tables whose parts are equal
 pub same_tables : (search : SearchValue) (classes classes' : List ℕ) (width width' : ℕ)
@@ -72,7 +72,7 @@ module _ (t : BackTables) (are : AreBackTables t) where
   prepared_all =
       let classes = classes_written LINEAR_VERSION t.classes t.width t.search.query.patterns t.rows [] t.best
       are.classes.each in
-      let table = table_of Standard (texts_back t) t.width t.rows are.recognises in
+      let table = rows_are_table Standard (texts_back t) t.width t.rows are.recognises in
       record {
         whole = record {
           parts = record {

@@ -15,7 +15,7 @@ use Rattle.literal_search.specs.Inside.Grown.{ending_live, failure_of, fallback}
 use Rattle.literal_search.specs.Words.{begins_one, ending, first_equal, live_suffix, in_question, is_matched}
 use Rattle.literal_search.specs.Words.{one_stands}
 use Rattle.literal_search.proofs.lemmas.Grown.{same_test, stands_nowhere, whole_longer}
-use Rattle.literal_search.proofs.lemmas.Live.{NoneBefore, any_in_question, any_in_question_at, live_on, live_push}
+use Rattle.literal_search.proofs.lemmas.Live.{NoEarlierPrefix, any_in_question, any_in_question_at, live_on, live_push}
 use Rattle.literal_search.proofs.lemmas.Live.{none_position, matched_longer}
 
 empty_unmatched : (kind : MatchKind) (patterns : List (List ℕ)) → NoneIsEmpty patterns
@@ -76,7 +76,7 @@ module _ (kind : MatchKind) (patterns : List (List ℕ)) where
   first_by_stands : (word : List ℕ) (symbol : ℕ) → one_stands patterns word ≡ false
       → one_stands patterns (word ++ symbol ∷ []) ≡ true
       → ((i : ℕ) → ((j : ℕ) → j < i → starts_with nat_eq (word ++ symbol ∷ []) (pattern_at patterns j) ≡ false)
-      → NoneBefore kind patterns (word ++ symbol ∷ []) i)
+      → NoEarlierPrefix kind patterns (word ++ symbol ∷ []) i)
       → first_equal kind patterns (word ++ symbol ∷ []) ≡ None → ⊥
   unfolding equal
   first_by_stands word symbol none some before unmet =

@@ -21,7 +21,7 @@ use Rattle.literal_base.specs.Occurs.{NoneIsEmpty, pattern_at}
 use Rattle.literal_search.specs.Inside.Suffixes.{AreSuffixes, ComesLater, HasSuffix, HasUpTo, IsSuffix, IsOutputLink}
 use Rattle.literal_search.specs.Inside.Suffixes.{IsNextEqual}
 use Rattle.literal_search.specs.Inside.Suffixes.{left_from}
-use Rattle.literal_search.specs.Inside.Lists.{AreHeads, AreOutputLinks}
+use Rattle.literal_search.specs.Inside.Lists.{AreNextEquals, AreOutputLinks}
 use Rattle.literal_search.specs.Table.{nothing}
 use Rattle.literal_search.specs.Words.{ending}
 use Rattle.literal_search.proofs.lemmas.Standard.{end_of_itself, ends_length, ends_on, ends_same, ends_within}
@@ -155,8 +155,9 @@ module _ (patterns : List (List ℕ)) (some : NoneIsEmpty patterns) (few : lengt
               })
 
   -- the heads and links from one pattern more on
-  pub heads_on : (heads : List ℕ) (pattern first : ℕ) → AreHeads patterns heads (pattern + 1)
-      → pattern < length patterns → IsFirstEqual pattern first → AreHeads patterns (set heads first pattern) pattern
+  pub heads_on : (heads : List ℕ) (pattern first : ℕ) → AreNextEquals patterns heads (pattern + 1)
+      → pattern < length patterns → IsFirstEqual pattern first
+      → AreNextEquals patterns (set heads first pattern) pattern
   heads_on heads pattern first are below is = record {
     long = length-set heads first pattern ∙ are.long;
     each = λ head is_head first_is. elim (cases_ne head first) [
@@ -218,7 +219,7 @@ module _ (patterns : List (List ℕ)) (some : NoneIsEmpty patterns) (few : lengt
 
 -- behind all patterns
 pub heads_start : (patterns : List (List ℕ)) (heads : List ℕ) → length heads ≡ length patterns
-    → ((k : ℕ) → k < length heads → get_or heads k 0 ≡ nothing) → AreHeads patterns heads (length patterns)
+    → ((k : ℕ) → k < length heads → get_or heads k 0 ≡ nothing) → AreNextEquals patterns heads (length patterns)
 heads_start patterns heads long none = record {
   long = long;
   each = λ head is_head first_is. record {

@@ -7,7 +7,7 @@ use Rattle.literal_base.specs.Kinds.{root_kind_of}
 use Rattle.literal_fingerprints.specs.FingerprintsValue.{AllPass}
 use Rattle.literal_search.specs.SearchValue.{CanBeKept, longest_of, width_for}
 use Rattle.literal_search.specs.Inside.Classes.{Tells, symbols_in}
-use Rattle.literal_search.specs.Inside.Rows.{rows_in}
+use Rattle.literal_search.specs.Inside.Rows.{numbers_of}
 use Rattle.literal_search.specs.SearchValue.{NoneIsShorter}
 use Rattle.literal_search.specs.Inside.Search.{IsShortestOf, IsSound, patterns_in}
 use Rattle.literal_search.specs.States.{IsRowsLength}
@@ -17,10 +17,11 @@ use Rattle.literal_search.proofs.lemmas.Rows.{none_long, none_recognised, one_cl
 
 module _ (a : Inside) (sound : IsSound a) (patterns : Vec (Vec ℕ)) (rows : List ℕ)
     (same : map (λ (pattern : Vec ℕ). pattern.items) patterns.items ≡ patterns_in a)
-    (some : 0 < length a.patterns.items → rows ≡ a.rows) (none : length a.patterns.items ≡ 0 → rows ≡ rows_in []) where
+    (some : 0 < length a.patterns.items → rows ≡ a.rows)
+    (none : length a.patterns.items ≡ 0 → rows ≡ numbers_of []) where
   -- what holds of the rows and of those of no pattern holds of the copied rows
   rows_copied : (P : List (List ℕ) → ℕ → List ℕ → Type 0)
-      → P (map (symbols_in a.classes.table) (patterns_in a)) a.classes.width a.rows → P [] 1 (rows_in [])
+      → P (map (symbols_in a.classes.table) (patterns_in a)) a.classes.width a.rows → P [] 1 (numbers_of [])
       → P (map (symbols_in a.classes.table) (patterns_in a)) a.classes.width rows
   rows_copied P holds empty = elim (cases_lt 0 (length a.patterns.items)) [
     | inl one ↦ subst (P (map (symbols_in a.classes.table) (patterns_in a)) a.classes.width) (sym (some one)) holds
@@ -31,8 +32,8 @@ module _ (a : Inside) (sound : IsSound a) (patterns : Vec (Vec ℕ)) (rows : Lis
         let width : a.classes.width ≡ 1 =
         sound.width ∙ (ap (width_for a.ignore_case) nil ∙ one_class a.ignore_case) in
         subst (P (map (symbols_in a.classes.table) (patterns_in a)) a.classes.width) (sym (none no))
-        (subst (λ n. P (map (symbols_in a.classes.table) (patterns_in a)) n (rows_in [])) (sym width)
-        (subst (λ (l : List (List ℕ)). P (map (symbols_in a.classes.table) l) 1 (rows_in [])) (sym nil) empty))
+        (subst (λ n. P (map (symbols_in a.classes.table) (patterns_in a)) n (numbers_of [])) (sym width)
+        (subst (λ (l : List (List ℕ)). P (map (symbols_in a.classes.table) l) 1 (numbers_of [])) (sym nil) empty))
   ]
 
   pub copy_is_sound : IsSound (record a { patterns = patterns; rows = rows })

@@ -20,7 +20,7 @@ use Rattle.literal_search.specs.Inside.Walk.{IsBest, from_match}
 use Rattle.literal_search.specs.Words.{begins_one, ending, first_equal, live_suffix, in_question, is_matched}
 use Rattle.literal_search.specs.Words.{one_stands}
 use Rattle.literal_search.proofs.lemmas.Grown.{stands_nowhere}
-use Rattle.literal_search.proofs.lemmas.Live.{NoneBefore, any_in_question, any_in_question_at, none_any}
+use Rattle.literal_search.proofs.lemmas.Live.{NoEarlierPrefix, any_in_question, any_in_question_at, none_any}
 use Rattle.literal_search.proofs.lemmas.Live.{none_position, stands_longer}
 use Rattle.literal_search.proofs.lemmas.Live.{first_in_question, none_stands_longer, one_stands_longer}
 use Rattle.literal_search.proofs.lemmas.Live.{stands_or_begins}
@@ -70,9 +70,9 @@ stands_or_whole text pattern symbol is = elim (stands_or_begins text (symbol ∷
         )))
 
 -- the first pattern that is a text, where that is not empty
-abbrev pub whole_of : MatchKind → List (List ℕ) → List ℕ → Option ℕ
-whole_of kind patterns [] = None
-whole_of kind patterns (symbol ∷ more) = first_equal (root_kind_of kind) patterns (symbol ∷ more)
+abbrev pub first_whole : MatchKind → List (List ℕ) → List ℕ → Option ℕ
+first_whole kind patterns [] = None
+first_whole kind patterns (symbol ∷ more) = first_equal (root_kind_of kind) patterns (symbol ∷ more)
 
 -- a text that is not empty, and one symbol more
 abbrev pub pushed : List ℕ → ℕ → List ℕ
@@ -106,15 +106,15 @@ module _ (kind : MatchKind) (patterns : List (List ℕ)) where
       )
 
   none_before : (text : List ℕ) (i : ℕ) → ((j : ℕ) → j < i → starts_with nat_eq text (pattern_at patterns j) ≡ false)
-      → NoneBefore (root_kind_of kind) patterns text i
+      → NoEarlierPrefix (root_kind_of kind) patterns text i
   none_before text i none = by_kind kind
     where
-      by_kind : (k : MatchKind) → NoneBefore (root_kind_of k) patterns text i
+      by_kind : (k : MatchKind) → NoEarlierPrefix (root_kind_of k) patterns text i
       by_kind LeftmostFirst = none
       by_kind LeftmostLongest = tt
 
   -- where no pattern that may be the match is a text, one that may be isn't
-  not_whole : (text : List ℕ) (i : ℕ) → i < length patterns → NoneBefore (root_kind_of kind) patterns text i
+  not_whole : (text : List ℕ) (i : ℕ) → i < length patterns → NoEarlierPrefix (root_kind_of kind) patterns text i
       → first_equal (root_kind_of kind) patterns text ≡ None → ¬ (text ≡ pattern_at patterns i)
   not_whole text i below may none same =
       false≢true (sym (none_position (λ pattern. starts_with nat_eq pattern text && starts_with nat_eq text pattern)
@@ -137,7 +137,7 @@ module _ (kind : MatchKind) (patterns : List (List ℕ)) where
 
   -- the pattern that ends with a text is the whole rest from the first match on
   pub ending_is : (text : List ℕ) → ending (root_kind_of kind) patterns text
-      ≡ whole_of kind patterns (from_match patterns text)
+      ≡ first_whole kind patterns (from_match patterns text)
   ending_is [] = refl
   ending_is (symbol ∷ more) = by_test (one_stands patterns (symbol ∷ more)) refl (ending_is more)
     where
@@ -146,21 +146,21 @@ module _ (kind : MatchKind) (patterns : List (List ℕ)) where
       or_none (Some i) = refl
 
       by_test : (t : Bool) → one_stands patterns (symbol ∷ more) ≡ t
-          → ending (root_kind_of kind) patterns more ≡ whole_of kind patterns (from_match patterns more)
+          → ending (root_kind_of kind) patterns more ≡ first_whole kind patterns (from_match patterns more)
           → ending (root_kind_of kind) patterns (symbol ∷ more)
-          ≡ whole_of kind patterns (from_match patterns (symbol ∷ more))
+          ≡ first_whole kind patterns (from_match patterns (symbol ∷ more))
       by_test true is further =
           ap (option_or (first_equal (root_kind_of kind) patterns (symbol ∷ more)))
           (cond-true _ _ _ (matched_is (symbol ∷ more) ∙ is))
-          ∙ (or_none _ ∙ ap (whole_of kind patterns) (sym (cond-true _ _ _ is)))
+          ∙ (or_none _ ∙ ap (first_whole kind patterns) (sym (cond-true _ _ _ is)))
       by_test false is further =
           ap (option_or (first_equal (root_kind_of kind) patterns (symbol ∷ more)))
           (cond-false _ _ _ (matched_is (symbol ∷ more) ∙ is))
           ∙ (ap (λ o. option_or o (ending (root_kind_of kind) patterns more)) (none_whole (symbol ∷ more) is)
-          ∙ (further ∙ ap (whole_of kind patterns) (sym (cond-false _ _ _ is))))
+          ∙ (further ∙ ap (first_whole kind patterns) (sym (cond-false _ _ _ is))))
 
   -- such a pattern is the best
-  pub whole_is_best : (text : List ℕ) (i : ℕ) → whole_of kind patterns text ≡ Some i
+  pub whole_is_best : (text : List ℕ) (i : ℕ) → first_whole kind patterns text ≡ Some i
       → IsBest kind patterns text i × (text ≡ pattern_at patterns i)
   whole_is_best [] i is = cc
   whole_is_best (symbol ∷ more) i is =
@@ -187,7 +187,7 @@ module _ (kind : MatchKind) (patterns : List (List ℕ)) where
       )
     where
       by_kind : (k : MatchKind) (text : List ℕ) (i : ℕ) → text ≡ pattern_at patterns i
-          → NoneBefore (root_kind_of k) patterns text i
+          → NoEarlierPrefix (root_kind_of k) patterns text i
           → ((j : ℕ) → j < i
           → (starts_with nat_eq (pattern_at patterns j) text && starts_with nat_eq text (pattern_at patterns j))
           ≡ false)
@@ -244,7 +244,7 @@ module _ (kind : MatchKind) (patterns : List (List ℕ)) where
           → (j : ℕ) → j < length patterns → IsBetter k patterns j i
           → starts_with nat_eq (text ++ symbol ∷ []) (pattern_at patterns j) ≡ true
           → (j : ℕ) × (j < length patterns) × (text ++ symbol ∷ [] ≡ pattern_at patterns j)
-          × NoneBefore (root_kind_of k) patterns (text ++ symbol ∷ []) j
+          × NoEarlierPrefix (root_kind_of k) patterns (text ++ symbol ∷ []) j
       by_kind LeftmostFirst none j below before is =
           let first = first_standing (text ++ symbol ∷ [])
           (list_any_at (λ pattern. starts_with nat_eq (text ++ symbol ∷ []) pattern) patterns j [] below is) in
@@ -273,7 +273,7 @@ module _ (kind : MatchKind) (patterns : List (List ℕ)) where
     where
       by_kind : (k : MatchKind) → ((j : ℕ) → j < length patterns → IsBetter k patterns j i
           → starts_with nat_eq text (pattern_at patterns j) ≡ false)
-          → (j : ℕ) → j < length patterns → IsBetter k patterns j i → NoneBefore (root_kind_of k) patterns text j
+          → (j : ℕ) → j < length patterns → IsBetter k patterns j i → NoEarlierPrefix (root_kind_of k) patterns text j
       by_kind LeftmostFirst none j below better = λ other before. none other (omega arith) (omega arith)
       by_kind LeftmostLongest none j below better = tt
 
@@ -292,32 +292,32 @@ module _ (kind : MatchKind) (patterns : List (List ℕ)) where
 
   -- one symbol more with which no match ends
   pub from_match_push : NoneIsEmpty patterns → (text : List ℕ) (symbol : ℕ)
-      → whole_of kind patterns (from_match patterns (text ++ symbol ∷ [])) ≡ None
+      → first_whole kind patterns (from_match patterns (text ++ symbol ∷ [])) ≡ None
       → from_match patterns (text ++ symbol ∷ [])
       ≡ pushed (from_match patterns text) symbol
   from_match_push some [] symbol ends =
       from_more symbol [] (false_from_ne_true _ (λ is.
       let none : one_stands patterns [] ≡ false = stands_nowhere patterns some in
-      let unstood = stays_unstood [] symbol none (sym (ap (whole_of kind patterns) (from_standing symbol [] is))
+      let unstood = stays_unstood [] symbol none (sym (ap (first_whole kind patterns) (from_standing symbol [] is))
       ∙ ends) in
       false≢true (sym unstood ∙ is)))
   from_match_push some (first ∷ text) symbol ends =
       by_test (one_stands patterns (first ∷ (text ++ symbol ∷ []))) refl (from_match_push some text symbol)
     where
       by_test : (t : Bool) → one_stands patterns (first ∷ (text ++ symbol ∷ [])) ≡ t
-          → (whole_of kind patterns (from_match patterns (text ++ symbol ∷ [])) ≡ None
+          → (first_whole kind patterns (from_match patterns (text ++ symbol ∷ [])) ≡ None
           → from_match patterns (text ++ symbol ∷ []) ≡ pushed (from_match patterns text) symbol)
           → from_match patterns (first ∷ (text ++ symbol ∷ []))
           ≡ pushed (from_match patterns (first ∷ text)) symbol
       by_test true is further =
           let stood : one_stands patterns (first ∷ text) ≡ true = true_from_ne_false _ (λ none.
           false≢true (sym (stays_unstood (first ∷ text) symbol none
-          (sym (ap (whole_of kind patterns) (from_standing first (text ++ symbol ∷ []) is)) ∙ ends)) ∙ is)) in
+          (sym (ap (first_whole kind patterns) (from_standing first (text ++ symbol ∷ []) is)) ∙ ends)) ∙ is)) in
           from_standing first (text ++ symbol ∷ []) is
           ∙ ap (λ u. pushed u symbol) (sym (from_standing first text stood))
       by_test false is further =
           from_more first (text ++ symbol ∷ []) is
-          ∙ (further (sym (ap (whole_of kind patterns) (from_more first (text ++ symbol ∷ []) is)) ∙ ends)
+          ∙ (further (sym (ap (first_whole kind patterns) (from_more first (text ++ symbol ∷ []) is)) ∙ ends)
           ∙ ap (λ u. pushed u symbol)
           (sym (from_more first text (not_stood_shorter (first ∷ text) (symbol ∷ []) is))))
 

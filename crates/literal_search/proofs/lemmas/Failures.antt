@@ -12,7 +12,7 @@ use Rattle.literal_search.specs.Table.{LeadsTo, code_of, nothing, stride_of}
 use Rattle.literal_search.specs.Words.{ending, first_equal, live_suffix, word_of}
 use Rattle.literal_search.specs.Inside.Classes.{symbols_in}
 use Rattle.literal_search.specs.Inside.Grown.{LeadsBy, ending_live, failure_of, fallback, list_for}
-use Rattle.literal_search.specs.Inside.Growing.{IsGrowing, HasFailure, IsState, list_in, texts_of, word_in, words_in}
+use Rattle.literal_search.specs.Inside.Growing.{IsGrowing, HasFailure, IsStateAt, list_in, texts_of, word_in, words_in}
 use Rattle.literal_search.specs.declared.grow.State.{State}
 use Rattle.literal_search.specs.declared.grow.Texts.{Texts}
 use Rattle.literal_search.proofs.lemmas.Behind.{behind_next, behind_whole, else_by_link, ending_is_pattern}
@@ -33,7 +33,7 @@ row_inside state states width is_state few =
     omega (arith, fits, few)
 
 -- an earlier state to which the failure link of a state leads, and where it is
-pub record IsOutputLink (kind : MatchKind) (patterns words : List (List ℕ)) (width code n : ℕ) (word : List ℕ)
+pub record IsFailureLink (kind : MatchKind) (patterns words : List (List ℕ)) (width code n : ℕ) (word : List ℕ)
     (live_suffix : Option (List ℕ)) : Type 0 where
   pub live_is : live_suffix ≡ Some word
   pub to : LeadsTo kind patterns words width code word
@@ -41,7 +41,7 @@ pub record IsOutputLink (kind : MatchKind) (patterns words : List (List ℕ)) (w
 
 link_cases : (kind : MatchKind) (patterns words : List (List ℕ)) (width code n : ℕ) (o : Option (List ℕ))
     → MatchOption o (code ≡ nothing) (λ word. (to : LeadsTo kind patterns words width code word) × (to.state < n))
-    → ((o ≡ None) × (code ≡ nothing)) ⊎ ((word : List ℕ) × IsOutputLink kind patterns words width code n word o)
+    → ((o ≡ None) × (code ≡ nothing)) ⊎ ((word : List ℕ) × IsFailureLink kind patterns words width code n word o)
 link_cases kind patterns words width code n None is = inl (refl, is)
 link_cases kind patterns words width code n (Some word) is =
     inr (word, record { live_is = refl; to = is.0; earlier = is.1 })
@@ -216,7 +216,7 @@ pub new_state : (kind : MatchKind) (patterns words : List (List ℕ)) (width : �
     → list_in lists s ≡ list_for kind patterns word
     → s.ending ≡ unwrap_or (ending kind patterns word) nothing
     → LeadsBy kind patterns words width s.failure (failure_of kind patterns word)
-    → IsState kind patterns words width lists n s
+    → IsStateAt kind patterns words width lists n s
 new_state kind patterns words width lists n s word known is some shallow prefix ordered inside listed ended leads =
     record {
       shallow = shallow;

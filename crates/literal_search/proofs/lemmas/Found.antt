@@ -16,7 +16,7 @@ use Rattle.literal_base.specs.declared.search.Span.{Span}
 use Rattle.literal_base.specs.Leftmost.{IsBetter, IsLeftmostMatch}
 use Rattle.literal_base.specs.Occurs.{IsValidSpan, NoneIsEmpty, NothingOccurs, Occurs, case_folded, pattern_at}
 use Rattle.literal_search.specs.Inside.Classes.{Tells, folded, symbols_in}
-use Rattle.literal_search.specs.Inside.Walk.{IsFirst, IsFound, from_match, text_of}
+use Rattle.literal_search.specs.Inside.Walk.{IsFirstBest, IsFound, from_match, text_of}
 use Rattle.literal_search.specs.declared.walk.Ended.{Ended}
 use Rattle.literal_search.proofs.lemmas.Ends.{from_match_at, from_match_short}
 
@@ -208,7 +208,7 @@ module _ (ignore_case : Bool) (classes : List ℕ) (patterns : List (List ℕ)) 
         false≢true (sym ((from_match_at words text).1 (at - span.start) i all below) ∙ stands)
 
     module _ (e : Ended)
-        (found : IsFirst kind (map (symbols_in classes) patterns) span.start (text_of classes haystack span) e)
+        (found : IsFirstBest kind (map (symbols_in classes) patterns) span.start (text_of classes haystack span) e)
       where
         pub found_pattern : e.pattern < length patterns
         found_pattern =

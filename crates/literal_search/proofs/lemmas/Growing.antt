@@ -19,7 +19,7 @@ use Rattle.literal_search.specs.Table.{Leads, LeadsTo, Recognises, nothing, stri
 use Rattle.literal_search.specs.Inside.Classes.{symbols_in}
 use Rattle.literal_search.specs.Words.{ending, word_of}
 use Rattle.literal_search.specs.Inside.Grown.{AreRows, IsLonger, LeadsBy, list_for}
-use Rattle.literal_search.specs.Inside.Growing.{AreTexts, IsGrowing, IsState, list_in, texts_of, word_in, words_in}
+use Rattle.literal_search.specs.Inside.Growing.{AreTexts, IsGrowing, IsStateAt, list_in, texts_of, word_in, words_in}
 use Rattle.literal_search.specs.Inside.Growing.{words_of}
 use Rattle.literal_search.specs.declared.grow.Growing.{Growing}
 use Rattle.literal_search.specs.declared.grow.State.{State}
@@ -73,7 +73,7 @@ module _ (kind : MatchKind) (patterns words longer : List (List ℕ)) (width : �
 
   state_longer : (n : ℕ) (s : State) (lists lists' : List ℕ)
       → (s.end ≤ length lists → (s.end ≤ length lists') × (list_in lists' s ≡ list_in lists s))
-      → IsState kind patterns words width lists n s → IsState kind patterns longer width lists' n s
+      → IsStateAt kind patterns words width lists n s → IsStateAt kind patterns longer width lists' n s
   state_longer n s lists lists' kept is = record {
     shallow = is.shallow;
     prefix = is.prefix;
@@ -144,7 +144,7 @@ module _ (t : Texts) where
 
   -- one state more
   pub grown_state : (states : List State) (lists rows : List ℕ) (s : State) → IsGrowing t states lists rows
-      → IsState t.kind (texts_of t) (words_in t states) t.width lists (length states) s
+      → IsStateAt t.kind (texts_of t) (words_in t states) t.width lists (length states) s
       → (length states + 1) * stride_of t.width ≤ 2 ^ 31 - 1 → IsGrowing t (states ++ s ∷ []) lists rows
   grown_state states lists rows s g is few =
       let longer : IsLonger (words_in t states) (words_in t (states ++ s ∷ [])) =
@@ -165,15 +165,15 @@ module _ (t : Texts) where
         numbers = g.numbers;
         each = λ n d below. elim (cases_lt n (length states)) [
           | inl old ↦
-              subst (IsState t.kind (texts_of t) (words_in t (states ++ s ∷ [])) t.width lists n)
+              subst (IsStateAt t.kind (texts_of t) (words_in t (states ++ s ∷ [])) t.width lists n)
               (sym (old_at states s d n old))
               (state_longer t.kind (texts_of t) (words_in t states) (words_in t (states ++ s ∷ [])) t.width longer n
               (get_or states n d) lists lists (λ inside. (inside, refl)) (g.each n d old))
           | inr late ↦
               let last : length states ≡ n = omega (arith, more) in
-              subst (IsState t.kind (texts_of t) (words_in t (states ++ s ∷ [])) t.width lists n)
+              subst (IsStateAt t.kind (texts_of t) (words_in t (states ++ s ∷ [])) t.width lists n)
               (sym (get_or_push states s d n last))
-              (subst (λ (m : ℕ). IsState t.kind (texts_of t) (words_in t (states ++ s ∷ [])) t.width lists m s) last
+              (subst (λ (m : ℕ). IsStateAt t.kind (texts_of t) (words_in t (states ++ s ∷ [])) t.width lists m s) last
               (state_longer t.kind (texts_of t) (words_in t states) (words_in t (states ++ s ∷ [])) t.width longer
               (length states) s lists lists (λ inside. (inside, refl)) is))
         ];
@@ -252,7 +252,7 @@ module _ (t : Texts) where
             rw (get_or-range_with_len 0 (length t.patterns.now) k d (omega (arith, long))) (omega (arith, long));
         each = λ n d below.
             let first : 0 ≡ n = omega arith in
-            subst (λ (m : ℕ). IsState t.kind (texts_of t) (words_in t (s ∷ [])) t.width
+            subst (λ (m : ℕ). IsStateAt t.kind (texts_of t) (words_in t (s ∷ [])) t.width
             (range_with_len 0 (length t.patterns.now)) m (get_or (s ∷ []) m d)) first record {
               shallow = omega (arith, depth);
               prefix = omega (arith, depth);

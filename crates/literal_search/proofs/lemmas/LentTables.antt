@@ -31,7 +31,7 @@ use Rattle.literal_search.proofs.lemmas.Numbers.{starts_written}
 use Rattle.literal_search.proofs.lemmas.Prepared.{length_part}
 use Rattle.literal_search.proofs.lemmas.Standing.{is_pattern, longest_below, next_is, none_to_come, nothing_to_come}
 use Rattle.literal_search.proofs.lemmas.Standing.{row_inside, same_to_come, some_left, stands_next, stands_there}
-use Rattle.literal_search.proofs.lemmas.Walk.{row_at, table_of}
+use Rattle.literal_search.proofs.lemmas.Walk.{row_at, rows_are_table}
 
 -- tables of a search whose parts are equal
 pub same_tables : (search : OverlappingValue) (classes classes' : List ℕ) (width width' : ℕ)
@@ -121,7 +121,7 @@ module _ {search : OverlappingValue} {p : LentTables} (are : AreFor search p) (h
 
     module _ (empty : s.end ≤ s.next) (more : s.at < span.end) where
       is_table : IsTable t.width t.rows
-      is_table = table_of Standard (texts_in t) t.width t.rows are.tables.recognises
+      is_table = rows_are_table Standard (texts_in t) t.width t.rows are.tables.recognises
 
       is_row : IsRow t.width t.rows s.place
       is_row =

@@ -116,18 +116,18 @@ none_position p xs is = by_test (list_any p xs) refl
         absurd (false≢true (sym (fails_before_first p xs one.0 one.1 (omega (arith, one.2))) ∙ (ap p one.3 ∙ one.4)))
 
 -- with `LeftmostFirst` no pattern before one is a prefix of a text
-abbrev pub NoneBefore : MatchKind → List (List ℕ) → List ℕ → ℕ → Type 0
-NoneBefore Standard patterns text i = Unit {0}
-NoneBefore LeftmostFirst patterns text i =
+abbrev pub NoEarlierPrefix : MatchKind → List (List ℕ) → List ℕ → ℕ → Type 0
+NoEarlierPrefix Standard patterns text i = Unit {0}
+NoEarlierPrefix LeftmostFirst patterns text i =
     (j : ℕ) → j < i → starts_with nat_eq text (pattern_at patterns j) ≡ false
-NoneBefore LeftmostLongest patterns text i = Unit {0}
+NoEarlierPrefix LeftmostLongest patterns text i = Unit {0}
 
 -- a pattern that may be the match passes a test
 pub record OneInQuestion (p : List ℕ → Bool) (kind : MatchKind) (patterns : List (List ℕ)) (text : List ℕ)
     (i : ℕ) : Type 0 where
   pub below : i < length patterns
   pub passes : p (pattern_at patterns i) ≡ true
-  pub in_question : NoneBefore kind patterns text i
+  pub in_question : NoEarlierPrefix kind patterns text i
 
 pub any_in_question : (p : List ℕ → Bool) (kind : MatchKind) (patterns : List (List ℕ)) (text : List ℕ)
     → list_any p (in_question kind (λ pattern. pattern) text patterns) ≡ true
@@ -166,7 +166,7 @@ any_in_question_at p LeftmostLongest patterns text i one = list_any_at p pattern
 
 -- before one that may be the match as a text grows, none is a prefix of the text before
 none_before_shorter : (kind : MatchKind) (patterns : List (List ℕ)) (text more : List ℕ) (i : ℕ)
-    → NoneBefore kind patterns (text ++ more) i → NoneBefore kind patterns text i
+    → NoEarlierPrefix kind patterns (text ++ more) i → NoEarlierPrefix kind patterns text i
 none_before_shorter Standard patterns text more i none = tt
 none_before_shorter LeftmostFirst patterns text more i none = λ j before.
     false_from_ne_true _ (λ stands. false≢true (sym (none j before)
@@ -200,7 +200,7 @@ matched_longer LeftmostLongest patterns text more is = one_stands_longer pattern
 
 -- where no pattern is a prefix of a text, each may be the match
 all_in_question : (kind : MatchKind) (patterns : List (List ℕ)) (text : List ℕ) (i : ℕ) → i < length patterns
-    → one_stands patterns text ≡ false → NoneBefore kind patterns text i
+    → one_stands patterns text ≡ false → NoEarlierPrefix kind patterns text i
 all_in_question Standard patterns text i below none = tt
 all_in_question LeftmostFirst patterns text i below none = λ j before.
     none_any (λ e. starts_with nat_eq text e) patterns [] j none (omega arith)

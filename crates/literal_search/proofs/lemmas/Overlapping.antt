@@ -5,18 +5,13 @@ use Rattle.std.proofs.Common.{Option, inl, inr, ◌⊎◌, sym, ap, subst, ◌�
 use Rattle.std.proofs.lemmas.Bool.{cases_lt}
 use Rattle.std.specs.Iterator.{Yields}
 use Rattle.std.specs.List.{All, AllPairs, IsAmong}
+use Rattle.literal_base.proofs.lemmas.Unique.{MatchValue-ext}
 use Rattle.literal_base.specs.declared.search.Span.{Span}
 use Rattle.literal_base.specs.MatchValue.{MatchValue}
 use Rattle.literal_base.specs.Occurs.{pattern_at}
 use Rattle.literal_search.specs.Overlapping.{ComesBefore, IsOccurrence, IsOverlapping, OverlappingValue}
 use Rattle.literal_search.specs.OverlappingMatchesValue.{GivesOverlapping, IsNextToCome, IsToCome}
 use Rattle.literal_search.specs.OverlappingMatchesValue.{OverlappingMatchesValue, gone_on}
-
-same_match : (a b : MatchValue) → a.pattern ≡ b.pattern → a.start ≡ b.start → a.end ≡ b.end → a ≡ b
-same_match a b pattern start end =
-    ap (λ p. let m : MatchValue = record { pattern = p; start = a.start; end = a.end } in m) pattern
-    ∙ (ap (λ s. let m : MatchValue = record { pattern = b.pattern; start = s; end = a.end } in m) start
-    ∙ ap (λ e. let m : MatchValue = record { pattern = b.pattern; start = b.start; end = e } in m) end)
 
 module _ (m : OverlappingMatchesValue) (found : MatchValue) (next : IsNextToCome m found) where
   -- what is to come behind what is next comes behind it
@@ -59,7 +54,7 @@ module _ (m : OverlappingMatchesValue) (found : MatchValue) (next : IsNextToCome
                   let long = ap (λ i. length (pattern_at m.search.patterns i)) pattern in
                   let whole = is.occurrence.whole in
                   let found_whole = next.to_come.occurrence.whole in
-                  inl (same_match other found pattern (omega (arith, long, whole, found_whole)) (sym at))
+                  inl (MatchValue-ext other found pattern (omega (arith, long, whole, found_whole)) (sym at))
             ]
           ]
     ]

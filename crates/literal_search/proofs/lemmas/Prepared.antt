@@ -15,7 +15,7 @@ use Rattle.literal_fingerprints.specs.FingerprintsValue.{AllPass, FingerprintsVa
 use Rattle.literal_search.specs.SearchValue.{CanBeKept, NoneIsShorter, SearchValue}
 use Rattle.literal_search.specs.Inside.Classes.{AreClasses, Tells, symbols_in}
 use Rattle.literal_search.specs.Inside.Scan.{IsTableOf, match_by}
-use Rattle.literal_search.specs.Inside.Prepared.{IsHeader, IsLent, IsSplit, table_of}
+use Rattle.literal_search.specs.Inside.Prepared.{IsHeader, IsLent, IsSplit, header_table}
 use Rattle.literal_search.specs.declared.prepared.Header.{Header}
 use Rattle.literal_base.specs.MatchValue.{MatchValue}
 use Rattle.literal_search.specs.Inside.Prepared.{Puts, RefusesArray, numbers_for}
@@ -108,7 +108,7 @@ module _ (p : Lent) (lent : IsLent p) (fingerprints : Option (Bor FingerprintsVa
         (prepared.fingerprints (omega (arith, some, lent.shortest)))
 
     pub table_for : ((P : FingerprintsValue → Type 0) → IfSome p.fingerprints P → IfSome fingerprints (λ f. P f.now))
-        → IsTableOf (record (table_of p.header) { shortest = p.shortest; fingerprints = fingerprints })
+        → IsTableOf (record (header_table p.header) { shortest = p.shortest; fingerprints = fingerprints })
         query ignore_case
     table_for behind = record {
       classes = are_classes lent.header prepared;

@@ -21,7 +21,7 @@ use Rattle.literal_search.specs.Table.{stride_of}
 use Rattle.literal_search.specs.Words.{begins_one}
 use Rattle.literal_search.specs.declared.prepared.PrepareError.{PrepareError}
 use Rattle.literal_search.specs.declared.prepared.PrepareError.TheVariants.{ArrayTooShort, ListsTooLong, PatternTooLong}
-use Rattle.literal_search.proofs.lemmas.Live.{NoneBefore, any_in_question, any_in_question_at}
+use Rattle.literal_search.proofs.lemmas.Live.{NoEarlierPrefix, any_in_question, any_in_question_at}
 
 eqb_same : (n : ℕ) → eqb n n ≡ true
 eqb_same n = elim (eqb_tells n n) [
@@ -127,7 +127,7 @@ module _ (kind : MatchKind) (ignore_case : Bool) (patterns : List (List ℕ)) (o
 
   -- what is a prefix of a text before is one after
   none_on : (kind : MatchKind) (text : List ℕ) (i : ℕ) → i < length patterns → map back (map on text) ≡ text
-      → NoneBefore kind texts text i → NoneBefore kind others (map on text) i
+      → NoEarlierPrefix kind texts text i → NoEarlierPrefix kind others (map on text) i
   unfolding on back
   none_on Standard text i below fixed none = tt
   none_on LeftmostFirst text i below fixed none = λ j before.

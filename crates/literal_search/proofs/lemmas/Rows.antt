@@ -9,7 +9,7 @@ use Rattle.literal_base.specs.declared.search.MatchKind.{MatchKind}
 use Rattle.literal_base.specs.declared.search.MatchKind.TheVariants.{LeftmostFirst, LeftmostLongest, Standard}
 use Rattle.literal_search.specs.SearchValue.{is_in_patterns, width_for}
 use Rattle.literal_search.specs.Inside.Classes.{symbols_in}
-use Rattle.literal_search.specs.Inside.Rows.{rows_in}
+use Rattle.literal_search.specs.Inside.Rows.{numbers_of}
 use Rattle.literal_search.specs.States.{AreStates, HasTooManyStates, IsRowsLength}
 use Rattle.literal_search.specs.Table.{Leads, Recognises, nothing}
 use Rattle.literal_search.specs.Words.{begins_one, ending, word_of}
@@ -86,11 +86,11 @@ none_few kind many =
 -- what holds of no text, one class and these rows holds where there is no pattern and no number is kept
 pub for_none : (P : List (List ℕ) → ℕ → List ℕ → Type 0) (classes : List ℕ) (width : ℕ) (patterns : List (Vec ℕ))
     (kept : List ℕ) → length patterns ≡ 0 → (patterns ≡ [] → width ≡ 1) → kept ≡ [] → P [] 1 (0 ∷ nothing ∷ [])
-    → P (map (λ (pattern : Vec ℕ). symbols_in classes pattern.items) patterns) width (rows_in kept)
+    → P (map (λ (pattern : Vec ℕ). symbols_in classes pattern.items) patterns) width (numbers_of kept)
 for_none P classes width patterns kept long one empty holds =
     let none = nil_from_length patterns long in
-    subst (λ (l : List ℕ). P (map (λ (pattern : Vec ℕ). symbols_in classes pattern.items) patterns) width (rows_in l))
-    (sym empty)
+    subst (λ (l : List ℕ). P (map (λ (pattern : Vec ℕ). symbols_in classes pattern.items) patterns) width
+    (numbers_of l)) (sym empty)
     (subst (λ (n : ℕ). P (map (λ (pattern : Vec ℕ). symbols_in classes pattern.items) patterns) n (0 ∷ nothing ∷ []))
     (sym (one none))
     (subst (λ (l : List (Vec ℕ)). P (map (λ (pattern : Vec ℕ). symbols_in classes pattern.items) l) 1

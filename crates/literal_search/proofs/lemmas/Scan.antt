@@ -28,7 +28,7 @@ use Rattle.literal_search.proofs.lemmas.Ends.{from_match_at, from_match_short}
 use Rattle.literal_search.proofs.lemmas.Found.{leftmost_found, nothing_found, some_symbols, stands_where}
 use Rattle.literal_search.proofs.lemmas.Found.{symbols_length}
 use Rattle.literal_search.proofs.lemmas.Longest.{longest_is}
-use Rattle.literal_search.proofs.lemmas.Walk.{table_of, text_halves, text_length}
+use Rattle.literal_search.proofs.lemmas.Walk.{rows_are_table, text_halves, text_length}
 
 -- what holds of an answer that is Ok
 pub ok_and_map : {T E : Type 0} (r : Result T E) (P Q : T → Type 0) → ((v : T) → P v → Q v) → IsOkAnd r P → IsOkAnd r Q
@@ -95,7 +95,7 @@ module _ (t : Table) (query : Query) (ignore_case : Bool) (is : IsTableOf t quer
   words = map (symbols_in t.classes.now) query.patterns
 
   pub is_table : IsTable t.width t.rows.now
-  is_table = table_of (root_kind_of query.kind) words t.width t.rows.now is.recognises
+  is_table = rows_are_table (root_kind_of query.kind) words t.width t.rows.now is.recognises
 
   module _ (haystack : List ℕ) (bytes : (i : ℕ) → get_or haystack i 0 < 256) (span : Span)
       (valid : IsValidSpan haystack span)

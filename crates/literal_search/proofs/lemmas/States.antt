@@ -24,7 +24,7 @@ use Rattle.literal_search.specs.States.{AreStates, HasTooManyStates}
 use Rattle.literal_search.specs.Table.{Recognises, stride_of}
 use Rattle.literal_search.specs.Words.{begins_one, live_suffix, word_of}
 use Rattle.literal_search.proofs.lemmas.Behind.{live_begun}
-use Rattle.literal_search.proofs.lemmas.Live.{NoneBefore, any_in_question, any_in_question_at, begins_prefix}
+use Rattle.literal_search.proofs.lemmas.Live.{NoEarlierPrefix, any_in_question, any_in_question_at, begins_prefix}
 
 module _ (kind : MatchKind) (patterns : List (List ℕ)) (width : ℕ)
     (below : (i k : ℕ) → get_or (pattern_at patterns i) k 0 < width) (rows : List ℕ)
@@ -261,7 +261,7 @@ module _ (kind : MatchKind) (patterns : List (List ℕ)) (i : ℕ) (below : i < 
     in_question = by_kind kind first;
   }
     where
-      by_kind : (k : MatchKind) → (k ≡ LeftmostFirst → i ≡ 0) → NoneBefore k patterns (prefix n) i
+      by_kind : (k : MatchKind) → (k ≡ LeftmostFirst → i ≡ 0) → NoEarlierPrefix k patterns (prefix n) i
       by_kind Standard is = tt
       by_kind LeftmostFirst is = λ j before. absurd (omega (arith, before, is refl))
       by_kind LeftmostLongest is = tt

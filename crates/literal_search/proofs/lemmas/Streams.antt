@@ -21,7 +21,7 @@ use Rattle.literal_base.specs.Occurs.{NothingOccurs, Occurs, rest_from}
 use Rattle.literal_search.specs.SearchValue.{SearchValue, longest_of}
 use Rattle.literal_search.specs.Stream.{EndsFailed, EndsWhole, GivesStreamed, GoesBehind, IsLeftmostAhead, PassesOver}
 use Rattle.literal_search.specs.Stream.{StreamValue, known}
-use Rattle.literal_search.specs.Inside.Stream.{HasGoneOn, HasPassed, IsWindow, StandsIn, held, shifted}
+use Rattle.literal_search.specs.Inside.Stream.{HasGoneOn, HasPassed, IsWindow, GoesThrough, held, shifted}
 use Rattle.literal_search.specs.declared.window.Window.{Window}
 use Rattle.literal_search.proofs.lemmas.Windows.{leftmost_behind, leftmost_from, none_ahead, nothing_ahead}
 
@@ -371,7 +371,7 @@ seen_whole held piece rest (Some more) over taken =
 
 -- what holds of what is ahead, whatever came before, holds of the text
 told_in : (P : SearchValue → List ℕ → Type 0) (search : SearchValue) (text : List ℕ) (m : StreamValue) (ahead : List ℕ)
-    → (stands : StandsIn search text m) → ahead ≡ m.held ++ stands.rest
+    → (stands : GoesThrough search text m) → ahead ≡ m.held ++ stands.rest
     → ((before : List ℕ) → length before ≡ m.offset → P m.search (before ++ ahead)) → P search text
 told_in P search text m ahead stands is told =
     subst (λ (s : SearchValue). P s text) stands.search_is
@@ -384,7 +384,7 @@ leftmost_in at answer search text = IsLeftmost search.query search.ignore_case t
 
 -- a match, told in the text
 found_in : (search : SearchValue) (text : List ℕ) (m : StreamValue) (found : MatchValue) (n : StreamValue)
-    → StandsIn search text m → GivesStreamed m (Some (Ok found)) n
+    → GoesThrough search text m → GivesStreamed m (Some (Ok found)) n
     → IsLeftmost search.query search.ignore_case text (rest_from text m.offset) (Some found)
 found_in search text m found n stands step =
     let goes = step.2 in
@@ -394,7 +394,7 @@ found_in search text m found n stands step =
 
 -- behind a match it stands in the text still
 stands_behind : (search : SearchValue) (text : List ℕ) (m : StreamValue) (found : MatchValue) (n : StreamValue)
-    → StandsIn search text m → GivesStreamed m (Some (Ok found)) n → StandsIn search text n
+    → GoesThrough search text m → GivesStreamed m (Some (Ok found)) n → GoesThrough search text n
 stands_behind search text m found n stands step =
     let goes = step.2 in
     let seen = m.held ++ goes.piece in
@@ -428,7 +428,7 @@ stands_behind search text m found n stands step =
 
 -- what it gives, in front of the list from where it then stands, is the list from where it stood
 pub streamed_first : (search : SearchValue) (text : List ℕ) (m : StreamValue) (all : List MatchValue) (n : StreamValue)
-    (more : List MatchValue) → StandsIn search text m → Yields GivesStreamed m (map Ok all) n
+    (more : List MatchValue) → GoesThrough search text m → Yields GivesStreamed m (map Ok all) n
     → IsGreedy search.query search.ignore_case text n.offset more
     → IsGreedy search.query search.ignore_case text m.offset (all ++ more)
 streamed_first search text m [] n more stands stays greedy =
@@ -444,14 +444,14 @@ streamed_first search text m (found ∷ rest) n more stands run greedy =
 
 -- and where it then stands
 pub streamed_to : (search : SearchValue) (text : List ℕ) (m : StreamValue) (all : List MatchValue) (n : StreamValue)
-    → StandsIn search text m → Yields GivesStreamed m (map Ok all) n → StandsIn search text n
-streamed_to search text m [] n stands stays = subst (StandsIn search text) stays stands
+    → GoesThrough search text m → Yields GivesStreamed m (map Ok all) n → GoesThrough search text n
+streamed_to search text m [] n stands stays = subst (GoesThrough search text) stays stands
 streamed_to search text m (found ∷ rest) n stands run =
     streamed_to search text run.0 rest n (stands_behind search text m found run.0 stands run.1) run.2
 
 -- up to its first None it is the whole list
 pub streamed_all : (search : SearchValue) (text : List ℕ) (m : StreamValue) (all : List MatchValue)
-    (n ended : StreamValue) → StandsIn search text m → Yields GivesStreamed m (map Ok all) n
+    (n ended : StreamValue) → GoesThrough search text m → Yields GivesStreamed m (map Ok all) n
     → GivesStreamed n None ended → IsGreedy search.query search.ignore_case text m.offset all
 streamed_all search text m all n ended stands run last =
     let there = streamed_to search text m all n stands run in
@@ -464,7 +464,7 @@ streamed_all search text m all n ended stands run last =
     (seen_whole n.held ends.piece there.rest ended.unread ends.end taken) ends.nothing))
 
 -- and then all of the text was read
-pub streamed_len : (search : SearchValue) (text : List ℕ) (m ended : StreamValue) → StandsIn search text m
+pub streamed_len : (search : SearchValue) (text : List ℕ) (m ended : StreamValue) → GoesThrough search text m
     → GivesStreamed m None ended → ended.offset ≡ length text
 streamed_len search text m ended stands last =
     let ends = last.1 stands.not_over in
@@ -483,7 +483,7 @@ streamed_len search text m ended stands last =
 
 -- in front of an error nothing is missing but what begins in the last bytes that were read
 pub streamed_failed : (search : SearchValue) (text : List ℕ) (m : StreamValue) (error : Error) (ended : StreamValue)
-    → StandsIn search text m → GivesStreamed m (Some (Err error)) ended
+    → GoesThrough search text m → GivesStreamed m (Some (Err error)) ended
     → (i p : ℕ) → Occurs search.query.patterns search.ignore_case text (rest_from text m.offset) i p
     → ended.offset - (longest_of search.query.patterns - 1) ≤ p
 streamed_failed search text m error ended stands last =

@@ -20,10 +20,10 @@ use Rattle.literal_base.specs.declared.search.Span.{Span}
 use Rattle.literal_base.specs.Occurs.{NoneIsEmpty, between, pattern_at}
 use Rattle.literal_search.specs.Inside.Classes.{AreClasses, symbols_in}
 use Rattle.literal_search.specs.Inside.Grown.{ending_live}
-use Rattle.literal_search.specs.Inside.Walk.{FindsIn, IsAt, IsBehind, IsBest, IsFirst, IsFound, IsRow, IsTable}
-use Rattle.literal_search.specs.Inside.Walk.{Reads}
+use Rattle.literal_search.specs.Inside.Walk.{FindsIn, IsAt, IsBehind, IsBest, IsFirstBest, IsFound, IsRow, IsTable}
+use Rattle.literal_search.specs.Inside.Walk.{HasRead}
 use Rattle.literal_search.specs.Inside.Walk.{Finds, FindsEarliest, FindsEnd, GoesOn, IsFirstEnd, NoneEnds}
-use Rattle.literal_search.specs.Inside.Walk.{ReadsAll, StopsBy}
+use Rattle.literal_search.specs.Inside.Walk.{WalksAll, StopsBy}
 use Rattle.literal_search.specs.Inside.Walk.{StopsNear, from_match, place_of, read_to, text_in, text_of}
 use Rattle.literal_search.specs.Table.{LeadsTo, Leads, Recognises, code_of, nothing, stride_of}
 use Rattle.literal_search.specs.Words.{begins_one, ending, first_equal, live_suffix, word_of}
@@ -34,7 +34,7 @@ use Rattle.literal_search.specs.declared.walk.Walked.TheVariants.{Known}
 use Rattle.literal_search.proofs.lemmas.Behind.{ending_by_live}
 use Rattle.literal_search.proofs.lemmas.Ends.{ending_is, from_match_dead, from_match_live}
 use Rattle.literal_search.proofs.lemmas.Ends.{from_match_push, from_match_short, live_is_short, pushed}
-use Rattle.literal_search.proofs.lemmas.Ends.{whole_is_best, whole_of}
+use Rattle.literal_search.proofs.lemmas.Ends.{whole_is_best, first_whole}
 use Rattle.literal_search.proofs.lemmas.Ends.{stays_best, stays_best_for_good}
 use Rattle.literal_search.proofs.lemmas.Live.{live_on, live_push}
 
@@ -43,7 +43,7 @@ pushed_is [] symbol some = absurd (omega arith)
 pushed_is (first ∷ more) symbol some = refl
 
 whole_is : (kind : MatchKind) (patterns : List (List ℕ)) (text : List ℕ) (symbol : ℕ)
-    → whole_of kind patterns (text ++ symbol ∷ [])
+    → first_whole kind patterns (text ++ symbol ∷ [])
     ≡ first_equal (root_kind_of kind) patterns (text ++ symbol ∷ [])
 whole_is kind patterns [] symbol = refl
 whole_is kind patterns (first ∷ more) symbol = refl
@@ -75,7 +75,7 @@ module _ (kind : MatchKind) (patterns : List (List ℕ)) (some : NoneIsEmpty pat
       from_match_push kind patterns some text symbol whole ∙ pushed_is u symbol
       (best_is_some u last.pattern found.best) in
       let unended : first_equal (root_kind_of kind) patterns (u ++ symbol ∷ []) ≡ None =
-      sym (whole_is kind patterns u symbol) ∙ (ap (whole_of kind patterns) (sym split) ∙ whole) in
+      sym (whole_is kind patterns u symbol) ∙ (ap (first_whole kind patterns) (sym split) ∙ whole) in
       record {
         best = subst (λ (u : List ℕ). IsBest kind patterns u last.pattern) (sym split)
             (stays_best kind patterns u symbol last.pattern found.best unended);
@@ -90,7 +90,7 @@ module _ (kind : MatchKind) (patterns : List (List ℕ)) (some : NoneIsEmpty pat
 
   -- a text with which a match ends
   pub found_end : (text : List ℕ) (i end : ℕ) → ending (root_kind_of kind) patterns text ≡ Some i
-      → end ≡ start + length text → IsFirst kind patterns start text (record { pattern = i; end = end })
+      → end ≡ start + length text → IsFirstBest kind patterns start text (record { pattern = i; end = end })
   found_end text i end ends end_is =
       let whole = whole_is_best kind patterns (from_match patterns text) i
       (sym (ending_is kind patterns text) ∙ ends) in
@@ -134,9 +134,9 @@ place_of_code place (Some i) small =
     cond-false _ _ _ (le-ltb (place + 2 ^ 31) (2 ^ 31) (omega arith)) ∙ omega arith
 
 -- the rows that recognise patterns are whole, and their numbers lead to rows
-pub table_of : (kind : search.MatchKind) (patterns : List (List ℕ)) (width : ℕ) (rows : List ℕ)
+pub rows_are_table : (kind : search.MatchKind) (patterns : List (List ℕ)) (width : ℕ) (rows : List ℕ)
     → Recognises kind patterns width rows → IsTable width rows
-table_of kind patterns width rows recognises = record {
+rows_are_table kind patterns width rows recognises = record {
   some = record {
     state = 0;
     place_is = zero_row;
@@ -415,7 +415,7 @@ row_at kind patterns width rows recognises text place at = record {
 }
 
 module _ (width : ℕ) (rows : List ℕ) (table : IsTable width rows) (start : ℕ) where
-  module _ (text : List ℕ) (place : ℕ) (last : Option Ended) (reads : Reads width rows start text place last)
+  module _ (text : List ℕ) (place : ℕ) (last : Option Ended) (reads : HasRead width rows start text place last)
       (symbol : ℕ) (below : symbol < width) (code : ℕ) (code_is : code ≡ get_or rows (place + symbol) 0)
     where
       row_on : ¬ (code ≡ nothing) → IsRow width rows (place_of code)
@@ -425,7 +425,7 @@ module _ (width : ℕ) (rows : List ℕ) (table : IsTable width rows) (start : �
       ]
 
       -- behind one byte more: no match ends there, one does, or no more bytes matter
-      pub reads_on : code < 2 ^ 31 → Reads width rows start (text ++ symbol ∷ []) code last
+      pub reads_on : code < 2 ^ 31 → HasRead width rows start (text ++ symbol ∷ []) code last
       reads_on small = record {
         row = subst (IsRow width rows) (cond-true _ _ _ (lt-ltb code (2 ^ 31) small)) (row_on (λ is. omega arith));
         behind = λ kind patterns recognises some. on_without_end kind patterns some width rows recognises start text
@@ -434,7 +434,7 @@ module _ (width : ℕ) (rows : List ℕ) (table : IsTable width rows) (start : �
       }
 
       pub reads_end : 2 ^ 31 ≤ code → ¬ (code ≡ nothing) → (end : ℕ) → end ≡ start + length text + 1
-          → Reads width rows start (text ++ symbol ∷ []) (code - 2 ^ 31)
+          → HasRead width rows start (text ++ symbol ∷ []) (code - 2 ^ 31)
           (Some (record { pattern = get_or rows (code - 2 ^ 31 + width) 0; end = end }))
       reads_end large alive end end_is = record {
         row = subst (IsRow width rows) (cond-false _ _ _ (le-ltb code (2 ^ 31) large)) (row_on alive);
@@ -453,7 +453,7 @@ module _ (width : ℕ) (rows : List ℕ) (table : IsTable width rows) (start : �
           (reads.behind kind patterns recognises some) symbol below code code_is is_dead none
 
   -- behind all bytes
-  pub finds_all : (text : List ℕ) (place : ℕ) (last : Option Ended) → Reads width rows start text place last
+  pub finds_all : (text : List ℕ) (place : ℕ) (last : Option Ended) → HasRead width rows start text place last
       → FindsIn width rows start text last
   finds_all text place last reads = λ kind patterns recognises some. (reads.behind kind patterns recognises some).found
 
@@ -469,7 +469,7 @@ text_length classes haystack start at after inside =
 
 -- a walk is at most as far behind the place of its last match as the longest pattern is long
 pub reads_near : (width : ℕ) (rows : List ℕ) (start : ℕ) (text : List ℕ) (place : ℕ) (last : Option Ended)
-    → Reads width rows start text place last
+    → HasRead width rows start text place last
     → StopsNear width rows (start + length text) last
 reads_near width rows start text place None reads = λ kind patterns recognises some longest short. tt
 reads_near width rows start text place (Some e) reads = λ kind patterns recognises some longest short.
@@ -497,20 +497,21 @@ near_before width rows place before answer earlier near kind patterns recognises
 module _ (classes rows haystack : List ℕ) (width : ℕ) (are : AreClasses classes width) (table : IsTable width rows)
     (start at : ℕ) (after : start ≤ at) (inside : at < length haystack) (is_byte : get_or haystack at 0 < 256)
     (place : ℕ) (last : Option Ended)
-    (reads : Reads width rows start (text_of classes haystack (between start at)) place last)
+    (reads : HasRead width rows start (text_of classes haystack (between start at)) place last)
   where
     module _ (code : ℕ) (code_is : code ≡ get_or rows (place + get_or classes (get_or haystack at 0) 0) 0) where
       -- no match ends there, one does, or no more bytes matter
-      pub step_on : code < 2 ^ 31 → Reads width rows start (text_of classes haystack (between start (at + 1))) code last
-      step_on small = subst (λ (text : List ℕ). Reads width rows start text code last)
+      pub step_on : code < 2 ^ 31
+          → HasRead width rows start (text_of classes haystack (between start (at + 1))) code last
+      step_on small = subst (λ (text : List ℕ). HasRead width rows start text code last)
           (sym (text_push classes haystack start at after inside))
           (reads_on width rows table start (text_of classes haystack (between start at)) place last reads
           (get_or classes (get_or haystack at 0) 0) (are.below (get_or haystack at 0) is_byte) code code_is small)
 
       pub step_end : 2 ^ 31 ≤ code → ¬ (code ≡ nothing)
-          → Reads width rows start (text_of classes haystack (between start (at + 1))) (code - 2 ^ 31)
+          → HasRead width rows start (text_of classes haystack (between start (at + 1))) (code - 2 ^ 31)
           (Some (record { pattern = get_or rows (code - 2 ^ 31 + width) 0; end = at + 1 }))
-      step_end large alive = subst (λ (text : List ℕ). Reads width rows start text (code - 2 ^ 31)
+      step_end large alive = subst (λ (text : List ℕ). HasRead width rows start text (code - 2 ^ 31)
           (Some (record { pattern = get_or rows (code - 2 ^ 31 + width) 0; end = at + 1 })))
           (sym (text_push classes haystack start at after inside))
           (reads_end width rows table start (text_of classes haystack (between start at)) place last reads
@@ -552,7 +553,7 @@ finds_first t haystack span false e is finds =
 
 -- how far a walk goes that knows what it found
 pub stops_by : (t : Table) (span : Span) (steps place : ℕ) (last : Option Ended)
-    → (last ≡ None → ReadsAll t span steps) → place ≡ span.start + steps - 1
+    → (last ≡ None → WalksAll t span steps) → place ≡ span.start + steps - 1
     → StopsNear t.width t.rows.now place last → StopsBy t span steps (Known last)
 stops_by t span steps place None all is near = all refl
 stops_by t span steps place (Some e) all is near =

@@ -66,8 +66,8 @@ pub record StandsDown (p : BackTables) (haystack : List ℕ) (from at place : �
       (reverse (text_of p.classes haystack (between at from))) place
 
 -- no pattern begins at a place that lies whole before an end
-abbrev pub NoneBegins : BackTables → List ℕ → ℕ → ℕ → Type 0
-NoneBegins p haystack end at =
+abbrev pub NoneBeginsAt : BackTables → List ℕ → ℕ → ℕ → Type 0
+NoneBeginsAt p haystack end at =
     (i : ℕ) → ¬ Occurs p.search.query.patterns p.search.ignore_case haystack (between at end) i at
 
 -- of the patterns that begin at a place and lie whole before an end this one is the best
@@ -86,7 +86,7 @@ best_by p code = slice_index p.best (named_by p code)
 
 -- what a number of a row tells of the place at which it was read: from 2^31 on, that a pattern begins there, and which
 pub record IsMark (p : BackTables) (haystack : List ℕ) (end at code : ℕ) : Type 0 where
-  pub none : code < 2 ^ 31 → NoneBegins p haystack end at
+  pub none : code < 2 ^ 31 → NoneBeginsAt p haystack end at
   pub row : 2 ^ 31 ≤ code → code - 2 ^ 31 + p.width < length p.rows
   pub named : 2 ^ 31 ≤ code → named_by p code < length p.best
   pub best : 2 ^ 31 ≤ code → BeginsBest p haystack end at (best_by p code)
@@ -114,7 +114,7 @@ pub record IsBlock (longest : ℕ) (span block : Span) : Type 0 where
 
 -- no pattern begins from a place on before another
 abbrev pub NoneFrom : BackTables → List ℕ → ℕ → ℕ → ℕ → Type 0
-NoneFrom p haystack end from upto = (at : ℕ) → from ≤ at → at < upto → NoneBegins p haystack end at
+NoneFrom p haystack end from upto = (at : ℕ) → from ≤ at → at < upto → NoneBeginsAt p haystack end at
 
 -- of each place from one up to another there is a mark, in a list that has that of the start first
 abbrev pub AreMarks : BackTables → List ℕ → ℕ → List ℕ → ℕ → ℕ → ℕ → Type 0
@@ -137,11 +137,11 @@ pub record IsPlaced (longest : ℕ) (span : Span) (at : ℕ) (m : Marks) : Type 
 -- there are marks of each place from there on before the one, and from that on nothing begins up to where it is known
 pub record AreMarked (p : BackTables) (haystack : List ℕ) (span : Span) (at : ℕ) (m : Marks) : Type 0 where
   pub marks : AreMarks p haystack span.end m.numbers.items m.first at m.upto
-  pub none : (k : ℕ) → at ≤ k → m.upto ≤ k → k < m.known → NoneBegins p haystack span.end k
+  pub none : (k : ℕ) → at ≤ k → m.upto ≤ k → k < m.known → NoneBeginsAt p haystack span.end k
 
 -- there is room for the marks of any block of a span
-abbrev pub HasRoom : ℕ → Span → Marks → Type 0
-HasRoom longest span m = min (max longest LEAST) (span.end - span.start) ≤ length m.numbers.items
+abbrev pub HasRoomForMarks : ℕ → Span → Marks → Type 0
+HasRoomForMarks longest span m = min (max longest LEAST) (span.end - span.start) ≤ length m.numbers.items
 
 -- a number was read for the byte at a place, and the walk goes on from there
 pub record IsRead (p : BackTables) (haystack : List ℕ) (from at code : ℕ) : Type 0 where
@@ -164,6 +164,6 @@ pub record IsMatchBy (b : Backward) (span : Span) (at : ℕ) (found : MatchValue
   pub pattern : found.pattern < length (lens_of b.lens)
 
 -- why a search that has the tables stops: it found no room for marks, and something occurs
-pub record IsRefused (p : BackTables) (haystack : List ℕ) (from end : ℕ) (error : Stopped) : Type 0 where
+pub record StopsMarking (p : BackTables) (haystack : List ℕ) (from end : ℕ) (error : Stopped) : Type 0 where
   pub no_memory : error ≡ OutOfMemory
   pub occurs : ¬ NothingOccurs p.search.query.patterns p.search.ignore_case haystack (between from end)

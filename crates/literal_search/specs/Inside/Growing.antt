@@ -52,7 +52,7 @@ pub record HasFailure (kind : MatchKind) (patterns words : List (List ℕ)) (wid
 
 -- a state, behind so many others, has a prefix of a pattern, the list of those that begin with it, what ends there,
 -- and a failure link, unless it is the first
-pub record IsState (kind : MatchKind) (patterns words : List (List ℕ)) (width : ℕ) (lists : List ℕ) (n : ℕ)
+pub record IsStateAt (kind : MatchKind) (patterns words : List (List ℕ)) (width : ℕ) (lists : List ℕ) (n : ℕ)
     (s : State) : Type 0 where
   pub shallow : s.depth ≤ n
   pub prefix : s.depth ≤ length (pattern_at patterns s.pattern)
@@ -71,7 +71,7 @@ pub record IsGrowing (t : Texts) (states : List State) (lists rows : List ℕ) :
   pub filled : length rows ≤ length states * stride_of t.width
   pub numbers : (k d : ℕ) → k < length lists → slice_index_or lists k d < length t.patterns.now
   pub each : (n : ℕ) (d : State) → n < length states
-      → IsState t.kind (texts_of t) (words_in t states) t.width lists n (slice_index_or states n d)
+      → IsStateAt t.kind (texts_of t) (words_in t states) t.width lists n (slice_index_or states n d)
   pub led : AreRows t.kind (texts_of t) (words_in t states) t.width rows
 
 -- the fields are so

@@ -49,7 +49,7 @@ pub record StandsBehind (r : Recognised) (place : ℕ) (text : List ℕ) : Type 
       → IsAt Standard (symbols_of r) r.width r.rows.now recognises text place
 
 -- each pattern that is the first of its equals has the first of them from one on
-pub record AreHeads (patterns : List (List ℕ)) (heads : List ℕ) (from : ℕ) : Type 0 where
+pub record AreNextEquals (patterns : List (List ℕ)) (heads : List ℕ) (from : ℕ) : Type 0 where
   pub long : length heads ≡ length patterns
   pub each : (i : ℕ) → i < length patterns → ending Standard patterns (pattern_at patterns i) ≡ Some i
       → IsNextEqual patterns i from (slice_index heads i)

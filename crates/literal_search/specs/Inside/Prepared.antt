@@ -29,8 +29,8 @@ abbrev pub IsHeader : ℕ → Header → Type 0
 IsHeader version f = IsSplit version f.numbers.now f.classes.now f.width f.lengths.now f.rows.now f.longest
 
 -- what a walk reads of them that goes by no fingerprints
-abbrev pub table_of : Header → Table
-table_of f =
+abbrev pub header_table : Header → Table
+header_table f =
     record {
       classes = f.classes;
       width = f.width;

@@ -2,7 +2,7 @@
 use Rattle.std.specs.Prelude.{◌≡◌, ℕ, List}
 use Rattle.std.specs.Borrow.{Bor}
 use Rattle.literal_base.specs.declared.search.Span.{Span}
-use Rattle.literal_search.specs.Inside.Backward.{AreMarked, HasRoom, IsPlaced}
+use Rattle.literal_search.specs.Inside.Backward.{AreMarked, HasRoomForMarks, IsPlaced}
 use Rattle.literal_search.specs.Inside.Prepared.{IsHeader}
 use Rattle.literal_search.specs.Prepared.{longest_in}
 use Rattle.literal_search.specs.PreparedLinear.{ForLinear, HasLinearParts, back_tables_in, best_in}
@@ -21,4 +21,4 @@ pub record AreLinearLent (f : Header) (best : Bor (List ℕ)) : Type 0 where
 pub record GoesOnBy (numbers haystack : List ℕ) (span : Span) (at : ℕ) (m : Marks) : Type 0 where
   pub placed : IsPlaced (longest_in numbers) span at m
   pub marked : ForLinear numbers (λ search. AreMarked (back_tables_in search numbers) haystack span at m)
-  pub room : HasRoom (longest_in numbers) span m
+  pub room : HasRoomForMarks (longest_in numbers) span m

@@ -4,6 +4,6 @@ use Rattle.literal_search.specs.Table.{nothing}
 
 -- the numbers in rows, by those of them that are kept: none are where there is no pattern, and so one state, whose one
 -- symbol leads back to it
-abbrev pub rows_in : List ℕ → List ℕ
-rows_in [] = 0 ∷ nothing ∷ []
-rows_in (number ∷ more) = number ∷ more
+abbrev pub numbers_of : List ℕ → List ℕ
+numbers_of [] = 0 ∷ nothing ∷ []
+numbers_of (number ∷ more) = number ∷ more

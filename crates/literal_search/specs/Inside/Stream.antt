@@ -8,7 +8,7 @@ use Rattle.std.specs.Option.{option_map}
 use Rattle.std.specs.declared.io.Error.{Error}
 use Rattle.literal_base.specs.MatchValue.{MatchValue}
 use Rattle.literal_search.specs.SearchValue.{SearchValue}
-use Rattle.literal_search.specs.Stream.{PassesOver, Reads, StreamValue}
+use Rattle.literal_search.specs.Stream.{PassesOver, ReadsPiece, StreamValue}
 use Rattle.literal_search.specs.declared.reading.Reading.{Reading}
 use Rattle.literal_search.specs.declared.stream.SoFar.{SoFar}
 use Rattle.literal_search.specs.declared.stream.SoFar.TheVariants.{Found, NoneBefore}
@@ -82,11 +82,11 @@ pub record HasGoneOn (old new : StreamValue) : Type 0 where
   pub piece : List ℕ
   pub search_is : new.search ≡ old.search
   pub is_over : new.is_over ≡ old.is_over
-  pub reads : Reads old piece new
+  pub reads : ReadsPiece old piece new
   pub passed : HasPassed old.search old.offset new.offset (old.held ++ piece) new.held
 
 -- a search stands in this text: what is ahead is the text from its offset on
-pub record StandsIn (search : SearchValue) (text : List ℕ) (m : StreamValue) : Type 0 where
+pub record GoesThrough (search : SearchValue) (text : List ℕ) (m : StreamValue) : Type 0 where
   pub before : List ℕ
   pub rest : List ℕ
   pub search_is : m.search ≡ search

@@ -57,7 +57,7 @@ pub record IsBest (kind : MatchKind) (patterns : List (List ℕ)) (text : List �
       → starts_with nat_eq text (pattern_at patterns j) ≡ false
 
 -- the best pattern at the first place of a text at which one stands, and its end, from the place where the text begins
-pub record IsFirst (kind : MatchKind) (patterns : List (List ℕ)) (start : ℕ) (text : List ℕ) (found : Ended)
+pub record IsFirstBest (kind : MatchKind) (patterns : List (List ℕ)) (start : ℕ) (text : List ℕ) (found : Ended)
     : Type 0 where
   pub best : IsBest kind patterns (from_match patterns text) found.pattern
   pub end : found.end + length (from_match patterns text)
@@ -66,7 +66,7 @@ pub record IsFirst (kind : MatchKind) (patterns : List (List ℕ)) (start : ℕ)
 -- the same, and None where no pattern stands in the text
 abbrev pub IsFound : MatchKind → List (List ℕ) → ℕ → List ℕ → Option Ended → Type 0
 IsFound kind patterns start text answer =
-    MatchOption answer (from_match patterns text ≡ []) (IsFirst kind patterns start text)
+    MatchOption answer (from_match patterns text ≡ []) (IsFirstBest kind patterns start text)
 
 -- for all patterns, none empty, that the rows recognise, by a leftmost kind of match
 abbrev pub FindsIn : ℕ → List ℕ → ℕ → List ℕ → Option Ended → Type 0
@@ -90,7 +90,7 @@ pub record IsBehind (kind : MatchKind) (patterns : List (List ℕ)) (width : ℕ
   pub found : IsFound kind patterns start text last
 
 -- the same for all patterns, none empty, that the rows recognise
-pub record Reads (width : ℕ) (rows : List ℕ) (start : ℕ) (text : List ℕ) (place : ℕ)
+pub record HasRead (width : ℕ) (rows : List ℕ) (start : ℕ) (text : List ℕ) (place : ℕ)
     (last : Option Ended) : Type 0 where
   pub row : IsRow width rows place
   pub behind : (kind : MatchKind) (patterns : List (List ℕ))
@@ -173,15 +173,15 @@ Walks t haystack span is_earliest (Anew at) =
     BeginsAnew t.width t.rows.now (text_in t haystack span.start at)
 
 -- all bytes of a span were read, for all patterns, none empty, that the rows recognise
-abbrev pub ReadsAll : Table → Span → ℕ → Type 0
-ReadsAll t span steps =
+abbrev pub WalksAll : Table → Span → ℕ → Type 0
+WalksAll t span steps =
     (kind : MatchKind) (patterns : List (List ℕ)) → Recognises (root_kind_of kind) patterns t.width t.rows.now
     → NoneIsEmpty patterns → steps ≡ span.end - span.start
 
 -- how far a walk goes that knows the answer: to the end of the span where there is none, and else at most as far behind
 -- the place of the match as the longest pattern is long
 abbrev pub StopsBy : Table → Span → ℕ → Walked → Type 0
-StopsBy t span steps (Known None) = ReadsAll t span steps
+StopsBy t span steps (Known None) = WalksAll t span steps
 StopsBy t span steps (Known (Some e)) = StopsNear t.width t.rows.now (span.start + steps - 1) (Some e)
 StopsBy t span steps (Anew at) = ⊤
 

@@ -3,7 +3,7 @@ use Rattle.std.proofs.Common.{◌+◌}
 use Rattle.std.proofs.Math.ListN.{set}
 use Rattle.std.proofs.lemmas.List.{length-append}
 use Rattle.std.specs.List.{AllZip}
-use Rattle.literal_c.specs.Answers.{IsAnswer, MayBeAnswer}
+use Rattle.literal_c.specs.Answers.{IsAnswerForC, MayBeAnswer}
 use Rattle.literal_c.proofs.lemmas.Pieces.{map_more, one_more_answer, split_more, taken_more}
 use Rattle.literal_c.proofs.answers.answer_each.Goals as goal
 
@@ -24,9 +24,9 @@ loop-haystack-preserved g c =
     record {
       split = split;
       count = omega arith;
-      answered = λ query ignore_case is. subst (λ done. AllZip (IsAnswer query ignore_case) done
+      answered = λ query ignore_case is. subst (λ done. AllZip (IsAnswerForC query ignore_case) done
           (take (i + 1) (set answers i new))) (sym (map_more taken item))
-          (one_more_answer (IsAnswer query ignore_case) _ i answers item.now new lt
+          (one_more_answer (IsAnswerForC query ignore_case) _ i answers item.now new lt
           (so_far.answered query ignore_case is)
           (c.in_ok-find_in.field-0, c.in_ok-find_in.ensures.found query ignore_case is, c.answer_for_c.ensures));
       inside = subst (λ done. AllZip MayBeHere done (take (i + 1) (set answers i new))) (sym (map_more taken item))

@@ -3,7 +3,7 @@ use Rattle.std.proofs.Common.{rules, refl, Some, ◌<◌, ◌≤◌, ◌≡◌, 
 use Rattle.std.proofs.Common.{◌∙◌, arith}
 use Rattle.literal_base.specs.Greedy.{IsGreedy}
 use Rattle.literal_search.proofs.lemmas.Callers.{greedy_from_matches}
-use Rattle.literal_examples.specs.Tokens.{GapsAreWhole, Tiles, gap, match_of, matched}
+use Rattle.literal_examples.specs.Tokens.{GapsAreWhole, Tiles, gap, match_in, matched}
 use Rattle.literal_examples.specs.declared.tokens.Token.{Token}
 use Rattle.literal_examples.proofs.lemmas.Tokens.{tiles_push, tiles_gap, matched-append, matched-gap, whole_gap}
 use Rattle.literal_examples.proofs.lemmas.Tokens.{whole_push}
@@ -27,7 +27,7 @@ loop-found-preserved c =
     let some : c.start.result < c.span.result.end = omega (arith, finds.not_empty) in
     let tiled = tiles_push 0 c.start.result (all ++ gap at c.start.result) token
     (tiles_gap 0 at c.start.result all so_far.tiles ordered) (omega arith) some in
-    let is_found : match_of c.span.result (Some c.pattern.result) ≡ found ∷ [] =
+    let is_found : match_in c.span.result (Some c.pattern.result) ≡ found ∷ [] =
     rw (c.pattern.ensures, span_is) refl in
     record {
       search_is = search rules;
@@ -42,7 +42,7 @@ loop-found-preserved c =
       tiles = subst (λ (ts : List Token). Tiles 0 c.end-at.result ts) (sym pushed)
           (subst (λ e. Tiles 0 e ((all ++ gap at c.start.result) ++ token ∷ [])) end_is tiled);
       matched_are = ap matched pushed ∙ (matched-append (all ++ gap at c.start.result) (token ∷ [])
-          ∙ (ap (λ ms. ms ++ (match_of c.span.result (Some c.pattern.result) ++ []))
+          ∙ (ap (λ ms. ms ++ (match_in c.span.result (Some c.pattern.result) ++ []))
           (matched-gap at c.start.result all ∙ so_far.matched_are)
           ∙ ap (λ ms. c.loop-found.yielded ++ (ms ++ [])) is_found));
       whole = λ next. subst (λ (ts : List Token). GapsAreWhole (ts ++ next ∷ [])) (sym pushed)

@@ -1,13 +1,13 @@
 use Rattle.std.proofs.Common.{[], List, Some, ℕ, refl}
 use Rattle.literal_search.specs.SearchValue.{SearchValue}
 use Rattle.literal_search.specs.Stream.{stream_of}
-use Rattle.literal_search.specs.Inside.Stream.{StandsIn}
+use Rattle.literal_search.specs.Inside.Stream.{GoesThrough}
 use Rattle.literal_search.proofs.lemmas.Streams.{streamed_all, streamed_failed, streamed_first}
 use Rattle.literal_search.proofs.lemmas.Streams.{streamed_len, streamed_to}
 use Rattle.literal_search.proofs.laws.streams_are_greedy.Goals as goal
 
 -- at first it is a prefix of the text
-at_the_start : (search : SearchValue) (bytes : List ℕ) → StandsIn search bytes (stream_of search (Some bytes))
+at_the_start : (search : SearchValue) (bytes : List ℕ) → GoesThrough search bytes (stream_of search (Some bytes))
 at_the_start search bytes = record {
   before = [];
   rest = bytes;

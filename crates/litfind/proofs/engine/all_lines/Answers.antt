@@ -5,7 +5,7 @@ use Rattle.literal_base.specs.MatchValue.{MatchValue}
 use Rattle.literal_base.specs.Occurs.{NothingOccurs, whole_of}
 use Rattle.literal_base.specs.Query.{Query}
 use Rattle.literal_packed.proofs.lemmas.Callers.{greedy_from_run, occurs_from_run}
-use Rattle.litfind.specs.Lines.{AreLinesOf, line_of}
+use Rattle.litfind.specs.Lines.{AreMatchLines, line_of}
 use Rattle.litfind.specs.Query.{all_matches}
 use Rattle.litfind.proofs.engine.all_lines.Goals as goal
 
@@ -15,7 +15,7 @@ no_lines [] none = refl
 no_lines (found ∷ more) none = absurd (omega (arith, simp length-append at (ap length none)))
 
 -- where the empty text is the lines, no pattern occurs
-nothing_without_lines : (query : Query) (input : List ℕ) → AreLinesOf (all_matches query) input []
+nothing_without_lines : (query : Query) (input : List ℕ) → AreMatchLines (all_matches query) input []
     → NothingOccurs query.patterns false input (whole_of input)
 nothing_without_lines query input are =
     subst (λ (matches : List MatchValue). IsGreedy query false input 0 matches) (no_lines are.matches are.lines)
@@ -33,7 +33,7 @@ pub returns-in_err-write-clause-no_memory : goal.returns-in_err-write-clause-no_
 returns-in_err-write-clause-no_memory c =
     let query = c.args.searcher.now in
     let input = c.args.input.now in
-    let some : ¬ AreLinesOf (all_matches query) input [] =
+    let some : ¬ AreMatchLines (all_matches query) input [] =
     λ are. occurs_from_run query input _ _ _ _ _ (cc) c.loop-found.yielded_by c.in-Some.ensures.steps
     (nothing_without_lines query input are) in
     search (rules, some)

@@ -1,17 +1,17 @@
 use Rattle.std.proofs.Common.{◌≡◌, ℕ, List, [], map, string_bytes, Some, sym, subst, ◌∙◌, rules}
 use Rattle.litfind.specs.Inside.{searches_for}
-use Rattle.litfind.specs.Lines.{AreLines, AreLinesOf}
+use Rattle.litfind.specs.Lines.{AreLines, AreMatchLines}
 use Rattle.litfind.specs.Query.{Task, words_ask}
 use Rattle.litfind.specs.Run.{HasLine}
 use Rattle.litfind.proofs.engine.read_lines.Goals as goal
 
 -- the words ask for one thing
 lines_asked : (words : List (List ℕ)) (asked : Task) (input : List ℕ) → words_ask words ≡ Some asked
-    → AreLines words input [] → AreLinesOf asked input []
+    → AreLines words input [] → AreMatchLines asked input []
 lines_asked words asked input ask are =
     let same : Some are.asked ≡ Some asked = sym are.ask ∙ ask in
     let is : are.asked ≡ asked = cc in
-    subst (λ (a : Task). AreLinesOf a input []) is are.lines
+    subst (λ (a : Task). AreMatchLines a input []) is are.lines
 
 pub returns-in_err-text-clause-no_memory : goal.returns-in_err-text-clause-no_memory
 returns-in_err-text-clause-no_memory g c =

@@ -1,7 +1,7 @@
 use Rattle.std.proofs.Common.{◌≡◌, ◌+◌, ◌-◌, ◌<◌, ◌≤◌, ◌⊎◌, ap, arith, inl, inr, refl, subst}
 use Rattle.std.proofs.lemmas.Bool.{cases_lt}
 use Rattle.literal_base.specs.Counts.{Counts}
-use Rattle.literal_search.specs.Inside.Backward.{NoneBegins, StandsDown, back_tables_by}
+use Rattle.literal_search.specs.Inside.Backward.{NoneBeginsAt, StandsDown, back_tables_by}
 use Rattle.literal_search.proofs.lemmas.Backward.{mark_in, stands_nowhere, ticked_on}
 use Rattle.literal_search.proofs.backward.Backward.last_begun.Goals as goal
 
@@ -85,7 +85,7 @@ loop-at-preserved c =
             (subst (λ n. StandsDown tables c.args.haystack.now from n c.loop-at.place) next
             (c.loop-at.invariant.stands search is)) in
             let there : at < c.args.block.end = omega (arith, same, before) in
-            subst (NoneBegins tables c.args.haystack.now c.args.span.end) same
+            subst (NoneBeginsAt tables c.args.haystack.now c.args.span.end) same
             ((mark_in tables is.tables c.args.haystack.now c.args.span.end at from inside (far there) code
             one.mark).none (elim c.else-code-ge-ENDS.either [
               | inl behind ↦ absurd (omega (arith, behind.1, there))

@@ -6,7 +6,7 @@ use Rattle.literal_search.specs.Inside.Standing.{tables_of}
 use Rattle.literal_search.specs.Inside.Walk.{FindsEnd, IsRow, IsTable}
 use Rattle.literal_search.specs.PreparedOverlapping.{texts_in}
 use Rattle.literal_search.proofs.lemmas.Scan.{unwrapped}
-use Rattle.literal_search.proofs.lemmas.Walk.{table_of}
+use Rattle.literal_search.proofs.lemmas.Walk.{rows_are_table}
 use Rattle.literal_search.proofs.overlapping.Parts.first_ended.Goals as goal
 
 pub returns-clause-first : goal.returns-clause-first
@@ -24,4 +24,4 @@ returns-clause-first c =
     unwrapped answer c.unwrap_or.result c.unwrap_or.ensures
     (FindsEnd p.width p.rows c.args.from p.classes c.args.haystack.now c.args.span)
     (finds c.requires.parts.classes
-    (table_of Standard (texts_in p) p.width p.rows c.requires.parts.recognises) c.requires.row)
+    (rows_are_table Standard (texts_in p) p.width p.rows c.requires.parts.recognises) c.requires.row)

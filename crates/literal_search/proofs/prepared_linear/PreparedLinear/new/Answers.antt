@@ -1,7 +1,7 @@
 use Rattle.std.proofs.Common.{◌≡◌, ◌+◌, ◌-◌, ◌<◌, ◌≤◌, ◌∙◌, ℕ, List, ap, arith, get_or, length, refl, subst, sym}
 use Rattle.std.proofs.lemmas.List.{get_or_default}
 use Rattle.std.specs.List.{slice_range}
-use Rattle.literal_search.specs.Inside.Prepared.{IsHeader, table_of}
+use Rattle.literal_search.specs.Inside.Prepared.{IsHeader, header_table}
 use Rattle.literal_search.specs.Inside.Walk.{ClassesFit}
 use Rattle.literal_search.specs.Prepared.{HasParts, rows_end}
 use Rattle.literal_search.specs.PreparedLinear.{HasLinearParts, best_in, linear_len}
@@ -21,7 +21,7 @@ module _ (f : Header) (numbers : List ℕ) (same : f.numbers.now ≡ numbers) (h
   known = parts_end f numbers same header
 
   has_parts : HasParts LINEAR_VERSION numbers → length f.lengths.now ≤ length numbers - end f
-      → f.width < length f.rows.now → ClassesFit (table_of f) → HasLinearParts f.numbers.now
+      → f.width < length f.rows.now → ClassesFit (header_table f) → HasLinearParts f.numbers.now
   has_parts parts long row fit =
       let own = parts_end f f.numbers.now refl header in
       let fits = parts.fits in
@@ -53,7 +53,7 @@ module _ (f : Header) (numbers : List ℕ) (same : f.numbers.now ≡ numbers) (h
       let row = parts.row in
       omega (arith, none, row, known.0, known.1, header.width_is, ap (λ (l : List ℕ). get_or l 2 0) same)
 
-  fit : HasLinearParts numbers → ClassesFit (table_of f)
+  fit : HasLinearParts numbers → ClassesFit (header_table f)
   fit parts byte below =
       let all = subst HasLinearParts (sym same) parts in
       omega (

@@ -3,7 +3,7 @@ use Rattle.literal_base.specs.Occurs.{between}
 use Rattle.literal_search.specs.Inside.Classes.{AreClasses}
 use Rattle.literal_search.specs.Inside.LentTables.{IsNextEnd, tables_by}
 use Rattle.literal_base.specs.declared.search.Span.{Span}
-use Rattle.literal_search.specs.Inside.Prepared.{table_of}
+use Rattle.literal_search.specs.Inside.Prepared.{header_table}
 use Rattle.literal_search.specs.Inside.Walk.{FindsEnd, IsRow, IsTable}
 use Rattle.literal_search.specs.declared.standing.Standing.{Standing}
 use Rattle.literal_search.specs.declared.walk.Stop.{Stop}
@@ -44,7 +44,7 @@ returns-in_default-clause-prepared c = λ search are standing.
     let p = c.args.self.now in
     next_nowhere are c.args.haystack.now (λ k. omega (arith, c.type_inv.haystack k)) c.args.span c.requires.valid
     c.args.standing standing c.if-standing.false more
-    (subst (FindsBy (table_of p.header) c.args.standing.place c.args.haystack.now
+    (subst (FindsBy (header_table p.header) c.args.standing.place c.args.haystack.now
     (between c.args.standing.at c.args.span.end)) c.in_default.is (subst (λ (t : Table). FindsBy t
     c.args.standing.place c.args.haystack.now
     (between c.args.standing.at c.args.span.end) c.in_ok-stop.field-0) c.table-table.ensures
@@ -56,7 +56,7 @@ returns-in_err-standing_at-clause-prepared c = λ search are standing.
     let more : c.args.standing.at < c.args.span.end = omega (arith, c.if-standing-span.false) in
     let p = c.args.self.now in
     let stop = c.in-Some.stop in
-    let finds = subst (FindsBy (table_of p.header) c.args.standing.place c.args.haystack.now
+    let finds = subst (FindsBy (header_table p.header) c.args.standing.place c.args.haystack.now
     (between c.args.standing.at c.args.span.end)) c.in-Some.is (subst (λ (t : Table). FindsBy t
     c.args.standing.place c.args.haystack.now
     (between c.args.standing.at c.args.span.end) c.in_ok-stop.field-0) c.table-table.ensures
@@ -76,7 +76,7 @@ returns-clause-prepared c = λ search are standing.
     let more : c.args.standing.at < c.args.span.end = omega (arith, c.if-standing-span.false) in
     let p = c.args.self.now in
     let stop = c.in-Some.stop in
-    let finds = subst (FindsBy (table_of p.header) c.args.standing.place c.args.haystack.now
+    let finds = subst (FindsBy (header_table p.header) c.args.standing.place c.args.haystack.now
     (between c.args.standing.at c.args.span.end)) c.in-Some.is (subst (λ (t : Table). FindsBy t
     c.args.standing.place c.args.haystack.now
     (between c.args.standing.at c.args.span.end) c.in_ok-stop.field-0) c.table-table.ensures

@@ -2,7 +2,7 @@ use Rattle.std.proofs.Common.{◌≡◌, ◌+◌, ◌-◌, ◌<◌, ◌≤◌, �
 use Rattle.std.proofs.lemmas.List.{get_or-replicate, get_or_default, length-map, length-replicate}
 use Rattle.std.specs.Global.{Vec}
 use Rattle.literal_search.specs.Inside.Classes.{symbols_in}
-use Rattle.literal_search.specs.Inside.Lists.{AreHeads, AreOutputLinks, symbols_of}
+use Rattle.literal_search.specs.Inside.Lists.{AreNextEquals, AreOutputLinks, symbols_of}
 use Rattle.literal_search.specs.Inside.Suffixes.{IsOutputLink, IsNextEqual}
 use Rattle.literal_search.specs.Table.{nothing}
 use Rattle.literal_search.proofs.lemmas.Chains.{first_equal_of, heads_on, heads_start, link_to_equal}
@@ -26,7 +26,7 @@ loop-pattern-init c =
     ap (λ (l : List ℕ). length l) links_are ∙ (length-replicate count nothing ∙ sym known) in
     record {
       links = subst (AreOutputLinks texts links) known (links_start texts links links_long);
-      heads = subst (AreHeads texts heads) known (heads_start texts heads heads_long (λ k below.
+      heads = subst (AreNextEquals texts heads) known (heads_start texts heads heads_long (λ k below.
           ap (λ l. get_or l k 0) heads_are
           ∙ get_or-replicate count k nothing 0 (omega (arith, heads_long, known))));
     }
@@ -77,7 +77,7 @@ loop-pattern-preserved c =
       is.below,
       c.loop-pattern.invariant.heads.long,
     )) in
-    let before = subst (AreHeads texts heads) next c.loop-pattern.invariant.heads in
+    let before = subst (AreNextEquals texts heads) next c.loop-pattern.invariant.heads in
     let after = subst (IsNextEqual texts c.longest_suffix-first.result (p + 1)) (sym read)
     (before.each c.longest_suffix-first.result is.below is.first_is) in
     record {

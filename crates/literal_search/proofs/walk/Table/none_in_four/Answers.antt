@@ -3,7 +3,7 @@ use Rattle.std.proofs.Common.{zero}
 use Rattle.literal_base.specs.Counts.{Counts}
 use Rattle.literal_base.specs.Occurs.{between}
 use Rattle.literal_search.specs.Inside.Classes.{AreClasses}
-use Rattle.literal_search.specs.Inside.Walk.{FindsIn, IsTable, Reads, text_of}
+use Rattle.literal_search.specs.Inside.Walk.{FindsIn, IsTable, HasRead, text_of}
 use Rattle.literal_search.proofs.lemmas.Walk.{finds_all, step_on}
 use Rattle.literal_search.proofs.walk.Table.none_in_four.Goals as goal
 
@@ -11,14 +11,14 @@ use Rattle.literal_search.proofs.walk.Table.none_in_four.Goals as goal
 lane : (classes rows haystack : List ℕ) (width : ℕ) → AreClasses classes width → IsTable width rows
     → (start step at : ℕ) → at ≡ start + step → at < length haystack → get_or haystack at 0 < 256
     → (place code : ℕ)
-    → Reads width rows start (text_of classes haystack (between start (start + step))) place None
+    → HasRead width rows start (text_of classes haystack (between start (start + step))) place None
     → code ≡ get_or rows (place + get_or classes (get_or haystack at 0) 0) 0 → code < 2 ^ 31
-    → Reads width rows start (text_of classes haystack (between start (start + (step + 1)))) code None
+    → HasRead width rows start (text_of classes haystack (between start (start + (step + 1)))) code None
 lane classes rows haystack width are table start step at at_is inside is_byte place code reads code_is small =
     let next : at + 1 ≡ start + (step + 1) = omega arith in
-    subst (λ (end : ℕ). Reads width rows start (text_of classes haystack (between start end)) code None) next
+    subst (λ (end : ℕ). HasRead width rows start (text_of classes haystack (between start end)) code None) next
     (step_on classes rows haystack width are table start at (omega arith) inside is_byte place None
-    (subst (λ (end : ℕ). Reads width rows start (text_of classes haystack (between start end)) place None) (sym at_is)
+    (subst (λ (end : ℕ). HasRead width rows start (text_of classes haystack (between start end)) place None) (sym at_is)
     reads) code code_is small)
 
 one_more : (a b : Counts) → a ≡ b
@@ -68,7 +68,7 @@ loop-step-preserved c =
 -- all of one of the spans
 whole : (classes rows haystack : List ℕ) (width : ℕ) → IsTable width rows → (start start' step len place : ℕ)
     → start ≡ start' → step ≡ len
-    → Reads width rows start (text_of classes haystack (between start (start + step))) place None
+    → HasRead width rows start (text_of classes haystack (between start (start + step))) place None
     → FindsIn width rows start' (text_of classes haystack (between start' (start' + len))) None
 whole classes rows haystack width table start start' step len place same all reads =
     subst (λ (from : ℕ). FindsIn width rows from (text_of classes haystack (between from (from + len))) None) same

@@ -2,7 +2,7 @@ use Rattle.std.proofs.Common.{◌≡◌, ◌+◌, ◌-◌, ◌<◌, ◌≤◌, �
 use Rattle.std.proofs.Common.{ap, refl, sym, subst}
 use Rattle.literal_base.specs.Counts.{Counts}
 use Rattle.literal_base.specs.Occurs.{between}
-use Rattle.literal_search.specs.Inside.Walk.{FindsIn, Reads, text_of}
+use Rattle.literal_search.specs.Inside.Walk.{FindsIn, HasRead, text_of}
 use Rattle.literal_search.specs.declared.walk.Ended.{Ended}
 use Rattle.literal_search.proofs.lemmas.Anew.{begins_anew}
 use Rattle.literal_search.proofs.lemmas.Walk.{finds_all, finds_by, finds_first, near_before, reads_near}
@@ -28,7 +28,7 @@ returns-then-code-eq0-clause-found c = λ are table.
     ∙ ap (λ k. get_or t.rows.now (c.loop-at.place + k) 0) c.in_ok-class.ensures.class.0 in
     let text = text_of t.classes.now haystack (between start (at + 1)) in
     begins_anew t.width t.rows.now start text c.loop-at.last
-    (subst (λ (place : ℕ). Reads t.width t.rows.now start text place c.loop-at.last) c.if-code-eq0.true
+    (subst (λ (place : ℕ). HasRead t.width t.rows.now start text place c.loop-at.last) c.if-code-eq0.true
     (step_on t.classes.now t.rows.now haystack t.width are table start at c.loop-at.auto.at inside
     (omega (arith, c.type_inv.haystack at)) c.loop-at.place c.loop-at.last (c.loop-at.invariant.reads are table)
     c.number_at-code.result code_is (omega (arith, c.if-code-eq0.true))))
@@ -91,9 +91,9 @@ returns-then-is_earliest-clause-found c = λ are table.
           (subst (FindsIn t.width rows start text) none
           (finds_all t.width rows table start text c.loop-at.place c.loop-at.last so_far));
       there = finds_all t.width rows table start more c.in_ok-place.place (Some e)
-          (subst (λ (pattern : ℕ). Reads t.width rows start more c.in_ok-place.place
+          (subst (λ (pattern : ℕ). HasRead t.width rows start more c.in_ok-place.place
           (Some (record { pattern = pattern; end = at + 1 }))) (sym c.number_at-pattern.ensures)
-          (subst (λ (place : ℕ). Reads t.width rows start more place
+          (subst (λ (place : ℕ). HasRead t.width rows start more place
           (Some (record { pattern = get_or rows (place + t.width) 0; end = at + 1 }))) (sym c.in_ok-place.ensures.1)
           (step_end classes rows haystack t.width are table start at c.loop-at.auto.at inside
           (omega (arith, c.type_inv.haystack at)) c.loop-at.place c.loop-at.last so_far code code_is
@@ -125,19 +125,19 @@ loop-at-preserved c =
       ];
       reads = λ are table. elim c.if-code-limit.branch [
         | then-code-limit w ↦
-            subst (λ (last : Option Ended). Reads t.width rows start text c.if-code-limit.place last) (sym w.last-is)
-            (subst (λ (place : ℕ). Reads t.width rows start text place c.loop-at.last) (sym w.place-is)
+            subst (λ (last : Option Ended). HasRead t.width rows start text c.if-code-limit.place last) (sym w.last-is)
+            (subst (λ (place : ℕ). HasRead t.width rows start text place c.loop-at.last) (sym w.place-is)
             (step_on classes rows haystack t.width are table start at after inside is_byte c.loop-at.place
             c.loop-at.last
             (so_far.reads are table) code code_is (omega (arith, w.if-code-limit.true, c.in_ok-limit.ensures.1))))
         | else-code-limit+else-code+in_ok-place+else-is_earliest w ↦
-            subst (λ (last : Option Ended). Reads t.width rows start text c.if-code-limit.place last) (sym w.last-is)
-            (subst (λ (pattern : ℕ). Reads t.width rows start text c.if-code-limit.place
+            subst (λ (last : Option Ended). HasRead t.width rows start text c.if-code-limit.place last) (sym w.last-is)
+            (subst (λ (pattern : ℕ). HasRead t.width rows start text c.if-code-limit.place
             (Some (record { pattern = pattern; end = at + 1 }))) (sym w.number_at-pattern.ensures)
-            (subst (λ (place : ℕ). Reads t.width rows start text place
+            (subst (λ (place : ℕ). HasRead t.width rows start text place
             (Some (record { pattern = get_or rows (w.in_ok-place.place + t.width) 0; end = at + 1 })))
             (sym w.place-is)
-            (subst (λ (place : ℕ). Reads t.width rows start text place
+            (subst (λ (place : ℕ). HasRead t.width rows start text place
             (Some (record { pattern = get_or rows (place + t.width) 0; end = at + 1 })))
             (sym w.in_ok-place.ensures.1)
             (step_end classes rows haystack t.width are table start at after inside is_byte c.loop-at.place
