@@ -35,7 +35,7 @@ WIDE = re.compile(r"^.{121,}")
 
 # Where an example on the page for callers, of code or of a proof, may stand.
 EXAMPLES = {
-    "rust": re.compile(r"crates/\w+/src/(?:\w+/)*tests\.rt|crates/literal_(?:callers|examples)/src/\w+\.rt"),
+    "rust": re.compile(r"crates/\w+/src/(?:\w+/)*tests\.rt|crates/literal_examples/src/\w+\.rt"),
     "antt": re.compile(r"crates/\w+/proofs/.*\.antt"),
 }
 

@@ -15,8 +15,7 @@ from rattle_source import BRACKETS, closing, functions_in, plain_code, without_t
 
 # Crates of callers, tests and examples, which no rule here reads.
 TEST_CRATES = (
-    "literal_callers", "literal_calls", "literal_compared", "literal_examples", "litscan",
-    "refused_memory", "worked_cases",
+    "literal_calls", "literal_compared", "literal_examples", "litscan", "refused_memory", "worked_cases",
 )
 
 # Crates whose code may have a haystack in hand.

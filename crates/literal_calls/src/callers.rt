@@ -1,4 +1,4 @@
-//! The callers of `literal_callers`, each run once, and laws that make a call.
+//! The callers of `literal_examples`, each run once, and laws that make a call.
 mod any_list;
 mod classes;
 mod copies;

@@ -1,1 +1,3 @@
+-- Lemmas that several proofs share, by topic.
+pub mod Shared
 pub mod Tokens

@@ -7,7 +7,7 @@
 //! byte.
 //!
 //! The contract of [`together`] says all of this, and is proved from public contracts and laws alone. What
-//! runs it stands in `literal_callers::together`, since tests here would double the time of the proof.
+//! runs it stands in `literal_calls::callers::together`, since tests here would double the time of the proof.
 #![tactic(auto)]
 
 ghost use Rattle.std.specs.Prelude.{◌≡◌, ◌<◌, ◌≤◌, ◌+◌, ◌-◌, ◌*◌, ◌↔◌, IfOk, IfSome, IsSome, IsSomeAnd, OnErr, false};

@@ -1,7 +1,7 @@
 //! Callers of byte classes, each run once.
 use crate::asserted::assert_prints;
 use literal_base::alphabet::{ByteClassSet, ByteClasses, ByteSet};
-use literal_callers::classes::{
+use literal_examples::classes::{
     classes_of, copied, count_of_classes, count_of_elements, elements_taken, have_their_class,
     last_bytes, next_after_all, runs_collected,
 };

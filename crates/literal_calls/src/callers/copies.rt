@@ -1,5 +1,5 @@
 //! Copies that callers make, each once.
-use literal_callers::copies::{copy_of_candidate, copy_of_config, copy_of_input, copy_of_pattern};
+use literal_examples::copies::{copy_of_candidate, copy_of_config, copy_of_input, copy_of_pattern};
 use literal_prefilters::packed::pattern::Patterns;
 use literal_prefilters::packed::{Config, MatchKind};
 use literal_prefilters::prefilter::Candidate;

@@ -1,6 +1,6 @@
 //! The tally of a caller takes no bytes, and one of an iteration counts its matches.
 use literal_base::count::Tally;
-use literal_callers::counts::{count_scanned, ticked};
+use literal_examples::counts::{count_scanned, ticked};
 use literal_search::{MatchKind, Search};
 use std::test::Fail;
 

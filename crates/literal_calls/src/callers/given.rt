@@ -1,5 +1,5 @@
 //! Callers that are given words, each run once.
-use literal_callers::given::{
+use literal_examples::given::{
     add_all, first_confirmed, first_of_array, first_of_slice, first_of_vec, found_in_readme,
 };
 use literal_prefilters::packed::{self, Builder};

@@ -1,5 +1,5 @@
 //! Callers that go over an input, each run once.
-use literal_callers::inputs::{bytes_to_search, from_next_byte, step_on};
+use literal_examples::inputs::{bytes_to_search, from_next_byte, step_on};
 use literal_prefilters::Input;
 use std::process::Abort;
 use std::test::Fail;

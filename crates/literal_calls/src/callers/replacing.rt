@@ -1,5 +1,5 @@
 //! One text in place of every match, and texts in place of words.
-use literal_callers::replacing::{replace_each, replace_words};
+use literal_examples::replacing::{replace_each, replace_words};
 use literal_search::{ReplaceError, Search};
 use std::test::Fail;
 

@@ -1,5 +1,5 @@
 //! Callers that build, collect and count, each run once.
-use literal_callers::uses::{
+use literal_examples::uses::{
     built_by_kind, built_of_items, built_of_two, built_of_words, collected, count_of,
     count_of_matches, extend_and_add, next_at_end, order_of,
 };

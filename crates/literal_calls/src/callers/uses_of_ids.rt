@@ -1,5 +1,5 @@
 //! Callers that convert integers and number items, each run once.
-use literal_callers::uses_of_ids::{
+use literal_examples::uses_of_ids::{
     back_and_there_by_i8, back_and_there_by_i32, back_and_there_by_i64, count_of, count_of_pairs,
     halves_of_u16, halves_of_u32, halves_of_u64, hash_alike, index_of, is_before, is_same,
     next_at_end, next_pair_at_end, numbers_in_turn, pattern_of, place_of, short_of, state_of,

@@ -1,7 +1,7 @@
 //! Callers of prefilters, each run once.
 ghost use Rattle.std.specs.Prelude.{◌≤◌};
 
-use literal_callers::uses_of_prefilters::{candidate_of, search_from};
+use literal_examples::uses_of_prefilters::{candidate_of, search_from};
 use literal_prefilters::count::Tally;
 use literal_prefilters::prefilter::Builder;
 use literal_prefilters::{MatchKind, Span};

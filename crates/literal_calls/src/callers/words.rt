@@ -1,5 +1,5 @@
 //! Callers that look for words, each run once.
-use literal_callers::words::{
+use literal_examples::words::{
     all_that_occurs, has_one_of_array, has_one_of_slice, has_one_of_texts, has_one_of_vec,
 };
 use std::test::Fail;

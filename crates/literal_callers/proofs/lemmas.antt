@@ -1,2 +1,0 @@
--- Lemmas that several proofs share, by topic.
-pub mod Shared

@@ -1,0 +1,50 @@
+use Rattle.std.proofs.Common.{◌+◌, ◌∷◌, [], ◌++◌, ◌∙◌, ap, sym, subst, length, arith}
+use Rattle.std.proofs.lemmas.List.{length_push}
+use Rattle.literal_search.specs.SearchValue.{ScansListAtMost}
+use Rattle.literal_examples.proofs.counts.count_scanned.Goals as goal
+
+pub loop-count-preserved : goal.loop-count-preserved
+loop-count-preserved c =
+    let so_far = c.loop-count.invariant in
+    let all = so_far.run.0 in
+    let found = c.in-Some.field-0 in
+    let step = c.in-Some.ensures in
+    let start = step.gives.leftmost.occurs.after_start in
+    let some = step.gives.not_empty in
+    record {
+      run = (
+        all ++ found ∷ [],
+        c.iterations_scan_at_most.ensures.more _ _ _ all found so_far.run.1
+            (record { gives = step.gives; bounded = step.bounded }),
+        ap (λ n. n + 1) so_far.run.2 ∙ sym (length_push all found),
+      );
+      text_is = ap (λ m. m.haystack) step.gives.goes_on ∙ so_far.text_is;
+      few = omega (arith, so_far.few, start, some, ap (λ m. m.at) step.gives.goes_on);
+    }
+
+pub returns-clause-count : goal.returns-clause-count
+returns-clause-count c =
+    let run = c.loop-count.invariant.run in (
+      run.0,
+      c.iterations_scan_at_most.ensures.greedy _ _ _ run.0 run.1
+          (record { gives = c.in_default.ensures.gives; bounded = c.in_default.ensures.bounded }),
+      run.2,
+    )
+
+pub returns-clause-least : goal.returns-clause-least
+returns-clause-least c =
+    let run = c.loop-count.invariant.run in
+    omega (
+      arith,
+      c.iterations_scan_at_most.ensures.each _ _ _ run.0 run.1
+          (record { gives = c.in_default.ensures.gives; bounded = c.in_default.ensures.bounded }),
+    )
+
+pub returns-clause-bounded : goal.returns-clause-bounded
+returns-clause-bounded c =
+    let run = c.loop-count.invariant.run in
+    let scans = c.iterations_scan_at_most.ensures.bounded _ _ _ run.0 run.1
+    (record { gives = c.in_default.ensures.gives; bounded = c.in_default.ensures.bounded }) in
+    subst (λ n. ScansListAtMost c.args.search.now.query.patterns (length c.args.text.now) n c.args.tally.now
+    c.next_counted.new.tally) (sym run.2)
+    (record { others = scans.others; near = omega (arith, scans.near) })
