@@ -1,5 +1,5 @@
 -- How many bytes a search takes: those of its rows and lists, and those of its patterns.
-use Rattle.std.specs.Prelude.{◌≡◌, ℕ, ◌+◌, ◌*◌, List, length, sum_by}
+use Rattle.std.specs.Prelude.{◌≡◌, ℕ, ◌+◌, ◌*◌, length, sum_by}
 use Rattle.literal_base.specs.Kinds.{root_kind_of}
 use Rattle.literal_base.specs.declared.search.MatchKind.TheVariants.{Standard}
 use Rattle.literal_search.specs.Linear.{reversed}
@@ -8,27 +8,23 @@ use Rattle.literal_search.specs.PreparedOverlapping.{HaveTables}
 use Rattle.literal_search.specs.SearchValue.{HoldsInClasses, SearchValue}
 use Rattle.literal_search.specs.States.{IsRowsLength}
 
--- how many bytes some patterns have together
-abbrev pub total_len : List (List ℕ) → ℕ
-total_len patterns = sum_by length patterns
-
 -- how many bytes a search for the leftmost match takes: 4 for each number in the rows of all states, and those of its
 -- patterns
 unfoldable pub TakesBytes : SearchValue → ℕ → Type 0
 TakesBytes search bytes =
     HoldsInClasses (λ texts width. (rows : ℕ) × IsRowsLength (root_kind_of search.query.kind) texts width rows
-    × (bytes ≡ 4 * rows + total_len search.query.patterns)) search.ignore_case search.query.patterns
+    × (bytes ≡ 4 * rows + sum_by length search.query.patterns)) search.ignore_case search.query.patterns
 
 -- how many a search for all leftmost matches takes: 4 for each number in the rows of all states, which are those of the
 -- reversed patterns, 4 for each pattern, and those of its patterns
 unfoldable pub TakesLinearBytes : SearchValue → ℕ → Type 0
 TakesLinearBytes search bytes =
     HoldsInClasses (λ texts width. (rows : ℕ) × IsRowsLength Standard (reversed texts) width rows
-    × (bytes ≡ 4 * (rows + length search.query.patterns) + total_len search.query.patterns))
+    × (bytes ≡ 4 * (rows + length search.query.patterns) + sum_by length search.query.patterns))
     search.ignore_case search.query.patterns
 
 -- how many a search for everything that occurs takes: 4 for each number in the rows of all states and in the lists, 8
 -- for each place where one of these begins, or the last ends, and those of its patterns
 unfoldable pub TakesListedBytes : OverlappingValue → ℕ → Type 0
 TakesListedBytes search bytes = HaveTables search (λ rows ends starts. bytes
-    ≡ 4 * (rows + length ends) + 8 * length starts + total_len search.patterns)
+    ≡ 4 * (rows + length ends) + 8 * length starts + sum_by length search.patterns)

@@ -3,7 +3,7 @@
 //! [`Overlapping`] everything that occurs.
 #![tactic(auto)]
 
-ghost use Rattle.std.specs.Prelude.{◌≡◌, ◌+◌, ◌-◌, ◌^◌, ◌<◌, ◌≤◌, ◌↔◌, ◌++◌, ◌∷◌, [], ℕ, length, map, take};
+ghost use Rattle.std.specs.Prelude.{◌≡◌, ◌+◌, ◌-◌, ◌^◌, ◌<◌, ◌≤◌, ◌↔◌, ◌++◌, ◌∷◌, [], ℕ, length, map, sum_by, take};
 ghost use Rattle.std.specs.Prelude.{IfErr, IfOk, IfSome, IsNone, IsTrue, MatchOption, OnErr};
 ghost use Rattle.literal_base.specs.Greedy.{IsGreedy, RefusesList};
 ghost use Rattle.literal_base.specs.Kinds.{root_kind_of};
@@ -21,7 +21,7 @@ ghost use Rattle.literal_search.specs.Inside.Scan.{IsTableOf, match_by};
 ghost use Rattle.literal_search.specs.Inside.Search.{IsShortestOf};
 ghost use Rattle.literal_search.specs.Linear.{IsGreedyIn};
 ghost use Rattle.literal_search.specs.MatchesValue.{GivesMatch, most_to_come};
-ghost use Rattle.literal_search.specs.Memory.{TakesBytes, total_len};
+ghost use Rattle.literal_search.specs.Memory.{TakesBytes};
 ghost use Rattle.literal_search.specs.Prepared.{AreShort, RefusesToPrepare, TakesPlaces, WritesPrepared};
 ghost use Rattle.literal_search.specs.declared.prepared.PrepareError.TheVariants.{PatternTooLong};
 
@@ -613,7 +613,7 @@ fn shortest_len(patterns: &[Vec<u8>]) -> usize
 
 /// How many bytes some patterns have together.
 fn total_bytes(patterns: &[Vec<u8>]) -> u128
-    ensures total { result ≡ total_len (map (λ pattern. pattern.items) patterns.now) }
+    ensures total { result ≡ sum_by length (map (λ pattern. pattern.items) patterns.now) }
     ensures small { result < 2 ^ 127 }
 {
     let mut total: u128 = 0;

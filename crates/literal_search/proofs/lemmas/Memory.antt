@@ -1,12 +1,12 @@
 -- How many bytes a search takes.
-use Rattle.std.proofs.Common.{◌≡◌, ℕ, ◌+◌, ◌*◌, arith, length, map, subst}
+use Rattle.std.proofs.Common.{◌≡◌, ℕ, ◌+◌, ◌*◌, arith, length, map, subst, sum_by}
 use Rattle.literal_base.specs.Kinds.{root_kind_of}
 use Rattle.literal_base.specs.declared.search.MatchKind.TheVariants.{Standard}
 use Rattle.literal_search.specs.Inside.Classes.{AreClasses, symbols_in}
 use Rattle.literal_search.specs.Inside.Linear.{AreParts, linear_value, patterns_of, tables_of}
 use Rattle.literal_search.specs.Inside.Search.{IsSound, patterns_in, search_value}
 use Rattle.literal_search.specs.Inside.Standing.{overlapping_value}
-use Rattle.literal_search.specs.Memory.{TakesBytes, TakesLinearBytes, TakesListedBytes, total_len}
+use Rattle.literal_search.specs.Memory.{TakesBytes, TakesLinearBytes, TakesListedBytes}
 use Rattle.literal_search.specs.PreparedLinear.{texts_back}
 use Rattle.literal_search.specs.PreparedOverlapping.{AreSized, AreTables, Tables}
 use Rattle.literal_search.specs.States.{IsRowsLength}
@@ -15,7 +15,7 @@ use Rattle.literal_search.specs.declared.linear.Parts.{Parts}
 use Rattle.literal_search.proofs.lemmas.LentTables.{have_tables}
 
 -- so many bytes are those of the rows, and of the patterns
-pub takes_bytes : (a : Inside) → IsSound a → (bytes : ℕ) → bytes ≡ 4 * length a.rows + total_len (patterns_in a)
+pub takes_bytes : (a : Inside) → IsSound a → (bytes : ℕ) → bytes ≡ 4 * length a.rows + sum_by length (patterns_in a)
     → TakesBytes (search_value a) bytes
 unfolding TakesBytes
 takes_bytes a sound bytes is = (
@@ -32,7 +32,7 @@ takes_bytes a sound bytes is = (
 
 -- and of the numbers for patterns, in a `Linear`
 pub takes_linear_bytes : (p : Parts) → AreParts p → (bytes : ℕ)
-    → bytes ≡ 4 * (length p.rows + length p.best.items) + total_len (patterns_of p)
+    → bytes ≡ 4 * (length p.rows + length p.best.items) + sum_by length (patterns_of p)
     → TakesLinearBytes (linear_value p) bytes
 unfolding TakesLinearBytes
 takes_linear_bytes p parts bytes is = (
@@ -48,9 +48,9 @@ takes_linear_bytes p parts bytes is = (
 
 -- and of the lists, in an `Overlapping`
 pub takes_listed_bytes : (t : Tables) → AreTables t → AreSized t → (bytes : ℕ)
-    → bytes ≡ 4 * (length t.rows + length t.ends) + 8 * length t.starts + total_len t.patterns
+    → bytes ≡ 4 * (length t.rows + length t.ends) + 8 * length t.starts + sum_by length t.patterns
     → TakesListedBytes (overlapping_value t) bytes
 unfolding TakesListedBytes
 takes_listed_bytes t tables sized bytes is =
     have_tables t tables sized (λ rows ends starts. bytes
-    ≡ 4 * (rows + length ends) + 8 * length starts + total_len t.patterns) is
+    ≡ 4 * (rows + length ends) + 8 * length starts + sum_by length t.patterns) is

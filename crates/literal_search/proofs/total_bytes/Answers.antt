@@ -1,8 +1,7 @@
-use Rattle.std.proofs.Common.{◌≡◌, ◌<◌, ◌∙◌, ℕ, List, [], ap, arith, get_or, length, map, sym}
+use Rattle.std.proofs.Common.{◌≡◌, ◌<◌, ◌∙◌, ℕ, List, [], ap, arith, get_or, length, map, sym, sum_by}
 use Rattle.std.proofs.lemmas.List.{get_or-map, length-map, take_all}
 use Rattle.std.proofs.lemmas.List.Sums.{sum_by_more}
 use Rattle.std.specs.Global.{Vec}
-use Rattle.literal_search.specs.Memory.{total_len}
 use Rattle.literal_search.proofs.total_bytes.Goals as goal
 
 pub loop-pattern-preserved : goal.loop-pattern-preserved
@@ -26,5 +25,5 @@ pub returns-clause-total : goal.returns-clause-total
 returns-clause-total c =
     let patterns = c.args.patterns.now in
     let all = map (λ (p : Vec ℕ). p.items) patterns in
-    c.loop-pattern.invariant.total ∙ ap total_len (take_all c.loop-pattern.pattern-index all
+    c.loop-pattern.invariant.total ∙ ap (sum_by length) (take_all c.loop-pattern.pattern-index all
     (omega (arith, c.loop-pattern-test.false, length-map patterns (λ (p : Vec ℕ). p.items))))

@@ -1,6 +1,6 @@
-use Rattle.std.proofs.Common.{◌+◌, ◌*◌, ℕ, List, ap, arith, length, map, subst}
+use Rattle.std.proofs.Common.{◌+◌, ◌*◌, ℕ, List, ap, arith, length, map, subst, sum_by}
 use Rattle.std.specs.Global.{Vec}
-use Rattle.literal_search.specs.Memory.{TakesBytes, total_len}
+use Rattle.literal_search.specs.Memory.{TakesBytes}
 use Rattle.literal_search.specs.SearchValue.{SearchValue}
 use Rattle.literal_search.proofs.lemmas.Memory.{takes_bytes}
 use Rattle.literal_search.proofs.Search.memory_usage.Goals as goal
@@ -12,6 +12,6 @@ returns c =
     (takes_bytes c.self.inside c.self.invariant bytes (omega (
       arith,
       c.total_bytes.ensures.total,
-      ap (λ (l : List (Vec ℕ)). total_len (map (λ pattern. pattern.items) l)) c.deref.ensures.value,
+      ap (λ (l : List (Vec ℕ)). sum_by length (map (λ pattern. pattern.items) l)) c.deref.ensures.value,
       ap (λ (l : List ℕ). length l) c.as_slice.ensures,
     )))

@@ -1,6 +1,6 @@
-use Rattle.std.proofs.Common.{◌+◌, ◌*◌, ℕ, List, ap, arith, length, map, subst}
+use Rattle.std.proofs.Common.{◌+◌, ◌*◌, ℕ, List, ap, arith, length, map, subst, sum_by}
 use Rattle.std.specs.Global.{Vec}
-use Rattle.literal_search.specs.Memory.{TakesLinearBytes, total_len}
+use Rattle.literal_search.specs.Memory.{TakesLinearBytes}
 use Rattle.literal_search.specs.SearchValue.{SearchValue}
 use Rattle.literal_search.proofs.lemmas.Memory.{takes_linear_bytes}
 use Rattle.literal_search.proofs.linear.Linear.memory_usage.Goals as goal
@@ -13,6 +13,6 @@ returns c =
       arith,
       c.len.ensures,
       c.total_bytes.ensures.total,
-      ap (λ (l : List (Vec ℕ)). total_len (map (λ pattern. pattern.items) l)) c.deref.ensures.value,
+      ap (λ (l : List (Vec ℕ)). sum_by length (map (λ pattern. pattern.items) l)) c.deref.ensures.value,
       ap (λ (l : List ℕ). length l) c.as_slice.ensures,
     )))

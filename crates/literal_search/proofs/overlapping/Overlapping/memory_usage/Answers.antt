@@ -1,7 +1,7 @@
-use Rattle.std.proofs.Common.{◌+◌, ◌*◌, ℕ, List, ap, arith, length, map, subst}
+use Rattle.std.proofs.Common.{◌+◌, ◌*◌, ℕ, List, ap, arith, length, map, subst, sum_by}
 use Rattle.std.specs.Global.{Vec}
 use Rattle.literal_search.specs.Inside.Standing.{tables_of}
-use Rattle.literal_search.specs.Memory.{TakesListedBytes, total_len}
+use Rattle.literal_search.specs.Memory.{TakesListedBytes}
 use Rattle.literal_search.specs.Overlapping.{OverlappingValue}
 use Rattle.literal_search.proofs.lemmas.Memory.{takes_listed_bytes}
 use Rattle.literal_search.proofs.overlapping.Overlapping.memory_usage.Goals as goal
@@ -15,7 +15,7 @@ returns c =
       arith,
       c.len.ensures,
       c.total_bytes.ensures.total,
-      ap (λ (l : List (Vec ℕ)). total_len (map (λ pattern. pattern.items) l)) c.deref.ensures.value,
+      ap (λ (l : List (Vec ℕ)). sum_by length (map (λ pattern. pattern.items) l)) c.deref.ensures.value,
       ap (λ (l : List ℕ). length l) c.as_slice.ensures,
       ap (λ (l : List ℕ). length l) c.starts.ensures,
     )))
