@@ -36,10 +36,6 @@ class Report:
             if refusal:
                 self.refusals.setdefault(function, refusal)
 
-    def unproved(self):
-        """Returns the functions and impls whose line does not read as proved."""
-        return [name for name, line in self.lines.items() if not line.startswith("proved")]
-
 
 def functions_with_a_false_goal(said, crate):
     """Returns the functions of which a note says that a goal is false at some values."""

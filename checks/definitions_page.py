@@ -13,8 +13,7 @@ from pathlib import Path
 PATH = "docs/DEFINITIONS.md"
 
 # A definition in a file of specs: the comment above it, and its name.
-DEFINITION = re.compile(
-    r"((?:^ *-- .*\n)*)^ *(?:abbrev pub|unfoldable pub|pub (?:record|data)) ([^\s:(]+)", re.M)
+DEFINITION = re.compile(r"((?:^ *-- .*\n)*)^ *(?:abbrev pub|unfoldable pub|pub (?:record|data)) ([^\s:(]+)", re.M)
 TABLE = re.compile(r"(?<=^\| Name \| Meaning \|\n\|---\|---\|\n)(?:\|.*\n)*", re.M)
 
 
@@ -46,12 +45,8 @@ def written(page, texts):
     return "".join(parts)
 
 
-def main():
+if __name__ == "__main__":
     top = Path(__file__).resolve().parent.parent
     texts = {str(path.relative_to(top)): path.read_text("utf-8") for path in top.glob("crates/*/specs/**/*.antt")}
     page = (top / PATH).read_text("utf-8")
     (top / PATH).write_text(written(page, texts), "utf-8")
-
-
-if __name__ == "__main__":
-    main()

@@ -69,12 +69,9 @@ def words_of(code):
 def functions_in(text, path):
     """Returns the functions of the file at this path of a crate that have a body, in their order."""
     code = LENGTH_OF_AN_ARRAY.sub(" ", code_of(text))
-    return list(functions_below(code, 0, len(code), modules_of(path)))
-
-
-def modules_of(path):
-    """Returns the modules that a file stands for: none for src/lib.rt, `a` and `b` for src/a/b.rt."""
-    return [name for name in re.sub(r"^src/|(\b(lib|main|mod))?\.rt$", "", path).split("/") if name]
+    # (src/lib.rt stands for no module, src/a/b.rt for `a` and `b`)
+    modules = [name for name in re.sub(r"^src/|(\b(lib|main|mod))?\.rt$", "", path).split("/") if name]
+    return list(functions_below(code, 0, len(code), modules))
 
 
 def functions_below(code, at, end, modules):

@@ -1,4 +1,4 @@
-"""The rules on the repository as a whole, beside its code. Each yields what breaks it."""
+"""The rules on the repository as a whole, beside its code. Each yields what breaks it, of the texts by their paths."""
 import functools
 import os
 import re
@@ -40,13 +40,6 @@ EXAMPLES = {
 }
 
 
-class Repository:
-    """The texts of a repository by their paths from its top, and its sources."""
-
-    def __init__(self, texts):
-        self.texts, self.sources = texts, search_rules.sources_of(texts)
-
-
 def texts_of(root, below=""):
     """The texts of the files in a folder, by their paths from the top."""
     texts = {}
@@ -62,22 +55,22 @@ def texts_of(root, below=""):
     return texts
 
 
-def handles(repository):
+def handles(texts):
     """No handle is allowed."""
-    if repository.texts.get("HANDLES") != "Handles allowed: none.\n":
+    if texts.get("HANDLES") != "Handles allowed: none.\n":
         yield "HANDLES has to hold the one line 'Handles allowed: none.'"
 
 
-def walks(repository):
+def walks(texts):
     """Proofs by hand stand where they are listed."""
-    for path in repository.texts:
+    for path in texts:
         if path.endswith("/Proof.antt") and path not in WALKS:
             yield f"a proof by hand: {path}"
 
 
-def citations(repository):
+def citations(texts):
     """No text cites what its reader does not have."""
-    for path, text in repository.texts.items():
+    for path, text in texts.items():
         for number, cited in lines_with(CITATIONS, text):
             yield f"{path}:{number}: {cited}"
 
@@ -89,9 +82,9 @@ def lines_with(pattern, text):
     return [(number, there.group(0)) for number, there in found if there]
 
 
-def sizes(repository):
+def sizes(texts):
     """No file is long, README.md is short, and no line is wide but headings and rows of tables in documents."""
-    for path, text in repository.texts.items():
+    for path, text in texts.items():
         most = LONGEST_README if path == "README.md" else LONGEST_FILE
         if path.endswith((".rt", ".antt", "README.md")) and len(text.splitlines()) > most:
             yield f"{path} has {len(text.splitlines())} lines"
@@ -101,22 +94,22 @@ def sizes(repository):
                     yield f"{path}:{number}: more than 120 columns"
 
 
-def unsafe(repository):
+def unsafe(texts):
     """No code is unsafe. The word stands at the exports of the crate for C alone."""
-    for path, text in repository.texts.items():
+    for path, text in texts.items():
         exports = "#[unsafe(no_mangle)]" if path == "crates/literal_c/src/lib.rt" else ""
         if path.endswith(".rt") and "unsafe" in text and re.search(r"\bunsafe\b", code_of(text).replace(exports, "")):
             yield f"{path}: unsafe code"
 
 
-def definitions(repository):
+def definitions(texts):
     """docs/DEFINITIONS.md is as checks/definitions_page.py writes it, and names each file of definitions but those that
     models and private functions alone cite. Each definition has a comment."""
-    page = repository.texts[definitions_page.PATH]
-    if definitions_page.written(page, repository.texts) != page:
+    page = texts[definitions_page.PATH]
+    if definitions_page.written(page, texts) != page:
         yield f"{definitions_page.PATH} says otherwise than the files of specs: run checks/definitions_page.py"
     named = {path for _, paths in definitions_page.sections_of(page) for path in paths}
-    for path, text in repository.texts.items():
+    for path, text in texts.items():
         found = list(definitions_page.definitions_in(text)) if re.match(r"crates/\w+/specs/.*\.antt$", path) else []
         if found and path not in named and not re.search(r"/Inside\b", path) and "/literal_compared/" not in path:
             yield f"{path} is named by no heading of {definitions_page.PATH}"
@@ -136,17 +129,16 @@ def comments_of(text):
     return "\n".join(re.sub(r"^\s*//[/!] ?", "", line) for line in text.splitlines() if re.match(r"\s*//[/!]", line))
 
 
-def examples(repository):
+def examples(texts):
     """Each example in a document or a comment of documentation stands, line for line, in a function that is a test, or
     is a whole program. On the page for callers it may stand in a function that shows how the crates are called, and
     each of a proof stands in a proof file. The files of the program that `checks/used` proves stand nowhere else."""
-    held = {kind: [plain_lines(text) for path, text in repository.texts.items() if place.fullmatch(path)]
+    held = {kind: [plain_lines(text) for path, text in texts.items() if place.fullmatch(path)]
             for kind, place in EXAMPLES.items()}
-    sources = [text for path, text in repository.texts.items() if path.endswith(".rt")]
-    programs = [text for path, text in repository.texts.items() if path.endswith("/src/main.rt")]
-    tests = [plain_lines(test) for text in sources for test in tests_of(text)]
+    programs = [text for path, text in texts.items() if path.endswith("/src/main.rt")]
+    tests = [plain_lines(test) for path, text in texts.items() if path.endswith(".rt") for test in tests_of(text)]
     documents = {path: comments_of(text) if path.endswith(".rt") else text
-                 for path, text in repository.texts.items() if path.endswith((".rt", ".md"))}
+                 for path, text in texts.items() if path.endswith((".rt", ".md"))}
     for path, text in documents.items():
         is_page = path == calling_page.PATH
         proved = page_of(text).files.values() if is_page else ()
@@ -165,14 +157,14 @@ def tests_of(text):
     return re.findall(r"^#\[test\]\n(.*?)^\}$", text, re.M | re.S)
 
 
-def quotes(repository):
+def quotes(texts):
     """Each contract that a document quotes is that of a function: the signature, and some of the clauses."""
     known = {}
-    for path, text in repository.texts.items():
+    for path, text in texts.items():
         if re.match(r"crates/\w+/src/.*\.rt$", path):
             for signature, clauses in contracts_in(text, path):
                 known.setdefault(signature, []).append(set(clauses))
-    for path, text in repository.texts.items():
+    for path, text in texts.items():
         for signature, clauses in quotes_of(text) if path.endswith(".md") else ():
             if not any(set(clauses) <= those for those in known.get(signature, ())):
                 yield f"{path}: no function has this contract: {signature}"
@@ -188,8 +180,8 @@ def contracts_in(text, path):
 RULES = [handles, walks, citations, sizes, unsafe, definitions, examples, quotes]
 
 
-def broken_rules(repository):
+def broken_rules(texts):
     """What breaks each rule, these and those on searches, by the rule's name."""
-    found = {rule.__name__: list(rule(repository)) for rule in RULES}
-    found.update({rule.__name__: list(rule(repository.sources)) for rule in search_rules.RULES})
-    return found
+    sources = search_rules.sources_of(texts)
+    found = {rule.__name__: list(rule(texts)) for rule in RULES}
+    return found | {rule.__name__: list(rule(sources)) for rule in search_rules.RULES}

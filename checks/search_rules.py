@@ -14,9 +14,7 @@ import re
 from rattle_source import BRACKETS, closing, functions_in, plain_code, without_tests, words_of
 
 # Crates of callers, tests and examples, which no rule here reads.
-TEST_CRATES = (
-    "literal_calls", "literal_compared", "literal_examples", "litscan", "refused_memory", "worked_cases",
-)
+TEST_CRATES = ("literal_calls", "literal_compared", "literal_examples", "litscan", "refused_memory", "worked_cases")
 
 # Crates whose code may have a haystack in hand.
 SEARCH_CRATES = ("literal_packed", "literal_fingerprints", "literal_prefilters", "literal_search")
@@ -36,24 +34,20 @@ MAKERS = (
     "Linear::find_all_in", "LinearMatchesIterator::next", "PreparedLinearMatches::next_match",
 )
 
-# Where each step ticks, once in each function. The functions that compare or scan read bytes of a haystack.
+# Where each step ticks, once in each function, and a sum of the words of its body as it was reviewed, if it was. The
+# functions that compare or scan read bytes of a haystack.
 TICKS = {
-    "crates/literal_packed/src/pattern.rt": {"Patterns::matches_at": "tick_compared"},
-    RABIN_KARP: {"Rolling::push": "tick_hashed", "Rolling::roll": "tick_hashed"},
-    ENTRIES: {"BucketEntries::entry": "tick_entries"},
-    "crates/literal_fingerprints/src/lanes.rt": {"lanes::load": "tick_scanned"},
-    "crates/literal_prefilters/src/prefilter/byte_table.rt": {"ByteTable::find": "tick_scanned"},
-    CONFIRMING: {"confirming::confirm": "tick_tried", "confirming::confirm_by_table": "tick_tried"},
-    "crates/literal_search/src/walk.rt": {"Table::class_at": "tick_scanned", "Table::code_at": "tick_scanned"},
+    "crates/literal_packed/src/pattern.rt": {"Patterns::matches_at": ("tick_compared", "726bd5dd96cb")},
+    RABIN_KARP: {"Rolling::push": ("tick_hashed", "ebc0e88b6d30"), "Rolling::roll": ("tick_hashed", "5b80638e8bc9")},
+    ENTRIES: {"BucketEntries::entry": ("tick_entries", "95314473946b")},
+    "crates/literal_fingerprints/src/lanes.rt": {"lanes::load": ("tick_scanned", "81399e5b4db7")},
+    "crates/literal_prefilters/src/prefilter/byte_table.rt": {"ByteTable::find": ("tick_scanned", "9327f693401c")},
+    CONFIRMING: {"confirming::confirm": ("tick_tried", ""), "confirming::confirm_by_table": ("tick_tried", "")},
+    "crates/literal_search/src/walk.rt": {
+        "Table::class_at": ("tick_scanned", "7a13f63110dc"), "Table::code_at": ("tick_scanned", "0e736a4a6af9"),
+    },
 }
 READS = ("tick_compared", "tick_scanned")
-
-# Whose bodies stand as they were reviewed: a sum of their words.
-REVIEWED = {
-    "Patterns::matches_at": "726bd5dd96cb", "Rolling::push": "ebc0e88b6d30", "Rolling::roll": "5b80638e8bc9",
-    "BucketEntries::entry": "95314473946b", "ByteTable::find": "9327f693401c", "lanes::load": "81399e5b4db7",
-    "Table::class_at": "7a13f63110dc", "Table::code_at": "0e736a4a6af9",
-}
 
 # What parameters are called that hold bytes of patterns, one or all, or what is put in their place, and how bytes are
 # typed.
@@ -78,8 +72,7 @@ LENGTH = re.compile(r"\bhaystack\s*\.\s*(?:len|is_empty)\(\)")
 BOUND = re.compile(r"\blet haystack = &?(?:self\s*\.\s*)?haystack(?:\[[^][]*\.\.[^][]*\])?;")
 HASHED = re.compile(r"\.(?:push|roll)\((?:haystack\[[^][]*\],\s*)+tally\)")
 COPIED = re.compile(r"\b(?:text\.(?:extend_from_slice|push_str)\(|write\(found, )&haystack\[[^][]*\](?=[,)])")
-HANDED = re.compile(
-    r"(?<=[(,{])\s*&?(?:self\s*\.\s*)?haystack(?:\[[^][]*\.\.[^][]*\]|\.as_bytes\(\))?\s*(?=[,)}])")
+HANDED = re.compile(r"(?<=[(,{])\s*&?(?:self\s*\.\s*)?haystack(?:\[[^][]*\.\.[^][]*\]|\.as_bytes\(\))?\s*(?=[,)}])")
 
 
 class Source:
@@ -153,7 +146,7 @@ def haystacks(sources):
     calls = re.compile(rf"\b(?:{takers})(?:::<[^<>]*>)?{ARGUMENTS}|\b(?:{'|'.join(KEEPERS)}) \{{[^{{}}]*\}}")
     for source in (it for it in sources if it.is_of_searches):
         for function in source.functions:
-            if TICKS.get(source.path, {}).get(short(function)) not in READS:
+            if TICKS.get(source.path, {}).get(short(function), [""])[0] not in READS:
                 for place in odd_uses(source.code[function.start : function.end], calls, function.name):
                     yield source.at(function.start + place, (
                         "a haystack is asked for its `len()`, cut by a range into another `haystack`, or handed on to "
@@ -191,7 +184,7 @@ def entries(sources):
 def ticks(sources):
     """Each step ticks once, where it is taken, and a place is tried right behind its tick."""
     for source in (it for it in sources if it.path != COUNT):
-        left = dict(TICKS.get(source.path, {}))
+        left = {name: tick for name, (tick, _) in TICKS.get(source.path, {}).items()}
         for place, function in source.places_of(r"\btick_\w+"):
             if left.pop(short(function), "") != re.match(r"\w+", source.code[place:])[0]:
                 yield source.at(place, f"it ticks where TICKS{HERE} has no such tick, or ticks twice: call what ticks")
@@ -216,11 +209,12 @@ def held(sources):
     """What reads and counts stands as it was reviewed."""
     for source in sources:
         for function in source.functions:
+            _, reviewed = TICKS.get(source.path, {}).get(short(function), ("", ""))
             body = " ".join(words_of(source.code[function.start : function.end]))
             sum_of_body = hashlib.sha256(body.encode()).hexdigest()[:12]
-            if source.is_of_searches and REVIEWED.get(short(function), sum_of_body) != sum_of_body:
+            if reviewed not in ("", sum_of_body):
                 yield source.at(function.head, (
-                    f"review what `{short(function)}` reads and counts, and put {sum_of_body} into REVIEWED{HERE}"))
+                    f"review what `{short(function)}` reads and counts, and put {sum_of_body} into TICKS{HERE}"))
 
 
 RULES = [tallies, haystacks, entries, ticks, keepers, held]
