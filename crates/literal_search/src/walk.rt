@@ -283,7 +283,7 @@ impl<'t> Table<'t> {
     /// Whether nothing occurs in any of four spans, each as long as a block and the longest pattern, which begin one
     /// block behind another. It walks through all four at once, so that no look-up waits for those of the others. Where
     /// a number leads out of the rows it does not know.
-    #[inline(always)]
+    #[inline(never)]
     pub fn none_in_four(
         &self,
         haystack: &[u8],
