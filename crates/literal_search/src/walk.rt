@@ -283,7 +283,7 @@ impl<'t> Table<'t> {
     /// Whether nothing occurs in any of four spans, each as long as a block and the longest pattern, which begin one
     /// block behind another. It walks through all four at once, so that no look-up waits for those of the others. Where
     /// a number leads out of the rows it does not know.
-    #[inline(always)]
+    #[inline(never)]
     pub fn none_in_four(
         &self,
         haystack: &[u8],
@@ -309,14 +309,22 @@ impl<'t> Table<'t> {
         let (mut first, mut second, mut third, mut fourth) = (0, 0, 0, 0);
         for step in 0..block + self.longest {
             let here = at + step;
-            let one = self.next_at(first, haystack, here, tally);
-            let two = self.next_at(second, haystack, here + block, tally);
-            let three = self.next_at(third, haystack, here + 2 * block, tally);
-            let four = self.next_at(fourth, haystack, here + 3 * block, tally);
-            if largest(one, two, three, four) >= limit {
+            first = self.next_at(first, haystack, here, tally);
+            if first >= limit {
                 return false;
             }
-            (first, second, third, fourth) = (one, two, three, four);
+            second = self.next_at(second, haystack, here + block, tally);
+            if second >= limit {
+                return false;
+            }
+            third = self.next_at(third, haystack, here + 2 * block, tally);
+            if third >= limit {
+                return false;
+            }
+            fourth = self.next_at(fourth, haystack, here + 3 * block, tally);
+            if fourth >= limit {
+                return false;
+            }
         }
         true
     }
@@ -362,15 +370,4 @@ fn behind_end(code: u32, limit: usize) -> Result<usize, Damaged>
         return Err(Damaged);
     }
     Ok((code - ENDS) as usize)
-}
-
-/// The largest of four numbers.
-#[inline(always)]
-fn largest(one: usize, two: usize, three: usize, four: usize) -> usize
-    ensures one { one ≤ result }
-    ensures two { two ≤ result }
-    ensures three { three ≤ result }
-    ensures four { four ≤ result }
-{
-    one.max(two).max(three.max(four))
 }

@@ -39,29 +39,29 @@ loop-step-preserved c =
     let sum : c.args.tally.now.scanned + 4 * step + 1 + 1 + 1 + 1 ≡ c.args.tally.now.scanned + 4 * (step + 1) =
     omega arith in
     record {
-      first_within = omega (arith, c.if-largest-limit.false, c.largest.ensures.one);
-      second_within = omega (arith, c.if-largest-limit.false, c.largest.ensures.two);
-      third_within = omega (arith, c.if-largest-limit.false, c.largest.ensures.three);
-      fourth_within = omega (arith, c.if-largest-limit.false, c.largest.ensures.four);
+      first_within = omega (arith, c.if-first-limit.false);
+      second_within = omega (arith, c.if-second-limit.false);
+      third_within = omega (arith, c.if-third-limit.false);
+      fourth_within = omega (arith, c.if-fourth-limit.false);
       first = λ are table. more are table at step (at + step) (omega arith) (omega arith) (byte (at + step))
-          c.loop-step.first c.next_at-one.result (so_far.first are table) c.next_at-one.ensures.number
-          (omega (arith, c.if-largest-limit.false, c.largest.ensures.one, c.requires.limit));
+          c.loop-step.first c.next_at-first.result (so_far.first are table) c.next_at-first.ensures.number
+          (omega (arith, c.if-first-limit.false, c.requires.limit));
       second = λ are table. more are table (at + block) step (at + step + block) (omega arith) (omega arith)
-          (byte (at + step + block)) c.loop-step.second c.next_at-two.result (so_far.second are table)
-          c.next_at-two.ensures.number
-          (omega (arith, c.if-largest-limit.false, c.largest.ensures.two, c.requires.limit));
+          (byte (at + step + block)) c.loop-step.second c.next_at-second.result (so_far.second are table)
+          c.next_at-second.ensures.number
+          (omega (arith, c.if-second-limit.false, c.requires.limit));
       third = λ are table. more are table (at + 2 * block) step (at + step + 2 * block) (omega arith) (omega arith)
-          (byte (at + step + 2 * block)) c.loop-step.third c.next_at-three.result (so_far.third are table)
-          c.next_at-three.ensures.number
-          (omega (arith, c.if-largest-limit.false, c.largest.ensures.three, c.requires.limit));
+          (byte (at + step + 2 * block)) c.loop-step.third c.next_at-third.result (so_far.third are table)
+          c.next_at-third.ensures.number
+          (omega (arith, c.if-third-limit.false, c.requires.limit));
       fourth = λ are table. more are table (at + 3 * block) step (at + step + 3 * block) (omega arith) (omega arith)
-          (byte (at + step + 3 * block)) c.loop-step.fourth c.next_at-four.result (so_far.fourth are table)
-          c.next_at-four.ensures.number
-          (omega (arith, c.if-largest-limit.false, c.largest.ensures.four, c.requires.limit));
-      counted = c.next_at-four.ensures.ticks
-          ∙ (one_more _ _ (c.next_at-three.ensures.ticks
-          ∙ one_more _ _ (c.next_at-two.ensures.ticks
-          ∙ one_more _ _ (c.next_at-one.ensures.ticks ∙ one_more _ _ so_far.counted)))
+          (byte (at + step + 3 * block)) c.loop-step.fourth c.next_at-fourth.result (so_far.fourth are table)
+          c.next_at-fourth.ensures.number
+          (omega (arith, c.if-fourth-limit.false, c.requires.limit));
+      counted = c.next_at-fourth.ensures.ticks
+          ∙ (one_more _ _ (c.next_at-third.ensures.ticks
+          ∙ one_more _ _ (c.next_at-second.ensures.ticks
+          ∙ one_more _ _ (c.next_at-first.ensures.ticks ∙ one_more _ _ so_far.counted)))
           ∙ ap (λ (n : ℕ). let n' : Counts = record c.args.tally.now { scanned = n } in n') sum);
     }
 
