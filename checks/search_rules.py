@@ -57,7 +57,7 @@ BYTES = re.compile(r"\b([a-z]\w*)\s*:[^,):]*(?:\[u8\]|\bVec<u8>|\bstr\b)")
 # The types that may keep a slice of bytes: a haystack, patterns, or what C hands over of either.
 KEEPERS = (
     "FindIter", "Matches", "LinearMatches", "PreparedLinearMatches", "OverlappingMatches", "PreparedOverlappingMatches",
-    "Input", "Pattern", "SearchRequest", "Pieces", "AnySearch",
+    "Input", "Pattern", "SearchRequest", "Pieces", "FoundIn", "AnySearch",
 )
 
 # The fields of `BucketEntries` that tell nothing of an entry, and the functions that may name the others: the one that

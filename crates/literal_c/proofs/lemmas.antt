@@ -1,5 +1,4 @@
 -- Lemmas by topic. Each file says what it is about and for which functions.
-pub mod Linear
 pub mod Pages
 pub mod Pieces
 pub mod SoFar

@@ -1,21 +1,19 @@
 //! What is written for C.
-ghost use Rattle.std.specs.Prelude.{◌≡◌, ◌+◌, ◌-◌, ◌≤◌, Bool, IfOk, OnOk, length, slice_index};
+ghost use Rattle.std.specs.Prelude.{◌≡◌, ◌+◌, ◌-◌, ◌≤◌, Bool, IfOk, OnOk, length};
 ghost use Rattle.std.specs.List.{AllZip};
 ghost use Rattle.std.specs.Result.{IsOkAnd};
-ghost use Rattle.literal_base.specs.Occurs.{IsValidSpan};
 ghost use Rattle.literal_base.specs.Query.{Query};
-ghost use Rattle.literal_search.specs.Prepared.{ForPrepared};
-ghost use Rattle.literal_search.specs.PreparedLinear.{ForLinear};
 ghost use Rattle.literal_c.specs.Answers.{IsAnswerForC, IsCount, IsPage, MayBeAnswer, MayBePage};
 ghost use Rattle.literal_c.specs.Answers.{answer_for_c as answer_value, match_for_c as match_value};
 ghost use Rattle.literal_search.specs.OverlappingMatchesValue.{OverlappingMatchesValue};
-ghost use Rattle.literal_c.specs.Inside.Given.{AreGiven, Begins};
+ghost use Rattle.literal_search.specs.SearchValue.{SearchValue};
+ghost use Rattle.literal_c.specs.Inside.Given.{AreGiven};
 ghost use Rattle.literal_c.specs.Overlapping.{IsOverlappingPage};
 
-use crate::finder::{Finder, Occurrences};
+use crate::finder::{Finder, Matches, Occurrences};
 use crate::pieces::Pieces;
 use crate::{LITERAL_NONE, LITERAL_OK, LiteralAnswer, LiteralMatch, LiteralPage};
-use literal_search::{Damaged, Match, Prepared, PreparedLinearMatches, Span};
+use literal_search::{Damaged, Match, Span};
 
 /// A match as C has it.
 pub fn match_for_c(found: &Match) -> LiteralMatch
@@ -48,43 +46,39 @@ fn answer_for_c(found: Option<Match>) -> LiteralAnswer
     }
 }
 
-/// Writes all matches in a span of the haystack, as many as there is room for, and says how many and what is left.
-pub fn write_page<F: Finder>(
-    search: &F,
-    haystack: &[u8],
-    span: Span,
+/// Writes the matches of an iteration that begins at an offset, as many as there is room for, and says how many and
+/// what is left.
+pub fn write_page<M: Matches + Drop>(
+    mut matches: M,
+    start: usize,
     found: &mut [LiteralMatch],
 ) -> Result<LiteralPage, Damaged>
-    requires { IsValidSpan haystack.now span }
-    ensures page { (query : Query) (ignore_case : Bool) → F.is_for search.now query ignore_case
-        → IsOkAnd result (IsPage query ignore_case haystack.now span found.old found.new) }
-    ensures inside { IfOk result (MayBePage span (F.patterns search.now) found.new) }
-    ensures goes_on { IfOk result (λ page. span.start + page.written ≤ page.next) }
+    requires begins { (M.rest matches).span.start ≡ start }
+    requires ordered { start ≤ (M.rest matches).span.end }
+    ensures page { (search : SearchValue) → M.is_for matches search → IsOkAnd result
+        (IsPage search.query search.ignore_case (M.rest matches).haystack (M.rest matches).span found.old found.new) }
+    ensures inside { IfOk result (MayBePage (M.rest matches).span (M.rest matches).patterns found.new) }
+    ensures goes_on { IfOk result (λ page. start + page.written ≤ page.next) }
 {
-    let Span { start, end } = span;
-    let mut next = start;
-    let mut written: usize = 0;
+    let mut page = LiteralPage {
+        written: 0,
+        next: start,
+        is_last: 1,
+    };
     for place in found.iter_mut() {
-        let Some(it) = search.find_in(haystack, Span { start: next, end })? else {
-            return Ok(LiteralPage {
-                written,
-                next,
-                is_last: 1,
-            });
+        let Some(it) = matches.next_match()? else {
+            return Ok(page);
         };
         *place = match_for_c(&it);
-        written += 1;
-        next = it.end();
+        page.written += 1;
+        page.next = it.end();
     }
-    let (next, is_last) = match search.find_in(haystack, Span { start: next, end })? {
-        None => (next, 1),
-        Some(it) => (it.start(), 0),
-    };
-    Ok(LiteralPage {
-        written,
-        next,
-        is_last,
-    })
+    if let Some(it) = matches.next_match()? {
+        page.next = it.start();
+        page.is_last = 0;
+        return Ok(page);
+    }
+    Ok(page)
 }
 
 /// Writes what an iteration gives that begins at an offset, as much as there is room for, and says how much and what is
@@ -98,88 +92,23 @@ pub fn write_overlapping<M: Occurrences + Drop>(
         → IsOkAnd result (IsOverlappingPage m found.old found.new) }
     ensures inside { IfOk result (λ page. AreGiven (M.may_give matches) start found.new page) }
 {
-    let mut next = start;
-    let mut written: usize = 0;
-    for place in found.iter_mut() {
-        let Some(it) = matches.next_match()? else {
-            return Ok(LiteralPage {
-                written,
-                next,
-                is_last: 1,
-            });
-        };
-        *place = match_for_c(&it);
-        written += 1;
-        next = it.end();
-    }
-    let is_last = match matches.next_match()? {
-        None => 1,
-        Some(_) => 0,
-    };
-    Ok(LiteralPage {
-        written,
-        next,
-        is_last,
-    })
-}
-
-/// Writes what an iteration gives that begins with a span, as much as there is room for, and says how much and what is
-/// left.
-pub fn write_linear(
-    mut matches: PreparedLinearMatches<'_, '_, '_>,
-    span: Span,
-    found: &mut [LiteralMatch],
-) -> Result<LiteralPage, Damaged>
-    requires begins { Begins matches span }
-    ensures page { ForLinear matches.entry.numbers (λ search. IsOkAnd result
-        (IsPage search.query search.ignore_case matches.entry.haystack span found.old found.new)) }
-    ensures inside { IfOk result (MayBePage span (slice_index matches.entry.numbers 3) found.new) }
-    ensures goes_on { IfOk result (λ page. span.start + page.written ≤ page.next) }
-{
-    let mut next = span.start;
-    let mut written: usize = 0;
-    for place in found.iter_mut() {
-        let Some(it) = matches.next_match()? else {
-            return Ok(LiteralPage {
-                written,
-                next,
-                is_last: 1,
-            });
-        };
-        *place = match_for_c(&it);
-        written += 1;
-        next = it.end();
-    }
-    if let Some(it) = matches.next_match()? {
-        return Ok(LiteralPage {
-            written,
-            next: it.start(),
-            is_last: 0,
-        });
-    }
-    Ok(LiteralPage {
-        written,
-        next,
+    let mut page = LiteralPage {
+        written: 0,
+        next: start,
         is_last: 1,
-    })
-}
-
-/// How many matches an iteration gives that begins with a span.
-pub fn count_linear(
-    mut matches: PreparedLinearMatches<'_, '_, '_>,
-    span: Span,
-) -> Result<usize, Damaged>
-    requires begins { Begins matches span }
-    ensures count { ForLinear matches.entry.numbers (λ search. IsOkAnd result
-        (IsCount search.query search.ignore_case matches.entry.haystack span)) }
-    ensures most { IfOk result (λ count. count ≤ span.end - span.start) }
-{
-    let _ = span;
-    let mut count = 0;
-    while let Some(_) = matches.next_match()? {
-        count += 1;
+    };
+    for place in found.iter_mut() {
+        let Some(it) = matches.next_match()? else {
+            return Ok(page);
+        };
+        *place = match_for_c(&it);
+        page.written += 1;
+        page.next = it.end();
     }
-    Ok(count)
+    if let Some(_) = matches.next_match()? {
+        page.is_last = 0;
+    }
+    Ok(page)
 }
 
 /// Answers for each haystack, of which there are as many as answers.
@@ -202,19 +131,15 @@ pub fn answer_each<F: Finder>(
     Ok(())
 }
 
-/// How many matches there are in a span of the haystack.
-pub fn count_matches(search: &Prepared<'_>, haystack: &[u8], span: Span) -> Result<usize, Damaged>
-    requires { IsValidSpan haystack.now span }
-    ensures count { ForPrepared search.now (λ query ignore_case. IsOkAnd result
-        (IsCount query ignore_case haystack.now span)) }
-    ensures most { IfOk result (λ count. count ≤ span.end - span.start) }
+/// How many matches an iteration gives.
+pub fn count_matches<M: Matches + Drop>(mut matches: M) -> Result<usize, Damaged>
+    ensures count { (search : SearchValue) → M.is_for matches search → IsOkAnd result
+        (IsCount search.query search.ignore_case (M.rest matches).haystack (M.rest matches).span) }
+    ensures most { IfOk result (λ count. count ≤ (M.rest matches).span.end - (M.rest matches).span.start) }
 {
-    let Span { start, end } = span;
-    let mut next = start;
     let mut count = 0;
-    while let Some(it) = search.find_in(haystack, Span { start: next, end })? {
+    while let Some(_) = matches.next_match()? {
         count += 1;
-        next = it.end();
     }
     Ok(count)
 }

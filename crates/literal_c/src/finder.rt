@@ -1,8 +1,10 @@
 //! What the calls for C search by: a search of their own, or numbers that C lends.
 ghost use Rattle.std.specs.Prelude.{◌≡◌};
+ghost use Rattle.literal_base.specs.Occurs.{IsValidSpan};
 
 use literal_search::{
-    Damaged, Match, OverlappingMatches, Prepared, PreparedOverlappingMatches, Search, Span,
+    Damaged, Match, OverlappingMatches, Prepared, PreparedLinearMatches,
+    PreparedOverlappingMatches, Search, Span,
 };
 
 /// A search, which may be by damaged numbers.
@@ -53,6 +55,79 @@ impl Finder for Prepared<'_> {
     #[inline(always)]
     fn find_in(&self, haystack: &[u8], span: Span) -> Result<Option<Match>, Damaged> {
         Prepared::find_in(self, haystack, span)
+    }
+}
+
+/// An iteration over leftmost matches, which may be by damaged numbers.
+pub trait Matches {
+    ghost use Rattle.std.specs.Prelude.{IfOk, IfSome};
+    ghost use Rattle.std.specs.Result.{IsOkAnd};
+    ghost use Rattle.literal_base.specs.Leftmost.{IsLeftmost};
+    ghost use Rattle.literal_search.specs.SearchValue.{SearchValue};
+    ghost use Rattle.literal_c.specs.Answers.{MayBeFound};
+    ghost use Rattle.literal_c.specs.Inside.Given.{Rest, behind};
+
+    /// What it searches for, if it is whole.
+    ghost is_for: { Self → SearchValue → Type 0 };
+
+    /// What is left, whatever the numbers are.
+    ghost rest: { Self → Rest };
+
+    /// The leftmost match in the span that is left.
+    fn next_match(&mut self) -> Result<Option<Match>, Damaged>
+        ensures found { (search : SearchValue) → is_for self.old search → IsOkAnd result
+            (IsLeftmost search.query search.ignore_case (rest self.old).haystack (rest self.old).span) }
+        ensures inside { IfOk result (λ answer. IfSome answer
+            (MayBeFound (rest self.old).span (rest self.old).patterns)) }
+        ensures goes_on { IfOk result (λ answer. IfSome answer
+            (λ found. rest self.new ≡ behind (rest self.old) found.end)) }
+        ensures same { (search : SearchValue) → is_for self.old search → is_for self.new search };
+}
+
+/// All leftmost matches in a span of a haystack, one after another, each by a search of its own.
+#[derive(Drop)]
+pub struct FoundIn<'f, 'h, F> {
+    pub search: &'f F,
+    pub haystack: &'h [u8],
+    pub span: Span,
+    ghost valid: { IsValidSpan haystack.now span },
+}
+
+impl<'f, 'h, F: Finder> Matches for FoundIn<'f, 'h, F> {
+    ghost is_for = { λ m search. F.is_for m.search.now search.query search.ignore_case };
+
+    ghost rest = { λ m. record {
+      haystack = m.haystack.now;
+      span = m.span;
+      patterns = F.patterns m.search.now;
+    } };
+
+    #[inline(always)]
+    fn next_match(&mut self) -> Result<Option<Match>, Damaged> {
+        let Some(it) = self.search.find_in(self.haystack, self.span)? else {
+            return Ok(None);
+        };
+        self.span.start = it.end();
+        Ok(Some(it))
+    }
+}
+
+impl Matches for PreparedLinearMatches<'_, '_, '_> {
+    ghost use Rattle.std.specs.Prelude.{slice_index};
+    ghost use Rattle.literal_base.specs.Occurs.{between};
+    ghost use Rattle.literal_search.specs.PreparedLinear.{IsPreparedLinear};
+
+    ghost is_for = { λ m search. IsPreparedLinear search m.numbers };
+
+    ghost rest = { λ m. record {
+      haystack = m.haystack;
+      span = between m.at m.span.end;
+      patterns = slice_index m.numbers 3;
+    } };
+
+    #[inline(always)]
+    fn next_match(&mut self) -> Result<Option<Match>, Damaged> {
+        PreparedLinearMatches::next_match(self)
     }
 }
 

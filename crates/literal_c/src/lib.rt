@@ -41,11 +41,9 @@ mod so_far;
 #[cfg(test)]
 mod tests;
 
-use answers::{
-    answer_each, count_linear, count_matches, match_for_c, write_linear, write_overlapping,
-    write_page,
-};
+use answers::{answer_each, count_matches, match_for_c, write_overlapping, write_page};
 use arguments::{can_be_searched, linear_for, search_for, search_for_all};
+use finder::FoundIn;
 use literal_search::{Damaged, PrepareError, Prepared, PreparedLinear, PreparedOverlapping, Span};
 use pieces::{Pieces, are_ends};
 use so_far::{find_so_far, tell_so_far};
@@ -197,13 +195,20 @@ pub extern "C" fn literal_find_all(
     }
     match search_for(alloc, kind, ignore_case, patterns, ends) {
         Err(refusal) => refusal.status(),
-        Ok(search) => match write_page(&search, haystack, Span { start: from, end }, found) {
-            Err(Damaged) => LITERAL_DAMAGED,
-            Ok(written) => {
-                *page = written;
-                LITERAL_OK
+        Ok(search) => {
+            let matches = FoundIn {
+                search: &search,
+                haystack,
+                span: Span { start: from, end },
+            };
+            match write_page(matches, from, found) {
+                Err(Damaged) => LITERAL_DAMAGED,
+                Ok(written) => {
+                    *page = written;
+                    LITERAL_OK
+                }
             }
-        },
+        }
     }
 }
 
@@ -564,7 +569,12 @@ pub extern "C" fn literal_find_all_in(
     let Ok(search) = Prepared::new(prepared) else {
         return LITERAL_DAMAGED;
     };
-    match write_page(&search, haystack, Span { start, end }, found) {
+    let matches = FoundIn {
+        search: &search,
+        haystack,
+        span: Span { start, end },
+    };
+    match write_page(matches, start, found) {
         Err(Damaged) => LITERAL_DAMAGED,
         Ok(written) => {
             *page = written;
@@ -626,7 +636,12 @@ pub extern "C" fn literal_count_in(
     let Ok(search) = Prepared::new(prepared) else {
         return LITERAL_DAMAGED;
     };
-    match count_matches(&search, haystack, Span { start, end }) {
+    let matches = FoundIn {
+        search: &search,
+        haystack,
+        span: Span { start, end },
+    };
+    match count_matches(matches) {
         Err(Damaged) => LITERAL_DAMAGED,
         Ok(matches) => {
             *count = matches;
@@ -705,11 +720,10 @@ pub extern "C" fn literal_find_all_linear_in(
     let Ok(search) = PreparedLinear::new(prepared) else {
         return LITERAL_DAMAGED;
     };
-    let span = Span { start, end };
-    let Ok(matches) = search.find_iter_in(alloc, haystack, span) else {
+    let Ok(matches) = search.find_iter_in(alloc, haystack, Span { start, end }) else {
         return LITERAL_OUT_OF_MEMORY;
     };
-    match write_linear(matches, span, found) {
+    match write_page(matches, start, found) {
         Err(Damaged) => LITERAL_DAMAGED,
         Ok(written) => {
             *page = written;
@@ -744,11 +758,10 @@ pub extern "C" fn literal_count_linear_in(
     let Ok(search) = PreparedLinear::new(prepared) else {
         return LITERAL_DAMAGED;
     };
-    let span = Span { start, end };
-    let Ok(matches) = search.find_iter_in(alloc, haystack, span) else {
+    let Ok(matches) = search.find_iter_in(alloc, haystack, Span { start, end }) else {
         return LITERAL_OUT_OF_MEMORY;
     };
-    match count_linear(matches, span) {
+    match count_matches(matches) {
         Err(Damaged) => LITERAL_DAMAGED,
         Ok(counted) => {
             *count = counted;

@@ -7,5 +7,10 @@ pub returns-in-Err-clause-status : goal.returns-in-Err-clause-status
 returns-in-Err-clause-status c =
     damaged _ (λ P. ForPrepared c.args.prepared.now (λ _ _. P)) _ _
     (record { ordered = c.if-start-end.false; in_haystack = c.if-end-haystack.false })
-    (λ query ignore_case is _. c.in-Err.ensures.count query ignore_case
+    (λ query ignore_case is _. c.in-Err.ensures.count (record { query = query; ignore_case = ignore_case })
     (subst (IsPrepared query ignore_case) (sym c.in-Ok.ensures.0) is))
+
+pub returns-in-Ok-count_matches-clause-count : goal.returns-in-Ok-count_matches-clause-count
+returns-in-Ok-count_matches-clause-count c = λ query ignore_case is _.
+    c.in-Ok-count_matches.ensures.count (record { query = query; ignore_case = ignore_case })
+    (subst (IsPrepared query ignore_case) (sym c.in-Ok.ensures.0) is)

@@ -7,10 +7,10 @@ pub returns-in-Err-clause-status : goal.returns-in-Err-clause-status
 returns-in-Err-clause-status c =
     damaged _ (λ P. ForPrepared c.args.prepared.now (λ _ _. P)) _ _
     (record { ordered = c.if-start-end.false; in_haystack = c.if-end-haystack.false })
-    (λ query ignore_case is _. c.in-Err.ensures.page query ignore_case
+    (λ query ignore_case is _. c.in-Err.ensures.page (record { query = query; ignore_case = ignore_case })
     (subst (IsPrepared query ignore_case) (sym c.in-Ok.ensures.0) is))
 
 pub returns-in-Ok-write_page-clause-page : goal.returns-in-Ok-write_page-clause-page
 returns-in-Ok-write_page-clause-page c = λ query ignore_case is _.
-    c.in-Ok-write_page.ensures.page query ignore_case
+    c.in-Ok-write_page.ensures.page (record { query = query; ignore_case = ignore_case })
     (subst (IsPrepared query ignore_case) (sym c.in-Ok.ensures.0) is)

@@ -1,9 +1,9 @@
--- What an iteration gave of which little is known.
+-- What an iteration gave of which little is known, and what is left of one.
 use Rattle.std.specs.Prelude.{◌≡◌, ◌⊎◌, ℕ, ◌≤◌, List, length, take}
 use Rattle.std.specs.List.{All}
 use Rattle.literal_base.specs.MatchValue.{MatchValue}
+use Rattle.literal_base.specs.Occurs.{between}
 use Rattle.literal_base.specs.declared.search.Span.{Span}
-use Rattle.literal_search.specs.PreparedLinear.{PreparedLinearMatchesValue}
 use Rattle.literal_c.specs.Answers.{match_of}
 use Rattle.literal_c.specs.declared.LiteralMatch.{LiteralMatch}
 use Rattle.literal_c.specs.declared.LiteralPage.{LiteralPage}
@@ -20,8 +20,12 @@ pub record AreGiven (MayGive : MatchValue → Type 0) (start : ℕ) (new : List 
   pub reached : IsReached MayGive start page.next
   pub rest : (page.is_last ≡ 1) ⊎ ((page.is_last ≡ 0) × (page.written ≡ length new))
 
--- an iteration begins with a span
-pub record Begins (m : PreparedLinearMatchesValue) (span : Span) : Type 0 where
-  pub ordered : span.start ≤ span.end
-  pub span_is : m.span ≡ span
-  pub at : m.at ≡ span.start
+-- what is left of an iteration over leftmost matches: a span of a haystack, and how many patterns it may find there
+pub record Rest : Type 0 where
+  pub haystack : List ℕ
+  pub span : Span
+  pub patterns : ℕ
+
+-- what is left of it behind an offset
+abbrev pub behind : Rest → ℕ → Rest
+behind rest at = record rest { span = between at rest.span.end }

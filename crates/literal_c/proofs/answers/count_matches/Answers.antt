@@ -1,47 +1,54 @@
-use Rattle.std.proofs.Common.{◌++◌, ◌∷◌, [], IfSome, Option, refl, sym, subst, arith}
+use Rattle.std.proofs.Common.{◌≡◌, ◌++◌, ◌∷◌, ◌∙◌, [], IfSome, Option, ap, arith, subst, sym}
 use Rattle.std.proofs.lemmas.List.{length-append}
-use Rattle.literal_base.specs.Leftmost.{IsLeftmost}
+use Rattle.literal_base.specs.Leftmost.{IsLeftmost, IsLeftmostMatch}
 use Rattle.literal_base.specs.MatchValue.{MatchValue}
-use Rattle.literal_base.specs.Occurs.{between}
-use Rattle.literal_search.specs.Prepared.{LiesIn}
-use Rattle.literal_c.specs.Answers.{AreNext}
+use Rattle.literal_base.specs.Occurs.{NothingOccurs}
+use Rattle.literal_c.specs.Answers.{AreNext, MayBeFound}
+use Rattle.literal_c.specs.Inside.Given.{Rest, behind}
 use Rattle.literal_c.proofs.lemmas.Pages.{joined, none_here}
 use Rattle.literal_c.proofs.answers.count_matches.Goals as goal
 
-pub returns-in_err-it-clause-count : goal.returns-in_err-it-clause-count
-returns-in_err-it-clause-count c = λ query ignore_case is. absurd (c.in_err-it.ensures.prepared query ignore_case is)
-
-pub loop-it-preserved : goal.loop-it-preserved
-loop-it-preserved c =
-    let haystack = c.args.haystack.now in
-    let start = c.args.span.start in
-    let stop = c.args.span.end in
-    let next = c.loop-it.next in
-    let it = c.in-Some.it in
-    let so_far = c.loop-it.invariant in
-    let lies : LiesIn (between next stop) it =
-    subst (λ (o : Option MatchValue). IfSome o (LiesIn (between next stop))) c.in-Some.is c.in_ok-it.ensures.inside in
+pub loop-matches-preserved : goal.loop-matches-preserved
+loop-matches-preserved g c =
+    let all = g.M.Matches.rest c.args.matches in
+    let start = all.span.start in
+    let stop = all.span.end in
+    let rest = g.M.Matches.rest c.loop-matches.matches in
+    let next = rest.span.start in
+    let new_rest = g.M.Matches.rest c.next_match.new.self in
+    let it = c.in-Some.field-0 in
+    let so_far = c.loop-matches.invariant in
+    let step = c.in_ok-next_match.ensures in
+    let may = subst (λ (r : Rest). MayBeFound r.span r.patterns it) so_far.stands
+    (subst (λ (o : Option MatchValue). IfSome o (MayBeFound rest.span rest.patterns)) c.in-Some.is step.inside) in
+    let goes_on : new_rest ≡ behind rest it.end =
+    subst (λ (o : Option MatchValue). IfSome o (λ f. new_rest ≡ behind rest f.end)) c.in-Some.is step.goes_on in
+    let at : new_rest.span.start ≡ it.end = ap (λ (r : Rest). r.span.start) goes_on in
     record {
-      after = omega (arith, so_far.after, lies.start, lies.some, c.end-next.ensures.end);
-      before = omega (arith, lies.end, c.end-next.ensures.end);
-      few = omega (arith, so_far.few, lies.start, lies.some, c.end-next.ensures.end);
-      counted = λ query ignore_case is.
-          let (all, are_next, count) = so_far.counted query ignore_case is in
-          let leftmost = subst (λ (o : Option MatchValue). IsLeftmost query ignore_case haystack (between next stop) o)
-          c.in-Some.is
-          (c.in_ok-it.ensures.prepared query ignore_case is) in (
-            all ++ it ∷ [],
-            subst (AreNext query ignore_case haystack stop start (all ++ it ∷ [])) (sym c.end-next.ensures.end)
-                (joined query ignore_case haystack stop start next it.end all (it ∷ []) are_next
-                (leftmost, none_here query ignore_case haystack stop it.end)),
-            omega (arith, count, length-append all (it ∷ [])),
+      stands = goes_on ∙ (ap (λ (r : Rest). behind r it.end) so_far.stands ∙ ap (behind all) (sym at));
+      few = omega (arith, so_far.few, may.lies.start, may.lies.some, at);
+      most = omega (arith, so_far.few, may.lies.start, may.lies.some, may.lies.end);
+      counted = λ search is.
+          let (whole, found, are_next, count) = so_far.counted search is in
+          let leftmost = subst (λ (r : Rest). IsLeftmostMatch search.query search.ignore_case r.haystack r.span it)
+          so_far.stands
+          (subst (λ (o : Option MatchValue). IsLeftmost search.query search.ignore_case rest.haystack rest.span o)
+          c.in-Some.is (step.found search whole)) in (
+            step.same search whole,
+            found ++ it ∷ [],
+            subst (AreNext search.query search.ignore_case all.haystack stop start (found ++ it ∷ [])) (sym at)
+                (joined search.query search.ignore_case all.haystack stop start next it.end found (it ∷ []) are_next
+                (leftmost, none_here search.query search.ignore_case all.haystack stop it.end)),
+            omega (arith, count, length-append found (it ∷ [])),
           );
     }
 
 pub returns-clause-count : goal.returns-clause-count
-returns-clause-count c = λ query ignore_case is.
-    let (all, are_next, count) = c.loop-it.invariant.counted query ignore_case is in
-    let none = subst (λ (o : Option MatchValue). IsLeftmost query ignore_case c.args.haystack.now
-    (between c.loop-it.next c.args.span.end) o) c.in_default.is
-    (c.in_ok-it.ensures.prepared query ignore_case is) in
-    (all, c.loop-it.next, are_next, none, count)
+returns-clause-count g c = λ search is.
+    let rest = g.M.Matches.rest c.loop-matches.matches in
+    let (whole, found, are_next, count) = c.loop-matches.invariant.counted search is in
+    let none = subst (λ (r : Rest). NothingOccurs search.query.patterns search.ignore_case r.haystack r.span)
+    c.loop-matches.invariant.stands
+    (subst (λ (o : Option MatchValue). IsLeftmost search.query search.ignore_case rest.haystack rest.span o)
+    c.in_default.is (c.in_ok-next_match.ensures.found search whole)) in
+    (found, rest.span.start, are_next, none, count)

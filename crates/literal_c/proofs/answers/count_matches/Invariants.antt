@@ -1,17 +1,23 @@
 use Rattle.std.proofs.Common.{◌≡◌, ◌≤◌, ◌-◌, ◌+◌, List, length}
 use Rattle.literal_base.specs.MatchValue.{MatchValue}
-use Rattle.literal_search.specs.Prepared.{ForPrepared}
+use Rattle.literal_search.specs.SearchValue.{SearchValue}
 use Rattle.literal_c.specs.Answers.{AreNext}
+use Rattle.literal_c.specs.Inside.Given.{behind}
 use Rattle.literal_c.proofs.answers.count_matches.Given as goal
 
-abbrev pub invariant-loop-it : goal.invariant-loop-it
-invariant-loop-it l = record {
-  after : l.fn.span.start ≤ l.next;
-  before : l.next ≤ l.fn.span.end;
-  few : l.count + l.fn.span.start ≤ l.next;
-  counted : ForPrepared l.search (λ query ignore_case. (all : List MatchValue)
-      × AreNext query ignore_case l.haystack l.fn.span.end l.fn.span.start all l.next × (l.count ≡ length all));
-}
+abbrev pub invariant-loop-matches : goal.invariant-loop-matches
+invariant-loop-matches g l =
+    let all = g.M.Matches.rest l.initial.matches in
+    let next = (g.M.Matches.rest l.matches).span.start in
+    record {
+      stands : g.M.Matches.rest l.matches ≡ behind all next;
+      few : l.count + all.span.start ≤ next;
+      most : l.count ≤ all.span.end - all.span.start;
+      counted : (search : SearchValue) → g.M.Matches.is_for l.initial.matches search
+          → g.M.Matches.is_for l.matches search × (found : List MatchValue)
+          × AreNext search.query search.ignore_case all.haystack all.span.end all.span.start found next
+          × (l.count ≡ length found);
+    }
 
-abbrev pub decreases-loop-it : goal.decreases-loop-it
-decreases-loop-it l = l.fn.span.end - l.next
+abbrev pub decreases-loop-matches : goal.decreases-loop-matches
+decreases-loop-matches g l = (g.M.Matches.rest l.matches).span.end - (g.M.Matches.rest l.matches).span.start

@@ -20,6 +20,7 @@ loop-place-preserved g c =
     c.in_ok-it.ensures.inside) in
     record {
       count = omega arith;
+      last = so_far.last;
       given = λ m stands begins.
           let before = so_far.given m stands begins in
           let after = subst (λ (o : Option MatchValue). GivesOverlapping before.0 o (gone_on before.0 o)
@@ -27,7 +28,7 @@ loop-place-preserved g c =
           (c.in_ok-it.ensures.found before.0 before.1) in (
             gone_on before.0 (Some it),
             after.1,
-            c.end-next.ensures.end,
+            c.end.ensures.end,
             given_more m found i new before.0 (gone_on before.0 (Some it)) lt before.3
                 (subst (λ k. GivesOverlapping before.0 (Some (match_of k)) (gone_on before.0 (Some it))) is_new
                 after.0),
@@ -35,7 +36,7 @@ loop-place-preserved g c =
       keeps = λ f given. so_far.keeps f (c.in_ok-it.ensures.same f given);
       matches = all_more (λ m. g.M.Occurrences.may_give c.args.matches (match_of m)) i found new lt so_far.matches
           (subst (λ m. g.M.Occurrences.may_give c.args.matches (match_of m)) is_new may);
-      reached = inr (it, may, c.end-next.ensures.end);
+      reached = inr (it, may, c.end.ensures.end);
       others = drop-set-lt (i + 1) found i new (omega arith)
           ∙ (sym (drop-drop 1 i found) ∙ (ap (drop 1) so_far.others ∙ drop-drop 1 i c.args.found.now));
     }
