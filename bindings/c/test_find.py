@@ -97,6 +97,15 @@ class Find(unittest.TestCase):
             listed = run("nm", "--defined-only", *map(str, words))[1].splitlines()
             self.assertEqual({it.split()[2] for it in listed if " " in it}, names)
 
+    def test_older_processors_are_refused(self):
+        """The loader reads the mark that GNU ld takes over from the library."""
+        find = self.compiled("find")
+        for file in (find, str(LIBRARY.with_suffix(".so"))):
+            self.assertRegex(run("readelf", "-n", file)[1], "x86 ISA needed: .*x86-64-v2")
+        if shutil.which("qemu-x86_64"):
+            status, said = run("qemu-x86_64", "-cpu", "core2duo", find, "a", text=TEXT)
+            self.assertEqual((status, said), (127, f"{find}: CPU ISA level is lower than required\n"))
+
     @unittest.skipUnless(shutil.which("pkg-config"), "there is no pkg-config")
     def test_installed(self):
         """In a folder with a space in its name, and a program that is run in another one."""
