@@ -8,12 +8,15 @@ mod finish;
 mod line;
 
 use device::Checked;
-use engine::run;
+use engine::{run, write_whole};
 use fault::Fault;
 use finish::finish;
 use std::env;
 use std::io::ErrorKind;
 use std::process::ExitCode;
+
+/// What `--version`, as the only word, prints.
+const VERSION: &str = "litfind 0.1.0\n";
 
 fn main(rt: HostRuntime) -> ExitCode {
     let mut log = Checked::new(rt.stderr());
@@ -28,8 +31,14 @@ fn main(rt: HostRuntime) -> ExitCode {
     let Ok(words) = args.skip(1).collect::<Vec<String>>(rt.alloc()) else {
         return finish(&mut log, Err(Fault::OutOfMemory));
     };
-    let mut reader = Checked::new(rt.stdin());
     let mut writer = Checked::new(rt.stdout());
+    if let [word] = words.as_slice() {
+        if word.as_str() == "--version" {
+            let answer = write_whole(&mut writer, VERSION.as_bytes());
+            return finish(&mut log, answer.and(Ok(true)).or(Err(Fault::WriteFailed)));
+        }
+    }
+    let mut reader = Checked::new(rt.stdin());
     let answer = run(rt.alloc(), words.as_slice(), &mut reader, &mut writer);
     finish(&mut log, answer)
 }
