@@ -91,7 +91,7 @@ class Find(unittest.TestCase):
         self.assertGreater(told, 2)
 
     def test_only_the_header_s_names_are_shown(self):
-        names = set(run("sed", "-n", r"s/^int32_t \(literal_\w*\)(.*/\1/p", f"{HERE}/literal_search.h")[1].split())
+        names = set(run("sed", "-n", r"s/^u\?int32_t \(literal_\w*\)(.*/\1/p", f"{HERE}/literal_search.h")[1].split())
         self.assertGreater(len(names), 9)
         for words in (("-g", LIBRARY), ("-D", LIBRARY.with_suffix(".so"))):
             listed = run("nm", "--defined-only", *map(str, words))[1].splitlines()
