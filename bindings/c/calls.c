@@ -42,6 +42,7 @@ static void by_patterns(const uint8_t *text, size_t len) {
     literal_page page = {0, 0, 0};
     literal_answer answers[2];
     size_t lines[2] = {len, len};
+    CHECK(literal_version() == LITERAL_VERSION_NUMBER);
     CHECK(literal_can_search(patterns, 17, ends, 3) == LITERAL_OK);
     CHECK(literal_find(0, false, patterns, 17, ends, 3, text, len, 14, len, found) == LITERAL_OK);
     CHECK(is(found, 0, 28, 33));

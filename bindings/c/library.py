@@ -17,7 +17,8 @@ NUMBERS = {it[0]: int(it[1]) for it in re.findall(r"#define LITERAL_(\w+) ([0-9]
 
 def declared(text):
     """The types and names of parameters or fields, as C declares them."""
-    found = [re.fullmatch(r"(.*?)\s*(\w+)", " ".join(it.split())) for it in re.split("[,;]", text) if it.strip()]
+    parts = [" ".join(it.split()) for it in re.split("[,;]", text) if it.strip() not in ("", "void")]
+    found = [re.fullmatch(r"(.*?)\s*(\w+)", it) for it in parts]
     return [(it[1], it[2]) for it in found]
 
 

@@ -52,6 +52,11 @@
  *   - No call is made from a signal handler, or from the forked child of a process with threads.
  *   - malloc, realloc and free are from one allocator. malloc and realloc align a block to each power of two up to 16
  *     that divides its size.
+ *
+ * The library runs on 64-bit x86 processors of the level x86-64-v2 (SSE4.2 and POPCNT: Intel since Nehalem, AMD since
+ * Bulldozer), on Linux with glibc 2.34 or newer. On an older processor glibc refuses to start a program, or to load the
+ * shared library, with the message "CPU ISA level is lower than required". A static program, or one linked by lld, is
+ * not refused: there the first search ends with an illegal instruction (SIGILL).
  */
 #ifndef LITERAL_SEARCH_H
 #define LITERAL_SEARCH_H
@@ -65,7 +70,9 @@
 extern "C" {
 #endif
 
+/* The version of this header, as text and as a number: 1,000,000 * major + 1,000 * minor + patch. */
 #define LITERAL_VERSION "0.1.0"
+#define LITERAL_VERSION_NUMBER 1000
 
 /* Statuses. */
 #define LITERAL_OK 0             /* done: found, or what was asked for is written, or the list can be searched for */
@@ -121,6 +128,10 @@ static inline size_t literal_join(const char *const *words, size_t words_len, ui
     }
     return at;
 }
+
+/* The version of the library that is linked or loaded, as a number like LITERAL_VERSION_NUMBER. If the two differ, the
+ * program was compiled with the header of another version. */
+uint32_t literal_version(void);
 
 /* Whether the patterns can be searched for, by either kind, with case kept or ignored. It takes no memory.
  *

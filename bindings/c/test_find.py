@@ -1,7 +1,6 @@
-"""Compiles the header and the programs in C, and runs them: under the sanitizers, with little stack, linked to the
-shared library as bindings/install leaves it. Then builds all of it elsewhere. It takes bindings/out/."""
+"""Compiles the header and the programs in C, and runs them: under the sanitizers, with little stack, on an older
+processor. Then builds all of it elsewhere. It takes bindings/out/."""
 import os
-import shlex
 import shutil
 import subprocess
 import sys
@@ -91,7 +90,7 @@ class Find(unittest.TestCase):
         self.assertGreater(told, 2)
 
     def test_only_the_header_s_names_are_shown(self):
-        names = set(run("sed", "-n", r"s/^int32_t \(literal_\w*\)(.*/\1/p", f"{HERE}/literal_search.h")[1].split())
+        names = set(run("sed", "-n", r"s/^u\?int32_t \(literal_\w*\)(.*/\1/p", f"{HERE}/literal_search.h")[1].split())
         self.assertGreater(len(names), 9)
         for words in (("-g", LIBRARY), ("-D", LIBRARY.with_suffix(".so"))):
             listed = run("nm", "--defined-only", *map(str, words))[1].splitlines()
@@ -105,18 +104,6 @@ class Find(unittest.TestCase):
         if shutil.which("qemu-x86_64"):
             status, said = run("qemu-x86_64", "-cpu", "core2duo", find, "a", text=TEXT)
             self.assertEqual((status, said), (127, f"{find}: CPU ISA level is lower than required\n"))
-
-    @unittest.skipUnless(shutil.which("pkg-config"), "there is no pkg-config")
-    def test_installed(self):
-        """In a folder with a space in its name, and a program that is run in another one."""
-        prefix, find = f"{self.room.name}/a folder", f"{self.room.name}/find shared"
-        self.assertEqual(run(str(HERE.parent / "install"), prefix)[0], 0)
-        given = {**PLAIN, "PKG_CONFIG_PATH": f"{prefix}/lib/pkgconfig"}
-        flags = shlex.split(run("pkg-config", "--cflags", "--libs", "literal_search", env=given)[1])
-        linked = ["cc", str(HERE / "find.c"), *flags, f"-Wl,-rpath,{prefix}/lib", "-o", find]
-        self.assertEqual(run(*linked), (0, ""))
-        self.assertEqual(run(find, *WORDS, text=TEXT, cwd="/"), (0, FOUND))
-        self.assertIn(f"{prefix}/lib/libliteral_search.so.0", run("ldd", find)[1])
 
 
 class Build(unittest.TestCase):
@@ -160,7 +147,7 @@ class Build(unittest.TestCase):
         (self.room / "python").mkdir(parents=True)
         shutil.copy(HERE.parent / "python/setup.py", self.room / "python")
         status, said = run(sys.executable, "setup.py", "build", cwd=self.room / "python")
-        why = f"{self.room}/out/libliteral_search.a is not there: run bindings/build first\n"
+        why = f"{self.room.parent}/dist/x86_64-linux-gnu/libliteral_search.a is not there: run bindings/build first\n"
         self.assertEqual((status, said), (1, why))
 
 

@@ -1,11 +1,14 @@
-"""Builds the extension on the library that bindings/build made. What the package is, setup.cfg says.
+"""Builds the extension on the library that bindings/build made, or else on the one in dist/. What the package is,
+setup.cfg says.
 
 A source archive gets that library and its header, in a folder `library`, so it is built where the repository is not.
 """
 import os
+import platform
 import re
 import shutil
 import sys
+import sysconfig
 import tempfile
 from contextlib import suppress
 from pathlib import Path
@@ -13,10 +16,19 @@ from pathlib import Path
 from setuptools import Extension, setup
 from setuptools.command.sdist import sdist
 
-BINDINGS = Path(__file__).resolve().parent.parent
+try:
+    from setuptools.command.bdist_wheel import bdist_wheel
+except ImportError:  # (before setuptools 70.1 it was in the package wheel)
+    try:
+        from wheel.bdist_wheel import bdist_wheel
+    except ImportError:
+        bdist_wheel = None
+
+TOP, NAME = Path(__file__).resolve().parent.parent.parent, "libliteral_search.a"
 IN_ARCHIVE = Path("library").is_dir()
-LIBRARY = "library/libliteral_search.a" if IN_ARCHIVE else "../out/libliteral_search.a"
+FOLDERS = ["library"] if IN_ARCHIVE else ["../out", "../../dist/x86_64-linux-gnu"]
 HEADER = "library/literal_search.h" if IN_ARCHIVE else "../c/literal_search.h"
+GLIBC = 34  # the library needs glibc 2.34
 
 
 class Archive(sdist):
@@ -29,8 +41,39 @@ class Archive(sdist):
             shutil.copy(name, Path(base_dir, "library"))
 
 
+def wheel_for_all(usual):
+    """The command that makes a wheel, for every Linux whose glibc has the symbols of the extension."""
+
+    class Wheel(usual):
+        def get_tag(self):
+            python, abi, _ = super().get_tag()
+            built = filter(os.path.isfile, self.get_finalized_command("build_ext").get_outputs())
+            needed = re.findall(rb"GLIBC_2\.(\d+)", b"".join(Path(it).read_bytes() for it in built))
+            return python, abi, f"manylinux_2_{max(GLIBC, *map(int, needed))}_x86_64"
+
+    return Wheel
+
+
+def check_machine():
+    """Ends where the library does not run."""
+    kind, version = platform.libc_ver()
+    numbers = tuple(map(int, re.findall(r"\d+", version)[:2]))
+    if sysconfig.get_platform() != "linux-x86_64" or kind != "glibc" or numbers < (2, GLIBC):
+        here = f"{sysconfig.get_platform()} with {f'{kind} {version}'.strip() or 'another C library'}"
+        target = f"64-bit x86 Linux with glibc 2.{GLIBC} or newer"
+        sys.exit(f"literal-search: only {target} is supported, and this is {here}")
+
+
+def found_library():
+    """The library, from the first folder that has it."""
+    for folder in FOLDERS:
+        if Path(folder, NAME).is_file():
+            return f"{folder}/{NAME}"
+    sys.exit(f"{TOP}/dist/x86_64-linux-gnu/{NAME} is not there: run bindings/build first")
+
+
 def room():
-    """A folder to build in: beside the library, or where an archive or a folder is built that is only to be read, one
+    """A folder to build in: beside the library of bindings/build, or where there is none, or it is only to be read, one
     that is gone at the end."""
     if not IN_ARCHIVE and os.access("../out", os.W_OK):
         return "../out", None
@@ -38,17 +81,17 @@ def room():
     return made.name, made
 
 
-if not Path(LIBRARY).is_file():
-    sys.exit(f"{BINDINGS / 'out' / Path(LIBRARY).name} is not there: run bindings/build first")
+check_machine()
+LIBRARY = found_library()
 if not IN_ARCHIVE:
     for licence in ("LICENSE-MIT", "UNLICENSE"):
         with suppress(PermissionError):  # (then bindings/build has copied it already)
-            shutil.copy(BINDINGS.parent / licence, licence)
+            shutil.copy(TOP / licence, licence)
 BASE, HELD = room()
 
 setup(
     version=re.search(r'LITERAL_VERSION "(.*)"', Path(HEADER).read_text("utf-8"))[1],
-    cmdclass={"sdist": Archive},
+    cmdclass={"sdist": Archive, **({"bdist_wheel": wheel_for_all(bdist_wheel)} if bdist_wheel else {})},
     options={"build": {"build_base": f"{BASE}/python"}, "egg_info": {"egg_base": BASE}},
     ext_modules=[
         Extension(

@@ -21,7 +21,12 @@ from itertools import accumulate, chain
 from typing import TYPE_CHECKING, Any, AnyStr, Callable, Iterable, Iterator, List, Mapping, Optional, Tuple, Type
 from typing import TypeVar, Union, cast, overload
 
-from . import _native, _stream
+try:
+    from . import _native, _stream
+except ImportError as why:
+    if "CPU ISA level" not in str(why):
+        raise
+    raise ImportError("literal_search needs a processor of the level x86-64-v2 (SSE4.2 and POPCNT)") from why
 from ._native import __version__
 from ._types import Kind, Match
 

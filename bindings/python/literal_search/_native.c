@@ -530,7 +530,16 @@ static struct PyModuleDef module = {
     .m_methods = module_methods,
 };
 
+/* Whether the processor has what the library is compiled for. The loader looks, too, but not where lld linked this. */
+static int has_instructions(void) {
+    return __builtin_cpu_supports("sse4.2") && __builtin_cpu_supports("popcnt");
+}
+
 PyMODINIT_FUNC PyInit__native(void) {
+    if (!has_instructions()) {
+        PyErr_SetString(PyExc_ImportError, "CPU ISA level is lower than required");
+        return NULL;
+    }
     PyObject *made = PyModule_Create(&module);
     if (!made || match_ready() || PyType_Ready(&matches_type) || PyModule_AddType(made, &match_type) ||
         PyModule_AddType(made, &search_type) || PyModule_AddStringConstant(made, "__version__", LITERAL_VERSION)) {

@@ -49,6 +49,9 @@ use pieces::{Pieces, are_ends};
 use so_far::{find_so_far, tell_so_far};
 use std::alloc::Global;
 
+/// The version of this library as a number, 1,000,000 * major + 1,000 * minor + patch: 1000 for 0.1.0.
+pub const LITERAL_VERSION_NUMBER: u32 = 1000;
+
 /// Status: what was asked for is done.
 pub const LITERAL_OK: i32 = 0;
 /// Status: no pattern occurs.
@@ -96,6 +99,14 @@ pub struct LiteralPage {
 pub struct LiteralAnswer {
     pub status: i32,
     pub found: LiteralMatch,
+}
+
+/// The version of this library, for callers that were compiled with the header of another one.
+#[unsafe(no_mangle)]
+pub extern "C" fn literal_version() -> u32
+    ensures { result ≡ LITERAL_VERSION_NUMBER }
+{
+    LITERAL_VERSION_NUMBER
 }
 
 /// Whether the patterns can be searched for, by either kind, with case kept or ignored: [`LITERAL_OK`] or

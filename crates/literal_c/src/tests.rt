@@ -2,7 +2,7 @@
 use crate::{
     LITERAL_BAD_ARGUMENTS, LITERAL_LEFTMOST_FIRST, LITERAL_LEFTMOST_LONGEST, LITERAL_NO_SEARCHER,
     LITERAL_NONE, LITERAL_OK, LiteralAnswer, LiteralMatch, LiteralPage, literal_can_search,
-    literal_find, literal_find_all, literal_find_each, literal_find_overlapping,
+    literal_find, literal_find_all, literal_find_each, literal_find_overlapping, literal_version,
 };
 use std::process::Abort;
 use std::test::Fail;
@@ -22,6 +22,11 @@ const BEFORE: LiteralMatch = LiteralMatch {
 
 fn assert_match(rt: &impl Abort, found: &LiteralMatch, wanted: (usize, usize, usize)) {
     assert!(rt; found.pattern == wanted.0 && found.start == wanted.1 && found.end == wanted.2);
+}
+
+#[test]
+fn tells_its_version(rt: HostRuntime) {
+    assert!(rt; literal_version() == 1000);
 }
 
 #[test]

@@ -1,0 +1,210 @@
+"""Installs and removes what ./install does, from a folder like dist/x86_64-linux-gnu with the library of bindings/out/
+and stand-ins for the programs. Compares what is written of options and of the version in several places."""
+import os
+import re
+import shlex
+import shutil
+import subprocess
+import tempfile
+import unittest
+from pathlib import Path
+
+import library
+
+TOP = library.BINDINGS.parent
+ARCHIVE, INSTALL = TOP / "bindings/out/libliteral_search.a", TOP / "install"
+PAGE, BASH, ZSH, FISH = (TOP / "share" / it for it in (
+    "man/man1/litscan.1", "bash-completion/completions/litscan", "zsh/site-functions/_litscan",
+    "fish/vendor_completions.d/litscan.fish"))
+SCAN, FIND = (TOP / f"crates/{it}/src/main.rt" for it in ("litscan", "litfind"))
+TEXT, WORDS = "Nobody likes maple in their apple flavored Snapple.\n", ["apple", "maple", "Snapple"]
+FOUND = "1 13 18\n0 28 33\n2 43 50\n"
+FILES = ["bin/litscan", "bin/litfind", "include/literal_search.h", "lib/libliteral_search.a",
+         "lib/libliteral_search.so.0", "lib/libliteral_search.so", "lib/pkgconfig/literal_search.pc",
+         *(str(it.relative_to(TOP)) for it in (PAGE, BASH, ZSH, FISH))]
+TOOLS = ("sh", "dirname", "readlink", "sed", "mkdir", "cp", "mv", "rm", "ln", "chmod", "cat", "mktemp")
+
+# Where bindings/test runs this, a library that refuses a request for memory stands before the C library.
+PLAIN = {name: value for name, value in os.environ.items() if name not in ("LD_PRELOAD", "DESTDIR", "CC")}
+
+
+def run(*words, text="", **how):
+    """The status of a command, and what it wrote on both outputs."""
+    how = {"stdout": subprocess.PIPE, "stderr": subprocess.STDOUT, "text": True, "env": PLAIN, **how}
+    ran = subprocess.run([str(it) for it in words], input=text, **how)
+    return ran.returncode, ran.stdout
+
+
+def read(path):
+    return path.read_text("utf-8")
+
+
+class Install(unittest.TestCase):
+    def setUp(self):
+        room = tempfile.TemporaryDirectory()
+        self.addCleanup(room.cleanup)
+        self.room = Path(room.name)
+        self.given, self.prefix = self.room / "what is given", self.room / "a folder"
+        self.given.mkdir()
+        for name in ("litscan", "litfind"):
+            (self.given / name).write_text(f"#!/bin/sh\necho {name}\n", "utf-8")
+        shutil.copy(ARCHIVE, self.given)
+
+    def install(self, *words, **how):
+        status, said = run(INSTALL, "--from", self.given, *words, **how)
+        self.assertEqual(status, 0, said)
+        return said
+
+    def installed(self, root=None):
+        """The files below the prefix, by their inodes."""
+        root = root or self.prefix
+        return {str(it.relative_to(root)): it.lstat().st_ino for it in root.rglob("*") if not it.is_dir()}
+
+    def path_of(self, *tools, **stand_ins):
+        """A folder for PATH with some of the machine's programs, and with programs that print a line."""
+        folder = Path(tempfile.mkdtemp(dir=self.room))
+        for tool in tools:
+            (folder / tool).symlink_to(shutil.which(tool))
+        for name, line in stand_ins.items():
+            (folder / name).write_text(f"#!/bin/sh\n{line}\n", "utf-8")
+            (folder / name).chmod(0o755)
+        return {**PLAIN, "PATH": str(folder)}
+
+    def test_installs_and_removes(self):
+        """By a symbolic link, from another folder, and with a file of somebody else's beside."""
+        (self.room / "link").symlink_to(INSTALL)
+        (self.prefix / "bin").mkdir(parents=True)
+        (self.prefix / "bin/other").touch()
+        self.assertEqual(run(self.room / "link", "--from", self.given, "a folder", cwd=self.room)[0], 0)
+        self.assertEqual(set(self.installed()), {*FILES, "bin/other"})
+        self.assertEqual(run(self.prefix / "bin/litscan"), (0, "litscan\n"))
+        self.assertEqual(os.readlink(self.prefix / "lib/libliteral_search.so"), "libliteral_search.so.0")
+        self.assertEqual(run(self.room / "link", "--uninstall", "a folder", cwd=self.room)[0], 0)
+        self.assertEqual(set(self.installed()), {"bin/other"})
+
+    def test_replaces_by_renaming(self):
+        self.install(self.prefix)
+        kept = self.room / "kept"
+        kept.mkdir()
+        before = self.installed()
+        for number, name in enumerate(before):  # (so that no inode is given again)
+            os.link(self.prefix / name, kept / str(number), follow_symlinks=False)
+        self.install(self.prefix)
+        after = self.installed()
+        self.assertEqual([name for name in before if before[name] == after.get(name)], [])
+        self.assertEqual(set(after), set(FILES))
+
+    def test_goes_home_or_below_destdir(self):
+        home = {**PLAIN, "HOME": str(self.room / "home")}
+        self.assertIn("add " + str(self.room / "home/.local/bin"), self.install(env=home))
+        self.assertEqual(set(self.installed(self.room / "home/.local")), set(FILES))
+        self.install("/usr", env={**PLAIN, "DESTDIR": str(self.room / "package")})
+        self.assertEqual(set(self.installed(self.room / "package/usr")), set(FILES))
+        self.assertIn("prefix=/usr\n", read(self.room / "package/usr/lib/pkgconfig/literal_search.pc"))
+
+    @unittest.skipUnless(shutil.which("pkg-config"), "there is no pkg-config")
+    def test_pkg_config(self):
+        """A program that is linked with either library, and run in another folder."""
+        self.install(self.prefix)
+        given = {**PLAIN, "PKG_CONFIG_PATH": f"{self.prefix}/lib/pkgconfig"}
+        flags = shlex.split(run("pkg-config", "--cflags", "--libs", "literal_search", env=given)[1])
+        version = run("pkg-config", "--modversion", "literal_search", env=given)[1]
+        self.assertIn(f'LITERAL_VERSION "{version.strip()}"', library.HEADER)
+        find, example = self.room / "find", TOP / "bindings/c/find.c"
+        for static in (False, True):
+            if static:
+                (self.prefix / "lib/libliteral_search.so").unlink()
+            linked = ["cc", example, *flags, f"-Wl,-rpath,{self.prefix}/lib", "-o", find]
+            self.assertEqual(run(*linked), (0, ""))
+            self.assertEqual(run(find, *WORDS, text=TEXT, cwd="/"), (0, FOUND))
+            self.assertEqual("libliteral_search.so.0" not in run("ldd", find)[1], static)
+
+    def test_without_a_compiler(self):
+        """What stays is no shared library of another version."""
+        self.install(self.prefix)
+        without = self.path_of(*TOOLS, "getconf", "uname")
+        self.assertIn("without the shared library, since there is no C compiler (cc)\n",
+                      self.install(self.prefix, env=without))
+        self.assertEqual(set(self.installed()), {it for it in FILES if ".so" not in it})
+        self.assertEqual(read(self.prefix / "lib/pkgconfig/literal_search.pc").count("literal_search"), 2)
+
+    def test_other_machines(self):
+        here = {"uname": '[ "$1" = -m ] && echo x86_64 || echo Linux', "getconf": "echo glibc 2.34"}
+        others = {
+            "aarch64 Linux with glibc 2.34": {"uname": '[ "$1" = -m ] && echo aarch64 || echo Linux'},
+            "x86_64 FreeBSD with glibc 2.34": {"uname": '[ "$1" = -m ] && echo x86_64 || echo FreeBSD'},
+            "x86_64 Linux with glibc 2.33": {"getconf": "echo glibc 2.33"},
+            "x86_64 Linux with glibc 2.4": {"getconf": "echo glibc 2.4"},
+            "x86_64 Linux with another C library": {"getconf": "exit 1"},
+        }
+        for machine, other in others.items():
+            given = self.path_of(*TOOLS, **{**here, **other})
+            status, said = run(INSTALL, "--from", self.given, self.prefix, env=given)
+            why = f"only 64-bit x86 Linux with glibc 2.34 or newer is supported, and this is {machine}"
+            self.assertEqual((status, said), (1, f"install: {why}\n"))
+            self.assertFalse(self.prefix.exists())
+        for glibc in ("2.34", "2.40", "3.0"):
+            self.install(self.prefix, env=self.path_of(*TOOLS, **{**here, "getconf": f"echo glibc {glibc}"}))
+
+    def test_what_is_wrong(self):
+        (self.given / "litfind").unlink()
+        status, said = run(INSTALL, "--from", self.given, self.prefix)
+        self.assertEqual((status, said), (1, f"install: {self.given}/litfind is not there\n"))
+        self.assertFalse(self.prefix.exists())
+        for words in (["--from"], ["--prefix=/usr"], ["/usr", "/usr/local"]):
+            status, said = run(INSTALL, *words, env=self.path_of(*TOOLS))
+            self.assertEqual(status, 2)
+            self.assertRegex(said, r"\Ainstall: usage: .*\n\Z")
+
+
+class Options(unittest.TestCase):
+    """Of litscan: what --help prints, the documents and the completions name the same ones."""
+
+    def setUp(self):
+        helped = re.search(r'const HELP: &str = "(.*?)";', read(SCAN), re.S)[1]
+        rows = re.findall(r"^  (-.*?)(?:  |$)", helped, re.M)
+        self.options = {it for row in rows for it in re.findall(r"--?[\w-]+", row)}
+        self.assertGreater(len(self.options), 40)
+
+    def test_documents(self):
+        table = "".join(re.findall(r"^\| (`-.*?) \|", read(TOP / "docs/LITSCAN.md"), re.M))
+        self.assertEqual({it for it in re.findall(r"`(--?[\w-]+)", table)} - {"--"}, self.options)
+        section = read(PAGE).replace("\\-", "-").replace("\\fB", "").split(".SH OPTIONS\n")[1].split(".SH ")[0]
+        named = " ".join(re.findall(r"^\.TP\n(.*)$", section, re.M))
+        self.assertEqual(set(re.findall(r"(?<![\w-])--?\w[\w-]*", named)), self.options)
+
+    def test_completions(self):
+        self.assertEqual(set(re.search(r'options="(.*?)"', read(BASH), re.S)[1].split()), self.options)
+        specs = re.sub(r"\[.*?\]", "", read(ZSH)).replace("--{color,colour}", "--color --colour")
+        self.assertEqual(set(re.findall(r"(?<![\w-])--?[a-zA-Z][a-z-]*(?<!-)", specs.split("-S :")[1])), self.options)
+        fish = re.findall(r" -(s|l) (\S+)", read(FISH))
+        self.assertEqual({("-" if kind == "s" else "--") + name for kind, name in fish}, self.options)
+
+    @unittest.skipUnless(shutil.which("bash"), "there is no bash")
+    def test_bash_completes(self):
+        script = """compopt() { echo "$@"; }; . "$0"; COMP_WORDS=(litscan "$@") COMP_CWORD=$#; _litscan
+                    printf '%s\\n' "${COMPREPLY[@]}" """
+        for words, proposed in {
+            ("--co",): "--count --color --colour", ("--color", "="): "always never auto", ("--colour", "=", "a"):
+            "always auto", ("-m", ""): "+o default", ("--file", ""): "", ("-e", "-"): "+o default", ("a",): "",
+        }.items():
+            self.assertEqual(run("bash", "-c", script, BASH, *words)[1].split(), proposed.split(), words)
+
+
+class Version(unittest.TestCase):
+    def test_same_everywhere(self):
+        version = re.search(r'#define LITERAL_VERSION "(.*)"', library.HEADER)[1]
+        major, minor, patch = map(int, version.split("."))
+        self.assertEqual(library.NUMBERS["VERSION_NUMBER"], 1000000 * major + 1000 * minor + patch)
+        self.assertEqual(library.load().literal_version(), library.NUMBERS["VERSION_NUMBER"])
+        for path, wanted in {
+            SCAN: f'"litscan {version}\\n"', FIND: f'"litfind {version}\\n"', PAGE: f'"litscan {version}"',
+            TOP / "bindings/rust/Cargo.toml": f'\nversion = "{version}"\n',
+            TOP / "bindings/rust/Cargo.lock": f'\nversion = "{version}"\n',
+        }.items():
+            self.assertIn(wanted, read(path), path)
+        self.assertEqual(re.search(r"^## (\S+)", read(TOP / "CHANGELOG.md"), re.M)[1], version)
+
+
+if __name__ == "__main__":
+    unittest.main()
