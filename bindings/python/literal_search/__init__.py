@@ -33,7 +33,7 @@ from ._types import Kind, Match
 if TYPE_CHECKING:
     from _typeshed import ReadableBuffer, StrPath, SupportsRead, SupportsWrite
 
-    from ._native import _Replacement
+    from ._native import _Offset, _Replacement
 
 __all__ = ["Kind", "Match", "Search", "__version__"]
 
@@ -60,7 +60,8 @@ class Search(_native.Prepared[AnyStr]):
     write into it.
 
     Raises ValueError if a pattern is empty or has a lone surrogate, MemoryError, and OverflowError if the table of the
-    search would have 2^31 places. Each call raises TypeError for what is no text, or one of the other type, BufferError
+    search would have 2^31 places. Raises TypeError for a set with Kind.LEFTMOST_FIRST: the order of the patterns decides
+    what is found, and a set has none. Each call raises TypeError for what is no text, or one of the other type, BufferError
     for a view with gaps or an array of objects, and ValueError for a str with a lone surrogate.
 
     >>> Search([b"ab", b"abcd"], Kind.LEFTMOST_LONGEST).find(b"xabcd")
@@ -123,6 +124,8 @@ class Search(_native.Prepared[AnyStr]):
     ) -> None:
         if isinstance(kind, bool):  # (else it would be taken for the number of a kind)
             raise TypeError("the kind is a Kind, not a bool")
+        if isinstance(patterns, (set, frozenset)) and kind == Kind.LEFTMOST_FIRST:
+            raise TypeError("a set has no order, by which Kind.LEFTMOST_FIRST chooses: take a list, or LEFTMOST_LONGEST")
         values: Optional[Tuple[Any, ...]] = None
         if isinstance(patterns, Mapping):  # (asked once, since it may change meanwhile)
             items = list(patterns.items())
@@ -139,6 +142,26 @@ class Search(_native.Prepared[AnyStr]):
     def kind(self) -> Kind:
         """Which of the patterns that match at one place is taken."""
         return Kind(self._kind)
+
+    @overload
+    def finditer_earliest(
+        self: "Search[str]", text: str, start: "_Offset" = 0, end: "_Offset" = None
+    ) -> Iterator[Match[str]]: ...
+
+    @overload
+    def finditer_earliest(
+        self: "Search[bytes]", text: "ReadableBuffer", start: "_Offset" = 0, end: "_Offset" = None
+    ) -> Iterator[Match[bytes]]: ...
+
+    def finditer_earliest(self, text: Any, start: "_Offset" = 0, end: "_Offset" = None) -> Iterator[Match[Any]]:
+        """Gives what `find_earliest` finds in text[start:end], then what it finds from the end of that on, and so on. It
+        goes over all that occurs, as `finditer_overlapping` does, once.
+
+        >>> [it.span() for it in Search(["abcd", "bc", "d"]).finditer_earliest("abcd")]
+        [(1, 3), (3, 4)]
+        """
+        overlapping: Callable[..., Iterator[Match[Any]]] = self.finditer_overlapping
+        return _one_after_another(overlapping(text, start, end))
 
     @overload
     def find_each(self: "Search[str]", texts: Iterable[str]) -> List[Optional[Match[str]]]: ...
@@ -277,6 +300,15 @@ def _made(cls: Type[_Any], patterns: Iterable[Any], kind: Kind, ignore_case: boo
     made = cls.__new__(cls)
     Search.__init__(made, patterns, kind, ignore_case, linear=linear)
     return made
+
+
+def _one_after_another(matches: Iterator[Match[Any]]) -> Iterator[Match[Any]]:
+    """Of matches by their ends, each that begins where the one before it ends or later."""
+    at = 0
+    for match in matches:
+        if match.start >= at:
+            yield match
+            at = match.end
 
 
 def _are_str(searcher: "Search[Any]") -> bool:

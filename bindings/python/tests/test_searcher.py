@@ -88,6 +88,13 @@ class Rows(unittest.TestCase):
         self.assertEqual(Search([b"ab", b"abc"], LONGEST).find(b"xabc"), Match(1, 1, 4))
         self.assertEqual(Search([b"ab", b"ab"], LONGEST).find(b"ab"), Match(0, 0, 2))
 
+    def test_sets_have_no_order(self):
+        for words in ({"Sam", "Samwise"}, frozenset([b"Sam"])):
+            with self.assertRaisesRegex(TypeError, "a set has no order"):
+                Search(words)
+        self.assertEqual(Search({"Sam", "Samwise"}, LONGEST).find("Samwise").span(), (0, 7))
+        self.assertEqual(Search({"Samwise": 1, "Sam": 2}.keys()).find("Samwise").span(), (0, 7))
+
     def test_a_word_in_the_beginning_of_another(self):
         self.assertEqual(Search(["a", "baa"], LONGEST).findall("ba"), [Match(0, 1, 2)])
         self.assertEqual(Search([b"abcd", b"bc"], LONGEST).findall(b"abcabcd"), [Match(1, 1, 3), Match(0, 3, 7)])
@@ -115,6 +122,7 @@ class Rows(unittest.TestCase):
                     self.assertEqual(list(searcher.finditer_overlapping(text, start, end=end)), wanted)
                     self.assertEqual(searcher.count_overlapping(text, start, end=end), len(wanted))
                     self.assertEqual(searcher.find_earliest(text, start, end=end), (*wanted, None)[0])
+                    self.assertEqual(list(searcher.finditer_earliest(text, start, end=end)), wanted)
 
     def test_many_pages(self):
         for text in (b"ab" * 30000, "äb" * 30000):
@@ -296,6 +304,18 @@ class Overlapping(unittest.TestCase):
                     self.assertEqual(searcher.find_earliest(text), (0, end - 8, end))
                     self.assertEqual(searcher.find_earliest(text, cut + at + 1), (1, end - 3, end))
                     self.assertIsNone(searcher.find_earliest(text, 0, end - 1))
+
+    def test_one_earliest_after_another(self):
+        chance = random.Random(1)
+        for letters in ("ab", "äb"):
+            for _ in range(200):
+                words = ["".join(chance.choices(letters, k=chance.randint(1, 4))) for _ in range(3)]
+                text, searcher = "".join(chance.choices(letters, k=20)), Search(words)
+                found, at = [], 0
+                while (match := searcher.find_earliest(text, at)) is not None:
+                    found.append(match)
+                    at = match.end
+                self.assertEqual(list(searcher.finditer_earliest(text)), found, (words, text))
 
     def test_a_long_pattern(self):
         """A page lists again what lies in as many bytes as the longest pattern has, and must not do so for a few more."""

@@ -16,6 +16,7 @@ many: List[List[Match[bytes]]] = of_bytes.findall_each([b"text", array("B")])
 every: List[Match[str]] = of_str.find_overlapping("text")
 each: Iterator[Match[bytes]] = of_bytes.finditer_overlapping(b"text")
 earliest: Optional[Match[str]] = of_str.find_earliest("text", 1)
+in_turn: Iterator[Match[bytes]] = of_bytes.finditer_earliest(b"text", end=2)
 matched: str = every[0].group()
 pattern, start, end = every[0]
 of_a_mapping: "Search[str]" = Search({"a": 1})
