@@ -8,23 +8,15 @@ from workspace import TOP
 MOST, SECONDS = 200, 60
 
 
-def kit_tool(name):
-    """The words by which a tool of the kit is called."""
-    doc = subprocess.run(["rt", "doc"], stdin=subprocess.DEVNULL, capture_output=True, text=True, check=True).stdout
-    target = ["--target=x86_64-unknown-linux-gnu"] if name == "clang" else []
-    return [os.path.join(os.path.dirname(doc.strip()), "toolchain", "bin", name), *target]
-
-
 class Refuser:
-    """The library, compiled by the kit into a folder, where a mark shows that a request was refused."""
+    """The library, compiled into a folder, where a mark shows that a request was refused."""
 
     def __init__(self, folder):
         self.folder = folder
         self.library, self.mark = os.path.join(folder, "refuse.so"), os.path.join(folder, "refused")
-        source, made = os.path.join(TOP, "checks", "refuse.c"), f"{self.library}.o"
-        compiled = [*kit_tool("clang"), "-O1", "-fPIC", "-fno-builtin", "-c", source, "-o", made]
-        for words in (compiled, [*kit_tool("ld.lld"), "-shared", "-o", self.library, made]):
-            subprocess.run(words, stdin=subprocess.DEVNULL, check=True)
+        source = os.path.join(TOP, "checks", "refuse.c")
+        words = ["cc", "-O1", "-fPIC", "-fno-builtin", "-shared", "-nostdlib", source, "-o", self.library]
+        subprocess.run(words, stdin=subprocess.DEVNULL, check=True)
 
     def run(self, words, request, **how):
         """The status of a program of which this request is refused, what it said, and whether one was."""

@@ -28,7 +28,9 @@ CITATIONS = re.compile(
 
 # Folders that are not read, by their paths from the top: git's own, what is built, and what Python keeps of the checks.
 # Elsewhere a folder of such a name is one of proofs, of a function that is called so.
-NOT_READ = re.compile(r"\.git|(?:crates/\w+/|bindings/)?out|(?:checks|bindings/(?:c|\w+/\w+))/__pycache__|.*\.so")
+NOT_READ = re.compile(
+    r"\.git|dist/x86_64-linux-gnu|(?:crates/\w+/|bindings/)?out|(?:checks|bindings/(?:c|\w+/\w+))/__pycache__|.*\.so"
+)
 
 LONGEST_FILE, LONGEST_README = 800, 130
 WIDE = re.compile(r"^.{121,}")
@@ -88,7 +90,7 @@ def sizes(texts):
         most = LONGEST_README if path == "README.md" else LONGEST_FILE
         if path.endswith((".rt", ".antt", "README.md")) and len(text.splitlines()) > most:
             yield f"{path} has {len(text.splitlines())} lines"
-        if path.endswith((".rt", ".antt", ".md")) or path.startswith("checks/") or path == "test":
+        if path.endswith((".rt", ".antt", ".md")) or path.startswith(("checks/", "dist/")) or path == "test":
             for number, line in lines_with(WIDE, text):
                 if not (path.endswith(".md") and line.startswith(("|", "#"))):
                     yield f"{path}:{number}: more than 120 columns"

@@ -8,6 +8,7 @@ import subprocess
 from pathlib import Path
 
 TOP = os.path.dirname(os.path.dirname(os.path.abspath(__file__)))
+DIST = os.path.join(TOP, "dist", "x86_64-linux-gnu")
 MEMORY_OF_A_PROOF = 2e9
 
 
@@ -63,6 +64,17 @@ def copy_with_kept(source, target, leave_out=None):
         (link_or_copy if parts[:1] + parts[2:3] == ("crates", "out") else shutil.copy)(file, to)
 
     shutil.copytree(source, target, ignore=leave_out, copy_function=link_or_copy_of, dirs_exist_ok=True)
+
+
+def is_dist_current():
+    """Whether dist/ was built from the sources as they stand."""
+    digest = run([os.path.join(TOP, "dist", "digest")]).stdout
+    return Path(DIST, "BUILT_FROM").read_text("ascii").startswith(f"sources {digest}")
+
+
+def has_kept(crate):
+    """Whether checks of a crate kept work."""
+    return os.path.isdir(f"{TOP}/crates/{crate}/out/incremental")
 
 
 def is_built(program):

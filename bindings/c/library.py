@@ -4,6 +4,7 @@ import re
 from pathlib import Path
 
 BINDINGS = Path(__file__).resolve().parent.parent
+DIST = BINDINGS.parent / "dist/x86_64-linux-gnu"
 HEADER = re.sub(r"/\*.*?\*/", "", (BINDINGS / "c/literal_search.h").read_text("utf-8"), flags=re.S)
 TYPES = {
     "uint32_t": ctypes.c_uint32,
@@ -38,8 +39,8 @@ Match, Page, Answer = (TYPES[f"literal_{name}"] for name in ("match", "page", "a
 
 
 def load():
-    """The shared library in bindings/out."""
-    library = ctypes.CDLL(str(BINDINGS / "out/libliteral_search.so"))
+    """The shared library, where bindings/test installs it."""
+    library = ctypes.CDLL(str(BINDINGS / "out/lib/libliteral_search.so"))
     for name, (result, parameters) in FUNCTIONS.items():
         function = getattr(library, name)
         function.argtypes, function.restype = [type_of(it) for it, _ in parameters], type_of(result)

@@ -1,5 +1,5 @@
 """Compiles the header and the programs in C, and runs them: under the sanitizers, with little stack, on an older
-processor. Then builds all of it elsewhere. It takes bindings/out/."""
+processor. It takes the library of dist/, and the shared one from where bindings/test installs it."""
 import os
 import shutil
 import subprocess
@@ -9,7 +9,8 @@ import unittest
 from pathlib import Path
 
 HERE = Path(__file__).resolve().parent
-LIBRARY = HERE.parent / "out" / "libliteral_search.a"
+LIBRARY = HERE.parents[1] / "dist/x86_64-linux-gnu/libliteral_search.a"
+SHARED = HERE.parent / "out/lib/libliteral_search.so"
 WARNINGS = ["-Wall", "-Wextra", "-Wpedantic", "-Wconversion", "-Werror", f"-I{HERE}"]
 SANITIZED = ["-g", "-fsanitize=address,undefined", "-fno-sanitize-recover=all"]
 ALONE = ["-fsyntax-only", "-include", "literal_search.h", "/dev/null"]
@@ -92,14 +93,14 @@ class Find(unittest.TestCase):
     def test_only_the_header_s_names_are_shown(self):
         names = set(run("sed", "-n", r"s/^u\?int32_t \(literal_\w*\)(.*/\1/p", f"{HERE}/literal_search.h")[1].split())
         self.assertGreater(len(names), 9)
-        for words in (("-g", LIBRARY), ("-D", LIBRARY.with_suffix(".so"))):
+        for words in (("-g", LIBRARY), ("-D", SHARED)):
             listed = run("nm", "--defined-only", *map(str, words))[1].splitlines()
             self.assertEqual({it.split()[2] for it in listed if " " in it}, names)
 
     def test_older_processors_are_refused(self):
         """The loader reads the mark that GNU ld takes over from the library."""
         find = self.compiled("find")
-        for file in (find, str(LIBRARY.with_suffix(".so"))):
+        for file in (find, str(SHARED)):
             self.assertRegex(run("readelf", "-n", file)[1], "x86 ISA needed: .*x86-64-v2")
         if shutil.which("qemu-x86_64"):
             status, said = run("qemu-x86_64", "-cpu", "core2duo", find, "a", text=TEXT)
@@ -112,34 +113,14 @@ class Build(unittest.TestCase):
         self.addCleanup(room.cleanup)
         self.room = Path(room.name, "a folder")
 
-    def test_in_a_folder_with_a_space(self):
-        """What a second build makes takes the place of the first: nobody writes into files that programs may run by."""
-        built = shutil.ignore_patterns("out", "*.so", "__pycache__")
-        shutil.copytree(HERE.parent, self.room / "bindings", ignore=built)
-        for licence in ("LICENSE-MIT", "UNLICENSE"):
-            shutil.copy(HERE.parents[1] / licence, self.room)
-        build = [sys.executable, str(self.room / "bindings/build"), "--no-proof", str(LIBRARY)]
-        uses = "import literal_search as it; print(it.Search([b'b']).find(b'ab').start)"
-        given, nodes = {**PLAIN, "CC": "gcc -O2", "PYTHONPATH": str(self.room / "bindings/python")}, []
-        (self.room / "kept").mkdir()
-        for turn in range(2):
-            status, said = run(*build, env=given)
-            self.assertEqual(status, 0, said)
-            self.assertEqual(run(sys.executable, "-B", "-c", uses, env=given, cwd="/"), (0, "1\n"))
-            for file in (*self.room.glob("bindings/out/*.so.0"), *self.room.glob("bindings/python/*/*.so")):
-                nodes.append(file.stat().st_ino)
-                os.link(file, self.room / "kept" / f"{turn} {file.name}")  # (so that its number is not given again)
-        self.assertEqual(len(set(nodes)), 4)
-
     def test_what_is_missing(self):
-        tools = ("rt", "cc", "ld", "objcopy", "ar", "nm")
+        tools = ("rt", "ld", "objcopy", "strip", "ar", "nm")
         for name in tools:
             folder = self.room / f"no {name}"
             folder.mkdir(parents=True)
             for other in set(tools) - {name}:
-                (folder / other).symlink_to(shutil.which(other))
-            given = {name: value for name, value in PLAIN.items() if name != "CC"}
-            status, said = run(sys.executable, str(HERE.parent / "build"), env={**given, "PATH": str(folder)})
+                (folder / other).symlink_to("/bin/true")
+            status, said = run(sys.executable, str(LIBRARY.parents[1] / "build"), env={**PLAIN, "PATH": str(folder)})
             self.assertEqual(status, 1)
             self.assertRegex(said, rf"\Abuild: {name} is missing: .*\n\Z")
 
@@ -147,7 +128,7 @@ class Build(unittest.TestCase):
         (self.room / "python").mkdir(parents=True)
         shutil.copy(HERE.parent / "python/setup.py", self.room / "python")
         status, said = run(sys.executable, "setup.py", "build", cwd=self.room / "python")
-        why = f"{self.room.parent}/dist/x86_64-linux-gnu/libliteral_search.a is not there: run bindings/build first\n"
+        why = f"{self.room.parent}/dist/x86_64-linux-gnu/libliteral_search.a is not there: run dist/build first\n"
         self.assertEqual((status, said), (1, why))
 
 

@@ -1,5 +1,5 @@
-"""Installs and removes what ./install does, from a folder like dist/x86_64-linux-gnu with the library of bindings/out/
-and stand-ins for the programs. Compares what is written of options and of the version in several places."""
+"""Installs and removes what ./install does, from a folder like dist/x86_64-linux-gnu with its library and stand-ins for
+the programs. Compares what is written of options and of the version in several places."""
 import os
 import re
 import shlex
@@ -12,7 +12,7 @@ from pathlib import Path
 import library
 
 TOP = library.BINDINGS.parent
-ARCHIVE, INSTALL = TOP / "bindings/out/libliteral_search.a", TOP / "install"
+ARCHIVE, INSTALL = library.DIST / "libliteral_search.a", TOP / "install"
 PAGE, BASH, ZSH, FISH = (TOP / "share" / it for it in (
     "man/man1/litscan.1", "bash-completion/completions/litscan", "zsh/site-functions/_litscan",
     "fish/vendor_completions.d/litscan.fish"))

@@ -1,5 +1,4 @@
-"""Builds the extension on the library that bindings/build made, or else on the one in dist/. What the package is,
-setup.cfg says.
+"""Builds the extension on the library in dist/. What the package is, setup.cfg says.
 
 A source archive gets that library and its header, in a folder `library`, so it is built where the repository is not.
 """
@@ -26,7 +25,7 @@ except ImportError:  # (before setuptools 70.1 it was in the package wheel)
 
 TOP, NAME = Path(__file__).resolve().parent.parent.parent, "libliteral_search.a"
 IN_ARCHIVE = Path("library").is_dir()
-FOLDERS = ["library"] if IN_ARCHIVE else ["../out", "../../dist/x86_64-linux-gnu"]
+LIBRARY = f"library/{NAME}" if IN_ARCHIVE else f"../../dist/x86_64-linux-gnu/{NAME}"
 HEADER = "library/literal_search.h" if IN_ARCHIVE else "../c/literal_search.h"
 GLIBC = 34  # the library needs glibc 2.34
 
@@ -64,17 +63,8 @@ def check_machine():
         sys.exit(f"literal-search: only {target} is supported, and this is {here}")
 
 
-def found_library():
-    """The library, from the first folder that has it."""
-    for folder in FOLDERS:
-        if Path(folder, NAME).is_file():
-            return f"{folder}/{NAME}"
-    sys.exit(f"{TOP}/dist/x86_64-linux-gnu/{NAME} is not there: run bindings/build first")
-
-
 def room():
-    """A folder to build in: beside the library of bindings/build, or where there is none, or it is only to be read, one
-    that is gone at the end."""
+    """A folder to build in: where bindings/test builds, or one that is gone at the end."""
     if not IN_ARCHIVE and os.access("../out", os.W_OK):
         return "../out", None
     made = tempfile.TemporaryDirectory()
@@ -82,10 +72,11 @@ def room():
 
 
 check_machine()
-LIBRARY = found_library()
+if not Path(LIBRARY).is_file():
+    sys.exit(f"{TOP}/dist/x86_64-linux-gnu/{NAME} is not there: run dist/build first")
 if not IN_ARCHIVE:
     for licence in ("LICENSE-MIT", "UNLICENSE"):
-        with suppress(PermissionError):  # (then bindings/build has copied it already)
+        with suppress(PermissionError):  # (then somebody has copied it already)
             shutil.copy(TOP / licence, licence)
 BASE, HELD = room()
 

@@ -63,7 +63,7 @@ class Setup(unittest.TestCase):
         """The wheel runs on every Linux whose C library has what the extension calls."""
         dist = self.room / "dist/x86_64-linux-gnu"
         dist.mkdir(parents=True)
-        shutil.copy(TOP / "bindings/out/libliteral_search.a", dist)
+        shutil.copy(TOP / "dist/x86_64-linux-gnu/libliteral_search.a", dist)
         for name in ("python", "c"):
             source = shutil.ignore_patterns("*.so", "__pycache__")
             shutil.copytree(TOP / "bindings" / name, self.room / "bindings" / name, ignore=source)
@@ -106,7 +106,7 @@ class OlderProcessor(unittest.TestCase):
             self.assert_refused(mark.name)
 
     def test_refused_by_the_extension(self):
-        self.assert_refused("-D__builtin_cpu_supports(of)=0", "_native.c", TOP / "bindings/out/libliteral_search.a")
+        self.assert_refused("-D__builtin_cpu_supports(of)=0", "_native.c", TOP / "dist/x86_64-linux-gnu/libliteral_search.a")
 
 
 if __name__ == "__main__":
