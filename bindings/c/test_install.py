@@ -78,6 +78,7 @@ class Install(unittest.TestCase):
         self.assertEqual(run(self.room / "link", "--from", self.given, "a folder", cwd=self.room)[0], 0)
         self.assertEqual(set(self.installed()), {*FILES, "bin/other"})
         self.assertEqual(run(self.prefix / "bin/litscan"), (0, "litscan\n"))
+        self.assertIn(f"prefix={self.prefix}\n", read(self.prefix / "lib/pkgconfig/literal_search.pc"))
         self.assertEqual(os.readlink(self.prefix / "lib/libliteral_search.so"), "libliteral_search.so.0")
         self.assertEqual(run(self.room / "link", "--uninstall", "a folder", cwd=self.room)[0], 0)
         self.assertEqual(set(self.installed()), {"bin/other"})
