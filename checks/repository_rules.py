@@ -29,7 +29,8 @@ CITATIONS = re.compile(
 # Folders that are not read, by their paths from the top: git's own, what is built, and what Python keeps of the checks.
 # Elsewhere a folder of such a name is one of proofs, of a function that is called so.
 NOT_READ = re.compile(
-    r"\.git|dist/x86_64-linux-gnu|(?:crates/\w+/|bindings/)?out|(?:checks|bindings/(?:c|\w+/\w+))/__pycache__|.*\.so"
+    r"\.git|dist/x86_64-linux-gnu|(?:crates/\w+/|bindings/)?out|bindings/rust/target"
+    r"|(?:checks|bindings/(?:c|\w+/\w+))/__pycache__|.*\.so"
 )
 
 LONGEST_FILE, LONGEST_README = 800, 130
