@@ -99,9 +99,11 @@ class Install(unittest.TestCase):
         home = {**PLAIN, "HOME": str(self.room / "home")}
         self.assertIn("add " + str(self.room / "home/.local/bin"), self.install(env=home))
         self.assertEqual(set(self.installed(self.room / "home/.local")), set(FILES))
-        self.install("/usr", env={**PLAIN, "DESTDIR": str(self.room / "package")})
-        self.assertEqual(set(self.installed(self.room / "package/usr")), set(FILES))
-        self.assertIn("prefix=/usr\n", read(self.room / "package/usr/lib/pkgconfig/literal_search.pc"))
+        self.install(self.prefix, env={**PLAIN, "DESTDIR": str(self.room / "package")})
+        self.assertFalse(self.prefix.exists())
+        packed = Path(f"{self.room}/package{self.prefix}")
+        self.assertEqual(set(self.installed(packed)), set(FILES))
+        self.assertIn(f"prefix={self.prefix}\n", read(packed / "lib/pkgconfig/literal_search.pc"))
 
     @unittest.skipUnless(shutil.which("pkg-config"), "there is no pkg-config")
     def test_pkg_config(self):
@@ -152,7 +154,7 @@ class Install(unittest.TestCase):
         status, said = run(INSTALL, "--from", self.given, self.prefix)
         self.assertEqual((status, said), (1, f"install: {self.given}/litfind is not there\n"))
         self.assertFalse(self.prefix.exists())
-        for words in (["--from"], ["--prefix=/usr"], ["/usr", "/usr/local"]):
+        for words in (["--from"], ["--prefix=usr"], [self.prefix, self.prefix]):
             status, said = run(INSTALL, *words, env=self.path_of(*TOOLS))
             self.assertEqual(status, 2)
             self.assertRegex(said, r"\Ainstall: usage: .*\n\Z")
