@@ -1,6 +1,7 @@
-//! The most patterns that any builder keeps.
+//! Builders that keep nothing yet, and the most patterns that any builder keeps.
 use literal_packed::{Builder, Config, Searcher};
 use literal_prefilters::{Match, Span};
+use literal_search::{Search, SearchBuilder};
 use std::alloc::{AllocError, Global};
 use std::process::Abort;
 use std::test::Fail;
@@ -44,4 +45,18 @@ fn searches_for_65535_patterns(rt: HostRuntime) -> Result<(), Fail> {
     let nothing = built(&builder)?;
     assert!(rt; builder.len() == 0 && nothing.is_none());
     Ok(())
+}
+
+/// How many patterns a builder keeps, and the length of the shortest.
+fn lengths(builder: Builder) -> (usize, usize) {
+    (builder.len(), builder.minimum_len())
+}
+
+#[test]
+fn builders_begin_with_nothing(rt: HostRuntime) {
+    assert!(rt; lengths(Searcher::builder(rt.alloc())) == (0, usize::MAX));
+    assert!(rt; lengths(Searcher::config().builder(rt.alloc())) == (0, usize::MAX));
+    assert!(rt; lengths(Config::default().builder(rt.alloc())) == (0, usize::MAX));
+    assert!(rt; Config::DEFAULT_PATTERN_LIMIT == 128);
+    assert!(rt; SearchBuilder::default() == Search::builder());
 }
