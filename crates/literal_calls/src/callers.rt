@@ -1,11 +1,10 @@
-//! The callers of `literal_examples`, each run once, and laws that make a call.
+//! The callers of `literal_examples` and of `literal_promise`, each run once.
 mod any_list;
 mod classes;
 mod copies;
 mod counts;
 mod given;
 mod inputs;
-mod laws;
 mod replacing;
 mod together;
 mod uses;

@@ -1,5 +1,5 @@
-//! Each public call made once with ample memory, at each of its paths, and what rows of data can't say of it: copies,
-//! configurations, iterations that have ended, texts; and the examples. Worked cases are rows of data.
+//! The examples, the callers of `literal_examples`, and the public calls that neither a row of data (`worked_cases`)
+//! nor a test of refused memory (`refused_memory`) makes, each run once with ample memory.
 #![tactic(auto)]
 
 #[cfg(test)]
@@ -15,17 +15,11 @@ mod fingerprints;
 #[cfg(test)]
 mod identifiers;
 #[cfg(test)]
+mod made;
+#[cfg(test)]
 mod paths;
 #[cfg(test)]
-mod pattern_lists;
-#[cfg(test)]
-mod prefilters;
-#[cfg(test)]
 mod prepared;
-#[cfg(test)]
-mod prepared_linear;
-#[cfg(test)]
-mod rabin_karp;
 #[cfg(test)]
 mod replacing;
 #[cfg(test)]

@@ -1,7 +1,6 @@
 //! Texts of which more may follow, and texts that are read piece by piece.
-use literal_search::{
-    BuildError, Match, MatchKind, ReplaceStreamError, Search, SoFar, Span, Tally,
-};
+use crate::made::{first_of, longest_of};
+use literal_search::{Match, MatchKind, ReplaceStreamError, Search, SoFar, Span, Tally};
 use std::alloc::Global;
 use std::io::{self, ErrorKind, Read, Write};
 use std::process::Abort;
@@ -41,8 +40,7 @@ fn example_of_a_stream(rt: HostRuntime) -> Result<(), Fail> {
 
 #[test]
 fn tells_what_is_known_so_far(rt: HostRuntime) -> Result<(), Fail> {
-    let words = [b"ab".as_slice(), b"abcd"];
-    let search = Search::new(rt.alloc(), MatchKind::LeftmostLongest, false, words)?;
+    let search = longest_of(rt.alloc(), &[b"ab", b"abcd"])?;
     assert!(rt; search.max_pattern_len() == 4);
     assert!(rt; search.find_so_far(b"xab", 0) == SoFar::NoneBefore(0));
     assert!(rt; search.find_so_far(b"xabc", 1) == SoFar::NoneBefore(1));
@@ -75,8 +73,7 @@ fn assert_same(rt: &impl Abort, alloc: Global, search: &Search, text: &[u8], ste
 
 #[test]
 fn pieces_make_no_difference(rt: HostRuntime) -> Result<(), Fail> {
-    let words = [b"abcd".as_slice(), b"bc", b"da"];
-    let search = Search::new(rt.alloc(), MatchKind::LeftmostLongest, false, words)?;
+    let search = longest_of(rt.alloc(), &[b"abcd", b"bc", b"da"])?;
     let mut text = Vec::new(rt.alloc());
     for _ in 0..20_000 {
         text.extend_from_slice(b"xabcdabxbcda")?;
@@ -87,37 +84,10 @@ fn pieces_make_no_difference(rt: HostRuntime) -> Result<(), Fail> {
     Ok(())
 }
 
-#[test]
-fn a_failed_read_ends_it(rt: HostRuntime) -> Result<(), Fail> {
-    let search = Search::new(
-        rt.alloc(),
-        MatchKind::LeftmostFirst,
-        false,
-        [b"ab".as_slice()],
-    )?;
-    let pieces = Pieces {
-        rest: b"xabxxxxxxab",
-        step: 4,
-        failing: Some(3),
-    };
-    let mut matches = search.find_stream(rt.alloc(), pieces)?;
-    let first = Match::must(0, Span { start: 1, end: 3 });
-    assert!(rt; matches.next().ok_or("nothing is found")?? == first);
-    assert!(rt; matches.next().is_some_and(|next| next.is_err()));
-    assert!(rt; matches.next().is_none());
-    Ok(())
-}
-
-/// A search for `abcd` and `bc`, the first of them.
-fn of_two(alloc: Global) -> Result<Search, BuildError> {
-    let words = [b"abcd".as_slice(), b"bc"];
-    Search::new(alloc, MatchKind::LeftmostFirst, false, words)
-}
-
 /// With few bytes read, where it would read more before it searches.
 #[test]
 fn known_matches_come_before_an_error(rt: HostRuntime) -> Result<(), Fail> {
-    let search = of_two(rt.alloc())?;
+    let search = first_of(rt.alloc(), &[b"abcd", b"bc"])?;
     let pieces = Pieces {
         rest: b"xabcdabc?",
         step: 3,
@@ -174,8 +144,7 @@ fn assert_written(
 
 #[test]
 fn pieces_are_written_as_the_whole(rt: HostRuntime) -> Result<(), Fail> {
-    let words = [b"abcd".as_slice(), b"bc", b"da"];
-    let search = Search::new(rt.alloc(), MatchKind::LeftmostLongest, false, words)?;
+    let search = longest_of(rt.alloc(), &[b"abcd", b"bc", b"da"])?;
     let mut text = Vec::new(rt.alloc());
     for _ in 0..9_000 {
         text.extend_from_slice(b"xabcdabxbcda")?;
@@ -207,7 +176,7 @@ impl Write for Narrow {
 #[test]
 fn what_is_known_is_written_before_an_error(rt: HostRuntime) -> Result<(), Fail> {
     let alloc = rt.alloc();
-    let search = of_two(alloc)?;
+    let search = first_of(alloc, &[b"abcd", b"bc"])?;
     let mut pieces = Pieces {
         rest: b"xabcdabc?",
         step: 3,
@@ -222,7 +191,7 @@ fn what_is_known_is_written_before_an_error(rt: HostRuntime) -> Result<(), Fail>
 
 #[test]
 fn a_failed_write_ends_it(rt: HostRuntime) -> Result<(), Fail> {
-    let (alloc, search) = (rt.alloc(), of_two(rt.alloc())?);
+    let (alloc, search) = (rt.alloc(), first_of(rt.alloc(), &[b"abcd", b"bc"])?);
     let (mut text, mut narrow) = (b"xabcd".as_slice(), Narrow { room: 2 });
     let full = search.replace_stream(alloc, &mut text, &mut narrow, &[b"12", b"3"]);
     assert!(rt; matches!(full, Err(ReplaceStreamError::WriteFailed(_))));

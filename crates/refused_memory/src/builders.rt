@@ -9,21 +9,52 @@ fn three() -> [&'static [u8]; 3] {
     [b"foo", b"bar", b"baz"]
 }
 
+/// What a builder builds.
+fn searcher_of(builder: &Builder) -> Result<Option<Searcher>, AllocError> {
+    builder.build()
+}
+
+/// The same, where no request is refused.
+fn built(rt: &impl Abort, builder: &Builder) -> Option<Searcher> {
+    searcher_of(builder).expect(rt, "a second request was refused")
+}
+
+/// A copy of a builder. No request is refused.
+fn copied(rt: &impl Abort, builder: &Builder) -> Builder {
+    builder
+        .try_clone()
+        .expect(rt, "a second request was refused")
+}
+
+/// Whether a word is found in itself.
+fn finds(searcher: &Searcher, word: &[u8]) -> bool {
+    searcher.find(word).is_some()
+}
+
+/// Whether a word is added.
+fn is_added(builder: &mut Builder, word: &[u8]) -> bool {
+    builder.add(word).is_ok()
+}
+
+/// Whether the three words are added.
+fn are_added(builder: &mut Builder) -> bool {
+    builder.extend(three()).is_ok()
+}
+
 /// The searcher finds just the first of three words.
 fn assert_finds(rt: &impl Abort, searcher: &Searcher, count: usize) {
-    let words = three();
-    for number in 0..3 {
-        assert!(rt; searcher.find(words[number]).is_some() == (number < count));
+    for (number, word) in three().iter().enumerate() {
+        assert!(rt; finds(searcher, word) == (number < count));
     }
 }
 
-/// The builder keeps just the first of three words, each once. No request is refused.
+/// The builder keeps just the first of three words, each once.
 fn assert_keeps(rt: &impl Abort, builder: &Builder, count: usize) {
-    assert!(rt; builder.len() == count);
-    assert!(rt; builder.minimum_len() == if count == 0 { usize::MAX } else { 3 });
-    let built = builder.build().expect(rt, "a second request was refused");
-    assert!(rt; built.is_some() == (count > 0));
-    if let Some(searcher) = built {
+    let minimum_len = if count == 0 { usize::MAX } else { 3 };
+    assert!(rt; (builder.len(), builder.minimum_len()) == (count, minimum_len));
+    let searcher = built(rt, builder);
+    assert!(rt; searcher.is_some() == (count > 0));
+    if let Some(searcher) = searcher {
         assert_finds(rt, &searcher, count);
     }
 }
@@ -31,19 +62,16 @@ fn assert_keeps(rt: &impl Abort, builder: &Builder, count: usize) {
 /// The same of a builder to which a request was refused before, and of a copy.
 fn assert_keeps_still(rt: &impl Abort, builder: &Builder, count: usize) {
     assert_keeps(rt, builder, count);
-    let copy = builder
-        .try_clone()
-        .expect(rt, "a second request was refused");
-    assert_keeps(rt, &copy, count);
+    assert_keeps(rt, &copied(rt, builder), count);
 }
 
 /// Adds one of the words to a builder that keeps those before it.
 fn adds(rt: &impl Abort, builder: &mut Builder, kept: usize) {
     assert!(rt; kept < 3);
     let word = three()[kept];
-    if builder.add(word).is_err() {
+    if !is_added(builder, word) {
         assert_keeps_still(rt, builder, kept);
-        assert!(rt; builder.add(word).is_ok());
+        assert!(rt; is_added(builder, word));
         assert_keeps_still(rt, builder, kept + 1);
     }
     assert!(rt; builder.len() == kept + 1);
@@ -59,11 +87,9 @@ fn add_of_builder(rt: HostRuntime) {
 
 /// Extends a builder that keeps some words by all three, after which it finds the last of these.
 fn extends_again(rt: &impl Abort, builder: &mut Builder, kept: usize) {
-    assert!(rt; kept < 3);
-    assert!(rt; builder.extend(three()).is_ok());
+    assert!(rt; kept < 3 && are_added(builder));
     assert!(rt; builder.len() == kept + 3);
-    let built = builder.build().expect(rt, "a second request was refused");
-    let searcher = built.expect(rt, "nothing is built");
+    let searcher = built(rt, builder).expect(rt, "nothing is built");
     assert_place(rt, searcher.find(b"xbaz"), kept + 2, (1, 4));
 }
 
@@ -71,7 +97,7 @@ fn extends_again(rt: &impl Abort, builder: &mut Builder, kept: usize) {
 #[test]
 fn extend(rt: HostRuntime) {
     let mut builder = Builder::new(rt.alloc());
-    if builder.extend(three()).is_ok() {
+    if are_added(&mut builder) {
         assert!(rt; builder.len() == 3);
         return;
     }
@@ -86,25 +112,37 @@ fn assert_finds_longest(rt: &impl Abort, searcher: &Searcher) {
     assert_place(rt, searcher.find(b"xbcd"), 2, (1, 4));
 }
 
-#[test]
-fn build(rt: HostRuntime) -> Result<(), AllocError> {
+/// A builder of 24 words, the longest of which is to be found.
+fn of_words(alloc: Global) -> Result<Builder, AllocError> {
     let mut builder = Config::new()
         .match_kind(MatchKind::LeftmostLongest)
-        .builder(rt.alloc());
+        .builder(alloc);
     builder.extend(words())?;
-    let built = match builder.build() {
-        Ok(built) => built,
-        Err(_) => builder.build().expect(&rt, "it was refused again"),
+    Ok(builder)
+}
+
+#[test]
+fn build(rt: HostRuntime) -> Result<(), AllocError> {
+    let builder = of_words(rt.alloc())?;
+    let searcher = match searcher_of(&builder) {
+        Ok(searcher) => searcher,
+        Err(_) => built(&rt, &builder),
     };
     assert!(rt; builder.len() == 24 && builder.minimum_len() == word(0).len());
-    assert_finds_longest(&rt, &built.expect(&rt, "nothing is built"));
+    assert_finds_longest(&rt, &searcher.expect(&rt, "nothing is built"));
     Ok(())
+}
+
+/// A builder of the first two words.
+fn of_two(alloc: Global) -> Result<Builder, AllocError> {
+    let mut builder = Builder::new(alloc);
+    builder.extend([three()[0], three()[1]])?;
+    Ok(builder)
 }
 
 #[test]
 fn try_clone_of_builder(rt: HostRuntime) -> Result<(), AllocError> {
-    let mut builder = Builder::new(rt.alloc());
-    builder.extend([three()[0], three()[1]])?;
+    let builder = of_two(rt.alloc())?;
     match builder.try_clone() {
         Ok(copy) => assert!(rt; copy.len() == 2),
         Err(_) => assert_keeps_still(&rt, &builder, 2),

@@ -1,9 +1,9 @@
 //! Calls of `ConfirmingSearch`.
 use crate::made::{assert_place, words_with_a_table, words_without_a_table};
-use literal_prefilters::Span;
 use literal_prefilters::count::Tally;
 use literal_prefilters::packed::MatchKind;
 use literal_prefilters::prefilter::ConfirmingSearch;
+use literal_prefilters::{Match, Span};
 use std::alloc::{AllocError, Global};
 use std::process::Abort;
 
@@ -36,14 +36,18 @@ fn builds(rt: &impl Abort, alloc: Global, by_table: bool) {
     assert_finds(rt, &search, by_table);
 }
 
+/// All matches of a haystack.
+fn list(search: &ConfirmingSearch) -> Result<Vec<Match>, AllocError> {
+    search.find_all(b"qqaxeaxe", &mut Tally::new())
+}
+
 fn lists(rt: &impl Abort, alloc: Global, by_table: bool) -> Result<(), AllocError> {
-    let (search, haystack) = (built(rt, alloc, by_table)?, b"qqaxeaxe");
-    let all = match search.find_all(haystack, &mut Tally::new()) {
+    let search = built(rt, alloc, by_table)?;
+    let all = match list(&search) {
         Ok(all) => all,
         Err(_) => {
             assert_finds(rt, &search, by_table);
-            let again = search.find_all(haystack, &mut Tally::new());
-            again.expect(rt, "it was refused again")
+            list(&search).expect(rt, "it was refused again")
         }
     };
     assert!(rt; all.len() == 2);

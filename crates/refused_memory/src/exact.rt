@@ -28,24 +28,38 @@ fn assert_finds(rt: &impl Abort, pre: &Prefilter) {
     assert_place(rt, matched(candidate), 0, (2, 4));
 }
 
+/// What a builder builds.
+fn prefilter_of(builder: &Builder) -> Result<Option<Prefilter>, AllocError> {
+    builder.build()
+}
+
+/// A copy of a prefilter.
+fn copied(pre: &Prefilter) -> Result<Prefilter, AllocError> {
+    pre.try_clone()
+}
+
 /// Builds a prefilter for so many patterns.
 fn builds(rt: &impl Abort, alloc: Global, count: usize) -> Result<(), AllocError> {
     let builder = builder(alloc, count)?;
-    let built = match builder.build() {
-        Ok(built) => built,
-        Err(_) => builder.build().expect(rt, "it was refused again"),
+    let pre = match prefilter_of(&builder) {
+        Ok(pre) => pre,
+        Err(_) => prefilter_of(&builder).expect(rt, "it was refused again"),
     };
-    assert_finds(rt, &built.expect(rt, "there is no prefilter"));
+    assert_finds(rt, &pre.expect(rt, "there is no prefilter"));
     Ok(())
+}
+
+/// The prefilter for so many patterns.
+fn prefilter(alloc: Global, count: usize) -> Result<Option<Prefilter>, AllocError> {
+    prefilter_of(&builder(alloc, count)?)
 }
 
 /// Copies a prefilter for so many patterns.
 fn clones(rt: &impl Abort, alloc: Global, count: usize) -> Result<(), AllocError> {
-    let pre = builder(alloc, count)?.build()?;
-    let pre = pre.expect(rt, "there is no prefilter");
-    let copy = match pre.try_clone() {
+    let pre = prefilter(alloc, count)?.expect(rt, "there is no prefilter");
+    let copy = match copied(&pre) {
         Ok(copy) => copy,
-        Err(_) => pre.try_clone().expect(rt, "it was refused again"),
+        Err(_) => copied(&pre).expect(rt, "it was refused again"),
     };
     assert_finds(rt, &pre);
     assert_finds(rt, &copy);

@@ -1,6 +1,5 @@
-//! Requests for memory that are refused: tests of the calls that take memory, and of those that take
-//! none. `checks/refusals` runs each again and again, each time with another request refused, until a run has
-//! none refused.
+//! Each call that takes memory, made with ample memory, and with its requests for memory refused: `checks/refusals`
+//! runs each test again and again, each time with another request refused, until a run has none refused.
 //!
 //! Where a request is refused to the call, the call fails, what it was called on answers as before, and the same
 //! call succeeds afterwards. Where one is refused to what the call needs, the test ends with that error.
@@ -15,8 +14,6 @@ mod confirming;
 mod exact;
 #[cfg(test)]
 mod made;
-#[cfg(test)]
-mod no_memory;
 #[cfg(test)]
 mod pattern_lists;
 #[cfg(test)]

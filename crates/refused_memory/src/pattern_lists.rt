@@ -12,55 +12,15 @@ use literal_prefilters::packed::rabinkarp::RabinKarp;
 use std::alloc::{AllocError, Global};
 use std::process::Abort;
 
-/// What a collection of the first words tells: its kind, the order in which they are tried, the length of the
-/// shortest one, and that of all together.
-struct Expected {
-    kind: MatchKind,
-    order: &'static [usize],
-    minimum_len: usize,
-    total: u128,
-}
-
-const OF_NONE: Expected = Expected {
-    kind: MatchKind::LeftmostFirst,
-    order: &[],
-    minimum_len: usize::MAX,
-    total: 0,
-};
-
-const OF_ONE: Expected = Expected {
-    kind: MatchKind::LeftmostFirst,
-    order: &[0],
-    minimum_len: 1,
-    total: 1,
-};
-
-const OF_TWO: Expected = Expected {
-    kind: MatchKind::LeftmostFirst,
-    order: &[0, 1],
-    minimum_len: 1,
-    total: 3,
-};
-
-/// 21 words, in the order in which they were added.
-const AS_ADDED: Expected = Expected {
-    kind: MatchKind::LeftmostFirst,
-    order: &[
-        0, 1, 2, 3, 4, 5, 6, 7, 8, 9, 10, 11, 12, 13, 14, 15, 16, 17, 18, 19, 20,
-    ],
-    minimum_len: 1,
-    total: 42,
-};
+/// The first 21 words, in the order in which they were added.
+const AS_ADDED: [usize; 21] = [
+    0, 1, 2, 3, 4, 5, 6, 7, 8, 9, 10, 11, 12, 13, 14, 15, 16, 17, 18, 19, 20,
+];
 
 /// The same words, longer ones first.
-const LONGEST_FIRST: Expected = Expected {
-    kind: MatchKind::LeftmostLongest,
-    order: &[
-        2, 5, 8, 11, 14, 17, 20, 1, 4, 7, 10, 13, 16, 19, 0, 3, 6, 9, 12, 15, 18,
-    ],
-    minimum_len: 1,
-    total: 42,
-};
+const LONGEST_FIRST: [usize; 21] = [
+    2, 5, 8, 11, 14, 17, 20, 1, 4, 7, 10, 13, 16, 19, 0, 3, 6, 9, 12, 15, 18,
+];
 
 /// Whether the pattern of a number is the word of that number, and stands where the word does.
 fn is_word(patterns: &Patterns, number: usize) -> bool {
@@ -73,49 +33,78 @@ fn is_word(patterns: &Patterns, number: usize) -> bool {
     stands && patterns.get(id).len() == word.len()
 }
 
-/// All calls of a collection answer so, and none of them asks for memory.
-fn assert_tells(rt: &impl Abort, patterns: &Patterns, wanted: &Expected) {
-    assert!(rt; *patterns.match_kind() == wanted.kind);
-    assert!(rt; patterns.len() == wanted.order.len());
-    assert!(rt; patterns.is_empty() == wanted.order.is_empty());
-    assert!(rt; patterns.minimum_len() == wanted.minimum_len);
-    assert!(rt; patterns.total_pattern_bytes() == wanted.total);
+/// The words come in this order, and then no more.
+fn assert_order(rt: &impl Abort, patterns: &Patterns, order: &[usize]) {
     let mut items = patterns.iter();
-    for number in wanted.order {
+    for number in order {
         assert!(rt; items.next().is_some_and(|(id, _)| id.as_usize() == *number));
         assert!(rt; is_word(patterns, *number));
     }
     assert!(rt; items.next().is_none());
 }
 
-/// All calls of a collection answer so to which a request was refused before, and so do those of a copy. No other
-/// request is refused.
-fn assert_tells_still(rt: &impl Abort, patterns: &Patterns, wanted: &Expected) {
-    assert_tells(rt, patterns, wanted);
-    let copy = patterns
+/// All calls of a collection of the first words answer so: its kind, the order in which they are tried, and the length
+/// of all together. None of them asks for memory.
+fn assert_tells(
+    rt: &impl Abort,
+    patterns: &Patterns,
+    kind: MatchKind,
+    order: &[usize],
+    total: u128,
+) {
+    assert!(rt; *patterns.match_kind() == kind && patterns.len() == order.len());
+    assert!(rt; patterns.is_empty() == order.is_empty());
+    assert!(rt; patterns.minimum_len() == if order.is_empty() { usize::MAX } else { 1 });
+    assert!(rt; patterns.total_pattern_bytes() == total);
+    assert_order(rt, patterns, order);
+}
+
+/// A copy of a collection. No request is refused.
+fn copied(rt: &impl Abort, patterns: &Patterns) -> Patterns {
+    patterns
         .try_clone()
-        .expect(rt, "a second request was refused");
-    assert_tells(rt, &copy, wanted);
+        .expect(rt, "a second request was refused")
+}
+
+/// All calls of a collection answer so to which a request was refused before, and so do those of a copy.
+fn assert_tells_still(
+    rt: &impl Abort,
+    patterns: &Patterns,
+    kind: MatchKind,
+    order: &[usize],
+    total: u128,
+) {
+    assert_tells(rt, patterns, kind, order, total);
+    assert_tells(rt, &copied(rt, patterns), kind, order, total);
+}
+
+/// Whether a word is added.
+fn is_added(rt: &impl Abort, patterns: &mut Patterns, number: usize) -> bool {
+    assert!(rt; patterns.len() < PatternID::LIMIT);
+    patterns.add(word(number)).is_ok()
 }
 
 /// Adds the next word.
-fn adds(rt: &impl Abort, patterns: &mut Patterns, before: &Expected, after: &Expected) {
-    let word = word(before.order.len());
-    assert!(rt; patterns.len() < PatternID::LIMIT);
-    if patterns.add(word).is_err() {
-        assert_tells_still(rt, patterns, before);
-        assert!(rt; patterns.len() < PatternID::LIMIT);
-        assert!(rt; patterns.add(word).is_ok());
+fn adds(
+    rt: &impl Abort,
+    patterns: &mut Patterns,
+    (before, old): (&[usize], u128),
+    (after, new): (&[usize], u128),
+) {
+    let (kind, number) = (MatchKind::LeftmostFirst, before.len());
+    if !is_added(rt, patterns, number) {
+        assert_tells_still(rt, patterns, kind, before, old);
+        assert!(rt; is_added(rt, patterns, number));
     }
-    assert_tells(rt, patterns, after);
+    assert_tells(rt, patterns, kind, after, new);
 }
 
 /// The first pattern, and the second.
 #[test]
 fn add_of_patterns(rt: HostRuntime) {
     let mut patterns = Patterns::new(rt.alloc());
-    adds(&rt, &mut patterns, &OF_NONE, &OF_ONE);
-    adds(&rt, &mut patterns, &OF_ONE, &OF_TWO);
+    adds(&rt, &mut patterns, (&[], 0), (&[0], 1));
+    adds(&rt, &mut patterns, (&[0], 1), (&[0, 1], 3));
 }
 
 /// 21 words, as they were added.
@@ -128,15 +117,25 @@ fn of_words(rt: &impl Abort, alloc: Global) -> Result<Patterns, AllocError> {
     Ok(patterns)
 }
 
+/// Whether the longest word is now tried first.
+fn is_sorted(patterns: &mut Patterns) -> bool {
+    patterns.set_match_kind(MatchKind::LeftmostLongest).is_ok()
+}
+
 #[test]
 fn set_match_kind_of_patterns(rt: HostRuntime) -> Result<(), AllocError> {
     let mut patterns = of_words(&rt, rt.alloc())?;
-    if patterns.set_match_kind(MatchKind::LeftmostLongest).is_err() {
-        assert_tells_still(&rt, &patterns, &AS_ADDED);
-        assert!(rt; patterns.set_match_kind(MatchKind::LeftmostLongest).is_ok());
+    if !is_sorted(&mut patterns) {
+        assert_tells_still(&rt, &patterns, MatchKind::LeftmostFirst, &AS_ADDED, 42);
+        assert!(rt; is_sorted(&mut patterns));
     }
-    assert_tells(&rt, &patterns, &LONGEST_FIRST);
+    assert_is_sorted(&rt, &patterns);
     Ok(())
+}
+
+/// All calls of the collection of which the longest words are tried first.
+fn assert_is_sorted(rt: &impl Abort, patterns: &Patterns) {
+    assert_tells(rt, patterns, MatchKind::LeftmostLongest, &LONGEST_FIRST, 42);
 }
 
 /// 21 words, longer ones first.
@@ -153,8 +152,11 @@ fn longest_first(rt: &impl Abort, alloc: Global) -> Result<Patterns, AllocError>
 fn try_clone_of_patterns(rt: HostRuntime) -> Result<(), AllocError> {
     let patterns = longest_first(&rt, rt.alloc())?;
     match patterns.try_clone() {
-        Ok(copy) => assert_tells(&rt, &copy, &LONGEST_FIRST),
-        Err(_) => assert_tells_still(&rt, &patterns, &LONGEST_FIRST),
+        Ok(copy) => assert_is_sorted(&rt, &copy),
+        Err(_) => {
+            assert_is_sorted(&rt, &patterns);
+            assert_is_sorted(&rt, &copied(&rt, &patterns));
+        }
     }
     Ok(())
 }
@@ -188,7 +190,7 @@ fn new_and_try_clone_of_rabin_karp(rt: HostRuntime) -> Result<(), AllocError> {
         clones(&rt, &made, &patterns);
         return Ok(());
     }
-    assert_tells_still(&rt, &patterns, &LONGEST_FIRST);
+    assert_is_sorted(&rt, &patterns);
     let made = RabinKarp::new(&patterns, &mut Tally::new());
     assert_finds(&rt, &made.expect(&rt, "it was refused again"), &patterns);
     Ok(())

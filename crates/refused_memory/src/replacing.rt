@@ -74,14 +74,6 @@ fn replace_all_with_of_a_search(rt: HostRuntime) -> Result<(), AllocError> {
     Ok(())
 }
 
-#[test]
-fn an_empty_text_takes_no_memory(rt: HostRuntime) -> Result<(), AllocError> {
-    let built = build(rt.alloc()).or(Err(AllocError));
-    let text = built?.replace_all(rt.alloc(), b"abcAB", &[b"", b""]);
-    assert!(rt; text.expect(&rt, "it takes no memory").is_empty());
-    Ok(())
-}
-
 /// What is written of a text that is read, where memory is granted; where it is not, nothing is read.
 fn rewrite(rt: &impl Abort, alloc: Global, search: &Search) -> Result<bool, ReplaceStreamError> {
     let (mut text, mut room) = (b"qab-ABC".as_slice(), [0; 8]);

@@ -1,31 +1,47 @@
 //! Calls of `Searcher`.
 use crate::made::{assert_place, words};
-use literal_prefilters::Span;
 use literal_prefilters::count::Tally;
 use literal_prefilters::packed::{MatchKind, Searcher};
+use literal_prefilters::{Match, Span};
 use std::alloc::{AllocError, Global};
 use std::process::Abort;
+
+/// What is found in a span, by the call that counts.
+fn counted(searcher: &Searcher) -> Option<Match> {
+    let span = Span { start: 2, end: 3 };
+    searcher.find_in_counted(b"xabcd", span, &mut Tally::new())
+}
+
+/// What is found first, and behind that, by the calls that ask for no memory.
+fn found(searcher: &Searcher) -> [Option<Match>; 2] {
+    let span = Span { start: 2, end: 5 };
+    [searcher.find(b"xabcd"), searcher.find_in(b"xabcd", span)]
+}
 
 /// All calls of a searcher for 24 words answer as they should that ask for no memory.
 fn assert_searches(rt: &impl Abort, searcher: &Searcher) {
     assert!(rt; *searcher.match_kind() == MatchKind::LeftmostFirst);
     assert!(rt; searcher.minimum_len() == 0);
-    let haystack = b"xabcd";
-    assert_place(rt, searcher.find(haystack), 1, (1, 3));
-    let found = searcher.find_in(haystack, Span { start: 2, end: 5 });
-    assert_place(rt, found, 2, (2, 5));
-    let span = Span { start: 2, end: 3 };
-    assert!(rt;
-        searcher
-            .find_in_counted(haystack, span, &mut Tally::new())
-            .is_none()
-    );
+    let [first, behind] = found(searcher);
+    assert_place(rt, first, 1, (1, 3));
+    assert_place(rt, behind, 2, (2, 5));
+    assert!(rt; counted(searcher).is_none());
     assert!(rt; searcher.find_iter(b"ab c bcd").count() == 3);
 }
 
-/// A searcher for 24 words.
+/// A searcher for 24 words, which there has to be.
+fn new(alloc: Global) -> Result<Option<Searcher>, AllocError> {
+    Searcher::new(alloc, words())
+}
+
+/// The same.
 fn made(rt: &impl Abort, alloc: Global) -> Result<Searcher, AllocError> {
-    Ok(Searcher::new(alloc, words())?.expect(rt, "patterns make nothing"))
+    Ok(new(alloc)?.expect(rt, "patterns make nothing"))
+}
+
+/// A copy of a searcher.
+fn copied(searcher: &Searcher) -> Result<Searcher, AllocError> {
+    searcher.try_clone()
 }
 
 /// `Searcher::new`, and `try_clone` of what it makes.
@@ -35,23 +51,27 @@ fn new_and_try_clone_of_searcher(rt: HostRuntime) {
         Ok(made) => made,
         Err(_) => made(&rt, rt.alloc()).expect(&rt, "it was refused again"),
     };
-    let copy = match searcher.try_clone() {
+    let copy = match copied(&searcher) {
         Ok(copy) => copy,
-        Err(_) => searcher.try_clone().expect(&rt, "it was refused again"),
+        Err(_) => copied(&searcher).expect(&rt, "it was refused again"),
     };
     assert_searches(&rt, &searcher);
     assert_searches(&rt, &copy);
 }
 
+/// All matches of a haystack.
+fn list(searcher: &Searcher) -> Result<Vec<Match>, AllocError> {
+    searcher.find_all(b"ab c bcd", &mut Tally::new())
+}
+
 #[test]
 fn find_all(rt: HostRuntime) -> Result<(), AllocError> {
     let searcher = made(&rt, rt.alloc())?;
-    let all = match searcher.find_all(b"ab c bcd", &mut Tally::new()) {
+    let all = match list(&searcher) {
         Ok(all) => all,
         Err(_) => {
             assert_searches(&rt, &searcher);
-            let again = searcher.find_all(b"ab c bcd", &mut Tally::new());
-            again.expect(&rt, "it was refused again")
+            list(&searcher).expect(&rt, "it was refused again")
         }
     };
     assert!(rt; all.len() == 3);

@@ -6,7 +6,6 @@ use literal_search::{
 };
 use std::alloc::{AllocError, Global};
 use std::process::Abort;
-use std::test::Fail;
 
 /// A search for 24 patterns, which have a prefilter or none.
 fn build(alloc: Global, ignore_case: bool, has_table: bool) -> Result<Search, BuildError> {
@@ -43,35 +42,50 @@ fn new_of_a_search(rt: HostRuntime) {
     builds(&rt, rt.alloc(), true, true);
 }
 
+/// A copy of a search.
+fn copied(search: &Search) -> Result<Search, AllocError> {
+    search.try_clone()
+}
+
 #[test]
 fn try_clone_of_a_search(rt: HostRuntime) -> Result<(), AllocError> {
     let built = build(rt.alloc(), false, true).or(Err(AllocError));
     let search = built?;
-    let copy = match search.try_clone() {
+    let copy = match copied(&search) {
         Ok(copy) => copy,
         Err(_) => {
             assert_finds(&rt, &search, true);
-            search.try_clone().expect(&rt, "it was refused again")
+            copied(&search).expect(&rt, "it was refused again")
         }
     };
     assert_finds(&rt, &copy, true);
     Ok(())
 }
 
+/// Two matches, by the call of this number that lists them.
+fn list(search: &Search, call: usize) -> Result<Vec<Match>, AllocError> {
+    let haystack = b"qqaxeax";
+    match call {
+        0 => search.find_all(haystack),
+        1 => search.find_all_in(haystack, Span { start: 1, end: 7 }),
+        _ => search.find_all_counted(haystack, &mut Tally::new()),
+    }
+}
+
 #[test]
-fn find_all_in_of_a_search(rt: HostRuntime) -> Result<(), AllocError> {
-    let built = build(rt.alloc(), false, true).or(Err(AllocError));
-    let (search, span) = (built?, Span { start: 1, end: 8 });
-    let all = match search.find_all_in(b"axqaxeax", span) {
-        Ok(all) => all,
-        Err(_) => {
-            assert_finds(&rt, &search, true);
-            let again = search.find_all_in(b"axqaxeax", span);
-            again.expect(&rt, "it was refused again")
-        }
-    };
-    assert_place(&rt, all.first().copied(), 1, (3, 6));
-    assert!(rt; all.len() == 2);
+fn find_all_of_a_search(rt: HostRuntime) -> Result<(), AllocError> {
+    let search = build(rt.alloc(), false, true).or(Err(AllocError))?;
+    for call in 0..3 {
+        let all = match list(&search, call) {
+            Ok(all) => all,
+            Err(_) => {
+                assert_finds(&rt, &search, true);
+                list(&search, call).expect(&rt, "it was refused again")
+            }
+        };
+        assert_place(&rt, all.first().copied(), 1, (2, 5));
+        assert!(rt; all.len() == 2);
+    }
     Ok(())
 }
 
@@ -125,20 +139,30 @@ fn new_of_linear(rt: HostRuntime) {
     assert_finds_nothing(&rt, &search);
 }
 
+/// Two matches, by the call of this number that lists them.
+fn list_by_linear(search: &Linear, call: usize) -> Result<Vec<Match>, AllocError> {
+    let (haystack, span) = (b"qqABqb", Span { start: 1, end: 6 });
+    match call {
+        0 => search.find_all(haystack),
+        1 => search.find_all_in(haystack, span),
+        _ => search.find_all_in_counted(haystack, span, &mut Tally::new()),
+    }
+}
+
 #[test]
 fn find_all_of_linear(rt: HostRuntime) -> Result<(), AllocError> {
-    let built = build_linear(rt.alloc()).or(Err(AllocError));
-    let (search, haystack) = (built?, b"qqABqb");
-    let all = match search.find_all(haystack) {
-        Ok(all) => all,
-        Err(_) => {
-            assert_finds_nothing(&rt, &search);
-            let again = search.find_all(haystack);
-            again.expect(&rt, "it was refused again")
-        }
-    };
-    assert_place(&rt, all.first().copied(), 0, (2, 4));
-    assert!(rt; all.len() == 2);
+    let search = build_linear(rt.alloc()).or(Err(AllocError))?;
+    for call in 0..3 {
+        let all = match list_by_linear(&search, call) {
+            Ok(all) => all,
+            Err(_) => {
+                assert_finds_nothing(&rt, &search);
+                list_by_linear(&search, call).expect(&rt, "it was refused again")
+            }
+        };
+        assert_place(&rt, all.first().copied(), 0, (2, 4));
+        assert!(rt; all.len() == 2);
+    }
     Ok(())
 }
 
@@ -206,72 +230,5 @@ fn find_stream_of_a_search(rt: HostRuntime) -> Result<(), AllocError> {
         Err(_) => count_read(&rt, rt.alloc(), &search).expect(&rt, "it was refused again"),
     };
     assert!(rt; count == 2);
-    Ok(())
-}
-
-#[test]
-fn new_of_no_pattern_takes_no_memory(rt: HostRuntime) {
-    let (none, said): ([&[u8]; 0], &str) = ([], "it takes no memory");
-    let search = Search::new(rt.alloc(), MatchKind::LeftmostFirst, true, none).expect(&rt, said);
-    assert!(rt; search.find(b"qq").is_none());
-    let all = Overlapping::new(rt.alloc(), true, none).expect(&rt, said);
-    assert!(rt; all.find_overlapping_iter(b"qq").next().is_none());
-    let linear = Linear::new(rt.alloc(), MatchKind::LeftmostFirst, true, none).expect(&rt, said);
-    assert!(rt; linear.find_all(b"qq").expect(&rt, said).is_empty());
-}
-
-/// Two matches, by the call that counts, which can be refused too.
-fn find_all_counted(rt: &impl Abort, search: &Search, haystack: &[u8]) {
-    let all = match search.find_all_counted(haystack, &mut Tally::new()) {
-        Ok(all) => all,
-        Err(_) => {
-            assert_finds(rt, search, false);
-            let again = search.find_all_counted(haystack, &mut Tally::new());
-            again.expect(rt, "it was refused again")
-        }
-    };
-    assert!(rt; all.len() == 2);
-}
-
-#[test]
-fn find_all_of_a_search(rt: HostRuntime) -> Result<(), AllocError> {
-    let built = build(rt.alloc(), true, false).or(Err(AllocError));
-    let (search, haystack) = (built?, b"qqAXbye");
-    let all = match search.find_all(haystack) {
-        Ok(all) => all,
-        Err(_) => {
-            assert_finds(&rt, &search, false);
-            let again = search.find_all(haystack);
-            again.expect(&rt, "it was refused again")
-        }
-    };
-    assert!(rt; all.len() == 2);
-    find_all_counted(&rt, &search, haystack);
-    Ok(())
-}
-
-#[test]
-fn searches_take_no_memory(rt: HostRuntime) -> Result<(), Fail> {
-    for (ignore_case, has_table) in [(false, false), (true, true)] {
-        let search = build(rt.alloc(), ignore_case, has_table)?;
-        assert_finds(&rt, &search, has_table);
-        assert!(rt; search.find(b"qqax").is_some());
-        assert!(rt; search.is_match(b"qqax"));
-        assert!(rt; search.find_iter(b"axax").count() == 2);
-        let tally = &mut Tally::new();
-        assert!(rt;
-            search
-                .find_in_counted(b"qqax", Span { start: 0, end: 4 }, tally)
-                .is_some()
-        );
-        assert!(rt; search.find_all(b"qq")?.is_empty());
-        assert!(rt; search.find_all_counted(b"qq", tally)?.is_empty());
-        assert!(rt; search.patterns_len() == 24);
-        assert!(rt;
-            search
-                .earliest_end(b"qqax", Span { start: 0, end: 4 })
-                .is_some()
-        );
-    }
     Ok(())
 }

@@ -53,22 +53,13 @@ fn answer_of_kinds(text: &mut String, alloc: Global, case: Case<'_>) -> Result<(
 /// Writes the answer to a case.
 fn answer(text: &mut String, alloc: Global, case: &Case<'_>) -> Result<(), Refusal> {
     match case.call() {
-        "find_in" => packed_search::find_in(text, alloc, case),
-        "find_iter" => packed_search::find_iter(text, alloc, case),
-        "builder" => packed_search::builder(text, alloc, case),
-        "search" => searches::search(text, alloc, case),
-        "search_in" => searches::search_in(text, alloc, case),
-        "earliest_end" => searches::earliest_end(text, alloc, case),
-        "linear" => linear::linear(text, alloc, case),
-        "linear_in" => linear::linear_in(text, alloc, case),
-        "overlapping" => overlapping::overlapping(text, alloc, case),
-        "overlapping_in" => overlapping::overlapping_in(text, alloc, case),
-        "confirm" => searches::confirm(text, alloc, case),
-        "confirm_all" => searches::confirm_all(text, alloc, case),
-        "candidate" => prefilters::candidate(text, alloc, case),
-        "choice" => prefilters::choice(text, alloc, case),
+        "find_in" | "find_iter" | "builder" => packed_search::packed(text, alloc, case),
+        "search" | "search_in" | "earliest_end" => searches::search(text, alloc, case),
+        "linear" | "linear_in" => linear::linear(text, alloc, case),
+        "overlapping" | "overlapping_in" => overlapping::overlapping(text, alloc, case),
+        "confirm" | "confirm_all" => searches::confirm(text, alloc, case),
+        "candidate" | "choice" | "prefilter" => prefilters::prefilter(text, alloc, case),
         "choices" => prefilters::choices(text, alloc, case),
-        "prefilter" => prefilters::prefilter(text, alloc, case),
         _ => answer_of_parts(text, alloc, case),
     }
 }

@@ -48,19 +48,25 @@ fn repeat_last(bytes: &mut Vec<u8>, count: usize) -> Result<(), Refusal> {
 fn push_singles(bytes: &mut Vec<u8>, word: &str) -> Result<(), Refusal> {
     let mut is_first = true;
     for part in word.split('\\') {
-        let plain = if is_first {
-            part.as_bytes()
-        } else {
-            let [b'x', high, low, plain @ ..] = part.as_bytes() else {
-                return Err(Refusal::NoCase);
-            };
-            bytes.push(digit(*high)? * 16 + digit(*low)?)?;
-            plain
-        };
+        let mut plain = part.as_bytes();
+        if !is_first {
+            let (byte, rest) = byte_of(plain)?;
+            bytes.push(byte)?;
+            plain = rest;
+        }
         bytes.extend_from_slice(plain)?;
         is_first = false;
     }
     Ok(())
+}
+
+/// The byte that stands behind a backslash, and what stands behind it.
+fn byte_of(word: &[u8]) -> Result<(u8, &[u8]), Refusal> {
+    if word.len() < 3 || word[0] != b'x' {
+        return Err(Refusal::NoCase);
+    }
+    let (high, low) = (digit(word[1])?, digit(word[2])?);
+    Ok((high * 16 + low, &word[3..]))
 }
 
 /// Writes bytes.
@@ -74,13 +80,15 @@ pub fn push_bytes(text: &mut String, bytes: &[u8]) -> Result<(), AllocError> {
     Ok(())
 }
 
+/// What stands for another byte than itself.
+const SIGNS: &[u8] = b"\\,._|{}";
+
 /// Writes a byte.
 pub fn push_byte(text: &mut String, byte: u8) -> Result<(), AllocError> {
-    match byte {
-        b'\\' | b',' | b'.' | b'_' | b'|' | b'{' | b'}' => write!(text, "\\x{byte:02x}"),
-        b'!'..=b'~' => text.push(byte as char),
-        _ => write!(text, "\\x{byte:02x}"),
+    if byte.is_ascii_graphic() && !SIGNS.contains(&byte) {
+        return text.push(byte as char);
     }
+    write!(text, "\\x{byte:02x}")
 }
 
 /// The value of a digit.

@@ -1,5 +1,4 @@
 //! The fields of a case.
-ghost use Rattle.std.specs.Prelude.{IfOk};
 ghost use Rattle.literal_base.specs.Occurs.{IsValidSpan};
 
 use crate::bytes::bytes_of;
@@ -7,6 +6,29 @@ use crate::refusal::Refusal;
 use literal_prefilters::{MatchKind, Span, packed};
 use std::alloc::Global;
 use std::str::FromStr;
+
+/// Patterns, and how they are searched for.
+#[derive(Drop)]
+pub struct Query {
+    pub kind: MatchKind,
+    pub ignore_case: bool,
+    pub patterns: Vec<Vec<u8>>,
+}
+
+impl Query {
+    /// The kind of match of a search that finds the leftmost one.
+    pub fn packed_kind(&self) -> Result<packed::MatchKind, Refusal> {
+        self.kind.as_packed().ok_or(Refusal::NoCase)
+    }
+}
+
+/// A haystack, and a span of it.
+#[derive(Drop)]
+pub struct Text {
+    pub haystack: Vec<u8>,
+    pub span: Span,
+    ghost valid: { IsValidSpan haystack.items span },
+}
 
 /// A line, whose fields stand with `|` between them, and the kind of match for which it is answered.
 #[derive(Clone, Copy)]
@@ -64,11 +86,6 @@ impl<'l> Case<'l> {
         }
     }
 
-    /// The kind of match of a search that finds the leftmost one.
-    pub fn packed_kind(&self) -> Result<packed::MatchKind, Refusal> {
-        self.kind()?.as_packed().ok_or(Refusal::NoCase)
-    }
-
     /// Whether ASCII case is ignored.
     pub fn ignores_case(&self) -> Result<bool, Refusal> {
         match self.field(2)? {
@@ -91,26 +108,29 @@ impl<'l> Case<'l> {
         Ok(patterns)
     }
 
-    /// The haystack.
-    pub fn haystack(&self, alloc: Global) -> Result<Vec<u8>, Refusal> {
-        self.bytes(alloc, 4)
+    /// The patterns, and how they are searched for.
+    pub fn query(&self, alloc: Global) -> Result<Query, Refusal> {
+        let kind = self.kind()?;
+        let ignore_case = self.ignores_case()?;
+        Ok(Query {
+            kind,
+            ignore_case,
+            patterns: self.patterns(alloc)?,
+        })
     }
 
-    /// The span of this haystack, which has to be a valid one.
-    pub fn span(&self, haystack: &[u8]) -> Result<Span, Refusal>
-        ensures { IfOk result (IsValidSpan haystack.now) }
-    {
-        let Some((start, end)) = self.field(5)?.split_once("..") else {
-            return Err(Refusal::NoCase);
+    /// The haystack, and its span, which has to be a valid one; the whole haystack, where the case has no span.
+    pub fn text(&self, alloc: Global) -> Result<Text, Refusal> {
+        let haystack = self.bytes(alloc, 4)?;
+        let (start, end) = match self.field(5) {
+            Ok(field) => numbers_of(field)?,
+            Err(_) => (0, haystack.len()),
         };
-        let span = Span {
-            start: number_of(start)?,
-            end: number_of(end)?,
-        };
-        if span.start > span.end || span.end > haystack.len() {
+        if start > end || end > haystack.len() {
             return Err(Refusal::Unmet);
         }
-        Ok(span)
+        let span = Span { start, end };
+        Ok(Text { haystack, span })
     }
 
     /// The bytes that the field at a place says.
@@ -125,6 +145,12 @@ impl<'l> Case<'l> {
     {
         number_of(self.field(at)?)
     }
+}
+
+/// The numbers on both sides of two dots.
+fn numbers_of(field: &str) -> Result<(usize, usize), Refusal> {
+    let (start, end) = field.split_once("..").ok_or(Refusal::NoCase)?;
+    Ok((number_of(start)?, number_of(end)?))
 }
 
 /// The number that a word says in decimal.

@@ -129,10 +129,14 @@ pub fn runs(text: &mut String, alloc: Global, case: &Case<'_>) -> Result<(), Ref
 
 /// The classes of a case: after ranges were marked, or after bytes were given other classes.
 fn classes_of(alloc: Global, case: &Case<'_>) -> Result<ByteClasses, Refusal> {
-    let lists = case.patterns(alloc)?;
-    match case.field(2)? {
-        "marked" => Ok(marked_set(lists.as_slice())?.byte_classes()),
-        "set" => changed_classes(lists.as_slice()),
+    made_of(case.field(2)?, case.patterns(alloc)?.as_slice())
+}
+
+/// The classes that are made of lists in this way.
+fn made_of(way: &str, lists: &[Vec<u8>]) -> Result<ByteClasses, Refusal> {
+    match way {
+        "marked" => Ok(marked_set(lists)?.byte_classes()),
+        "set" => changed_classes(lists),
         "singletons" => Ok(ByteClasses::singletons()),
         _ => Err(Refusal::NoCase),
     }

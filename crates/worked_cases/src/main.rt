@@ -13,7 +13,7 @@
 //!   is to keep at most;
 //! - the patterns, with commas between them, `.` for none;
 //! - the haystack;
-//! - the span, `START..END`, in bytes of the haystack.
+//! - the span, `START..END`, in bytes of the haystack; without one it is the whole haystack.
 //!
 //! Bytes are text, but `_` alone is no byte, `\xNN` a byte by two hexadecimal digits, and `{N}` behind a byte says that
 //! it stands there N times in all. The bytes ``\ , | { }`` and `#` at the start of a line are written as `\xNN`.

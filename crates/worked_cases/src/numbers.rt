@@ -46,97 +46,110 @@ pub fn opposite(text: &mut String, alloc: Global, case: &Case<'_>) -> Result<(),
 /// What a number of an integer type is converted to.
 pub fn int(text: &mut String, case: &Case<'_>) -> Result<(), Refusal> {
     match case.field(1)? {
-        "u8" => of_u8(text, case.number(2)?)?,
-        "u16" => of_u16(text, case.number(2)?)?,
-        "u32" => of_u32(text, case.number(2)?)?,
-        "u64" => of_u64(text, case.number(2)?)?,
-        "i8" => of_i8(text, case.number(2)?)?,
-        "i32" => of_i32(text, case.number(2)?)?,
-        "i64" => of_i64(text, case.number(2)?)?,
-        "usize" => of_usize(text, case.number(2)?)?,
-        _ => return Err(Refusal::NoCase),
+        "u8" => of_u8(text, case),
+        "u16" => of_u16(text, case),
+        "u32" => of_u32(text, case),
+        "u64" => of_u64(text, case),
+        "i8" => of_i8(text, case),
+        "i32" => of_i32(text, case),
+        "i64" => of_i64(text, case),
+        "usize" => of_usize(text, case),
+        _ => Err(Refusal::NoCase),
     }
-    Ok(())
 }
 
-fn of_u8(text: &mut String, n: u8) -> Result<(), AllocError> {
-    let index = n.as_usize();
-    let (as_i8, as_back) = (i8::from_bits(n), i8::from_bits(n).to_bits());
-    write!(text, "usize={index} i8={as_i8} back={as_back}")
+fn of_u8(text: &mut String, case: &Case<'_>) -> Result<(), Refusal> {
+    let n: u8 = case.number(2)?;
+    let signed = i8::from_bits(n);
+    let (index, back) = (n.as_usize(), signed.to_bits());
+    Ok(write!(text, "usize={index} i8={signed} back={back}")?)
 }
 
-fn of_u16(text: &mut String, n: u16) -> Result<(), AllocError> {
+fn of_u16(text: &mut String, case: &Case<'_>) -> Result<(), Refusal> {
+    let n: u16 = case.number(2)?;
     let (index, high, low) = (n.as_usize(), n.high_u8(), n.low_u8());
-    write!(text, "usize={index} high_u8={high:#x} low_u8={low:#x}")
+    write!(text, "usize={index}")?;
+    push_part(text, "high_u8", high.as_usize())?;
+    Ok(push_part(text, "low_u8", low.as_usize())?)
 }
 
-fn of_u32(text: &mut String, n: u32) -> Result<(), AllocError> {
+/// Writes a part of a number.
+fn push_part(text: &mut String, name: &str, part: usize) -> Result<(), AllocError> {
+    write!(text, " {name}={part:#x}")
+}
+
+fn of_u32(text: &mut String, case: &Case<'_>) -> Result<(), Refusal> {
+    let n: u32 = case.number(2)?;
     let (index, signed) = (n.as_usize(), i32::from_bits(n));
     write!(text, "usize={index} i32={signed}")?;
-    let (high, low, byte) = (n.high_u16(), n.low_u16(), n.low_u8());
-    write!(
-        text,
-        " high_u16={high:#x} low_u16={low:#x} low_u8={byte:#x}"
-    )
+    push_part(text, "high_u16", n.high_u16().as_usize())?;
+    push_part(text, "low_u16", n.low_u16().as_usize())?;
+    Ok(push_part(text, "low_u8", n.low_u8().as_usize())?)
 }
 
-fn of_u64(text: &mut String, n: u64) -> Result<(), AllocError> {
+fn of_u64(text: &mut String, case: &Case<'_>) -> Result<(), Refusal> {
+    let n: u64 = case.number(2)?;
     let (index, signed) = (n.as_usize(), i64::from_bits(n));
     write!(text, "usize={index} i64={signed}")?;
-    let (high, low) = (n.high_u32(), n.low_u32());
-    write!(text, " high_u32={high:#x} low_u32={low:#x}")?;
-    let (short, byte) = (n.low_u16(), n.low_u8());
-    write!(text, " low_u16={short:#x} low_u8={byte:#x}")
+    push_part(text, "high_u32", n.high_u32().as_usize())?;
+    push_part(text, "low_u32", n.low_u32().as_usize())?;
+    push_part(text, "low_u16", n.low_u16().as_usize())?;
+    Ok(push_part(text, "low_u8", n.low_u8().as_usize())?)
 }
 
-fn of_i8(text: &mut String, n: i8) -> Result<(), AllocError> {
-    let bits = n.to_bits();
-    let back = i8::from_bits(bits);
+/// Writes the bits of a number, the number that these give back, and itself as an index, if it is one.
+fn push_signed(
+    text: &mut String,
+    bits: u64,
+    back: i64,
+    index: Option<usize>,
+) -> Result<(), AllocError> {
     write!(text, "bits={bits} back={back}")?;
-    if n >= 0 {
-        let index = n.as_usize();
-        write!(text, " usize={index}")?;
+    match index {
+        Some(index) => write!(text, " usize={index}"),
+        None => Ok(()),
     }
-    Ok(())
 }
 
-fn of_i32(text: &mut String, n: i32) -> Result<(), AllocError> {
+fn of_i8(text: &mut String, case: &Case<'_>) -> Result<(), Refusal> {
+    let n: i8 = case.number(2)?;
+    let index = if n >= 0 { Some(n.as_usize()) } else { None };
     let bits = n.to_bits();
-    let back = i32::from_bits(bits);
-    write!(text, "bits={bits} back={back}")?;
-    if n >= 0 {
-        let index = n.as_usize();
-        write!(text, " usize={index}")?;
-    }
-    Ok(())
+    Ok(push_signed(text, bits as u64, i8::from_bits(bits) as i64, index)?)
 }
 
-fn of_i64(text: &mut String, n: i64) -> Result<(), AllocError> {
+fn of_i32(text: &mut String, case: &Case<'_>) -> Result<(), Refusal> {
+    let n: i32 = case.number(2)?;
+    let index = if n >= 0 { Some(n.as_usize()) } else { None };
     let bits = n.to_bits();
-    let back = i64::from_bits(bits);
-    write!(text, "bits={bits} back={back}")?;
-    if n >= 0 {
-        let index = n.as_usize();
-        write!(text, " usize={index}")?;
-    }
-    Ok(())
+    Ok(push_signed(text, bits as u64, i32::from_bits(bits) as i64, index)?)
+}
+
+fn of_i64(text: &mut String, case: &Case<'_>) -> Result<(), Refusal> {
+    let n: i64 = case.number(2)?;
+    let index = if n >= 0 { Some(n.as_usize()) } else { None };
+    let bits = n.to_bits();
+    Ok(push_signed(text, bits, i64::from_bits(bits), index)?)
 }
 
 /// Each type is written that has room for the number.
-fn of_usize(text: &mut String, n: usize) -> Result<(), AllocError> {
+fn of_usize(text: &mut String, case: &Case<'_>) -> Result<(), Refusal> {
+    let n: usize = case.number(2)?;
     let long = n.as_u64();
     write!(text, "u64={long}")?;
     if n <= u32::MAX as usize {
-        let number = n.as_u32();
-        write!(text, " u32={number}")?;
+        push_number(text, "u32", n.as_u32().as_usize())?;
     }
     if n <= u16::MAX as usize {
-        let number = n.as_u16();
-        write!(text, " u16={number}")?;
+        push_number(text, "u16", n.as_u16().as_usize())?;
     }
     if n <= u8::MAX as usize {
-        let number = n.as_u8();
-        write!(text, " u8={number}")?;
+        push_number(text, "u8", n.as_u8().as_usize())?;
     }
     Ok(())
+}
+
+/// Writes a number of a type.
+fn push_number(text: &mut String, name: &str, number: usize) -> Result<(), AllocError> {
+    write!(text, " {name}={number}")
 }

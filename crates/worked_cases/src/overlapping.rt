@@ -1,88 +1,71 @@
 //! Answers of `Overlapping`.
-ghost use Rattle.literal_base.specs.Occurs.{IsValidSpan};
-
-use crate::case::Case;
+use crate::case::{Case, Query, Text};
 use crate::refusal::Refusal;
-use crate::searches::{NO_SEARCH, lent};
+use crate::searches::{NO_SEARCH, if_built, lent};
 use crate::told::{push_list, push_lists, push_word};
-use literal_prefilters::{Match, Span};
-use literal_search::{BuildError, Overlapping};
+use literal_prefilters::Match;
+use literal_search::Overlapping;
 use std::alloc::{AllocError, Global};
 
-/// A search for everything that occurs of the patterns of the case.
-fn search_for(alloc: Global, case: &Case<'_>) -> Result<Option<Overlapping>, Refusal> {
-    let ignore_case = case.ignores_case()?;
-    let patterns = case.patterns(alloc)?;
-    build_search(alloc, ignore_case, patterns.as_slice())
+/// A search for everything that occurs of the patterns.
+fn build(alloc: Global, query: &Query) -> Result<Option<Overlapping>, Refusal> {
+    let bytes = lent(alloc, query.patterns.as_slice())?;
+    let bytes = bytes.iter().copied();
+    if_built(Overlapping::new(alloc, query.ignore_case, bytes))
 }
 
-/// The same for these patterns.
-fn build_search(
-    alloc: Global,
-    ignore_case: bool,
-    patterns: &[Vec<u8>],
-) -> Result<Option<Overlapping>, Refusal> {
-    let bytes = lent(alloc, patterns)?;
-    match Overlapping::new(alloc, ignore_case, bytes.iter().copied()) {
-        Ok(search) => Ok(Some(search)),
-        Err(BuildError::OutOfMemory) => Err(Refusal::OutOfMemory),
-        Err(_) => Ok(None),
+/// The same for those of a case.
+fn search_for(alloc: Global, case: &Case<'_>) -> Result<Option<Overlapping>, Refusal> {
+    let query = case.query(alloc)?;
+    build(alloc, &query)
+}
+
+/// Everything that occurs, by both calls, or what occurs in a span.
+pub fn overlapping(text: &mut String, alloc: Global, case: &Case<'_>) -> Result<(), Refusal> {
+    match search_for(alloc, case)? {
+        Some(search) => push_answer(text, alloc, case, &search),
+        None => push_word(text, NO_SEARCH),
     }
+}
+
+/// Writes what a search answers to a case.
+fn push_answer(
+    text: &mut String,
+    alloc: Global,
+    case: &Case<'_>,
+    search: &Overlapping,
+) -> Result<(), Refusal> {
+    let asked = case.text(alloc)?;
+    let listed = all_in(alloc, &asked, search)?;
+    match case.call() {
+        "overlapping" => push_all(
+            text,
+            alloc,
+            asked.haystack.as_slice(),
+            search,
+            listed.as_slice(),
+        )?,
+        _ => push_list(text, listed.as_slice())?,
+    }
+    Ok(())
 }
 
 /// What occurs in a span.
-fn all_in(
-    alloc: Global,
-    search: &Overlapping,
-    haystack: &[u8],
-    span: Span,
-) -> Result<Vec<Match>, AllocError>
-    requires { IsValidSpan haystack.now span }
-{
-    search.find_overlapping_in(haystack, span).collect(alloc)
+fn all_in(alloc: Global, asked: &Text, search: &Overlapping) -> Result<Vec<Match>, AllocError> {
+    let matches = search.find_overlapping_in(asked.haystack.as_slice(), asked.span);
+    matches.collect(alloc)
 }
 
-/// Everything that occurs, by both calls.
-pub fn overlapping(text: &mut String, alloc: Global, case: &Case<'_>) -> Result<(), Refusal> {
-    match search_for(alloc, case)? {
-        Some(search) => push_all(text, alloc, case, &search),
-        None => push_word(text, NO_SEARCH),
-    }
-}
-
-/// Writes what occurs in the haystack of the case.
+/// Writes what occurs in a haystack, and what was listed of it if that is otherwise.
 fn push_all(
     text: &mut String,
     alloc: Global,
-    case: &Case<'_>,
+    haystack: &[u8],
     search: &Overlapping,
-) -> Result<(), Refusal> {
-    let haystack = case.haystack(alloc)?;
-    let end = haystack.len();
+    listed: &[Match],
+) -> Result<(), AllocError> {
     let given = search
-        .find_overlapping_iter(haystack.as_slice())
+        .find_overlapping_iter(haystack)
         .collect::<Vec<Match>>(alloc)?;
-    let listed = all_in(alloc, search, haystack.as_slice(), Span { start: 0, end })?;
-    Ok(push_lists(text, given.as_slice(), listed.as_slice())?)
-}
-
-/// Everything that occurs in a span.
-pub fn overlapping_in(text: &mut String, alloc: Global, case: &Case<'_>) -> Result<(), Refusal> {
-    match search_for(alloc, case)? {
-        Some(search) => push_all_in(text, alloc, case, &search),
-        None => push_word(text, NO_SEARCH),
-    }
-}
-
-/// Writes what occurs in the span of the case.
-fn push_all_in(
-    text: &mut String,
-    alloc: Global,
-    case: &Case<'_>,
-    search: &Overlapping,
-) -> Result<(), Refusal> {
-    let haystack = case.haystack(alloc)?;
-    let span = case.span(haystack.as_slice())?;
-    let all = all_in(alloc, search, haystack.as_slice(), span)?;
-    Ok(push_list(text, all.as_slice())?)
+    push_lists(text, given.as_slice(), listed)
 }

@@ -10,10 +10,10 @@ use literal_prefilters::packed::pattern::Patterns;
 use literal_prefilters::packed::rabinkarp::Rolling;
 use std::alloc::{AllocError, Global};
 
-/// The patterns of the case, none of which may be empty.
-pub fn patterns_of(alloc: Global, case: &Case<'_>) -> Result<Patterns, Refusal> {
+/// A collection of patterns, none of which may be empty.
+pub fn patterns_of(alloc: Global, list: &[Vec<u8>]) -> Result<Patterns, Refusal> {
     let mut patterns = Patterns::new(alloc);
-    for bytes in case.patterns(alloc)?.iter() {
+    for bytes in list {
         if bytes.is_empty() || patterns.len() >= PatternID::LIMIT {
             return Err(Refusal::Unmet);
         }
@@ -24,8 +24,8 @@ pub fn patterns_of(alloc: Global, case: &Case<'_>) -> Result<Patterns, Refusal> 
 
 /// How many patterns there are, and in which order they are tried.
 pub fn patterns(text: &mut String, alloc: Global, case: &Case<'_>) -> Result<(), Refusal> {
-    let kind = case.packed_kind()?;
-    let mut patterns = patterns_of(alloc, case)?;
+    let kind = case.kind()?.as_packed().ok_or(Refusal::NoCase)?;
+    let mut patterns = patterns_of(alloc, case.patterns(alloc)?.as_slice())?;
     patterns.set_match_kind(kind)?;
     push_counts(text, &patterns)?;
     Ok(push_order(text, &patterns)?)
@@ -59,15 +59,25 @@ fn push_order(text: &mut String, patterns: &Patterns) -> Result<(), AllocError> 
 /// The places of a haystack at which the first pattern stands.
 pub fn matches_at(text: &mut String, alloc: Global, case: &Case<'_>) -> Result<(), Refusal> {
     let ignore_case = case.ignores_case()?;
-    let patterns = patterns_of(alloc, case)?;
-    let haystack = case.haystack(alloc)?;
+    let patterns = patterns_of(alloc, case.patterns(alloc)?.as_slice())?;
+    let haystack = case.bytes(alloc, 4)?;
+    push_places(text, &patterns, haystack.as_slice(), ignore_case)
+}
+
+/// Writes the places at which the first pattern stands.
+fn push_places(
+    text: &mut String,
+    patterns: &Patterns,
+    haystack: &[u8],
+    ignore_case: bool,
+) -> Result<(), Refusal> {
     if patterns.is_empty() {
         return Err(Refusal::Unmet);
     }
     let mut tally = Tally::new();
     let mut before = "";
     for at in 0..=haystack.len() {
-        if patterns.matches_at(PatternID::ZERO, &haystack, at, ignore_case, &mut tally) {
+        if patterns.matches_at(PatternID::ZERO, haystack, at, ignore_case, &mut tally) {
             write!(text, "{before}{at}")?;
             before = " ";
         }

@@ -1,91 +1,95 @@
 //! Answers of prefilters.
-use crate::case::Case;
+use crate::case::{Case, Query, Text};
 use crate::refusal::Refusal;
-use crate::told::{NO_PREFILTER, NONE, push_also, push_found, push_word};
+use crate::told::{NO_PREFILTER, NONE, OTHERWISE, push_also, push_found, push_word};
+use literal_prefilters::Match;
 use literal_prefilters::count::Tally;
 use literal_prefilters::prefilter::{Builder, Candidate, Prefilter, PrefilterI};
 use std::alloc::{AllocError, Global};
 
-/// A builder with no pattern yet.
-fn builder_for(alloc: Global, case: &Case<'_>) -> Result<Builder, Refusal> {
-    let kind = case.kind()?;
-    let ignore_case = case.ignores_case()?;
-    Ok(Builder::new(alloc, kind).ascii_case_insensitive(ignore_case))
-}
-
-/// The prefilter for the patterns of the case.
-fn prefilter_for(alloc: Global, case: &Case<'_>) -> Result<Option<Prefilter>, Refusal> {
-    let builder = builder_for(alloc, case)?;
-    let patterns = case.patterns(alloc)?;
-    Ok(build(builder, patterns.as_slice())?)
-}
-
-/// The prefilter that a builder builds for these patterns.
-fn build(mut builder: Builder, patterns: &[Vec<u8>]) -> Result<Option<Prefilter>, AllocError> {
-    for pattern in patterns {
+/// The prefilter for the patterns.
+fn build(alloc: Global, query: &Query) -> Result<Option<Prefilter>, AllocError> {
+    let mut builder = Builder::new(alloc, query.kind).ascii_case_insensitive(query.ignore_case);
+    for pattern in &query.patterns {
         builder.add(pattern.as_slice())?;
     }
     builder.build()
 }
 
-/// What a prefilter says of a span.
-pub fn candidate(text: &mut String, alloc: Global, case: &Case<'_>) -> Result<(), Refusal> {
+/// The same for those of a case.
+fn prefilter_for(alloc: Global, case: &Case<'_>) -> Result<Option<Prefilter>, Refusal> {
+    let query = case.query(alloc)?;
+    Ok(build(alloc, &query)?)
+}
+
+/// The kind of prefilter that is built; what it says of a span; or both, of it and of a copy.
+pub fn prefilter(text: &mut String, alloc: Global, case: &Case<'_>) -> Result<(), Refusal> {
     match prefilter_for(alloc, case)? {
-        Some(prefilter) => push_answers(text, alloc, case, &prefilter),
+        Some(prefilter) => push_answer(text, alloc, case, &prefilter),
         None => push_word(text, NO_PREFILTER),
     }
 }
 
-/// Writes what each call of a prefilter says of the span of the case.
-fn push_answers(
+/// Writes what a prefilter answers to a case.
+fn push_answer(
     text: &mut String,
     alloc: Global,
     case: &Case<'_>,
     prefilter: &Prefilter,
 ) -> Result<(), Refusal> {
-    let haystack = case.haystack(alloc)?;
-    let span = case.span(haystack.as_slice())?;
-    let (haystack, tally) = (haystack.as_slice(), &mut Tally::new());
-    let mut said = String::new(alloc);
-    push_candidate(&mut said, prefilter.find_in(haystack, span))?;
-    let mut counted = String::new(alloc);
-    push_candidate(
-        &mut counted,
-        prefilter.find_in_counted(haystack, span, tally),
-    )?;
-    push_also(&mut said, counted.as_str())?;
-    let mut by_trait = String::new(alloc);
-    push_candidate(
-        &mut by_trait,
-        PrefilterI::find_in(prefilter, haystack, span, tally),
-    )?;
-    push_also(&mut said, by_trait.as_str())?;
-    Ok(text.push_str(said.as_str())?)
+    if case.call() == "choice" {
+        return Ok(push_kind(text, prefilter)?);
+    }
+    let asked = case.text(alloc)?;
+    match case.call() {
+        "candidate" => push_candidates(text, &asked, prefilter)?,
+        _ => push_both(text, alloc, &asked, prefilter)?,
+    }
+    Ok(())
 }
 
-/// Writes what a prefilter says.
-fn push_candidate(text: &mut String, candidate: Candidate) -> Result<(), AllocError> {
+/// A match that a prefilter says, or a place at which one may begin.
+type Said = (Option<Match>, Option<usize>);
+
+/// What a candidate says.
+fn said(candidate: Candidate) -> Said {
     match candidate {
-        Candidate::None => text.push_str(NONE),
-        Candidate::Match(found) => {
+        Candidate::None => (None, None),
+        Candidate::Match(found) => (Some(found), None),
+        Candidate::PossibleStartOfMatch(start) => (None, Some(start)),
+    }
+}
+
+/// Writes what a candidate says.
+fn push_said(text: &mut String, said: Said) -> Result<(), AllocError> {
+    match said {
+        (None, None) => text.push_str(NONE),
+        (None, Some(start)) => write!(text, "possible {start}"),
+        (found, _) => {
             text.push_str("match ")?;
-            push_found(text, Some(found))
+            push_found(text, found)
         }
-        Candidate::PossibleStartOfMatch(start) => write!(text, "possible {start}"),
     }
 }
 
-/// The kind of prefilter that is built.
-pub fn choice(text: &mut String, alloc: Global, case: &Case<'_>) -> Result<(), Refusal> {
-    Ok(push_choice(text, &prefilter_for(alloc, case)?)?)
-}
-
-/// Writes the kind of a prefilter, or that there is none.
-fn push_choice(text: &mut String, built: &Option<Prefilter>) -> Result<(), AllocError> {
-    match built {
-        Some(prefilter) => push_kind(text, prefilter),
-        None => text.push_str(NO_PREFILTER),
+/// Writes what a prefilter says of a span, by each call.
+fn push_candidates(
+    text: &mut String,
+    asked: &Text,
+    prefilter: &Prefilter,
+) -> Result<(), AllocError> {
+    let (haystack, tally) = (asked.haystack.as_slice(), &mut Tally::new());
+    let first = said(prefilter.find_in(haystack, asked.span));
+    let counted = said(prefilter.find_in_counted(haystack, asked.span, tally));
+    let by_trait = said(PrefilterI::find_in(prefilter, haystack, asked.span, tally));
+    push_said(text, first)?;
+    for other in [counted, by_trait] {
+        if other != first {
+            text.push_str(OTHERWISE)?;
+            push_said(text, other)?;
+        }
     }
+    Ok(())
 }
 
 /// Writes the kind of a prefilter.
@@ -93,54 +97,37 @@ fn push_kind(text: &mut String, prefilter: &Prefilter) -> Result<(), AllocError>
     write!(text, "{prefilter:?}")
 }
 
-/// The kind of prefilter that is built, and what it and a copy of it say of a span.
-pub fn prefilter(text: &mut String, alloc: Global, case: &Case<'_>) -> Result<(), Refusal> {
-    match prefilter_for(alloc, case)? {
-        Some(prefilter) => push_both(text, alloc, case, &prefilter),
-        None => push_word(text, NO_PREFILTER),
-    }
+/// Writes the kind of a prefilter, and what it says of a span.
+fn push_told(text: &mut String, asked: &Text, prefilter: &Prefilter) -> Result<(), AllocError> {
+    push_kind(text, prefilter)?;
+    text.push_str(", ")?;
+    push_candidates(text, asked, prefilter)
 }
 
 /// Writes the same of a prefilter and of a copy of it.
 fn push_both(
     text: &mut String,
     alloc: Global,
-    case: &Case<'_>,
+    asked: &Text,
     prefilter: &Prefilter,
-) -> Result<(), Refusal> {
-    push_told(text, alloc, case, prefilter)?;
+) -> Result<(), AllocError> {
+    push_told(text, asked, prefilter)?;
     let mut of_copy = String::new(alloc);
-    push_told(&mut of_copy, alloc, case, &prefilter.try_clone()?)?;
-    Ok(push_also(text, of_copy.as_str())?)
-}
-
-/// Writes the kind of a prefilter, and what it says of the span of the case.
-fn push_told(
-    text: &mut String,
-    alloc: Global,
-    case: &Case<'_>,
-    prefilter: &Prefilter,
-) -> Result<(), Refusal> {
-    push_kind(text, prefilter)?;
-    text.push_str(", ")?;
-    push_answers(text, alloc, case, prefilter)
+    push_told(&mut of_copy, asked, &prefilter.try_clone()?)?;
+    push_also(text, of_copy.as_str())
 }
 
 /// The kind of prefilter that is built after each pattern.
 pub fn choices(text: &mut String, alloc: Global, case: &Case<'_>) -> Result<(), Refusal> {
-    let builder = builder_for(alloc, case)?;
-    let patterns = case.patterns(alloc)?;
-    Ok(push_choices(text, builder, patterns.as_slice())?)
+    let query = case.query(alloc)?;
+    Ok(push_choices(text, alloc, &query)?)
 }
 
 /// Writes the kind of prefilter that a builder builds after each pattern.
-fn push_choices(
-    text: &mut String,
-    mut builder: Builder,
-    patterns: &[Vec<u8>],
-) -> Result<(), AllocError> {
+fn push_choices(text: &mut String, alloc: Global, query: &Query) -> Result<(), AllocError> {
+    let mut builder = Builder::new(alloc, query.kind).ascii_case_insensitive(query.ignore_case);
     let mut before = "";
-    for pattern in patterns {
+    for pattern in &query.patterns {
         builder.add(pattern.as_slice())?;
         text.push_str(before)?;
         push_built(text, &builder)?;
@@ -151,5 +138,8 @@ fn push_choices(
 
 /// Writes the kind of prefilter that a builder builds.
 fn push_built(text: &mut String, builder: &Builder) -> Result<(), AllocError> {
-    push_choice(text, &builder.build()?)
+    match builder.build()? {
+        Some(prefilter) => push_kind(text, &prefilter),
+        None => text.push_str(NO_PREFILTER),
+    }
 }

@@ -31,7 +31,8 @@ pub fn push_report(
 /// Whether the row of a line agrees. Where it does not, writes what came.
 fn agrees(text: &mut String, alloc: Global, number: usize, line: &str) -> Result<bool, AllocError> {
     let Some((case, wanted)) = line.split_once(WANTS) else {
-        writeln!(text, "  line {number}: {line}\n    no answer is wanted")?;
+        push_line(text, number, line)?;
+        text.push_str("    no answer is wanted\n")?;
         return Ok(false);
     };
     let mut came = String::new(alloc);
@@ -39,7 +40,17 @@ fn agrees(text: &mut String, alloc: Global, number: usize, line: &str) -> Result
     if refused.is_none() && came.as_str() == wanted {
         return Ok(true);
     }
-    writeln!(text, "  line {number}: {case}\n    wanted {wanted}")?;
-    writeln!(text, "    came   {came}")?;
+    push_line(text, number, case)?;
+    push_other(text, wanted, came.as_str())?;
     Ok(false)
+}
+
+/// Writes a line, with its number.
+fn push_line(text: &mut String, number: usize, line: &str) -> Result<(), AllocError> {
+    writeln!(text, "  line {number}: {line}")
+}
+
+/// Writes what was wanted, and what came.
+fn push_other(text: &mut String, wanted: &str, came: &str) -> Result<(), AllocError> {
+    writeln!(text, "    wanted {wanted}\n    came   {came}")
 }

@@ -1,10 +1,11 @@
 //! Answers of `Search` and of confirming searches.
-use crate::case::Case;
+use crate::case::{Case, Query, Text};
 use crate::refusal::Refusal;
-use crate::told::{NO_PREFILTER, NONE, push_found, push_list, push_lists, push_other, push_word};
+use crate::told::{
+    NO_PREFILTER, NONE, OTHERWISE, push_found, push_list, push_lists, push_other, push_word,
+};
 use literal_prefilters::Match;
 use literal_prefilters::count::Tally;
-use literal_prefilters::packed::MatchKind;
 use literal_prefilters::prefilter::ConfirmingSearch;
 use literal_search::{BuildError, Search};
 use std::alloc::{AllocError, Global};
@@ -21,121 +22,99 @@ pub fn lent<'p>(alloc: Global, patterns: &'p [Vec<u8>]) -> Result<Vec<&'p [u8]>,
     Ok(bytes)
 }
 
-/// A search for the patterns of the case.
-fn search_for(alloc: Global, case: &Case<'_>) -> Result<Option<Search>, Refusal> {
-    let kind = case.packed_kind()?;
-    let ignore_case = case.ignores_case()?;
-    let patterns = case.patterns(alloc)?;
-    build_search(alloc, kind, ignore_case, patterns.as_slice())
-}
-
-/// A search for these patterns.
-fn build_search(
-    alloc: Global,
-    kind: MatchKind,
-    ignore_case: bool,
-    patterns: &[Vec<u8>],
-) -> Result<Option<Search>, Refusal> {
-    let bytes = lent(alloc, patterns)?;
-    match Search::new(alloc, kind, ignore_case, bytes.iter().copied()) {
+/// What is built, and nothing where no search can be.
+pub fn if_built<T: Drop>(built: Result<T, BuildError>) -> Result<Option<T>, Refusal> {
+    match built {
         Ok(search) => Ok(Some(search)),
         Err(BuildError::OutOfMemory) => Err(Refusal::OutOfMemory),
         Err(_) => Ok(None),
     }
 }
 
-/// All matches, by all calls of a `Search`.
+/// A search for the patterns.
+fn build(alloc: Global, query: &Query) -> Result<Option<Search>, Refusal> {
+    let kind = query.packed_kind()?;
+    let bytes = lent(alloc, query.patterns.as_slice())?;
+    let bytes = bytes.iter().copied();
+    if_built(Search::new(alloc, kind, query.ignore_case, bytes))
+}
+
+/// The same for those of a case.
+fn search_for(alloc: Global, case: &Case<'_>) -> Result<Option<Search>, Refusal> {
+    let query = case.query(alloc)?;
+    build(alloc, &query)
+}
+
+/// All matches, by all calls of a `Search`; the leftmost one in a span; or the earliest end of an occurrence there.
 pub fn search(text: &mut String, alloc: Global, case: &Case<'_>) -> Result<(), Refusal> {
     match search_for(alloc, case)? {
-        Some(search) => push_matches(text, alloc, case, &search),
+        Some(search) => push_answer(text, alloc, case, &search),
         None => push_word(text, NO_SEARCH),
     }
 }
 
-/// Writes all matches in the haystack of the case, and what `find` and `is_match` answer if that is otherwise.
-fn push_matches(
+/// Writes what a search answers to a case.
+fn push_answer(
     text: &mut String,
     alloc: Global,
     case: &Case<'_>,
     search: &Search,
 ) -> Result<(), Refusal> {
-    let haystack = case.haystack(alloc)?;
-    let given = search
-        .find_iter(haystack.as_slice())
-        .collect::<Vec<Match>>(alloc)?;
-    let listed = search.find_all(haystack.as_slice())?;
-    push_lists(text, given.as_slice(), listed.as_slice())?;
-    let first = search.find(haystack.as_slice());
-    push_other(text, given.first().copied(), first)?;
-    if search.is_match(haystack.as_slice()) != first.is_some() {
-        push_word(text, " / is_match")?;
+    let asked = case.text(alloc)?;
+    match case.call() {
+        "search" => push_matches(text, alloc, asked.haystack.as_slice(), search)?,
+        "search_in" => push_leftmost(text, &asked, search)?,
+        _ => push_earliest(text, &asked, search)?,
     }
     Ok(())
 }
 
-/// The leftmost match in a span, by a `Search`.
-pub fn search_in(text: &mut String, alloc: Global, case: &Case<'_>) -> Result<(), Refusal> {
-    match search_for(alloc, case)? {
-        Some(search) => push_leftmost(text, alloc, case, &search),
-        None => push_word(text, NO_SEARCH),
-    }
-}
-
-/// Writes the leftmost match in the span of the case.
-fn push_leftmost(
+/// Writes all matches, and what `find` and `is_match` answer if that is otherwise.
+fn push_matches(
     text: &mut String,
     alloc: Global,
-    case: &Case<'_>,
+    haystack: &[u8],
     search: &Search,
-) -> Result<(), Refusal> {
-    let haystack = case.haystack(alloc)?;
-    let span = case.span(haystack.as_slice())?;
-    Ok(push_found(text, search.find_in(haystack.as_slice(), span))?)
+) -> Result<(), AllocError> {
+    let given = search.find_iter(haystack).collect::<Vec<Match>>(alloc)?;
+    let listed = search.find_all(haystack)?;
+    push_lists(text, given.as_slice(), listed.as_slice())?;
+    let first = search.find(haystack);
+    push_other(text, given.first().copied(), first)?;
+    if search.is_match(haystack) != first.is_some() {
+        text.push_str(" / is_match")?;
+    }
+    Ok(())
 }
 
-/// The earliest end of an occurrence in a span, by a `Search`.
-pub fn earliest_end(text: &mut String, alloc: Global, case: &Case<'_>) -> Result<(), Refusal> {
-    match search_for(alloc, case)? {
-        Some(search) => push_earliest(text, alloc, case, &search),
-        None => push_word(text, NO_SEARCH),
+/// Writes the leftmost match in a span.
+fn push_leftmost(text: &mut String, asked: &Text, search: &Search) -> Result<(), AllocError> {
+    push_found(text, search.find_in(asked.haystack.as_slice(), asked.span))
+}
+
+/// Writes the earliest end in a span.
+fn push_earliest(text: &mut String, asked: &Text, search: &Search) -> Result<(), AllocError> {
+    match search.earliest_end(asked.haystack.as_slice(), asked.span) {
+        Some(end) => write!(text, "{end}"),
+        None => text.push_str(NONE),
     }
 }
 
-/// Writes the earliest end in the span of the case.
-fn push_earliest(
-    text: &mut String,
-    alloc: Global,
-    case: &Case<'_>,
-    search: &Search,
-) -> Result<(), Refusal> {
-    let haystack = case.haystack(alloc)?;
-    let span = case.span(haystack.as_slice())?;
-    match search.earliest_end(haystack.as_slice(), span) {
-        Some(end) => Ok(write!(text, "{end}")?),
-        None => push_word(text, NONE),
-    }
+/// The confirming search for the patterns.
+fn build_confirming(alloc: Global, query: &Query) -> Result<Option<ConfirmingSearch>, Refusal> {
+    let kind = query.packed_kind()?;
+    let bytes = lent(alloc, query.patterns.as_slice())?;
+    let bytes = bytes.iter().copied();
+    Ok(ConfirmingSearch::build(alloc, kind, query.ignore_case, bytes)?)
 }
 
-/// The confirming search for the patterns of the case.
+/// The same for those of a case.
 fn confirming_for(alloc: Global, case: &Case<'_>) -> Result<Option<ConfirmingSearch>, Refusal> {
-    let kind = case.packed_kind()?;
-    let ignore_case = case.ignores_case()?;
-    let patterns = case.patterns(alloc)?;
-    Ok(build_confirming(alloc, kind, ignore_case, patterns.as_slice())?)
+    let query = case.query(alloc)?;
+    build_confirming(alloc, &query)
 }
 
-/// The confirming search for these patterns.
-fn build_confirming(
-    alloc: Global,
-    kind: MatchKind,
-    ignore_case: bool,
-    patterns: &[Vec<u8>],
-) -> Result<Option<ConfirmingSearch>, AllocError> {
-    let bytes = lent(alloc, patterns)?;
-    ConfirmingSearch::build(alloc, kind, ignore_case, bytes.iter().copied())
-}
-
-/// The leftmost match in a span, by both calls of a confirming search.
+/// The leftmost match in a span, by both calls of a confirming search; or all matches.
 pub fn confirm(text: &mut String, alloc: Global, case: &Case<'_>) -> Result<(), Refusal> {
     match confirming_for(alloc, case)? {
         Some(search) => push_confirmed(text, alloc, case, &search),
@@ -143,37 +122,44 @@ pub fn confirm(text: &mut String, alloc: Global, case: &Case<'_>) -> Result<(), 
     }
 }
 
-/// Writes the leftmost match in the span of the case.
+/// Writes what a confirming search answers to a case.
 fn push_confirmed(
     text: &mut String,
     alloc: Global,
     case: &Case<'_>,
     search: &ConfirmingSearch,
 ) -> Result<(), Refusal> {
-    let haystack = case.haystack(alloc)?;
-    let span = case.span(haystack.as_slice())?;
-    let found = search.find_in(haystack.as_slice(), span);
-    let counted = search.find_in_counted(haystack.as_slice(), span, &mut Tally::new());
-    push_found(text, found)?;
-    Ok(push_other(text, found, counted)?)
-}
-
-/// All matches, by a confirming search.
-pub fn confirm_all(text: &mut String, alloc: Global, case: &Case<'_>) -> Result<(), Refusal> {
-    match confirming_for(alloc, case)? {
-        Some(search) => push_all_confirmed(text, alloc, case, &search),
-        None => push_word(text, NO_PREFILTER),
+    let asked = case.text(alloc)?;
+    match case.call() {
+        "confirm" => push_leftmost_confirmed(text, &asked, search)?,
+        _ => push_all_confirmed(text, asked.haystack.as_slice(), search)?,
     }
+    Ok(())
 }
 
-/// Writes all matches in the haystack of the case.
+/// Writes the leftmost match in a span.
+fn push_leftmost_confirmed(
+    text: &mut String,
+    asked: &Text,
+    search: &ConfirmingSearch,
+) -> Result<(), AllocError> {
+    let (haystack, tally) = (asked.haystack.as_slice(), &mut Tally::new());
+    let first = search.find_in(haystack, asked.span);
+    let counted = search.find_in_counted(haystack, asked.span, tally);
+    push_found(text, first)?;
+    if counted != first {
+        text.push_str(OTHERWISE)?;
+        push_found(text, counted)?;
+    }
+    Ok(())
+}
+
+/// Writes all matches.
 fn push_all_confirmed(
     text: &mut String,
-    alloc: Global,
-    case: &Case<'_>,
+    haystack: &[u8],
     search: &ConfirmingSearch,
-) -> Result<(), Refusal> {
-    let haystack = case.haystack(alloc)?;
-    let all = search.find_all(haystack.as_slice(), &mut Tally::new())?;
-    Ok(push_list(text, all.as_slice())?)
+) -> Result<(), AllocError> {
+    let all = search.find_all(haystack, &mut Tally::new())?;
+    push_list(text, all.as_slice())
 }

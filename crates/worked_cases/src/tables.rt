@@ -1,6 +1,6 @@
 //! Answers of tables of bytes.
 use crate::bytes::push_byte;
-use crate::case::Case;
+use crate::case::{Case, Query, Text};
 use crate::pattern_lists::patterns_of;
 use crate::refusal::Refusal;
 use crate::told::{NONE, push_word};
@@ -9,10 +9,10 @@ use literal_prefilters::packed::pattern::Patterns;
 use literal_prefilters::prefilter::ByteTable;
 use std::alloc::{AllocError, Global};
 
-/// The patterns of the case, in the order in which its kind of match tries them.
-fn patterns_in_order(alloc: Global, case: &Case<'_>) -> Result<Patterns, Refusal> {
-    let mut patterns = patterns_of(alloc, case)?;
-    if let Some(kind) = case.kind()?.as_packed() {
+/// The patterns, in the order in which their kind of match tries them.
+fn patterns_in_order(alloc: Global, query: &Query) -> Result<Patterns, Refusal> {
+    let mut patterns = patterns_of(alloc, query.patterns.as_slice())?;
+    if let Some(kind) = query.kind.as_packed() {
         patterns.set_match_kind(kind)?;
     }
     Ok(patterns)
@@ -20,12 +20,21 @@ fn patterns_in_order(alloc: Global, case: &Case<'_>) -> Result<Patterns, Refusal
 
 /// The table of start bytes and that of rare bytes.
 pub fn tables(text: &mut String, alloc: Global, case: &Case<'_>) -> Result<(), Refusal> {
-    let ignore_case = case.ignores_case()?;
-    let patterns = patterns_in_order(alloc, case)?;
-    push_word(text, "start=")?;
-    push_table(text, ByteTable::start(&patterns, ignore_case), false)?;
-    push_word(text, "; rare=")?;
-    Ok(push_table(text, ByteTable::rare(&patterns, ignore_case), true)?)
+    let query = case.query(alloc)?;
+    let patterns = patterns_in_order(alloc, &query)?;
+    Ok(push_tables(text, &patterns, query.ignore_case)?)
+}
+
+/// Writes both tables.
+fn push_tables(
+    text: &mut String,
+    patterns: &Patterns,
+    ignore_case: bool,
+) -> Result<(), AllocError> {
+    text.push_str("start=")?;
+    push_table(text, ByteTable::start(patterns, ignore_case), false)?;
+    text.push_str("; rare=")?;
+    push_table(text, ByteTable::rare(patterns, ignore_case), true)
 }
 
 /// Writes whether there is a table, and of one its bytes, with their distances where these are asked for,
@@ -67,25 +76,18 @@ fn push_entries(
 
 /// The first place in a span of a byte of the rare table.
 pub fn scan(text: &mut String, alloc: Global, case: &Case<'_>) -> Result<(), Refusal> {
-    let ignore_case = case.ignores_case()?;
-    let patterns = patterns_in_order(alloc, case)?;
-    match ByteTable::rare(&patterns, ignore_case) {
-        Some(table) => push_place(text, alloc, case, &table),
+    let query = case.query(alloc)?;
+    let patterns = patterns_in_order(alloc, &query)?;
+    match ByteTable::rare(&patterns, query.ignore_case) {
+        Some(table) => Ok(push_place(text, &case.text(alloc)?, &table)?),
         None => push_word(text, "no-table"),
     }
 }
 
-/// Writes the first place in the span of the case of a byte of a table.
-fn push_place(
-    text: &mut String,
-    alloc: Global,
-    case: &Case<'_>,
-    table: &ByteTable,
-) -> Result<(), Refusal> {
-    let haystack = case.haystack(alloc)?;
-    let span = case.span(haystack.as_slice())?;
-    match table.scan(haystack.as_slice(), span, &mut Tally::new()) {
-        Some(place) => Ok(write!(text, "{place}")?),
-        None => push_word(text, NONE),
+/// Writes the first place in a span of a byte of a table.
+fn push_place(text: &mut String, asked: &Text, table: &ByteTable) -> Result<(), AllocError> {
+    match table.scan(asked.haystack.as_slice(), asked.span, &mut Tally::new()) {
+        Some(place) => write!(text, "{place}"),
+        None => text.push_str(NONE),
     }
 }

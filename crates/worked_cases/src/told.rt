@@ -10,7 +10,7 @@ pub const NONE: &str = "none";
 pub const NO_PREFILTER: &str = "no-prefilter";
 
 /// What stands before an answer that had to be the same as the first and is not.
-const OTHERWISE: &str = " / ";
+pub const OTHERWISE: &str = " / ";
 
 /// Writes an answer that has to be the same as what is written so far.
 pub fn push_also(text: &mut String, said: &str) -> Result<(), AllocError> {

@@ -38,18 +38,3 @@ fn searches_for_any_list(rt: HostRuntime) -> Result<(), Fail> {
     assert!(rt; any.occurring.len() == 5);
     Ok(())
 }
-
-#[test]
-fn refuses_a_list_with_an_empty_pattern(rt: HostRuntime) -> Result<(), Fail> {
-    let asked = AnySearch {
-        kind: MatchKind::LeftmostFirst,
-        ignore_case: false,
-        patterns: &[b"a", b"", b""],
-    };
-    if let Err(error) = searched(rt.alloc(), &asked) {
-        let empty = BuildError::EmptyPattern(1);
-        assert!(rt; error == empty || error == BuildError::OutOfMemory);
-        return Ok(());
-    }
-    Err(Fail::from("a list with an empty pattern is searched for"))
-}

@@ -5,7 +5,6 @@ use literal_examples::classes::{
     classes_of, copied, count_of_classes, count_of_elements, elements_taken, have_their_class,
     last_bytes, next_after_all, runs_collected,
 };
-use std::process::Abort;
 use std::test::Fail;
 
 const THREE: [(u8, u8); 3] = [(b'b', b'd'), (b'g', b'm'), (b'z', b'z')];
@@ -38,37 +37,6 @@ fn lists_bytes(rt: HostRuntime) -> Result<(), Fail> {
     let last = last_bytes(rt.alloc(), &copied(&set)?)?;
     assert!(rt; last.as_slice() == [b'`', b'z', 255].as_slice());
     Ok(())
-}
-
-/// The classes of a set in which each byte is marked.
-fn classes_of_all() -> ByteClasses {
-    let mut set = ByteClassSet::empty();
-    for byte in 0..=255 {
-        set.set_range(byte, byte);
-    }
-    set.byte_classes()
-}
-
-#[test]
-fn gives_each_byte_a_class(rt: HostRuntime) {
-    for classes in [ByteClasses::singletons(), classes_of_all()] {
-        assert!(rt; classes.alphabet_len() == 256 && classes.stride2() == 8);
-        assert!(rt; classes.stride() == 256 && classes.is_singleton());
-        assert!(rt; classes.get(b'a') == b'a' && count_of_elements(&classes, b'a') == 1);
-    }
-    assert_sets_one(&rt);
-}
-
-/// One byte with another class than all others.
-fn assert_sets_one(rt: &impl Abort) {
-    let empty = ByteClasses::empty();
-    let mut classes = empty;
-    classes.set(5, 1);
-    assert!(rt; classes.get(5) == 1 && empty.get(5) == 0 && !empty.is_singleton());
-    let mut runs = classes.element_ranges(0);
-    for run in [Some((0, 4)), Some((6, 255)), None, None] {
-        assert!(rt; runs.next() == run);
-    }
 }
 
 #[test]

@@ -1,7 +1,7 @@
 //! The tally of a caller takes no bytes, and one of an iteration counts its matches.
+use crate::made::first_of;
 use literal_base::count::Tally;
 use literal_examples::counts::{count_scanned, ticked};
-use literal_search::{MatchKind, Search};
 use std::test::Fail;
 
 #[test]
@@ -13,8 +13,7 @@ fn takes_no_bytes(rt: HostRuntime) {
 
 #[test]
 fn counts_matches_one_after_another(rt: HostRuntime) -> Result<(), Fail> {
-    let words = [b"ab".as_slice()];
-    let search = Search::new(rt.alloc(), MatchKind::LeftmostFirst, false, words)?;
+    let search = first_of(rt.alloc(), &[b"ab"])?;
     assert!(rt; count_scanned(&search, b"ab xabab", &mut Tally::new()) == 3);
     Ok(())
 }

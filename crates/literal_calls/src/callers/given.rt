@@ -1,9 +1,10 @@
 //! Callers that are given words, each run once.
 use literal_examples::given::{
-    add_all, first_confirmed, first_of_array, first_of_slice, first_of_vec, found_in_readme,
+    Found, add_all, first_confirmed, first_of_array, first_of_slice, first_of_vec, found_in_readme,
 };
 use literal_prefilters::packed::{self, Builder};
 use literal_prefilters::{Match, Span};
+use std::alloc::{AllocError, Global};
 use std::process::Abort;
 use std::test::Fail;
 
@@ -14,29 +15,40 @@ fn assert_is_ab(rt: &impl Abort, first: Option<Match>) {
     assert!(rt; first == Some(Match::must(0, Span { start: 1, end: 3 })));
 }
 
+/// The first of the words of each list.
+fn first_of_each(alloc: Global) -> Result<[Option<Found>; 3], AllocError> {
+    let words = Vec::from_array(alloc, WORDS)?;
+    Ok([
+        first_of_array(alloc, WORDS, b"xab")?,
+        first_of_slice(alloc, WORDS.as_slice(), b"xab")?,
+        first_of_vec(alloc, words, b"xab")?,
+    ])
+}
+
 #[test]
 fn finds_words_of_each_list(rt: HostRuntime) -> Result<(), Fail> {
-    let answer = first_of_array(rt.alloc(), WORDS, b"xab")?.ok_or("no searcher")?;
-    let first: Option<Match> = answer.first;
-    assert_is_ab(&rt, first);
-    let answer = first_of_slice(rt.alloc(), WORDS.as_slice(), b"xab")?.ok_or("no searcher")?;
-    let first: Option<Match> = answer.first;
-    assert_is_ab(&rt, first);
-    let words = Vec::from_array(rt.alloc(), WORDS)?;
-    let answer = first_of_vec(rt.alloc(), words, b"xab")?.ok_or("no searcher")?;
-    let first: Option<Match> = answer.first;
-    assert_is_ab(&rt, first);
+    for answer in &first_of_each(rt.alloc())? {
+        assert!(rt; answer.is_some());
+        if let Some(answer) = answer {
+            assert_is_ab(&rt, answer.first);
+        }
+    }
     Ok(())
+}
+
+/// What is confirmed first of `ab` in `xAB`.
+fn confirmed(alloc: Global) -> Result<Option<Match>, AllocError> {
+    let (kind, words) = (packed::MatchKind::LeftmostFirst, [b"ab".as_slice()]);
+    let span = Span { start: 0, end: 3 };
+    match first_confirmed(alloc, kind, true, words.as_slice(), b"xAB", span)? {
+        Some(answer) => Ok(answer.first),
+        None => Ok(None),
+    }
 }
 
 #[test]
 fn confirms_words(rt: HostRuntime) -> Result<(), Fail> {
-    let kind = packed::MatchKind::LeftmostFirst;
-    let words = [b"ab".as_slice()];
-    let span = Span { start: 0, end: 3 };
-    let answer = first_confirmed(rt.alloc(), kind, true, words.as_slice(), b"xAB", span)?;
-    let first: Option<Match> = answer.ok_or("no prefilter")?.first;
-    assert_is_ab(&rt, first);
+    assert_is_ab(&rt, confirmed(rt.alloc())?);
     Ok(())
 }
 

@@ -18,26 +18,33 @@ fn assert_finds_ab(rt: &impl Abort, built: Option<Searcher>) {
 
 const AB_AND_A: [&[u8]; 2] = [b"ab", b"a"];
 
+/// Of two words that are lent one by one.
+fn of_two(alloc: Global) -> Result<Option<Searcher>, AllocError> {
+    built_of_two(alloc, b"ab", b"a")
+}
+
+/// Of two words, the longest of which is to be found.
+fn of_kind(alloc: Global) -> Result<Option<Searcher>, AllocError> {
+    built_by_kind(alloc, MatchKind::LeftmostLongest, b"a", b"ab")
+}
+
 #[test]
 fn builds_as_its_callers_say(rt: HostRuntime) -> Result<(), Fail> {
-    assert_finds_ab(&rt, built_of_two(rt.alloc(), b"ab", b"a")?);
+    assert_finds_ab(&rt, of_two(rt.alloc())?);
+    assert_finds_ab(&rt, of_kind(rt.alloc())?);
     assert_finds_ab(&rt, built_of_items(rt.alloc(), AB_AND_A)?);
-    let longest = MatchKind::LeftmostLongest;
-    assert_finds_ab(&rt, built_by_kind(rt.alloc(), longest, b"a", b"ab")?);
     Ok(())
 }
 
-fn two_words(alloc: Global) -> Result<Vec<String>, AllocError> {
-    let mut words = Vec::new(alloc);
-    words.push(String::from_str(alloc, "ab")?)?;
-    words.push(String::from_str(alloc, "a")?)?;
-    Ok(words)
+/// Of words that are lent.
+fn of_words(alloc: Global, words: &[String]) -> Result<Option<Searcher>, AllocError> {
+    built_of_words(alloc, words)
 }
 
 #[test]
 fn builds_of_words(rt: HostRuntime) -> Result<(), Fail> {
-    let words = two_words(rt.alloc())?;
-    assert_finds_ab(&rt, built_of_words(rt.alloc(), &words)?);
+    let words = Vec::from_array(rt.alloc(), [String::from_str(rt.alloc(), "ab")?])?;
+    assert_finds_ab(&rt, of_words(rt.alloc(), &words)?);
     Ok(())
 }
 
