@@ -14,7 +14,10 @@ import re
 from rattle_source import BRACKETS, closing, functions_in, plain_code, without_tests, words_of
 
 # Crates of callers, tests and examples, which no rule here reads.
-TEST_CRATES = ("literal_calls", "literal_compared", "literal_examples", "litscan", "refused_memory", "worked_cases")
+TEST_CRATES = (
+    "literal_calls", "literal_search_calls", "literal_compared", "literal_examples", "litscan", "refused_memory",
+    "worked_cases",
+)
 
 # Crates whose code may have a haystack in hand.
 SEARCH_CRATES = ("literal_packed", "literal_fingerprints", "literal_prefilters", "literal_search")

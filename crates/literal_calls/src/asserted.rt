@@ -8,15 +8,3 @@ pub fn assert_prints<T: Debug>(rt: &impl Abort, alloc: Global, it: &T) -> Result
     assert!(rt; !format!(in alloc; "{it:?}")?.is_empty());
     Ok(())
 }
-
-/// Just this is printed of a value.
-pub fn assert_prints_as<T: Debug>(
-    rt: &impl Abort,
-    alloc: Global,
-    it: &T,
-    wanted: &str,
-) -> Result<(), AllocError> {
-    let printed = format!(in alloc; "{it:?}")?;
-    assert!(rt; printed.as_str() == wanted);
-    Ok(())
-}

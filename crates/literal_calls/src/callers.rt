@@ -2,10 +2,8 @@
 mod any_list;
 mod classes;
 mod copies;
-mod counts;
 mod given;
 mod inputs;
-mod replacing;
 mod together;
 mod uses;
 mod uses_of_ids;

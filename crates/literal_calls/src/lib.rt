@@ -1,5 +1,6 @@
-//! The examples, the callers of `literal_examples`, and the public calls that neither a row of data (`worked_cases`)
-//! nor a test of refused memory (`refused_memory`) makes, each run once with ample memory.
+//! The examples in the documentation of the main types, callers of `literal_examples` and `literal_promise`, and those
+//! public calls of the bottom layer that neither a row of data (`worked_cases`) nor a test of refused memory
+//! (`refused_memory`) makes, each run once with ample memory.
 #![tactic(auto)]
 
 #[cfg(test)]
@@ -9,22 +10,10 @@ mod builders;
 #[cfg(test)]
 mod callers;
 #[cfg(test)]
-mod examples;
-#[cfg(test)]
-mod fingerprints;
-#[cfg(test)]
 mod identifiers;
-#[cfg(test)]
-mod made;
 #[cfg(test)]
 mod paths;
 #[cfg(test)]
-mod prepared;
-#[cfg(test)]
-mod replacing;
-#[cfg(test)]
-mod searches;
-#[cfg(test)]
 mod spans;
 #[cfg(test)]
-mod streams;
+mod types;

@@ -1,10 +1,23 @@
 //! `Search`, `Linear` and `Overlapping`.
-use crate::asserted::assert_prints_as;
 use crate::made::{first_of, longest_of};
 use literal_base::count::Tally;
 use literal_search::{BuildError, Linear, Match, MatchKind, Overlapping, PatternID, Search, Span};
-use std::alloc::AllocError;
+use std::alloc::{AllocError, Global};
+use std::fmt::Debug;
+use std::process::Abort;
 use std::test::Fail;
+
+/// Just this is printed of a value.
+fn assert_prints_as<T: Debug>(
+    rt: &impl Abort,
+    alloc: Global,
+    it: &T,
+    wanted: &str,
+) -> Result<(), AllocError> {
+    let printed = format!(in alloc; "{it:?}")?;
+    assert!(rt; printed.as_str() == wanted);
+    Ok(())
+}
 
 #[test]
 fn example_of_a_search(rt: HostRuntime) -> Result<(), Fail> {

@@ -1,0 +1,3 @@
+//! Callers of `literal_examples`, each run once.
+mod counts;
+mod replacing;
