@@ -279,8 +279,8 @@ int32_t literal_find_in(const uint32_t *prepared, size_t prepared_len, const uin
  * the first place at which a match may still begin: nobody needs the bytes before it any more, which are all but one
  * less than the longest pattern has. Keep those from there on, put what comes next behind them, and call again with the
  * place where they begin now for start. Whoever reads little at a time reads at least as many bytes as are kept before
- * the next call, or up to the end: then all calls together search each byte twice at most, but behind each match, where
- * a call may look ahead as far as the longest pattern is long. With more false it is the leftmost match of the bytes
+ * the next call, or up to the end: then each byte lies in at most two calls, but behind each match, where a call may look
+ * ahead as far as the longest pattern is long. With more false it is the leftmost match of the bytes
  * from start on, as of literal_find_in, or next is haystack_len.
  *
  * LITERAL_OK             found holds the match, and next its end

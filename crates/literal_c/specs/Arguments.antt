@@ -5,10 +5,9 @@ use Rattle.literal_base.specs.declared.packed.MatchKind.TheVariants.{LeftmostFir
 use Rattle.literal_base.specs.Query.{Query}
 use Rattle.literal_base.specs.Kinds.{root_kind_of}
 use Rattle.literal_search.specs.SearchValue.{CanBeKept, NeedTooManyStates, SearchValue, search_by}
-use Rattle.literal_search.specs.Prepared.{ForPrepared, HasParts}
+use Rattle.literal_search.specs.Prepared.{ForPrepared, HasAllParts}
 use Rattle.literal_search.specs.PreparedLinear.{ForLinear, HasLinearParts}
 use Rattle.literal_search.specs.PreparedOverlapping.{ForOverlapping, HasLists}
-use Rattle.literal_search.specs.declared.prepared.TheConstants.{PREPARED_VERSION}
 use Rattle.literal_c.specs.declared.TheConstants.{LITERAL_BAD_ARGUMENTS, LITERAL_LEFTMOST_FIRST}
 use Rattle.literal_c.specs.declared.TheConstants.{LITERAL_LEFTMOST_LONGEST}
 use Rattle.literal_c.specs.declared.TheConstants.{LITERAL_NONE, LITERAL_NO_SEARCHER, LITERAL_OK}
@@ -65,7 +64,7 @@ pub record IsStatusOf (has_parts : Type 0) (IfPrepared : Type 0 → Type 0) (agr
 
 -- the same of an array by which leftmost matches are searched for
 abbrev pub IsStatusBy : List ℕ → Type 0 → (ℤ → Type 0) → ℤ → Type 0
-IsStatusBy array = IsStatusOf (HasParts PREPARED_VERSION array) (λ P. ForPrepared array (λ _ _. P))
+IsStatusBy array = IsStatusOf (HasAllParts array) (λ P. ForPrepared array (λ _ _. P))
 
 -- and of one by which everything that occurs is
 abbrev pub IsOverlappingStatusBy : List ℕ → Type 0 → (ℤ → Type 0) → ℤ → Type 0
