@@ -2,11 +2,13 @@
 use Rattle.std.specs.Prelude.{◌≡◌, ◌≢◌, ℕ, ◌==◌, ◌&&◌, ◌||◌, ◌++◌, Bool, List, [], Option, Some, None, codes, true}
 use Rattle.std.specs.Prelude.{false, if◌then◌else◌, length, map, nat_lt, not, slice_index}
 use Rattle.std.specs.List.{All, count_by, list_any}
+use Rattle.std.specs.Option.{IsSome, is_some}
 use Rattle.std.specs.declared.io.ErrorKind.{ErrorKind}
 use Rattle.std.specs.declared.io.ErrorKind.TheVariants as kind
 use Rattle.literal_search.specs.SearchValue.{SearchValue}
 use Rattle.litscan.specs.Lines.{lines_of}
-use Rattle.litscan.specs.Printed.{Prints, counts}
+use Rattle.litscan.specs.Options.{limit_of}
+use Rattle.litscan.specs.Printed.{Prints, StopsAtEnough, counts}
 use Rattle.litscan.specs.declared.files.Found.{Found}
 use Rattle.litscan.specs.declared.options.Options.{Options}
 use Rattle.litscan.specs.declared.scan.Scanned.{Scanned}
@@ -19,17 +21,19 @@ is_input name = (length name == 1) && (slice_index name 0 == 45)
 abbrev pub input_name : List ℕ → List ℕ
 input_name name = if is_input name then codes "(standard input)" else name
 
--- what is printed of a file of this name that has this text, or a text that begins so, and what its scan found
+-- what is printed of a file of this name of which this text was read, up to the line with which enough count, and what
+-- its scan found
 abbrev pub PrintsText : SearchValue → Options → List ℕ → List ℕ → Scanned → List ℕ → Type 0
 PrintsText search options name text scanned out =
     Prints search options name text out
     × (scanned.count ≡ count_by (counts search options) (lines_of text))
+    × StopsAtEnough (limit_of options) (counts search options) (lines_of text)
 
 -- what is printed of a file of this name, of which this was read if it could be opened, and what its scan found;
 -- standard input is open
 abbrev pub PrintsFile : SearchValue → Options → List ℕ → Option (List ℕ) → Scanned → List ℕ → Type 0
 PrintsFile search options name None scanned out =
-    (is_input name ≡ false) × (out ≡ []) × (scanned ≡ record { count = 0; failed = true })
+    (is_input name ≡ false) × (out ≡ []) × (scanned.count ≡ 0) × IsSome scanned.failure
 PrintsFile search options name (Some text) scanned out = PrintsText search options (input_name name) text scanned out
 
 -- a file that was searched: its name, what was read of it if it could be opened, what was found, and what was printed
@@ -47,7 +51,7 @@ pub record AreSearched (search : SearchValue) (options : Options) (names : List 
   pub enough : others ≢ [] → (options.quiet && found.any) ≡ true
   pub each : All (λ one. PrintsFile search options one.name one.text one.scanned one.out) all
   pub any : found.any ≡ list_any (λ one. nat_lt 0 one.scanned.count) all
-  pub failed : found.failed ≡ list_any (λ one. one.scanned.failed) all
+  pub failed : found.failed ≡ list_any (λ one. is_some one.scanned.failure) all
 
 -- the status of the program: 0 if a line counts, 1 if none does, and 2 if a file could not be read, but for a line that
 -- counts where nothing is printed

@@ -1,11 +1,12 @@
 //! The files that are searched, one after another.
-ghost use Rattle.std.specs.Prelude.{◌≡◌, ◌⊎◌, ◌||◌, ℕ, List, Option, IfErr, IfOk, map, nat_lt, true};
+ghost use Rattle.std.specs.Prelude.{◌≡◌, ◌⊎◌, ◌||◌, ℕ, List, Option, Some, IfErr, IfOk, map, nat_lt, true};
+ghost use Rattle.std.specs.Option.{is_some};
 ghost use Rattle.std.specs.Io.KnownBytes.{Appends};
 ghost use Rattle.std.specs.List.{flat_map};
 ghost use Rattle.literal_base.specs.declared.packed.MatchKind.TheVariants.{LeftmostLongest};
 ghost use Rattle.litscan.specs.Fault.{IsWriteFault};
 ghost use Rattle.litscan.specs.Files.{AreSearched, PrintsFile, PrintsText, Searched, input_name, status_for};
-ghost use Rattle.litscan.specs.Printed.{Reads, stops};
+ghost use Rattle.litscan.specs.Printed.{CannotRead, Reads, ReadsTooMany, are_enough};
 ghost use Rattle.litscan.specs.declared.fault.Fault.TheVariants.{OutOfMemory};
 
 use crate::device::Device;
@@ -30,12 +31,12 @@ impl Found {
     fn with(self, scanned: Scanned) -> Found
         ensures { result ≡ record {
           any = self.any || nat_lt 0 scanned.count;
-          failed = self.failed || scanned.failed;
+          failed = self.failed || is_some scanned.failure;
         } }
     {
         Found {
             any: self.any || scanned.count > 0,
-            failed: self.failed || scanned.failed,
+            failed: self.failed || scanned.failure.is_some(),
         }
     }
 
@@ -127,31 +128,32 @@ fn scan_told<R: BufRead, W: Write>(
 ) -> Result<Scanned, Fault>
     requires { search.now.query.kind ≡ LeftmostLongest }
     ensures printed { IfOk result (λ scanned. (text out : List ℕ)
-        × Reads (stops options scanned) (R.remaining reader.old.inner) (R.remaining reader.new.inner) text
+        × Reads scanned.failure (are_enough options scanned) (R.remaining reader.old.inner)
+        (R.remaining reader.new.inner) text
         × PrintsText search.now options name.now text scanned out
         × Appends (W.contents writer.old.inner) (W.contents writer.new.inner) out) }
+    ensures failed { IfOk result (λ scanned. CannotRead reader.new.failure
+        (ReadsTooMany (R.remaining reader.old.inner) (R.remaining reader.new.inner)) scanned.failure) }
     ensures error { IfErr result (λ fault. IsWriteFault writer.new.failure fault ⊎ (fault ≡ OutOfMemory)) }
 {
     let scanned = scan(rt.alloc(), search, options, name, reader, writer)?;
-    if scanned.failed && !options.untold {
-        tell(
-            rt,
-            name,
-            reader.failure().unwrap_or(ErrorKind::FileTooLarge),
-        );
+    if let Some(kind) = scanned.failure {
+        if !options.untold {
+            tell(rt, name, kind);
+        }
     }
     Ok(scanned)
 }
 
 /// What is found in a file that cannot be opened. That is told, but for `-s`.
 fn not_opened(rt: &HostRuntime, options: Options, name: &[u8], kind: ErrorKind) -> Scanned
-    ensures { result ≡ record { count = 0; failed = true } }
+    ensures { result ≡ record { count = 0; failure = Some kind } }
 {
     if !options.untold {
         tell(rt, name, kind);
     }
     Scanned {
         count: 0,
-        failed: true,
+        failure: Some(kind),
     }
 }

@@ -7,6 +7,7 @@ use Rattle.std.proofs.lemmas.List.Elements.{All-push}
 use Rattle.std.proofs.lemmas.List.Folds.{list_any-append}
 use Rattle.std.specs.Io.KnownBytes.{Appends}
 use Rattle.std.specs.List.{flat_map, list_any}
+use Rattle.std.specs.Option.{is_some}
 use Rattle.litscan.specs.Files.{PrintsFile, Searched}
 use Rattle.litscan.proofs.files.scan_files.Goals as goal
 
@@ -66,7 +67,7 @@ loop-name-preserved g c =
           ∙ any_more (λ one. nat_lt 0 one.scanned.count) so_far.all one c.loop-name.found.any so_far.any;
       failed =
           ap (λ found. found.failed) c.with-found.ensures
-          ∙ any_more (λ one. one.scanned.failed) so_far.all one c.loop-name.found.failed so_far.failed;
+          ∙ any_more (λ one. is_some one.scanned.failure) so_far.all one c.loop-name.found.failed so_far.failed;
       written =
           subst (Appends _ _) (flat_map_more (λ one. one.out) [] so_far.all one)
           (Appends-trans _ _ _ (flat_map (λ one. one.out) so_far.all) got.1 so_far.written got.3);
