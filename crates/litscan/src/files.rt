@@ -1,5 +1,6 @@
 //! The files that are searched, one after another.
-ghost use Rattle.std.specs.Prelude.{◌≡◌, ◌⊎◌, ◌||◌, ℕ, List, Option, Some, IfErr, IfOk, map, nat_lt, true};
+ghost use Rattle.std.specs.Prelude.{◌≡◌, ◌⊎◌, ◌||◌, ℕ, List, Option, Some, IfErr, IfOk, OnOk, map};
+ghost use Rattle.std.specs.Prelude.{nat_lt, true};
 ghost use Rattle.std.specs.Option.{is_some};
 ghost use Rattle.std.specs.Io.KnownBytes.{Appends};
 ghost use Rattle.std.specs.List.{flat_map};
@@ -52,9 +53,29 @@ impl Found {
     }
 }
 
-/// Searches the files of these names in turn, and prints what is asked for. Where nothing is printed, no file is read
-/// behind the first in which a line counts.
+/// Searches the files of these names in turn, prints what is asked for, and flushes it.
 pub fn scan_files<W: Write>(
+    rt: &HostRuntime,
+    search: &Search,
+    options: Options,
+    names: &[Vec<u8>],
+    writer: &mut Device<W>,
+) -> Result<Found, Fault>
+    requires { search.now.query.kind ≡ LeftmostLongest }
+    ensures searched { IfOk result (λ found. (all : List Searched)
+        × AreSearched search.now options (map (λ name. name.items) names.now) found all
+        × Appends (W.contents writer.old.inner) (W.contents writer.new.inner) (flat_map (λ one. one.out) all)) }
+    ensures flushed { OnOk result (writer.new.flushed ≡ true) }
+    ensures error { IfErr result (λ fault. IsWriteFault writer.new.failure fault ⊎ (fault ≡ OutOfMemory)) }
+{
+    let found = scan_each(rt, search, options, names, writer)?;
+    writer.flush()?;
+    Ok(found)
+}
+
+/// Searches the files of these names in turn. Where nothing is printed, no file is read
+/// behind the first in which a line counts.
+fn scan_each<W: Write>(
     rt: &HostRuntime,
     search: &Search,
     options: Options,
@@ -78,7 +99,6 @@ pub fn scan_files<W: Write>(
         let scanned = scan_file(rt, search, options, name.as_slice(), writer)?;
         found = found.with(scanned);
     }
-    writer.flush()?;
     Ok(found)
 }
 

@@ -6,7 +6,7 @@ use crate::device::Device;
 use crate::fault::Fault;
 use std::alloc::Global;
 use std::fs::{self, File};
-use std::io::{BufReader, ErrorKind, Read};
+use std::io::{BufReader, ErrorKind, Read, Write};
 use std::str;
 
 /// How many bytes are read at once.
@@ -38,9 +38,26 @@ pub fn is_input(name: &[u8]) -> bool
 
 /// Tells on standard error why a file cannot be opened or read.
 pub fn tell(rt: &HostRuntime, name: &[u8], kind: ErrorKind) {
-    let name = str::from_utf8(name).unwrap_or("?");
-    let cause = cause_of(kind);
-    let _ = eprintln!(rt; "litscan: {name}: {cause}");
+    tell_around(rt, "litscan: ", name, ": ", cause_of(kind));
+}
+
+/// Tells on standard error that this word of the command line is no option.
+pub fn tell_unknown(rt: &HostRuntime, word: &[u8]) {
+    tell_around(
+        rt,
+        "litscan: unknown option ",
+        word,
+        "; ",
+        "litscan --help lists the options",
+    );
+}
+
+/// Writes a line with these bytes as they are on standard error. A failure of that is told nowhere.
+fn tell_around(rt: &HostRuntime, before: &str, bytes: &[u8], between: &str, behind: &str) {
+    let mut log = rt.stderr();
+    let _ = log.write_all(before.as_bytes());
+    let _ = log.write_all(bytes);
+    let _ = writeln!(log, "{between}{behind}");
 }
 
 /// What is told of an error of this kind.

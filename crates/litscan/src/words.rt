@@ -7,6 +7,7 @@ ghost use Rattle.litscan.specs.Fault.{RefusesWords};
 ghost use Rattle.litscan.specs.Lines.{lines_of, with_feed};
 ghost use Rattle.litscan.specs.Request.{value_of_source};
 ghost use Rattle.litscan.specs.Words.{AreTextsOf, IsTextOf, StopsWords};
+ghost use Rattle.litscan.specs.declared.fault.Fault.TheVariants.{OutOfMemory};
 
 use crate::device::Device;
 use crate::fault::Fault;
@@ -47,12 +48,12 @@ fn add_source(rt: &HostRuntime, source: &Source, words: &mut Vec<Vec<u8>>) -> Re
 fn add_given(alloc: Global, bytes: &[u8], words: &mut Vec<Vec<u8>>) -> Result<(), Fault>
     ensures added { OnOk result (map (λ word. word.items) words.new.items
         ≡ map (λ word. word.items) words.old.items ++ lines_of (with_feed bytes.now)) }
-    ensures error { IfErr result StopsWords }
+    ensures error { IfErr result (λ fault. fault ≡ OutOfMemory) }
 {
     let mut text = Vec::from_slice(alloc, bytes).or(Err(Fault::OutOfMemory))?;
     text.push(b'\n').or(Err(Fault::OutOfMemory))?;
     let mut reader = Device::new(text.as_slice());
-    add_lines(alloc, &mut reader, words)
+    add_lines(alloc, &mut reader, words).or(Err(Fault::OutOfMemory))
 }
 
 /// Adds each line of the file of this name, or of standard input. One that cannot be opened or read is told of.

@@ -3,7 +3,7 @@ use Rattle.std.specs.Io.KnownBytes.{Appends}
 use Rattle.std.specs.List.{All, flat_map, list_any}
 use Rattle.std.specs.Option.{is_some}
 use Rattle.litscan.specs.Files.{PrintsFile, Searched}
-use Rattle.litscan.proofs.files.scan_files.Given as goal
+use Rattle.litscan.proofs.files.scan_each.Given as goal
 
 -- the files so far were searched, and what was printed of them is written
 abbrev pub invariant-loop-name : goal.invariant-loop-name

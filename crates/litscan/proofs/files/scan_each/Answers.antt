@@ -9,7 +9,7 @@ use Rattle.std.specs.Io.KnownBytes.{Appends}
 use Rattle.std.specs.List.{flat_map, list_any}
 use Rattle.std.specs.Option.{is_some}
 use Rattle.litscan.specs.Files.{PrintsFile, Searched}
-use Rattle.litscan.proofs.files.scan_files.Goals as goal
+use Rattle.litscan.proofs.files.scan_each.Goals as goal
 
 -- one element more
 any_more : (test : Searched → Bool) (xs : List Searched) (x : Searched) (b : Bool) → b ≡ list_any test xs
