@@ -2,7 +2,7 @@
 ghost use Rattle.std.specs.Prelude.{◌≡◌, ◌⊎◌, ◌||◌, ℕ, List, Option, Some, IfErr, IfOk, OnOk, map};
 ghost use Rattle.std.specs.Prelude.{nat_lt, true};
 ghost use Rattle.std.specs.Option.{is_some};
-ghost use Rattle.std.specs.Io.KnownBytes.{Appends};
+ghost use Rattle.std.specs.Io.KnownBytes.{Appends, Keeps};
 ghost use Rattle.std.specs.List.{flat_map};
 ghost use Rattle.literal_base.specs.declared.packed.MatchKind.TheVariants.{LeftmostLongest};
 ghost use Rattle.litscan.specs.Fault.{IsWriteFault};
@@ -12,11 +12,14 @@ ghost use Rattle.litscan.specs.declared.fault.Fault.TheVariants.{OutOfMemory};
 
 use crate::device::Device;
 use crate::fault::Fault;
-use crate::input::{buffered, is_input, open, tell};
+use crate::input::{FileId, buffered, is_file_of, is_input, is_input_file, open, tell};
 use crate::options::Options;
 use crate::scan::{Scanned, scan};
 use literal_search::Search;
 use std::io::{BufRead, ErrorKind, Write};
+
+/// How standard input is named.
+const INPUT: &[u8] = b"(standard input)";
 
 /// What the search of some files found.
 #[derive(Clone, Copy)]
@@ -59,16 +62,17 @@ pub fn scan_files<W: Write>(
     search: &Search,
     options: Options,
     names: &[Vec<u8>],
+    output: Option<FileId>,
     writer: &mut Device<W>,
 ) -> Result<Found, Fault>
     requires { search.now.query.kind ≡ LeftmostLongest }
     ensures searched { IfOk result (λ found. (all : List Searched)
-        × AreSearched search.now options (map (λ name. name.items) names.now) found all
+        × AreSearched search.now options output (map (λ name. name.items) names.now) found all
         × Appends (W.contents writer.old.inner) (W.contents writer.new.inner) (flat_map (λ one. one.out) all)) }
     ensures flushed { OnOk result (writer.new.flushed ≡ true) }
     ensures error { IfErr result (λ fault. IsWriteFault writer.new.failure fault ⊎ (fault ≡ OutOfMemory)) }
 {
-    let found = scan_each(rt, search, options, names, writer)?;
+    let found = scan_each(rt, search, options, names, output, writer)?;
     writer.flush()?;
     Ok(found)
 }
@@ -80,11 +84,12 @@ fn scan_each<W: Write>(
     search: &Search,
     options: Options,
     names: &[Vec<u8>],
+    output: Option<FileId>,
     writer: &mut Device<W>,
 ) -> Result<Found, Fault>
     requires { search.now.query.kind ≡ LeftmostLongest }
     ensures searched { IfOk result (λ found. (all : List Searched)
-        × AreSearched search.now options (map (λ name. name.items) names.now) found all
+        × AreSearched search.now options output (map (λ name. name.items) names.now) found all
         × Appends (W.contents writer.old.inner) (W.contents writer.new.inner) (flat_map (λ one. one.out) all)) }
     ensures error { IfErr result (λ fault. IsWriteFault writer.new.failure fault ⊎ (fault ≡ OutOfMemory)) }
 {
@@ -96,44 +101,48 @@ fn scan_each<W: Write>(
         if options.quiet && found.any {
             return Ok(found);
         }
-        let scanned = scan_file(rt, search, options, name.as_slice(), writer)?;
+        let scanned = scan_file(rt, search, options, name.as_slice(), output, writer)?;
         found = found.with(scanned);
     }
     Ok(found)
 }
 
-/// Searches the file of this name, or standard input. One that cannot be opened is told of.
+/// Searches the file of this name, or standard input. One that cannot be opened, or is standard output, is told of.
 fn scan_file<W: Write>(
     rt: &HostRuntime,
     search: &Search,
     options: Options,
     name: &[u8],
+    output: Option<FileId>,
     writer: &mut Device<W>,
 ) -> Result<Scanned, Fault>
     requires { search.now.query.kind ≡ LeftmostLongest }
     ensures printed { IfOk result (λ scanned. (text : Option (List ℕ)) × (out : List ℕ)
-        × PrintsFile search.now options name.now text scanned out
+        × PrintsFile search.now options output name.now text scanned out
         × Appends (W.contents writer.old.inner) (W.contents writer.new.inner) out) }
     ensures error { IfErr result (λ fault. IsWriteFault writer.new.failure fault ⊎ (fault ≡ OutOfMemory)) }
 {
     if is_input(name) {
+        if let Some(id) = output {
+            if is_input_file(rt, id) {
+                return not_read(rt, options, INPUT, ErrorKind::Deadlock, writer);
+            }
+        }
         let mut reader = buffered(rt.alloc(), rt.stdin())?;
-        return scan_told(
-            rt,
-            search,
-            options,
-            b"(standard input)",
-            &mut reader,
-            writer,
-        );
+        return scan_told(rt, search, options, INPUT, &mut reader, writer);
     }
     match open(rt, name) {
         Ok(file) => {
+            if let Some(id) = output {
+                if is_file_of(file.metadata(), id) {
+                    return not_read(rt, options, name, ErrorKind::Deadlock, writer);
+                }
+            }
             let mut reader = buffered(rt.alloc(), file)?;
             scan_told(rt, search, options, name, &mut reader, writer)
         }
         Err(ErrorKind::OutOfMemory) => Err(Fault::OutOfMemory),
-        Err(kind) => Ok(not_opened(rt, options, name, kind)),
+        Err(kind) => not_read(rt, options, name, kind, writer),
     }
 }
 
@@ -158,22 +167,45 @@ fn scan_told<R: BufRead, W: Write>(
 {
     let scanned = scan(rt.alloc(), search, options, name, reader, writer)?;
     if let Some(kind) = scanned.failure {
-        if !options.untold {
-            tell(rt, name, kind);
-        }
+        tell_behind(rt, options, name, kind, writer)?;
     }
     Ok(scanned)
 }
 
-/// What is found in a file that cannot be opened. That is told, but for `-s`.
-fn not_opened(rt: &HostRuntime, options: Options, name: &[u8], kind: ErrorKind) -> Scanned
-    ensures { result ≡ record { count = 0; failure = Some kind } }
+/// What is found in a file that is not read. That is told, but for `-s`.
+fn not_read<W: Write>(
+    rt: &HostRuntime,
+    options: Options,
+    name: &[u8],
+    kind: ErrorKind,
+    writer: &mut Device<W>,
+) -> Result<Scanned, Fault>
+    ensures scanned { IfOk result (λ scanned. scanned ≡ record { count = 0; failure = Some kind }) }
+    ensures kept { OnOk result (Keeps (W.contents writer.old.inner) (W.contents writer.new.inner)) }
+    ensures error { IfErr result (IsWriteFault writer.new.failure) }
 {
-    if !options.untold {
-        tell(rt, name, kind);
-    }
-    Scanned {
+    tell_behind(rt, options, name, kind, writer)?;
+    Ok(Scanned {
         count: 0,
         failure: Some(kind),
+    })
+}
+
+/// Tells why a file is not read, or not to its end, but for `-s`. What was printed before is written in front of that.
+fn tell_behind<W: Write>(
+    rt: &HostRuntime,
+    options: Options,
+    name: &[u8],
+    kind: ErrorKind,
+    writer: &mut Device<W>,
+) -> Result<(), Fault>
+    ensures kept { Keeps (W.contents writer.old.inner) (W.contents writer.new.inner) }
+    ensures error { IfErr result (IsWriteFault writer.new.failure) }
+{
+    if options.untold {
+        return Ok(());
     }
+    writer.flush()?;
+    tell(rt, name, kind);
+    Ok(())
 }

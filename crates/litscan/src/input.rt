@@ -5,16 +5,49 @@ ghost use Rattle.litscan.specs.Files.{cause_text, is_input};
 use crate::device::Device;
 use crate::fault::Fault;
 use std::alloc::Global;
-use std::fs::{self, File};
-use std::io::{BufReader, ErrorKind, Read, Write};
+use std::fs::{self, File, Metadata};
+use std::io::{self, BufReader, ErrorKind, Read, Write};
+use std::os::unix::fs::MetadataExt;
 use std::str;
 
 /// How many bytes are read at once.
 const BLOCK: usize = 65536;
 
+/// Which file one is, by the device on which it lies and its number there.
+#[derive(Clone, Copy)]
+pub struct FileId {
+    device: u64,
+    node: u64,
+}
+
+/// Which file standard output is, if it is a regular one.
+pub fn output_file(rt: &HostRuntime) -> Option<FileId> {
+    let metadata = fs::metadata(rt, "/dev/stdout").ok()?;
+    if !metadata.is_file() {
+        return None;
+    }
+    Some(FileId {
+        device: metadata.dev(),
+        node: metadata.ino(),
+    })
+}
+
+/// Whether standard input is this file.
+pub fn is_input_file(rt: &HostRuntime, id: FileId) -> bool {
+    is_file_of(fs::metadata(rt, "/dev/stdin"), id)
+}
+
+/// Whether this metadata, if there is any, is that of this file.
+pub fn is_file_of(metadata: io::Result<Metadata>, id: FileId) -> bool {
+    match metadata {
+        Ok(metadata) => metadata.dev() == id.device && metadata.ino() == id.node,
+        Err(_) => false,
+    }
+}
+
 /// Opens the file of this name.
 pub fn open(rt: &HostRuntime, name: &[u8]) -> Result<File, ErrorKind> {
-    let path = str::from_utf8(name).or(Err(ErrorKind::InvalidFilename))?;
+    let path = str::from_utf8(name).or(Err(ErrorKind::InvalidData))?;
     fs::open(rt, path).map_err(|error| error.kind())
 }
 
@@ -72,6 +105,8 @@ fn cause_of(kind: ErrorKind) -> &'static str
         ErrorKind::InvalidFilename => "File name too long",
         ErrorKind::FilesystemLoop => "Too many levels of symbolic links",
         ErrorKind::FileTooLarge => "File too large",
+        ErrorKind::InvalidData => "the name is not UTF-8",
+        ErrorKind::Deadlock => "input file is also the output",
         _ => "cannot be read",
     }
 }

@@ -19,7 +19,8 @@ use args::given_words;
 use device::Device;
 use fault::Fault;
 use files::scan_files;
-use input::tell_unknown;
+use input::{FileId, output_file, tell_unknown};
+use options::Options;
 use request::Request;
 use std::io::{BufWriter, IsTerminal};
 use std::process::ExitCode;
@@ -121,7 +122,17 @@ fn search_files(rt: &HostRuntime, request: &Request) -> Result<u8, Fault> {
         &search,
         request.options.on_output(is_terminal),
         request.files.as_slice(),
+        file_not_read(rt, request.options),
         &mut writer,
     )?;
     Ok(found.status(request.options.quiet))
+}
+
+/// Which file is not read, if any, since what is printed goes there, and would be read in turn. Where no line is printed,
+/// or one of a file at most, any file can be read.
+fn file_not_read(rt: &HostRuntime, options: Options) -> Option<FileId> {
+    if options.is_silent() || options.most.unwrap_or(u64::MAX) <= 1 {
+        return None;
+    }
+    output_file(rt)
 }

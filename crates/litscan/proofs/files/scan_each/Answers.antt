@@ -58,9 +58,9 @@ loop-name-preserved g c =
           (sym c.name-item.is) ∙ ap (λ front. front ++ item.items ∷ []) so_far.names
           ∙ sym (map_push (λ one. one.name) so_far.all one);
       each =
-          All-push (λ one. PrintsFile c.args.search.now c.args.options one.name one.text one.scanned one.out) so_far.all
+          All-push (λ one. PrintsFile c.args.search.now c.args.options c.args.output one.name one.text one.scanned one.out) so_far.all
           one so_far.each
-          (subst (λ name. PrintsFile c.args.search.now c.args.options name got.0 c.in_ok-scanned.scanned got.1)
+          (subst (λ name. PrintsFile c.args.search.now c.args.options c.args.output name got.0 c.in_ok-scanned.scanned got.1)
           c.as_slice.ensures.value got.2);
       any =
           ap (λ found. found.any) c.with-found.ensures
