@@ -12,14 +12,11 @@ ghost use Rattle.litscan.specs.declared.fault.Fault.TheVariants.{OutOfMemory};
 
 use crate::device::Device;
 use crate::fault::Fault;
-use crate::input::{FileId, buffered, is_file_of, is_input, is_input_file, open, tell};
+use crate::input::{FileId, INPUT, buffered, is_file_of, is_input, is_input_file, open, tell};
 use crate::options::Options;
 use crate::scan::{Scanned, scan};
 use literal_search::Search;
 use std::io::{BufRead, ErrorKind, Write};
-
-/// How standard input is named.
-const INPUT: &[u8] = b"(standard input)";
 
 /// What the search of some files found.
 #[derive(Clone, Copy)]

@@ -1,6 +1,6 @@
 //! Files and standard input as readers, and what is told of files that cannot be read.
 ghost use Rattle.std.specs.Prelude.{◌≡◌, None, OnErr, IfOk};
-ghost use Rattle.litscan.specs.Files.{cause_text, is_input};
+ghost use Rattle.litscan.specs.Files.{cause_text, input_name, is_input};
 
 use crate::device::Device;
 use crate::fault::Fault;
@@ -9,6 +9,9 @@ use std::fs::{self, File, Metadata};
 use std::io::{self, BufReader, ErrorKind, Read, Write};
 use std::os::unix::fs::MetadataExt;
 use std::str;
+
+/// How standard input is named.
+pub const INPUT: &[u8] = b"(standard input)";
 
 /// How many bytes are read at once.
 const BLOCK: usize = 65536;
@@ -83,6 +86,21 @@ pub fn tell_unknown(rt: &HostRuntime, word: &[u8]) {
         "; ",
         "litscan --help lists the options",
     );
+}
+
+/// Tells on standard error that this line of a file of words is empty.
+pub fn tell_empty_line(rt: &HostRuntime, name: &[u8], line: usize) {
+    let mut log = rt.stderr();
+    let _ = log.write_all(b"litscan: ");
+    let _ = log.write_all(name);
+    let _ = writeln!(log, ":{line}: empty word");
+}
+
+/// The name of a file as it is told of.
+pub fn shown_name(name: &[u8]) -> &[u8]
+    ensures { result.now ≡ input_name name.now }
+{
+    if is_input(name) { INPUT } else { name }
 }
 
 /// Writes a line with these bytes as they are on standard error. A failure of that is told nowhere.
