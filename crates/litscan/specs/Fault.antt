@@ -14,8 +14,8 @@ use Rattle.literal_search.specs.declared.BuildError.{BuildError}
 use Rattle.literal_search.specs.declared.BuildError.TheVariants as build
 use Rattle.litscan.specs.declared.fault.Fault.{Fault}
 use Rattle.litscan.specs.declared.fault.Fault.TheVariants.{EmptyWord, OutOfMemory, ReadFailed}
-use Rattle.litscan.specs.declared.fault.Fault.TheVariants.{Told, TooManyWords, UnknownLetter, UnknownName, Unread, Usage}
-use Rattle.litscan.specs.declared.fault.Fault.TheVariants.{WriteFailed}
+use Rattle.litscan.specs.declared.fault.Fault.TheVariants.{Told, TooManyWords, UnknownLetter, UnknownName, Unread}
+use Rattle.litscan.specs.declared.fault.Fault.TheVariants.{Usage, WriteFailed}
 
 -- the fault of a read that ends with an error of this kind
 abbrev pub read_fault : ErrorKind → Fault

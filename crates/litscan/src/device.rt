@@ -1,6 +1,6 @@
 //! Readers and writers that keep in mind how they failed.
-ghost use Rattle.std.specs.Prelude.{◌≡◌, None, Ok, Err, Some, false, if◌then◌else◌, IfErr, IfOk, IfSome, MatchResult, true};
-ghost use Rattle.std.specs.Prelude.{OnOk};
+ghost use Rattle.std.specs.Prelude.{◌≡◌, None, Ok, Err, Some, false, if◌then◌else◌, IfErr, IfOk, IfSome};
+ghost use Rattle.std.specs.Prelude.{MatchResult, OnOk, true};
 ghost use Rattle.std.specs.IoError.{error_kind};
 ghost use Rattle.std.specs.Option.{OnSome};
 ghost use Rattle.std.specs.Io.{StopsAt};
@@ -13,8 +13,8 @@ use std::fmt::Display;
 use std::io::{self, BufRead, ErrorKind, Write};
 use std::marker::Model;
 
-/// A reader or a writer of std, of what kind the error of the call was that failed last, if one did, and whether the last
-/// write or flush was a flush that succeeded. Contracts tell by the first which fault comes of which device.
+/// A reader or a writer of std, of what kind the error of the call was that failed last, if one did, and whether the
+/// last write or flush was a flush that succeeded. Contracts tell by the first which fault comes of which device.
 #[derive(Drop)]
 pub struct Device<D> {
     inner: D,

@@ -65,7 +65,8 @@ impl Fault {
     }
 }
 
-/// What is printed of it, but for `Unread` and `Told`, of which nothing is, and `UnknownName`, of which the argument is.
+/// What is printed of it, but for `Unread` and `Told`, of which nothing is. Of `UnknownName` the program tells the name
+/// itself, and of `EmptyWord` where the word stands.
 impl fmt::Display for Fault {
     ghost use Rattle.std.specs.Prelude.{Some};
     ghost use Rattle.litscan.specs.Fault.{fault_text};

@@ -128,8 +128,8 @@ fn search_files(rt: &HostRuntime, request: &Request) -> Result<u8, Fault> {
     Ok(found.status(request.options.quiet))
 }
 
-/// Which file is not read, if any, since what is printed goes there, and would be read in turn. Where no line is printed,
-/// or one of a file at most, any file can be read.
+/// Which file is not read, if any: what is printed goes there, and would be read in turn. Where no line is printed, or
+/// one of a file at most, any file can be read.
 fn file_not_read(rt: &HostRuntime, options: Options) -> Option<FileId> {
     if options.is_silent() || options.most.unwrap_or(u64::MAX) <= 1 {
         return None;

@@ -1,7 +1,7 @@
 -- What is read line by line is the text, and its lines are those that were read. For `lines` and `scan`.
 use Rattle.std.proofs.Common.{◌≡◌, ◌==◌, ℕ, Bool, true, false, List, [], ◌∷◌, ◌++◌, cond}
-use Rattle.std.proofs.Common.{◌+◌, ◌≤◌, ◌^◌, take, Option, None, Some, Result, Ok, Err, IfOk, MatchResult, arith, length}
-use Rattle.std.proofs.Common.{length-append}
+use Rattle.std.proofs.Common.{◌+◌, ◌≤◌, ◌^◌, Option, None, Some, Result, Ok, Err, IfOk, MatchResult, arith, length}
+use Rattle.std.proofs.Common.{length-append, take}
 use Rattle.std.proofs.Common.{refl, sym, ap, ◌∙◌, inl, inr, subst}
 use Rattle.std.specs.Io.BufRead.{DropsThrough, drop_through, take_through}
 use Rattle.std.specs.Io.KnownBytes.{Consumes, IsAtEnd}

@@ -31,7 +31,8 @@ asked_no_more : (at : ℕ) (asked : Asked) → result_and_then (asked_from at []
 asked_no_more at (Ok request) = refl
 asked_no_more at (Err fault) = refl
 
-module _ (words : List (List ℕ)) (i : ℕ) (word : List ℕ) (below : i < length words) (is : get_or words i [] ≡ word) where
+module _ (words : List (List ℕ)) (i : ℕ) (word : List ℕ) (below : i < length words)
+    (is : get_or words i [] ≡ word) where
   -- with one word more
   pub front_more : (old self : RequestValue) → asked_from 0 (take i words) old ≡ Ok self
       → asked_from 0 (take (i + 1) words) old ≡ with_word word (record self { at = i })

@@ -48,6 +48,7 @@ loop-name-preserved g c =
     let got = c.in_ok-scanned.ensures.printed in
     let names = c.args.names.now in
     let item = c.name-item.result in
+    let prints = PrintsFile c.args.search.now c.args.options c.args.output in
     let one : Searched =
     record { name = item.items; text = got.0; scanned = c.in_ok-scanned.scanned; out = got.1 } in
     record {
@@ -58,9 +59,8 @@ loop-name-preserved g c =
           (sym c.name-item.is) ∙ ap (λ front. front ++ item.items ∷ []) so_far.names
           ∙ sym (map_push (λ one. one.name) so_far.all one);
       each =
-          All-push (λ one. PrintsFile c.args.search.now c.args.options c.args.output one.name one.text one.scanned one.out) so_far.all
-          one so_far.each
-          (subst (λ name. PrintsFile c.args.search.now c.args.options c.args.output name got.0 c.in_ok-scanned.scanned got.1)
+          All-push (λ one. prints one.name one.text one.scanned one.out) so_far.all one so_far.each
+          (subst (λ name. prints name got.0 c.in_ok-scanned.scanned got.1)
           c.as_slice.ensures.value got.2);
       any =
           ap (λ found. found.any) c.with-found.ensures

@@ -64,7 +64,8 @@ loop-number-preserved g c =
       offset = omega (arith, more, so_far.offset, c.in-Some.ensures, c.as_slice.ensures.len);
       stops =
           stops_later (limit_of options) test so_far.seen (line ∷ []) (omega arith) so_far.stops
-          (is_not_yet options c.loop-number.count (count_by test so_far.seen) c.is_enough.ensures c.limit.ensures so_far.counted c.if-is_enough.false);
+          (is_not_yet options c.loop-number.count (count_by test so_far.seen) c.is_enough.ensures c.limit.ensures
+          so_far.counted c.if-is_enough.false);
       counted =
           count-append test so_far.seen (line ∷ []) _ _ so_far.counted
           (c.in_ok-one.ensures.counted ∙ ap (λ l. count_by test (l ∷ [])) shown);
@@ -95,7 +96,8 @@ returns-then-not-fed-clause-scanned g c =
           c.in-Ok.ensures.ended),
       subst (StopsAtEnough (limit_of options) test) (sym lines)
           (stops_later (limit_of options) test so_far.seen (last_line last) (length-last_line last) so_far.stops
-          (is_not_yet options c.loop-number.count (count_by test so_far.seen) c.is_enough.ensures c.limit.ensures so_far.counted c.if-is_enough.false)),
+          (is_not_yet options c.loop-number.count (count_by test so_far.seen) c.is_enough.ensures c.limit.ensures
+          so_far.counted c.if-is_enough.false)),
       Appends-trans _ _ _ so_far.out taken.0 so_far.written taken.1,
       subst (λ all. prints 1 0 all (so_far.out ++ taken.0)) (sym lines)
           (prints_more dfa options c.args.name.now (is_silent options) 1 0 number offset so_far.seen (last_line last)

@@ -1,4 +1,5 @@
-use Rattle.std.proofs.Common.{◌≡◌, ◌∙◌, ◌<◌, ◌+◌, Err, Ok, List, ℕ, [], ap, arith, drop, get_or, length, ◌⊎◌, rules, map, sym}
+use Rattle.std.proofs.Common.{◌≡◌, ◌∙◌, ◌<◌, ◌+◌, ◌⊎◌, Err, Ok, List, ℕ, [], ap, arith, drop, get_or, length, map}
+use Rattle.std.proofs.Common.{rules, sym}
 use Rattle.std.proofs.lemmas.List.{get_or-map, length-map}
 use Rattle.litscan.specs.declared.fault.Fault.{Fault}
 use Rattle.litscan.specs.declared.fault.Fault.TheVariants.{OutOfMemory}
@@ -10,7 +11,8 @@ pub loop-i-preserved : goal.loop-i-preserved
 loop-i-preserved c =
     let words : List (List ℕ) = map (λ word. word.items) c.args.words.now in
     let i = c.loop-i.i in
-    let below : i < length words = omega (arith, length-map c.args.words.now (λ word. word.items), c.loop-i-test.true) in
+    let below : i < length words =
+    omega (arith, length-map c.args.words.now (λ word. word.items), c.loop-i-test.true) in
     let word : List ℕ = c.as_slice.result.now in
     let is : get_or words i [] ≡ word =
     get_or-map (λ word. word.items) c.args.words.now i c.index-words-i.result [] c.loop-i-test.true
@@ -31,7 +33,8 @@ pub returns-in_err-take_word : goal.returns-in_err-take_word
 returns-in_err-take_word c =
     let words : List (List ℕ) = map (λ word. word.items) c.args.words.now in
     let i = c.loop-i.i in
-    let below : i < length words = omega (arith, length-map c.args.words.now (λ word. word.items), c.loop-i-test.true) in
+    let below : i < length words =
+    omega (arith, length-map c.args.words.now (λ word. word.items), c.loop-i-test.true) in
     let word : List ℕ = c.as_slice.result.now in
     let is : get_or words i [] ≡ word =
     get_or-map (λ word. word.items) c.args.words.now i c.index-words-i.result [] c.loop-i-test.true
