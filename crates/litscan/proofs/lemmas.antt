@@ -4,3 +4,4 @@ pub mod Lines
 pub mod Printing
 pub mod Reading
 pub mod Refused
+pub mod Request

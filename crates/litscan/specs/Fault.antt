@@ -1,5 +1,7 @@
 -- What a fault stands for, and what it prints.
-use Rattle.std.specs.Prelude.{◌≡◌, ◌<◌, ◌⊎◌, ℕ, Bool, List, [], ◌++◌, Option, Some, codes, length, take}
+use Rattle.std.specs.Prelude.{◌≡◌, ◌<◌, ◌⊎◌, ◌==◌, ◌||◌, ℕ, Bool, List, [], ◌++◌, Option, Some, codes, length, take}
+use Rattle.std.specs.Prelude.{if◌then◌else◌}
+use Rattle.std.specs.Char.{encode_utf8, is_ascii_graphic}
 use Rattle.std.specs.Fmt.{decimal}
 use Rattle.std.specs.Option.{option_map}
 use Rattle.std.specs.declared.io.ErrorKind.{ErrorKind}
@@ -11,13 +13,9 @@ use Rattle.literal_search.specs.SearchValue.{NeedTooManyStates}
 use Rattle.literal_search.specs.declared.BuildError.{BuildError}
 use Rattle.literal_search.specs.declared.BuildError.TheVariants as build
 use Rattle.litscan.specs.declared.fault.Fault.{Fault}
-use Rattle.litscan.specs.declared.fault.Fault.TheVariants.{EmptyWord, NoText, OutOfMemory, ReadFailed}
-use Rattle.litscan.specs.declared.fault.Fault.TheVariants.{Told, TooManyWords, Unread, Usage, WriteFailed}
-
--- the fault of a command line whose words cannot be had, with an error of this kind
-abbrev pub args_fault : ErrorKind → Fault
-args_fault kind.OutOfMemory = OutOfMemory
-args_fault _ = NoText
+use Rattle.litscan.specs.declared.fault.Fault.TheVariants.{EmptyWord, OutOfMemory, ReadFailed}
+use Rattle.litscan.specs.declared.fault.Fault.TheVariants.{Told, TooManyWords, UnknownLetter, UnknownName, Unread}
+use Rattle.litscan.specs.declared.fault.Fault.TheVariants.{Usage, WriteFailed}
 
 -- the fault of a read that ends with an error of this kind
 abbrev pub read_fault : ErrorKind → Fault
@@ -54,11 +52,27 @@ RefusesWords ignore_case words TooManyWords =
     (PatternID.LIMIT < length words) ⊎ NeedTooManyStates LeftmostLongest ignore_case words
 RefusesWords ignore_case words _ = ⊥
 
+-- the letter of an option as it is told: a question mark where it is none that can be seen
+abbrev pub shown_letter : ℕ → ℕ
+shown_letter letter = if is_ascii_graphic letter then letter else 63
+
+-- whether this is the letter of an option of `grep` that asks for patterns of another kind: E, G or P
+abbrev pub asks_for_patterns : ℕ → Bool
+asks_for_patterns letter = letter == 69 || letter == 71 || letter == 80
+
+-- why an option of this letter is unknown, if that is to be told
+abbrev pub why_unknown : ℕ → List ℕ
+why_unknown letter = if asks_for_patterns letter then codes ", since litscan finds literals" else codes ""
+
 -- the line, without the line feed
 abbrev pub fault_text : Fault → List ℕ
 fault_text Usage = codes "usage: litscan [OPTION...] WORDS [FILE...]"
+fault_text (UnknownLetter letter) =
+    codes "litscan: unknown option -" ++ encode_utf8 (shown_letter letter) ++ why_unknown letter
+    ++ codes "; litscan --help lists the options"
+fault_text (UnknownName number) =
+    codes "litscan: unknown option in argument " ++ decimal number ++ codes "; litscan --help lists the options"
 fault_text (EmptyWord number) = codes "litscan: word " ++ decimal number ++ codes " is empty"
-fault_text NoText = codes "litscan: an argument is not UTF-8"
 fault_text TooManyWords = codes "litscan: too many words"
 fault_text OutOfMemory = codes "litscan: out of memory"
 fault_text ReadFailed = codes "litscan: read failed"

@@ -1,13 +1,16 @@
 -- What is printed of files, and said of those that cannot be read.
-use Rattle.std.specs.Prelude.{◌≡◌, ◌≢◌, ℕ, ◌==◌, ◌&&◌, ◌||◌, ◌++◌, Bool, List, [], Option, Some, None, codes, true}
+use Rattle.std.specs.Prelude.{◌≡◌, ◌≢◌, ◌⊎◌, ℕ, ◌==◌, ◌&&◌, ◌||◌, ◌++◌, Bool, List, [], Option, Some, None, codes, true}
 use Rattle.std.specs.Prelude.{false, if◌then◌else◌, length, map, nat_lt, not, slice_index}
 use Rattle.std.specs.List.{All, count_by, list_any}
+use Rattle.std.specs.Option.{IsSome, is_some}
 use Rattle.std.specs.declared.io.ErrorKind.{ErrorKind}
 use Rattle.std.specs.declared.io.ErrorKind.TheVariants as kind
 use Rattle.literal_search.specs.SearchValue.{SearchValue}
 use Rattle.litscan.specs.Lines.{lines_of}
-use Rattle.litscan.specs.Printed.{Prints, counts}
+use Rattle.litscan.specs.Options.{limit_of}
+use Rattle.litscan.specs.Printed.{Prints, StopsAtEnough, counts}
 use Rattle.litscan.specs.declared.files.Found.{Found}
+use Rattle.litscan.specs.declared.input.FileId.{FileId}
 use Rattle.litscan.specs.declared.options.Options.{Options}
 use Rattle.litscan.specs.declared.scan.Scanned.{Scanned}
 
@@ -19,20 +22,23 @@ is_input name = (length name == 1) && (slice_index name 0 == 45)
 abbrev pub input_name : List ℕ → List ℕ
 input_name name = if is_input name then codes "(standard input)" else name
 
--- what is printed of a file of this name that has this text, or a text that begins so, and what its scan found
+-- what is printed of a file of this name of which this text was read, up to the line with which enough count, and what
+-- its scan found
 abbrev pub PrintsText : SearchValue → Options → List ℕ → List ℕ → Scanned → List ℕ → Type 0
 PrintsText search options name text scanned out =
     Prints search options name text out
     × (scanned.count ≡ count_by (counts search options) (lines_of text))
+    × StopsAtEnough (limit_of options) (counts search options) (lines_of text)
 
--- what is printed of a file of this name, of which this was read if it could be opened, and what its scan found;
--- standard input is open
-abbrev pub PrintsFile : SearchValue → Options → List ℕ → Option (List ℕ) → Scanned → List ℕ → Type 0
-PrintsFile search options name None scanned out =
-    (is_input name ≡ false) × (out ≡ []) × (scanned ≡ record { count = 0; failed = true })
-PrintsFile search options name (Some text) scanned out = PrintsText search options (input_name name) text scanned out
+-- what is printed of a file of this name, of which this was read if it was searched, and what its scan found; standard
+-- input is open, and searched unless standard output is a file that is not to be read
+abbrev pub PrintsFile : SearchValue → Options → Option FileId → List ℕ → Option (List ℕ) → Scanned → List ℕ → Type 0
+PrintsFile search options output name None scanned out =
+    ((is_input name ≡ false) ⊎ IsSome output) × (out ≡ []) × (scanned.count ≡ 0) × IsSome scanned.failure
+PrintsFile search options output name (Some text) scanned out =
+    PrintsText search options (input_name name) text scanned out
 
--- a file that was searched: its name, what was read of it if it could be opened, what was found, and what was printed
+-- a file that is asked for: its name, what was read of it if it was searched, what was found, and what was printed
 pub record Searched : Type 0 where
   pub name : List ℕ
   pub text : Option (List ℕ)
@@ -40,14 +46,14 @@ pub record Searched : Type 0 where
   pub out : List ℕ
 
 -- these files of some names were searched in turn, with this result: all, unless one was enough
-pub record AreSearched (search : SearchValue) (options : Options) (names : List (List ℕ)) (found : Found)
-    (all : List Searched) : Type 0 where
+pub record AreSearched (search : SearchValue) (options : Options) (output : Option FileId) (names : List (List ℕ))
+    (found : Found) (all : List Searched) : Type 0 where
   pub others : List (List ℕ)
   pub names_are : names ≡ map (λ one. one.name) all ++ others
   pub enough : others ≢ [] → (options.quiet && found.any) ≡ true
-  pub each : All (λ one. PrintsFile search options one.name one.text one.scanned one.out) all
+  pub each : All (λ one. PrintsFile search options output one.name one.text one.scanned one.out) all
   pub any : found.any ≡ list_any (λ one. nat_lt 0 one.scanned.count) all
-  pub failed : found.failed ≡ list_any (λ one. one.scanned.failed) all
+  pub failed : found.failed ≡ list_any (λ one. is_some one.scanned.failure) all
 
 -- the status of the program: 0 if a line counts, 1 if none does, and 2 if a file could not be read, but for a line that
 -- counts where nothing is printed
@@ -64,4 +70,6 @@ cause_text kind.NotADirectory = codes "Not a directory"
 cause_text kind.InvalidFilename = codes "File name too long"
 cause_text kind.FilesystemLoop = codes "Too many levels of symbolic links"
 cause_text kind.FileTooLarge = codes "File too large"
+cause_text kind.InvalidData = codes "the name is not UTF-8"
+cause_text kind.Deadlock = codes "input file is also the output"
 cause_text _ = codes "cannot be read"

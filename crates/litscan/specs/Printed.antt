@@ -1,13 +1,13 @@
 -- What is read, and what is printed of it.
-use Rattle.std.specs.Prelude.{◌≡◌, ◌≤◌, ◌⊎◌, ℕ, ◌+◌, ◌^◌, ◌++◌, ◌||◌, Bool, true, false, List, [], ◌∷◌, length}
-use Rattle.std.specs.Prelude.{Option, Some, None, ⊤, codes, if◌then◌else◌, nat_lt, not, unwrap_or, ◌&&◌}
+use Rattle.std.specs.Prelude.{◌≡◌, ◌≤◌, ◌<◌, ◌⊎◌, ℕ, ◌+◌, ◌^◌, ◌++◌, Bool, true, false, List, [], ◌∷◌, length}
+use Rattle.std.specs.Prelude.{Option, Some, None, ⊤, codes, if◌then◌else◌, nat_lt, not, take, unwrap_or, ◌&&◌}
 use Rattle.std.specs.Fmt.{decimal}
 use Rattle.std.specs.Io.KnownBytes.{Consumes}
 use Rattle.std.specs.List.{count_by, flat_map, slice_range}
-use Rattle.std.specs.Option.{IsSome}
 use Rattle.literal_base.specs.MatchValue.{MatchValue}
 use Rattle.literal_search.specs.SearchValue.{SearchValue}
 use Rattle.std.specs.declared.io.ErrorKind.{ErrorKind}
+use Rattle.std.specs.declared.io.ErrorKind.TheVariants as kind
 use Rattle.litscan.specs.Asked.{AreMatches, one_asked}
 use Rattle.litscan.specs.Fault.{IsReadFault, IsWriteFault}
 use Rattle.litscan.specs.Lines.{lines_of, with_feed}
@@ -31,19 +31,27 @@ abbrev pub BeginsWith : Option (List ℕ) → List ℕ → Type 0
 BeginsWith None text = ⊤
 BeginsWith (Some bytes) text = (rest : List ℕ) × (bytes ≡ text ++ rest)
 
--- known bytes were all of these, and none is left; or where the reading stopped they begin with these
-abbrev pub Reads : Bool → Option (List ℕ) → Option (List ℕ) → List ℕ → Type 0
-Reads false old new text = ReadsAll old new text
-Reads true old new text = BeginsWith old text
+-- what was read of known bytes, by the kind of the error if no more could be read, and by whether enough lines count:
+-- after an error they begin with this; where enough lines count this was read and no more; else they are this, and none
+-- is left
+abbrev pub Reads : Option ErrorKind → Bool → Option (List ℕ) → Option (List ℕ) → List ℕ → Type 0
+Reads (Some error) enough old new text = BeginsWith old text
+Reads None true old new text = Consumes old new text
+Reads None false old new text = ReadsAll old new text
 
--- whether the reading of a text stopped: no more of it could be read, or enough lines count
-abbrev pub stops : Options → Scanned → Bool
-stops options scanned = scanned.failed || is_enough (limit_of options) scanned.count
+-- whether enough lines count
+abbrev pub are_enough : Options → Scanned → Bool
+are_enough options scanned = is_enough (limit_of options) scanned.count
 
--- why no more of a text could be read: a read failed, or the text is too long
-abbrev pub CannotRead : Option ErrorKind → Type 0 → Bool → Type 0
-CannotRead failure IsTooLong false = ⊤
-CannotRead failure IsTooLong true = IsSome failure ⊎ IsTooLong
+-- the first line with which enough lines count is the last: no fewer of these, from the first on, are enough
+abbrev pub StopsAtEnough : Option ℕ → (List ℕ → Bool) → List (List ℕ) → Type 0
+StopsAtEnough limit test lines =
+    (n : ℕ) → n < length lines → is_enough limit (count_by test (take n lines)) ≡ false
+
+-- why no more of a text could be read, if so: a read failed with an error of this kind, or the text is too long
+abbrev pub CannotRead : Option ErrorKind → Type 0 → Option ErrorKind → Type 0
+CannotRead failure IsTooLong None = ⊤
+CannotRead failure IsTooLong (Some error) = (failure ≡ Some error) ⊎ (IsTooLong × (error ≡ kind.FileTooLarge))
 
 -- why a text is not scanned: there was no memory for a line, or a write failed
 abbrev pub StopsScan : Option ErrorKind → Option ErrorKind → Fault → Type 0

@@ -1,6 +1,6 @@
 //! Readers and writers that keep in mind how they failed.
-ghost use Rattle.std.specs.Prelude.{◌≡◌, None, Ok, Err, Some, false, if◌then◌else◌, IfErr, IfOk, IfSome, MatchResult};
-ghost use Rattle.std.specs.Prelude.{OnOk};
+ghost use Rattle.std.specs.Prelude.{◌≡◌, None, Ok, Err, Some, false, if◌then◌else◌, IfErr, IfOk, IfSome};
+ghost use Rattle.std.specs.Prelude.{MatchResult, OnOk, true};
 ghost use Rattle.std.specs.IoError.{error_kind};
 ghost use Rattle.std.specs.Option.{OnSome};
 ghost use Rattle.std.specs.Io.{StopsAt};
@@ -13,12 +13,13 @@ use std::fmt::Display;
 use std::io::{self, BufRead, ErrorKind, Write};
 use std::marker::Model;
 
-/// A reader or a writer of std, and of what kind the error of the call was that failed last, if one did. Contracts tell
-/// by it which fault comes of which device.
+/// A reader or a writer of std, of what kind the error of the call was that failed last, if one did, and whether the
+/// last write or flush was a flush that succeeded. Contracts tell by the first which fault comes of which device.
 #[derive(Drop)]
 pub struct Device<D> {
     inner: D,
     failure: Option<ErrorKind>,
+    flushed: bool,
 }
 
 impl<D> Model for Device<D> {
@@ -26,17 +27,18 @@ impl<D> Model for Device<D> {
 
     ghost Value = { DeviceValue D };
 
-    ghost view = { λ d. record { inner = d.inner; failure = d.failure } };
+    ghost view = { λ d. record { inner = d.inner; failure = d.failure; flushed = d.flushed } };
 }
 
 impl<D> Device<D> {
     /// Of this reader or writer, no call of which has failed.
     pub fn new(inner: D) -> Device<D>
-        ensures { result ≡ record { inner = inner; failure = None } }
+        ensures { result ≡ record { inner = inner; failure = None; flushed = false } }
     {
         Device {
             inner,
             failure: None,
+            flushed: false,
         }
     }
 
@@ -50,9 +52,11 @@ impl<D> Device<D> {
     /// What a write answers that ended so.
     fn after_write(&mut self, written: io::Result<()>) -> Result<(), Fault>
         ensures inner { self.new.inner ≡ self.old.inner }
+        ensures unflushed { self.new.flushed ≡ false }
         ensures told { MatchResult written (λ done. result ≡ Ok done)
             (λ error. (result ≡ Err (write_fault (error_kind error))) × (self.new.failure ≡ Some (error_kind error))) }
     {
+        self.flushed = false;
         match written {
             Ok(()) => Ok(()),
             Err(error) => {
@@ -89,6 +93,7 @@ impl<W: Write> Device<W> {
     /// Writes the bytes.
     pub fn write_all(&mut self, bytes: &[u8]) -> Result<(), Fault>
         ensures written { OnOk result (Appends (W.contents self.old.inner) (W.contents self.new.inner) bytes.now) }
+        ensures unflushed { self.new.flushed ≡ false }
         ensures error { IfErr result (IsWriteFault self.new.failure) }
     {
         let written = self.inner.write_all(bytes);
@@ -99,6 +104,7 @@ impl<W: Write> Device<W> {
     pub fn write_fmt<T: Display + Drop>(&mut self, text: T) -> Result<(), Fault>
         ensures written { OnOk result (IfSome (T.output text)
             (Appends (W.contents self.old.inner) (W.contents self.new.inner))) }
+        ensures unflushed { self.new.flushed ≡ false }
         ensures error { IfErr result (IsWriteFault self.new.failure) }
     {
         let written = self.inner.write_fmt(text);
@@ -108,10 +114,13 @@ impl<W: Write> Device<W> {
     /// Sends on what was written.
     pub fn flush(&mut self) -> Result<(), Fault>
         ensures kept { Keeps (W.contents self.old.inner) (W.contents self.new.inner) }
+        ensures flushed { OnOk result (self.new.flushed ≡ true) }
         ensures error { IfErr result (IsWriteFault self.new.failure) }
     {
         let flushed = self.inner.flush();
-        self.after_write(flushed)
+        self.after_write(flushed)?;
+        self.flushed = true;
+        Ok(())
     }
 }
 

@@ -1,16 +1,18 @@
 //! The files that are searched, one after another.
-ghost use Rattle.std.specs.Prelude.{◌≡◌, ◌⊎◌, ◌||◌, ℕ, List, Option, IfErr, IfOk, map, nat_lt, true};
-ghost use Rattle.std.specs.Io.KnownBytes.{Appends};
+ghost use Rattle.std.specs.Prelude.{◌≡◌, ◌⊎◌, ◌||◌, ℕ, List, Option, Some, IfErr, IfOk, OnOk, map};
+ghost use Rattle.std.specs.Prelude.{nat_lt, true};
+ghost use Rattle.std.specs.Option.{is_some};
+ghost use Rattle.std.specs.Io.KnownBytes.{Appends, Keeps};
 ghost use Rattle.std.specs.List.{flat_map};
 ghost use Rattle.literal_base.specs.declared.packed.MatchKind.TheVariants.{LeftmostLongest};
 ghost use Rattle.litscan.specs.Fault.{IsWriteFault};
 ghost use Rattle.litscan.specs.Files.{AreSearched, PrintsFile, PrintsText, Searched, input_name, status_for};
-ghost use Rattle.litscan.specs.Printed.{Reads, stops};
+ghost use Rattle.litscan.specs.Printed.{CannotRead, Reads, ReadsTooMany, are_enough};
 ghost use Rattle.litscan.specs.declared.fault.Fault.TheVariants.{OutOfMemory};
 
 use crate::device::Device;
 use crate::fault::Fault;
-use crate::input::{buffered, is_input, open, tell};
+use crate::input::{FileId, INPUT, buffered, is_file_of, is_input, is_input_file, open, tell};
 use crate::options::Options;
 use crate::scan::{Scanned, scan};
 use literal_search::Search;
@@ -30,12 +32,12 @@ impl Found {
     fn with(self, scanned: Scanned) -> Found
         ensures { result ≡ record {
           any = self.any || nat_lt 0 scanned.count;
-          failed = self.failed || scanned.failed;
+          failed = self.failed || is_some scanned.failure;
         } }
     {
         Found {
             any: self.any || scanned.count > 0,
-            failed: self.failed || scanned.failed,
+            failed: self.failed || scanned.failure.is_some(),
         }
     }
 
@@ -51,18 +53,40 @@ impl Found {
     }
 }
 
-/// Searches the files of these names in turn, and prints what is asked for. Where nothing is printed, no file is read
-/// behind the first in which a line counts.
+/// Searches the files of these names in turn, prints what is asked for, and flushes it.
 pub fn scan_files<W: Write>(
     rt: &HostRuntime,
     search: &Search,
     options: Options,
     names: &[Vec<u8>],
+    output: Option<FileId>,
     writer: &mut Device<W>,
 ) -> Result<Found, Fault>
     requires { search.now.query.kind ≡ LeftmostLongest }
     ensures searched { IfOk result (λ found. (all : List Searched)
-        × AreSearched search.now options (map (λ name. name.items) names.now) found all
+        × AreSearched search.now options output (map (λ name. name.items) names.now) found all
+        × Appends (W.contents writer.old.inner) (W.contents writer.new.inner) (flat_map (λ one. one.out) all)) }
+    ensures flushed { OnOk result (writer.new.flushed ≡ true) }
+    ensures error { IfErr result (λ fault. IsWriteFault writer.new.failure fault ⊎ (fault ≡ OutOfMemory)) }
+{
+    let found = scan_each(rt, search, options, names, output, writer)?;
+    writer.flush()?;
+    Ok(found)
+}
+
+/// Searches the files of these names in turn. Where nothing is printed, no file is read
+/// behind the first in which a line counts.
+fn scan_each<W: Write>(
+    rt: &HostRuntime,
+    search: &Search,
+    options: Options,
+    names: &[Vec<u8>],
+    output: Option<FileId>,
+    writer: &mut Device<W>,
+) -> Result<Found, Fault>
+    requires { search.now.query.kind ≡ LeftmostLongest }
+    ensures searched { IfOk result (λ found. (all : List Searched)
+        × AreSearched search.now options output (map (λ name. name.items) names.now) found all
         × Appends (W.contents writer.old.inner) (W.contents writer.new.inner) (flat_map (λ one. one.out) all)) }
     ensures error { IfErr result (λ fault. IsWriteFault writer.new.failure fault ⊎ (fault ≡ OutOfMemory)) }
 {
@@ -74,45 +98,48 @@ pub fn scan_files<W: Write>(
         if options.quiet && found.any {
             return Ok(found);
         }
-        let scanned = scan_file(rt, search, options, name.as_slice(), writer)?;
+        let scanned = scan_file(rt, search, options, name.as_slice(), output, writer)?;
         found = found.with(scanned);
     }
-    writer.flush()?;
     Ok(found)
 }
 
-/// Searches the file of this name, or standard input. One that cannot be opened is told of.
+/// Searches the file of this name, or standard input. One that cannot be opened, or is standard output, is told of.
 fn scan_file<W: Write>(
     rt: &HostRuntime,
     search: &Search,
     options: Options,
     name: &[u8],
+    output: Option<FileId>,
     writer: &mut Device<W>,
 ) -> Result<Scanned, Fault>
     requires { search.now.query.kind ≡ LeftmostLongest }
     ensures printed { IfOk result (λ scanned. (text : Option (List ℕ)) × (out : List ℕ)
-        × PrintsFile search.now options name.now text scanned out
+        × PrintsFile search.now options output name.now text scanned out
         × Appends (W.contents writer.old.inner) (W.contents writer.new.inner) out) }
     ensures error { IfErr result (λ fault. IsWriteFault writer.new.failure fault ⊎ (fault ≡ OutOfMemory)) }
 {
     if is_input(name) {
+        if let Some(id) = output {
+            if is_input_file(rt, id) {
+                return not_read(rt, options, INPUT, ErrorKind::Deadlock, writer);
+            }
+        }
         let mut reader = buffered(rt.alloc(), rt.stdin())?;
-        return scan_told(
-            rt,
-            search,
-            options,
-            b"(standard input)",
-            &mut reader,
-            writer,
-        );
+        return scan_told(rt, search, options, INPUT, &mut reader, writer);
     }
     match open(rt, name) {
         Ok(file) => {
+            if let Some(id) = output {
+                if is_file_of(file.metadata(), id) {
+                    return not_read(rt, options, name, ErrorKind::Deadlock, writer);
+                }
+            }
             let mut reader = buffered(rt.alloc(), file)?;
             scan_told(rt, search, options, name, &mut reader, writer)
         }
         Err(ErrorKind::OutOfMemory) => Err(Fault::OutOfMemory),
-        Err(kind) => Ok(not_opened(rt, options, name, kind)),
+        Err(kind) => not_read(rt, options, name, kind, writer),
     }
 }
 
@@ -127,31 +154,55 @@ fn scan_told<R: BufRead, W: Write>(
 ) -> Result<Scanned, Fault>
     requires { search.now.query.kind ≡ LeftmostLongest }
     ensures printed { IfOk result (λ scanned. (text out : List ℕ)
-        × Reads (stops options scanned) (R.remaining reader.old.inner) (R.remaining reader.new.inner) text
+        × Reads scanned.failure (are_enough options scanned) (R.remaining reader.old.inner)
+        (R.remaining reader.new.inner) text
         × PrintsText search.now options name.now text scanned out
         × Appends (W.contents writer.old.inner) (W.contents writer.new.inner) out) }
+    ensures failed { IfOk result (λ scanned. CannotRead reader.new.failure
+        (ReadsTooMany (R.remaining reader.old.inner) (R.remaining reader.new.inner)) scanned.failure) }
     ensures error { IfErr result (λ fault. IsWriteFault writer.new.failure fault ⊎ (fault ≡ OutOfMemory)) }
 {
     let scanned = scan(rt.alloc(), search, options, name, reader, writer)?;
-    if scanned.failed && !options.untold {
-        tell(
-            rt,
-            name,
-            reader.failure().unwrap_or(ErrorKind::FileTooLarge),
-        );
+    if let Some(kind) = scanned.failure {
+        tell_behind(rt, options, name, kind, writer)?;
     }
     Ok(scanned)
 }
 
-/// What is found in a file that cannot be opened. That is told, but for `-s`.
-fn not_opened(rt: &HostRuntime, options: Options, name: &[u8], kind: ErrorKind) -> Scanned
-    ensures { result ≡ record { count = 0; failed = true } }
+/// What is found in a file that is not read. That is told, but for `-s`.
+fn not_read<W: Write>(
+    rt: &HostRuntime,
+    options: Options,
+    name: &[u8],
+    kind: ErrorKind,
+    writer: &mut Device<W>,
+) -> Result<Scanned, Fault>
+    ensures scanned { IfOk result (λ scanned. scanned ≡ record { count = 0; failure = Some kind }) }
+    ensures kept { OnOk result (Keeps (W.contents writer.old.inner) (W.contents writer.new.inner)) }
+    ensures error { IfErr result (IsWriteFault writer.new.failure) }
 {
-    if !options.untold {
-        tell(rt, name, kind);
-    }
-    Scanned {
+    tell_behind(rt, options, name, kind, writer)?;
+    Ok(Scanned {
         count: 0,
-        failed: true,
+        failure: Some(kind),
+    })
+}
+
+/// Tells why a file is not read, or not to its end, but for `-s`. What was printed before is written in front of that.
+fn tell_behind<W: Write>(
+    rt: &HostRuntime,
+    options: Options,
+    name: &[u8],
+    kind: ErrorKind,
+    writer: &mut Device<W>,
+) -> Result<(), Fault>
+    ensures kept { Keeps (W.contents writer.old.inner) (W.contents writer.new.inner) }
+    ensures error { IfErr result (IsWriteFault writer.new.failure) }
+{
+    if options.untold {
+        return Ok(());
     }
+    writer.flush()?;
+    tell(rt, name, kind);
+    Ok(())
 }

@@ -1,12 +1,17 @@
 //! What follows from the definitions.
-ghost use Rattle.std.specs.Prelude.{◌≡◌, ◌+◌, ◌++◌, ◌∷◌, ◌<◌, ◌↔◌, ℕ, List, false, length, true};
+ghost use Rattle.std.specs.Prelude.{◌≡◌, ◌≢◌, ◌+◌, ◌++◌, ◌∷◌, [], ◌<◌, ◌↔◌, ℕ, List, IfOk, Ok, Some, codes, false};
+ghost use Rattle.std.specs.Prelude.{length, true};
 ghost use Rattle.std.specs.List.{flat_map};
 ghost use Rattle.literal_base.specs.Occurs.{AreEqualBytes, one_occurs, pattern_at, rest_from};
 ghost use Rattle.literal_search.specs.SearchValue.{SearchValue};
 ghost use Rattle.litscan.specs.Asked.{OccursAsked, one_asked};
 ghost use Rattle.litscan.specs.Lines.{AreLinesOf, lines_of, with_feed};
+ghost use Rattle.litscan.specs.Options.{letter_named, takes_argument};
+ghost use Rattle.litscan.specs.Request.{RequestValue, asked_from, result_and_then, with_any, with_letters, with_name};
 ghost use Rattle.litscan.specs.Printed.{PrintsLine, PrintsLines, counts};
 ghost use Rattle.litscan.specs.declared.options.Options.{Options};
+
+use crate::request::Next;
 
 /// The lines of a text, each with a line feed behind it, are the text, whose last line feed may be missing; no line
 /// holds a line feed; and no other list is so.
@@ -38,4 +43,19 @@ pub fn lines_are_asked_for()
     ensures whole { (search : SearchValue) (options : Options) (line : List ℕ) → options.whole ≡ true
         → (one_asked search options line ≡ true) ↔ ((i : ℕ) × (i < length search.query.patterns)
         × AreEqualBytes search.ignore_case line (pattern_at search.query.patterns i)) }
+{}
+
+/// Letters that are joined ask for what each asks for in a word of its own, where the first takes no argument. A long
+/// name asks for what its letter asks for. Behind two dashes each word is a file, whatever it is.
+pub fn options_are_asked_for()
+    ensures joined { (letter next : ℕ) (more : List ℕ) (request : RequestValue) → takes_argument letter ≡ false
+        → letter ≢ 45 → next ≢ 45 → with_any (45 ∷ letter ∷ next ∷ more) request
+        ≡ result_and_then (with_any (45 ∷ next ∷ more)) (with_any (45 ∷ letter ∷ []) request) }
+    ensures named { (name : List ℕ) (letter : ℕ) (request : RequestValue) → letter_named name ≡ Some letter
+        → with_name name request ≡ with_letters (letter ∷ []) request }
+    ensures dashes { (request : RequestValue)
+        → with_any (codes "--") request ≡ Ok (record request { next = Next.File }) }
+    ensures files { (at : ℕ) (words : List (List ℕ)) (request : RequestValue) → request.next ≡ Next.File
+        → IfOk (asked_from at words request) (λ asked. (asked.files ≡ request.files ++ words)
+        × (asked.options ≡ request.options) × (asked.sources ≡ request.sources)) }
 {}

@@ -1,6 +1,7 @@
 //! Prints the lines of files in which a word stands, or its matches: `litscan [OPTION...] WORDS [FILE...]`.
 #![tactic(auto)]
 
+mod args;
 mod asked;
 mod color;
 mod device;
@@ -14,11 +15,13 @@ mod request;
 mod scan;
 mod words;
 
+use args::given_words;
 use device::Device;
 use fault::Fault;
 use files::scan_files;
+use input::{FileId, output_file, tell_unknown};
+use options::Options;
 use request::Request;
-use std::env;
 use std::io::{BufWriter, IsTerminal};
 use std::process::ExitCode;
 use words::{search_for, words_of};
@@ -74,12 +77,8 @@ fn main(rt: HostRuntime) -> ExitCode {
 
 /// Does what the words of the command line ask for, and gives the status.
 fn run(rt: &HostRuntime) -> Result<u8, Fault> {
-    let args = env::args(rt).map_err(|error| Fault::of_args(error))?;
-    let args = args
-        .skip(1)
-        .collect::<Vec<String>>(rt.alloc())
-        .or(Err(Fault::OutOfMemory))?;
-    let request = Request::of(rt.alloc(), args.as_slice())?;
+    let words = given_words(rt)?;
+    let request = asked_by(rt, words.as_slice())?;
     if request.options.help {
         return explain(rt, HELP);
     }
@@ -89,10 +88,22 @@ fn run(rt: &HostRuntime) -> Result<u8, Fault> {
     search_files(rt, &request)
 }
 
+/// What these words ask for. An option that is none is told of by its name.
+fn asked_by(rt: &HostRuntime, words: &[Vec<u8>]) -> Result<Request, Fault> {
+    match Request::of(rt.alloc(), words) {
+        Err(Fault::UnknownName(number)) if number < words.len() => {
+            tell_unknown(rt, words[number].as_slice());
+            Err(Fault::Told)
+        }
+        asked => asked,
+    }
+}
+
 /// Prints a text.
 fn explain(rt: &HostRuntime, text: &str) -> Result<u8, Fault> {
     let mut writer = Device::new(rt.stdout());
     writer.write_all(text.as_bytes())?;
+    writer.flush()?;
     Ok(0)
 }
 
@@ -111,7 +122,17 @@ fn search_files(rt: &HostRuntime, request: &Request) -> Result<u8, Fault> {
         &search,
         request.options.on_output(is_terminal),
         request.files.as_slice(),
+        file_not_read(rt, request.options),
         &mut writer,
     )?;
     Ok(found.status(request.options.quiet))
+}
+
+/// Which file is not read, if any: what is printed goes there, and would be read in turn. Where no line is printed, or
+/// one of a file at most, any file can be read.
+fn file_not_read(rt: &HostRuntime, options: Options) -> Option<FileId> {
+    if options.is_silent() || options.most.unwrap_or(u64::MAX) <= 1 {
+        return None;
+    }
+    output_file(rt)
 }

@@ -1,5 +1,6 @@
 //! What is asked for of each file, and the letters and names that ask for it.
 ghost use Rattle.std.specs.Prelude.{◌≡◌};
+ghost use Rattle.std.specs.Str.{bytes_eq};
 ghost use Rattle.litscan.specs.Options.{color_named, is_color, is_colored, is_enough, is_silent, letter_named};
 ghost use Rattle.litscan.specs.Options.{limit_of, no_options, number_of, on_output, takes_argument, with_digit};
 ghost use Rattle.litscan.specs.Options.{with_letter};
@@ -168,55 +169,64 @@ pub fn takes_argument(letter: u8) -> bool
 }
 
 /// The letter of the option with this long name.
-pub fn letter_named(name: &str) -> Option<u8>
+pub fn letter_named(name: &[u8]) -> Option<u8>
     ensures { result ≡ letter_named name.now }
 {
-    let letter = match name {
-        "--byte-offset" => b'b',
-        "--count" => b'c',
-        "--file" => b'f',
-        "--files-with-matches" => b'l',
-        "--files-without-match" => b'L',
-        "--fixed-strings" => b'F',
-        "--help" => b'?',
-        "--ignore-case" => b'i',
-        "--invert-match" => b'v',
-        "--line-number" => b'n',
-        "--line-regexp" => b'x',
-        "--max-count" => b'm',
-        "--no-filename" => b'h',
-        "--no-messages" => b's',
-        "--only-matching" => b'o',
-        "--quiet" => b'q',
-        "--regexp" => b'e',
-        "--silent" => b'q',
-        "--text" => b'a',
-        "--version" => b'V',
-        "--with-filename" => b'H',
-        "--word-regexp" => b'w',
-        _ => return None,
-    };
-    Some(letter)
+    match name {
+        _ if is_text(name, "--byte-offset") => Some(b'b'),
+        _ if is_text(name, "--count") => Some(b'c'),
+        _ if is_text(name, "--file") => Some(b'f'),
+        _ if is_text(name, "--files-with-matches") => Some(b'l'),
+        _ if is_text(name, "--files-without-match") => Some(b'L'),
+        _ if is_text(name, "--fixed-strings") => Some(b'F'),
+        _ if is_text(name, "--help") => Some(b'?'),
+        _ if is_text(name, "--ignore-case") => Some(b'i'),
+        _ if is_text(name, "--invert-match") => Some(b'v'),
+        _ if is_text(name, "--line-number") => Some(b'n'),
+        _ if is_text(name, "--line-regexp") => Some(b'x'),
+        _ if is_text(name, "--max-count") => Some(b'm'),
+        _ if is_text(name, "--no-filename") => Some(b'h'),
+        _ if is_text(name, "--no-messages") => Some(b's'),
+        _ if is_text(name, "--only-matching") => Some(b'o'),
+        _ if is_text(name, "--quiet") => Some(b'q'),
+        _ if is_text(name, "--regexp") => Some(b'e'),
+        _ if is_text(name, "--silent") => Some(b'q'),
+        _ if is_text(name, "--text") => Some(b'a'),
+        _ if is_text(name, "--version") => Some(b'V'),
+        _ if is_text(name, "--with-filename") => Some(b'H'),
+        _ if is_text(name, "--word-regexp") => Some(b'w'),
+        _ => None,
+    }
 }
 
 /// Whether this is the long name of the option for colours.
-pub fn is_color(name: &str) -> bool
+pub fn is_color(name: &[u8]) -> bool
     ensures { result ≡ is_color name.now }
 {
-    name == "--color" || name == "--colour"
+    is_text(name, "--color") || is_text(name, "--colour")
 }
 
 /// When colours are printed, by the argument of that option, if it is one.
-pub fn color_named(when: &str) -> Option<Color>
+pub fn color_named(when: &[u8]) -> Option<Color>
     ensures { result ≡ color_named when.now }
 {
-    let color = match when {
-        "always" | "yes" | "force" => Color::Always,
-        "never" | "no" | "none" => Color::Never,
-        "auto" | "tty" | "if-tty" => Color::Auto,
-        _ => return None,
-    };
-    Some(color)
+    if is_text(when, "always") || is_text(when, "yes") || is_text(when, "force") {
+        return Some(Color::Always);
+    }
+    if is_text(when, "never") || is_text(when, "no") || is_text(when, "none") {
+        return Some(Color::Never);
+    }
+    if is_text(when, "auto") || is_text(when, "tty") || is_text(when, "if-tty") {
+        return Some(Color::Auto);
+    }
+    None
+}
+
+/// Whether these bytes are this text.
+fn is_text(bytes: &[u8], text: &str) -> bool
+    ensures { result ≡ bytes_eq bytes.now text.now }
+{
+    bytes == text.as_bytes()
 }
 
 /// The number that these digits write, if it is below 2^64, and there is one.

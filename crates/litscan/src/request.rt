@@ -1,9 +1,11 @@
 //! What the words of the command line ask for.
-ghost use Rattle.std.specs.Prelude.{◌≡◌, ◌⊎◌, None, Some, MatchResult, map, string_bytes};
-ghost use Rattle.litscan.specs.Request.{Becomes, asked_by, completed, is_long, is_option, no_request, request_of};
-ghost use Rattle.litscan.specs.Request.{value_of_request, value_of_source, with_any, with_argument, with_behind};
-ghost use Rattle.litscan.specs.Request.{with_file, with_files, with_letters, with_long, with_name, with_named};
-ghost use Rattle.litscan.specs.Request.{with_source, with_word, with_words};
+ghost use Rattle.std.specs.Prelude.{◌≡◌, ◌<◌, ◌⊎◌, Err, Ok, IfSome, MatchResult, length, map};
+ghost use Rattle.std.specs.List.{position};
+ghost use Rattle.std.specs.Result.{IsOk};
+ghost use Rattle.litscan.specs.Request.{Becomes, BecomesBy, SomeAreRight, completed, is_equals, is_long, is_option};
+ghost use Rattle.litscan.specs.Request.{no_request, request_of, value_of_request, value_of_source, with_any};
+ghost use Rattle.litscan.specs.Request.{with_argument, with_behind, with_file, with_files, with_letters, with_long};
+ghost use Rattle.litscan.specs.Request.{with_name, with_named, with_source, with_word, with_words};
 
 use crate::fault::Fault;
 use crate::options::{
@@ -42,16 +44,19 @@ pub struct Request {
     pub files: Vec<Vec<u8>>,
     /// What the word behind these is.
     pub next: Next,
+    /// The number of the word that is taken, from 0 up.
+    pub at: usize,
 }
 
 impl Request {
     /// What these words ask for: options, and the names of files, in front of which stand the words to look for where
     /// no option gives any. Behind `--` there is no option.
-    pub fn of(alloc: Global, args: &[String]) -> Result<Request, Fault>
+    pub fn of(alloc: Global, args: &[Vec<u8>]) -> Result<Request, Fault>
         ensures { MatchResult result
-            (λ request. request_of (map string_bytes args.now) ≡ Some (value_of_request request))
-            (λ fault. ((fault ≡ Fault.Usage) × (request_of (map string_bytes args.now) ≡ None))
-            ⊎ (fault ≡ Fault.OutOfMemory)) }
+            (λ request. request_of (map (λ word. word.items) args.now) ≡ Ok (value_of_request request))
+            (λ fault. (request_of (map (λ word. word.items) args.now) ≡ Err fault) ⊎ ((fault ≡ Fault.OutOfMemory)
+            × (IsOk (request_of (map (λ word. word.items) args.now))
+            ⊎ SomeAreRight (map (λ word. word.items) args.now) no_request))) }
     {
         let mut request = Request::none(alloc);
         request.take_words(alloc, args)?;
@@ -68,76 +73,77 @@ impl Request {
             sources: Vec::new(alloc),
             files: Vec::new(alloc),
             next: Next::Any,
+            at: 0,
         }
     }
 
     /// Takes words of the command line.
-    fn take_words(&mut self, alloc: Global, words: &[String]) -> Result<(), Fault>
-        ensures { Becomes result (asked_by (map string_bytes words.now) (value_of_request self.old))
+    fn take_words(&mut self, alloc: Global, words: &[Vec<u8>]) -> Result<(), Fault>
+        ensures { BecomesBy result (map (λ word. word.items) words.now) (value_of_request self.old)
             (value_of_request self.new) }
     {
-        for word in words {
-            self.take_word(alloc, word.as_str())?;
+        for (i, word) in words.iter().enumerate() {
+            self.at = i;
+            self.take_word(alloc, word.as_slice())?;
         }
         Ok(())
     }
 
     /// Takes a word of the command line.
-    fn take_word(&mut self, alloc: Global, word: &str) -> Result<(), Fault>
+    fn take_word(&mut self, alloc: Global, word: &[u8]) -> Result<(), Fault>
         ensures { Becomes result (with_word word.now (value_of_request self.old)) (value_of_request self.new) }
     {
         match self.next {
             Next::Any => self.take_any(alloc, word),
             Next::Argument(letter) => {
                 self.next = Next::Any;
-                self.take_argument(alloc, letter, word.as_bytes())
+                self.take_argument(alloc, letter, word)
             }
-            Next::File => self.add_file(alloc, word.as_bytes()),
+            Next::File => self.add_file(alloc, word),
         }
     }
 
     /// Takes a word that may be an option.
-    fn take_any(&mut self, alloc: Global, word: &str) -> Result<(), Fault>
+    fn take_any(&mut self, alloc: Global, word: &[u8]) -> Result<(), Fault>
         ensures { Becomes result (with_any word.now (value_of_request self.old)) (value_of_request self.new) }
     {
-        let bytes = word.as_bytes();
-        if word == "--" {
+        if word == b"--".as_slice() {
             self.next = Next::File;
             return Ok(());
         }
-        if is_long(bytes) {
+        if is_long(word) {
             return self.take_long(alloc, word);
         }
-        if is_option(bytes) {
-            return self.take_letters(alloc, &bytes[1..]);
+        if is_option(word) {
+            return self.take_letters(alloc, &word[1..]);
         }
-        self.add_file(alloc, bytes)
+        self.add_file(alloc, word)
     }
 
     /// Takes an option by its long name, behind which its argument may stand, with an equals sign in front.
-    fn take_long(&mut self, alloc: Global, word: &str) -> Result<(), Fault>
+    fn take_long(&mut self, alloc: Global, word: &[u8]) -> Result<(), Fault>
         ensures { Becomes result (with_long word.now (value_of_request self.old)) (value_of_request self.new) }
     {
-        let Some((name, argument)) = word.split_once('=') else {
+        let Some(at) = equals_in(word) else {
             return self.take_name(alloc, word);
         };
-        self.take_named(alloc, name, argument)
+        self.take_named(alloc, &word[..at], &word[at + 1..])
     }
 
     /// Takes an option by its long name.
-    fn take_name(&mut self, alloc: Global, name: &str) -> Result<(), Fault>
+    fn take_name(&mut self, alloc: Global, name: &[u8]) -> Result<(), Fault>
         ensures { Becomes result (with_name name.now (value_of_request self.old)) (value_of_request self.new) }
     {
         if is_color(name) {
             self.options.color = Color::Auto;
             return Ok(());
         }
-        let letter = letter_named(name).ok_or(Fault::Usage)?;
+        let letter = letter_named(name).ok_or(Fault::UnknownName(self.at))?;
         self.take_letters(alloc, &[letter])
     }
 
     /// Takes an option by its long name, and its argument.
-    fn take_named(&mut self, alloc: Global, name: &str, argument: &str) -> Result<(), Fault>
+    fn take_named(&mut self, alloc: Global, name: &[u8], argument: &[u8]) -> Result<(), Fault>
         ensures { Becomes result (with_named name.now argument.now (value_of_request self.old))
             (value_of_request self.new) }
     {
@@ -145,11 +151,11 @@ impl Request {
             self.options.color = color_named(argument).ok_or(Fault::Usage)?;
             return Ok(());
         }
-        let letter = letter_named(name).ok_or(Fault::Usage)?;
+        let letter = letter_named(name).ok_or(Fault::UnknownName(self.at))?;
         if !takes_argument(letter) {
             return Err(Fault::Usage);
         }
-        self.take_argument(alloc, letter, argument.as_bytes())
+        self.take_argument(alloc, letter, argument)
     }
 
     /// Takes the letters of options, behind the last of which its argument may stand.
@@ -160,7 +166,10 @@ impl Request {
             if takes_argument(*letter) {
                 return self.take_behind(alloc, *letter, &letters[i + 1..]);
             }
-            self.options = self.options.with_letter(*letter).ok_or(Fault::Usage)?;
+            self.options = self
+                .options
+                .with_letter(*letter)
+                .ok_or(Fault::UnknownLetter(*letter))?;
         }
         Ok(())
     }
@@ -195,7 +204,7 @@ impl Request {
 
     /// Adds a source of words.
     fn add_source(&mut self, source: Source) -> Result<(), Fault>
-        ensures { Becomes result (Some (with_source (value_of_source source) (value_of_request self.old)))
+        ensures { Becomes result (Ok (with_source (value_of_source source) (value_of_request self.old)))
             (value_of_request self.new) }
     {
         self.sources.push(source).or(Err(Fault::OutOfMemory))
@@ -203,7 +212,7 @@ impl Request {
 
     /// Adds the name of a file.
     fn add_file(&mut self, alloc: Global, name: &[u8]) -> Result<(), Fault>
-        ensures { Becomes result (Some (with_file name.now (value_of_request self.old))) (value_of_request self.new) }
+        ensures { Becomes result (Ok (with_file name.now (value_of_request self.old))) (value_of_request self.new) }
     {
         let name = copy_of(alloc, name)?;
         self.files.push(name).or(Err(Fault::OutOfMemory))
@@ -239,7 +248,7 @@ impl Request {
 
     /// Takes standard input where there is no file, and names where there are several.
     fn find_files(&mut self, alloc: Global) -> Result<(), Fault>
-        ensures { Becomes result (Some (with_files (value_of_request self.old))) (value_of_request self.new) }
+        ensures { Becomes result (Ok (with_files (value_of_request self.old))) (value_of_request self.new) }
     {
         let several = self.files.len() > 1;
         self.options.named = Some(self.options.named.unwrap_or(several));
@@ -269,4 +278,12 @@ fn is_long(word: &[u8]) -> bool
     ensures { result ≡ is_long word.now }
 {
     word.len() > 1 && word[0] == b'-' && word[1] == b'-'
+}
+
+/// Where the first equals sign of a word stands.
+fn equals_in(word: &[u8]) -> Option<usize>
+    ensures found { result ≡ position is_equals word.now }
+    ensures inside { IfSome result (λ at. at < length word.now) }
+{
+    word.iter().position(|byte| *byte == b'=')
 }

@@ -8,10 +8,11 @@ ghost use Rattle.literal_base.specs.declared.packed.MatchKind.TheVariants.{Leftm
 ghost use Rattle.litscan.specs.Asked.{AreMatches};
 ghost use Rattle.litscan.specs.Fault.{IsWriteFault};
 ghost use Rattle.litscan.specs.Lines.{last_line, lines_of};
-ghost use Rattle.litscan.specs.Options.{is_colored, is_silent};
+ghost use Rattle.litscan.specs.Options.{is_colored, is_silent, limit_of};
 ghost use Rattle.litscan.specs.Printed.{CannotRead, Prints, PrintsUnlessSilent, PrintsWhole, Reads, ReadsTooMany};
-ghost use Rattle.litscan.specs.Printed.{StopsScan, counts, marked_from, printed_behind, printed_head, printed_listed};
-ghost use Rattle.litscan.specs.Printed.{printed_match, printed_matches, printed_name, printed_part, stops};
+ghost use Rattle.litscan.specs.Printed.{StopsAtEnough, StopsScan, are_enough, counts, marked_from, printed_behind};
+ghost use Rattle.litscan.specs.Printed.{printed_head, printed_listed, printed_match, printed_matches, printed_name};
+ghost use Rattle.litscan.specs.Printed.{printed_part};
 
 use crate::asked::{has_asked, next_asked};
 use crate::color::{MATCH, NAME, print_colon, print_colored, print_number};
@@ -20,15 +21,15 @@ use crate::fault::Fault;
 use crate::options::{Options, is_enough};
 use literal_search::Search;
 use std::alloc::Global;
-use std::io::{BufRead, Write};
+use std::io::{BufRead, ErrorKind, Write};
 
 /// What a scan of a text found.
 #[derive(Clone, Copy)]
 pub struct Scanned {
     /// How many of the lines that were read count.
     pub count: u64,
-    /// Whether not all of the text could be read.
-    pub failed: bool,
+    /// Of what kind the error was, if not all of the text could be read.
+    pub failure: Option<ErrorKind>,
 }
 
 /// Reads a text, prints what is asked for under this name, and says how many of its lines count. No more is read once
@@ -43,12 +44,14 @@ pub fn scan<R: BufRead, W: Write>(
 ) -> Result<Scanned, Fault>
     requires { search.now.query.kind ≡ LeftmostLongest }
     ensures scanned { IfOk result (λ scanned. (text out : List ℕ)
-        × Reads (stops options scanned) (R.remaining reader.old.inner) (R.remaining reader.new.inner) text
+        × Reads scanned.failure (are_enough options scanned) (R.remaining reader.old.inner)
+        (R.remaining reader.new.inner) text
+        × StopsAtEnough (limit_of options) (counts search.now options) (lines_of text)
         × Appends (W.contents writer.old.inner) (W.contents writer.new.inner) out
         × Prints search.now options name.now text out
         × (scanned.count ≡ count_by (counts search.now options) (lines_of text))) }
     ensures failed { IfOk result (λ scanned. CannotRead reader.new.failure
-        (ReadsTooMany (R.remaining reader.old.inner) (R.remaining reader.new.inner)) scanned.failed) }
+        (ReadsTooMany (R.remaining reader.old.inner) (R.remaining reader.new.inner)) scanned.failure) }
     ensures error { IfErr result (StopsScan reader.new.failure writer.new.failure) }
 {
     let scanned = scan_lines(alloc, search, options, name, reader, writer)?;
@@ -123,12 +126,14 @@ fn scan_lines<R: BufRead, W: Write>(
 ) -> Result<Scanned, Fault>
     requires { search.now.query.kind ≡ LeftmostLongest }
     ensures scanned { IfOk result (λ scanned. (text out : List ℕ)
-        × Reads (stops options scanned) (R.remaining reader.old.inner) (R.remaining reader.new.inner) text
+        × Reads scanned.failure (are_enough options scanned) (R.remaining reader.old.inner)
+        (R.remaining reader.new.inner) text
+        × StopsAtEnough (limit_of options) (counts search.now options) (lines_of text)
         × Appends (W.contents writer.old.inner) (W.contents writer.new.inner) out
         × PrintsUnlessSilent (is_silent options) search.now options name.now 1 0 (lines_of text) out
         × (scanned.count ≡ count_by (counts search.now options) (lines_of text))) }
     ensures failed { IfOk result (λ scanned. CannotRead reader.new.failure
-        (ReadsTooMany (R.remaining reader.old.inner) (R.remaining reader.new.inner)) scanned.failed) }
+        (ReadsTooMany (R.remaining reader.old.inner) (R.remaining reader.new.inner)) scanned.failure) }
     ensures error { IfErr result (StopsScan reader.new.failure writer.new.failure) }
 {
     let mut line = Vec::new(alloc);
@@ -138,17 +143,17 @@ fn scan_lines<R: BufRead, W: Write>(
         if is_enough(options.limit(), count) {
             return Ok(Scanned {
                 count,
-                failed: false,
+                failure: None,
             });
         }
         let fed = match reader.read_line(&mut line) {
             Ok(fed) => fed,
-            Err(fault) => return failed_behind(count, fault),
+            Err(fault) => return failed_behind(count, fault, reader.failure()),
         };
         let Some(next) = offset_behind(offset, line.as_slice()) else {
             return Ok(Scanned {
                 count,
-                failed: true,
+                failure: Some(ErrorKind::FileTooLarge),
             });
         };
         if !fed {
@@ -163,7 +168,7 @@ fn scan_lines<R: BufRead, W: Write>(
             )?;
             return Ok(Scanned {
                 count: count + last,
-                failed: false,
+                failure: None,
             });
         }
         let one = take_line(
@@ -180,21 +185,18 @@ fn scan_lines<R: BufRead, W: Write>(
     }
     Ok(Scanned {
         count,
-        failed: true,
+        failure: Some(ErrorKind::FileTooLarge),
     })
 }
 
 /// What a scan found whose read failed so. Memory that is refused ends all.
-fn failed_behind(count: u64, fault: Fault) -> Result<Scanned, Fault>
-    ensures { MatchResult result (λ scanned. scanned ≡ record { count = count; failed = true })
+fn failed_behind(count: u64, fault: Fault, failure: Option<ErrorKind>) -> Result<Scanned, Fault>
+    ensures { MatchResult result (λ scanned. scanned ≡ record { count = count; failure = failure })
         (λ error. (error ≡ fault) × (fault ≡ Fault.OutOfMemory)) }
 {
     match fault {
         Fault::OutOfMemory => Err(fault),
-        _ => Ok(Scanned {
-            count,
-            failed: true,
-        }),
+        _ => Ok(Scanned { count, failure }),
     }
 }
 

@@ -1,5 +1,5 @@
 //! The words, and the search for them.
-ghost use Rattle.std.specs.Prelude.{◌≡◌, ◌++◌, List, ℕ, IfErr, IfOk, OnOk, map};
+ghost use Rattle.std.specs.Prelude.{◌≡◌, ◌<◌, ◌≤◌, ◌++◌, List, ℕ, IfErr, IfOk, IfSome, OnOk, length, map};
 ghost use Rattle.std.specs.List.{flat_map};
 ghost use Rattle.literal_base.specs.declared.packed.MatchKind.TheVariants.{LeftmostLongest};
 ghost use Rattle.literal_search.specs.SearchValue.{search_by};
@@ -7,10 +7,11 @@ ghost use Rattle.litscan.specs.Fault.{RefusesWords};
 ghost use Rattle.litscan.specs.Lines.{lines_of, with_feed};
 ghost use Rattle.litscan.specs.Request.{value_of_source};
 ghost use Rattle.litscan.specs.Words.{AreTextsOf, IsTextOf, StopsWords};
+ghost use Rattle.litscan.specs.declared.fault.Fault.TheVariants.{OutOfMemory};
 
 use crate::device::Device;
 use crate::fault::Fault;
-use crate::input::{buffered, is_input, open, tell};
+use crate::input::{buffered, is_input, open, shown_name, tell, tell_empty_line};
 use crate::lines::add_lines;
 use crate::request::Source;
 use literal_search::{MatchKind, Search};
@@ -25,10 +26,64 @@ pub fn words_of(rt: &HostRuntime, sources: &[Source]) -> Result<Vec<Vec<u8>>, Fa
     ensures error { IfErr result StopsWords }
 {
     let mut words = Vec::new(rt.alloc());
+    let mut given = 0;
     for source in sources {
-        add_source(rt, source, &mut words)?;
+        given = count_given(given, source);
+        add_words(rt, source, given, &mut words)?;
     }
     Ok(words)
+}
+
+/// How many sources are arguments, with one source more.
+fn count_given(given: u64, source: &Source) -> u64 {
+    match source {
+        Source::Words(_) => given.saturating_add(1),
+        Source::File(_) => given,
+    }
+}
+
+/// Adds the words that a source gives, if none of them is empty. Else that is told of, for an argument with how many
+/// were given up to it.
+fn add_words(
+    rt: &HostRuntime,
+    source: &Source,
+    given: u64,
+    words: &mut Vec<Vec<u8>>,
+) -> Result<(), Fault>
+    ensures added { OnOk result ((text : List ℕ) × IsTextOf (value_of_source source.now) text
+        × (map (λ word. word.items) words.new.items ≡ map (λ word. word.items) words.old.items ++ lines_of text)) }
+    ensures error { IfErr result StopsWords }
+{
+    let before = words.len();
+    add_source(rt, source, words)?;
+    let Some(at) = first_empty(words.as_slice(), before) else {
+        return Ok(());
+    };
+    tell_empty(rt, source, given, at - before);
+    Err(Fault::Told)
+}
+
+/// The first of the words from one on that is empty.
+fn first_empty(words: &[Vec<u8>], from: usize) -> Option<usize>
+    ensures found { IfSome result (λ at. (from ≤ at) × (at < length words.now)) }
+{
+    for at in from..words.len() {
+        if words[at].is_empty() {
+            return Some(at);
+        }
+    }
+    None
+}
+
+/// Tells where an empty word stands: in which line of which file, or of which argument. The line is counted from 0 up.
+fn tell_empty(rt: &HostRuntime, source: &Source, given: u64, line: usize) {
+    let number = line.saturating_add(1);
+    match source {
+        Source::Words(_) => {
+            let _ = eprintln!(rt; "litscan: WORDS {given}, line {number}: empty word");
+        }
+        Source::File(name) => tell_empty_line(rt, shown_name(name.as_slice()), number),
+    }
 }
 
 /// Adds the words that a source gives.
@@ -47,12 +102,12 @@ fn add_source(rt: &HostRuntime, source: &Source, words: &mut Vec<Vec<u8>>) -> Re
 fn add_given(alloc: Global, bytes: &[u8], words: &mut Vec<Vec<u8>>) -> Result<(), Fault>
     ensures added { OnOk result (map (λ word. word.items) words.new.items
         ≡ map (λ word. word.items) words.old.items ++ lines_of (with_feed bytes.now)) }
-    ensures error { IfErr result StopsWords }
+    ensures error { IfErr result (λ fault. fault ≡ OutOfMemory) }
 {
     let mut text = Vec::from_slice(alloc, bytes).or(Err(Fault::OutOfMemory))?;
     text.push(b'\n').or(Err(Fault::OutOfMemory))?;
     let mut reader = Device::new(text.as_slice());
-    add_lines(alloc, &mut reader, words)
+    add_lines(alloc, &mut reader, words).or(Err(Fault::OutOfMemory))
 }
 
 /// Adds each line of the file of this name, or of standard input. One that cannot be opened or read is told of.

@@ -1,18 +1,23 @@
 -- What is read line by line is the text, and its lines are those that were read. For `lines` and `scan`.
 use Rattle.std.proofs.Common.{◌≡◌, ◌==◌, ℕ, Bool, true, false, List, [], ◌∷◌, ◌++◌, cond}
 use Rattle.std.proofs.Common.{◌+◌, ◌≤◌, ◌^◌, Option, None, Some, Result, Ok, Err, IfOk, MatchResult, arith, length}
-use Rattle.std.proofs.Common.{length-append}
+use Rattle.std.proofs.Common.{length-append, take}
 use Rattle.std.proofs.Common.{refl, sym, ap, ◌∙◌, inl, inr, subst}
 use Rattle.std.specs.Io.BufRead.{DropsThrough, drop_through, take_through}
 use Rattle.std.specs.Io.KnownBytes.{Consumes, IsAtEnd}
-use Rattle.std.specs.List.{flat_map}
-use Rattle.std.specs.Option.{IfSome, OnSome}
+use Rattle.std.specs.List.{count_by, flat_map}
+use Rattle.std.specs.Option.{IfSome, IsSome, OnSome}
+use Rattle.std.specs.declared.io.ErrorKind.{ErrorKind}
 use Rattle.std.proofs.KnownBytes.{Consumes-trans}
-use Rattle.std.proofs.lemmas.Bool.{cases_eq, cond-false, cond-true, eq-eqb, ne_eqb}
-use Rattle.std.proofs.lemmas.List.{append-nil, flat_map_more}
+use Rattle.std.proofs.lemmas.Bool.{cases_eq, cases_lt, cond-false, cond-true, eq-eqb, ne_eqb}
+use Rattle.std.proofs.lemmas.List.{append-nil, flat_map_more, take-append-le}
+use Rattle.std.proofs.Math.Seq.{take-append_seam}
 use Rattle.std.proofs.lemmas.List.Elements.{All-head, All-tail}
-use Rattle.litscan.specs.Lines.{HasNoFeed, with_feed}
-use Rattle.litscan.specs.Printed.{BeginsWith, Reads, ReadsAll, ReadsTooMany}
+use Rattle.litscan.specs.Fault.{IsReadFault}
+use Rattle.litscan.specs.Lines.{HasNoFeed, last_line, with_feed}
+use Rattle.litscan.specs.Options.{is_enough}
+use Rattle.litscan.specs.Printed.{BeginsWith, Reads, ReadsAll, ReadsTooMany, StopsAtEnough}
+use Rattle.litscan.specs.declared.fault.Fault.{Fault}
 use Rattle.litscan.proofs.lemmas.Lines.{Other}
 
 -- what is read up to a line feed, and has none, is all
@@ -48,18 +53,48 @@ begins_with None new text read = tt
 begins_with (Some bytes) None text read = absurd read
 begins_with (Some bytes) (Some left) text read = (left, read)
 
--- a text that was read up to where the reading stopped
-pub reads_front : (stopped : Bool) (old mid new : Option (List ℕ)) (text : List ℕ) → stopped ≡ true
-    → Consumes old mid text → Reads stopped old new text
-reads_front true old mid new text is read = begins_with old mid text read
-reads_front false old mid new text is read = absurd (cc)
+-- a text that was read up to where no more could be read
+pub reads_front : (failure : Option ErrorKind) (enough : Bool) (old mid new : Option (List ℕ)) (text : List ℕ)
+    → IsSome failure → Consumes old mid text → Reads failure enough old new text
+reads_front (Some error) enough old mid new text some read = begins_with old mid text read
+reads_front None enough old mid new text some read = absurd (cc)
+
+-- a read that failed left its error behind
+pub read_failed : (failure : Option ErrorKind) (fault : Fault) → IsReadFault failure fault → IsSome failure
+read_failed (Some error) fault is = refl
+read_failed None fault is = absurd (cc)
+
+-- a text that was read until enough lines count
+pub reads_enough : (enough : Bool) (old new : Option (List ℕ)) (text : List ℕ) → enough ≡ true
+    → Consumes old new text → Reads None enough old new text
+reads_enough true old new text is read = read
+reads_enough false old new text is read = absurd (cc)
 
 -- a text that was read to its end, whether enough lines count or not
-pub reads_any : (stopped : Bool) (old new : Option (List ℕ)) (text : List ℕ) → ReadsAll old new text
-    → Reads stopped old new text
+pub reads_any : (enough : Bool) (old new : Option (List ℕ)) (text : List ℕ) → ReadsAll old new text
+    → Reads None enough old new text
 reads_any false old new text all = all
 reads_any true None new text all = tt
-reads_any true (Some bytes) new text all = ([], all.0 ∙ sym (append-nil text))
+reads_any true (Some bytes) new text all =
+    subst (λ left. Consumes (Some bytes) left text) (sym all.1) (all.0 ∙ sym (append-nil text))
+
+-- one line more at most was read where the lines before are not enough
+pub stops_later : (limit : Option ℕ) (test : List ℕ → Bool) (seen more : List (List ℕ)) → length more ≤ 1
+    → StopsAtEnough limit test seen → is_enough limit (count_by test seen) ≡ false
+    → StopsAtEnough limit test (seen ++ more)
+stops_later limit test seen more few before not_yet n below =
+    let enough = λ (lines : List (List ℕ)). is_enough limit (count_by test lines) in
+    elim (cases_lt n (length seen)) [
+      | inl front ↦ ap enough (take-append-le n seen more (omega (arith, front))) ∙ before n front
+      | inr behind ↦
+          let same : n ≡ length seen = omega (arith, behind, below, few, length-append seen more) in
+          ap enough (ap (λ k. take k (seen ++ more)) same ∙ take-append_seam seen more) ∙ not_yet
+    ]
+
+-- what stands behind the last line feed is one line at most
+pub length-last_line : (last : List ℕ) → length (last_line last) ≤ 1
+length-last_line [] = omega arith
+length-last_line (byte ∷ more) = omega arith
 
 -- one line more
 pub read_more : (a b c : Option (List ℕ)) (seen : List (List ℕ)) (line : List ℕ) (fed : Bool) → fed ≡ true

@@ -11,11 +11,12 @@ returns-clause-scanned g c =
       read.0,
       read.1 ++ behind,
       read.2,
-      search (rules, Appends-trans _ _ _ read.1 behind read.3 c.in_ok-print_behind.ensures.printed),
+      read.3,
+      search (rules, Appends-trans _ _ _ read.1 behind read.4 c.in_ok-print_behind.ensures.printed),
       (
         read.1,
-        read.4,
-        ap (λ count. read.1 ++ printed_behind options.listed options c.args.name.now count) read.5,
+        read.5,
+        ap (λ count. read.1 ++ printed_behind options.listed options c.args.name.now count) read.6,
       ),
-      read.5,
+      read.6,
     )

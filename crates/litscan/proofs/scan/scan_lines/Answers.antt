@@ -1,17 +1,26 @@
-use Rattle.std.proofs.Common.{◌≡◌, ◌+◌, ◌++◌, ◌∷◌, [], List, true, length, length-append}
+use Rattle.std.proofs.Common.{◌≡◌, ◌+◌, ◌++◌, ◌∷◌, [], Bool, List, ℕ, Option, false, true, length, length-append}
 use Rattle.std.proofs.Common.{inr, refl, sym, ap, subst, ◌∙◌, arith}
 use Rattle.std.proofs.KnownBytes.{Appends-nil, Appends-trans, Consumes-nil}
 use Rattle.std.proofs.lemmas.List.{flat_map_more, length_push}
 use Rattle.std.proofs.lemmas.List.Elements.{All-nil, All-push}
 use Rattle.std.specs.List.{count_by, flat_map}
+use Rattle.std.specs.Option.{IsSome}
 use Rattle.litscan.specs.Lines.{HasNoFeed, last_line, with_feed}
 use Rattle.litscan.specs.Options.{is_enough, is_silent, limit_of}
-use Rattle.litscan.specs.Printed.{PrintsUnlessSilent, counts, stops}
+use Rattle.litscan.specs.Printed.{PrintsUnlessSilent, StopsAtEnough, counts}
+use Rattle.litscan.specs.declared.options.Options.{Options}
 use Rattle.litscan.proofs.lemmas.Lines.{lines_of-feeds, lines_of-split}
 use Rattle.litscan.proofs.lemmas.Printing.{count-append, prints_more, prints_none}
-use Rattle.litscan.proofs.lemmas.Reading.{begins_with, length-feeds_most, ok_gives, read_all, read_more, reads_any}
-use Rattle.litscan.proofs.lemmas.Reading.{reads_front, too_many_with}
+use Rattle.litscan.proofs.lemmas.Reading.{begins_with, length-feeds_most, length-last_line, ok_gives, read_all}
+use Rattle.litscan.proofs.lemmas.Reading.{read_failed, read_more, reads_any, reads_enough, reads_front, stops_later}
+use Rattle.litscan.proofs.lemmas.Reading.{too_many_with}
 use Rattle.litscan.proofs.scan.scan_lines.Goals as goal
+
+-- where the lines so far were not said to be enough, they are not
+is_not_yet : (options : Options) (count all : ℕ) {limit : Option ℕ} {said : Bool} → said ≡ is_enough limit count
+    → limit ≡ limit_of options → count ≡ all → said ≡ false → is_enough (limit_of options) all ≡ false
+is_not_yet options count all {limit} {said} is same counted unsaid =
+    ap (λ n. is_enough (limit_of options) n) (sym counted) ∙ ap (λ l. is_enough l count) (sym same) ∙ sym is ∙ unsaid
 
 pub loop-number-init : goal.loop-number-init
 loop-number-init g c = record {
@@ -21,6 +30,7 @@ loop-number-init g c = record {
   read = Consumes-nil _;
   number = refl;
   offset = refl;
+  stops = λ n below. absurd (omega (arith, below));
   counted = refl;
   written = Appends-nil _;
   printed = prints_none c.args.search.now c.args.options c.args.name.now (is_silent c.args.options) 1 0;
@@ -52,6 +62,10 @@ loop-number-preserved g c =
       read = read_more _ _ _ so_far.seen line _ c.if-not-fed.false so_far.read c.in-Ok.ensures.bytes;
       number = omega (arith, longer, place);
       offset = omega (arith, more, so_far.offset, c.in-Some.ensures, c.as_slice.ensures.len);
+      stops =
+          stops_later (limit_of options) test so_far.seen (line ∷ []) (omega arith) so_far.stops
+          (is_not_yet options c.loop-number.count (count_by test so_far.seen) c.is_enough.ensures c.limit.ensures
+          so_far.counted c.if-is_enough.false);
       counted =
           count-append test so_far.seen (line ∷ []) _ _ so_far.counted
           (c.in_ok-one.ensures.counted ∙ ap (λ l. count_by test (l ∷ [])) shown);
@@ -80,6 +94,10 @@ returns-then-not-fed-clause-scanned g c =
       reads_any _ _ _ (flat_map with_feed so_far.seen ++ last)
           (read_all _ _ _ (flat_map with_feed so_far.seen) last _ c.if-not-fed.true so_far.read c.in-Ok.ensures.bytes
           c.in-Ok.ensures.ended),
+      subst (StopsAtEnough (limit_of options) test) (sym lines)
+          (stops_later (limit_of options) test so_far.seen (last_line last) (length-last_line last) so_far.stops
+          (is_not_yet options c.loop-number.count (count_by test so_far.seen) c.is_enough.ensures c.limit.ensures
+          so_far.counted c.if-is_enough.false)),
       Appends-trans _ _ _ so_far.out taken.0 so_far.written taken.1,
       subst (λ all. prints 1 0 all (so_far.out ++ taken.0)) (sym lines)
           (prints_more dfa options c.args.name.now (is_silent options) 1 0 number offset so_far.seen (last_line last)
@@ -103,7 +121,8 @@ returns-then-is_enough-clause-scanned g c =
     sym (c.is_enough.ensures ∙ ap (λ limit. is_enough limit count) c.limit.ensures) ∙ c.if-is_enough.true in (
       flat_map with_feed so_far.seen,
       so_far.out,
-      reads_front _ _ _ _ (flat_map with_feed so_far.seen) enough so_far.read,
+      reads_enough _ _ _ (flat_map with_feed so_far.seen) enough so_far.read,
+      subst (StopsAtEnough (limit_of options) (counts dfa options)) (sym lines) so_far.stops,
       so_far.written,
       subst (λ all. prints 1 0 all so_far.out) (sym lines) so_far.printed,
       so_far.counted ∙ ap (count_by (counts dfa options)) (sym lines),
@@ -116,11 +135,16 @@ returns-in-Err-clause-scanned g c =
     let options = c.args.options in
     let prints = PrintsUnlessSilent (is_silent options) dfa options c.args.name.now in
     let lines = lines_of-feeds so_far.seen so_far.whole in
+    let failed : IsSome c.failure.result =
+    subst IsSome (sym c.failure.ensures)
+    (read_failed c.read_line.new.self.failure c.in-Err.fault c.in-Err.ensures.error) in
     ok_gives _ _ _ c.failed_behind.result c.failed_behind.ensures
     (λ scanned is. (
       flat_map with_feed so_far.seen,
       so_far.out,
-      reads_front _ _ _ _ (flat_map with_feed so_far.seen) (ap (λ found. stops options found) is) so_far.read,
+      reads_front _ _ _ _ _ (flat_map with_feed so_far.seen)
+          (subst (λ found. IsSome found.failure) (sym is) failed) so_far.read,
+      subst (StopsAtEnough (limit_of options) (counts dfa options)) (sym lines) so_far.stops,
       so_far.written,
       subst (λ all. prints 1 0 all so_far.out) (sym lines) so_far.printed,
       ap (λ found. found.count) is ∙ so_far.counted ∙ ap (count_by (counts dfa options)) (sym lines),
@@ -136,6 +160,7 @@ returns-in_default-clause-scanned g c =
       flat_map with_feed so_far.seen,
       so_far.out,
       begins_with _ _ (flat_map with_feed so_far.seen) so_far.read,
+      subst (StopsAtEnough (limit_of options) (counts dfa options)) (sym lines) so_far.stops,
       so_far.written,
       subst (λ all. prints 1 0 all so_far.out) (sym lines) so_far.printed,
       so_far.counted ∙ ap (count_by (counts dfa options)) (sym lines),
@@ -145,8 +170,11 @@ pub returns-in_default-clause-failed : goal.returns-in_default-clause-failed
 returns-in_default-clause-failed g c =
     let so_far = c.loop-number.invariant in
     let line = c.read_line.new.line.items in
-    inr (too_many_with _ _ _ (flat_map with_feed so_far.seen) line _ so_far.read c.in-Ok.ensures.bytes
-    (omega (arith, c.in_default.ensures, so_far.offset, c.as_slice.ensures.len)))
+    inr (
+      too_many_with _ _ _ (flat_map with_feed so_far.seen) line _ so_far.read c.in-Ok.ensures.bytes
+          (omega (arith, c.in_default.ensures, so_far.offset, c.as_slice.ensures.len)),
+      refl,
+    )
 
 pub returns-clause-scanned : goal.returns-clause-scanned
 returns-clause-scanned g c =
@@ -158,6 +186,7 @@ returns-clause-scanned g c =
       flat_map with_feed so_far.seen,
       so_far.out,
       begins_with _ _ (flat_map with_feed so_far.seen) so_far.read,
+      subst (StopsAtEnough (limit_of options) (counts dfa options)) (sym lines) so_far.stops,
       so_far.written,
       subst (λ all. prints 1 0 all so_far.out) (sym lines) so_far.printed,
       so_far.counted ∙ ap (count_by (counts dfa options)) (sym lines),
@@ -168,7 +197,6 @@ returns-clause-failed g c =
     let so_far = c.loop-number.invariant in
     let front = flat_map with_feed so_far.seen in
     inr (
-      front,
-      so_far.read,
-      omega (arith, c.loop-number-test.false, so_far.number, length-feeds_most so_far.seen),
+      (front, so_far.read, omega (arith, c.loop-number-test.false, so_far.number, length-feeds_most so_far.seen)),
+      refl,
     )

@@ -16,7 +16,7 @@ texts_more (first ∷ sources) (one ∷ texts) source text are is = (are.0, text
 pub loop-source-preserved : goal.loop-source-preserved
 loop-source-preserved c =
     let so_far = c.loop-source.invariant in
-    let added = c.in_ok-add_source.ensures.added in
+    let added = c.in_ok-add_words.ensures.added in
     let sources = c.args.sources.now in
     let front = map value_of_source (take c.loop-source.source-index sources) in
     let next = map_more value_of_source sources c.loop-source.source-index c.source-item.result

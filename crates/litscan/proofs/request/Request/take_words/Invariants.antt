@@ -1,9 +1,12 @@
-use Rattle.std.proofs.Common.{◌≡◌, drop, map, string_bytes}
-use Rattle.litscan.specs.Request.{asked_by, value_of_request}
+use Rattle.std.proofs.Common.{◌≡◌, Ok, drop, map, take}
+use Rattle.litscan.specs.Request.{asked_from, value_of_request}
 use Rattle.litscan.proofs.request.Request.take_words.Given as goal
 
--- the words that are left, from the request so far on, ask for what all do
-abbrev pub invariant-loop-word : goal.invariant-loop-word
-invariant-loop-word l =
-    asked_by (map string_bytes (drop l.word-index l.words)) (value_of_request l.self)
-    ≡ asked_by (map string_bytes l.words) (value_of_request l.fn.self)
+-- the words so far ask for the request as it is, and those that are left, from it on, for what all do
+abbrev pub invariant-loop-i : goal.invariant-loop-i
+invariant-loop-i l = record {
+  front : asked_from 0 (take l.i (map (λ word. word.items) l.words)) (value_of_request l.fn.self)
+      ≡ Ok (value_of_request l.self);
+  rest : asked_from l.i (drop l.i (map (λ word. word.items) l.words)) (value_of_request l.self)
+      ≡ asked_from 0 (map (λ word. word.items) l.words) (value_of_request l.fn.self);
+}

@@ -7,8 +7,9 @@ use Rattle.std.proofs.lemmas.List.Elements.{All-push}
 use Rattle.std.proofs.lemmas.List.Folds.{list_any-append}
 use Rattle.std.specs.Io.KnownBytes.{Appends}
 use Rattle.std.specs.List.{flat_map, list_any}
+use Rattle.std.specs.Option.{is_some}
 use Rattle.litscan.specs.Files.{PrintsFile, Searched}
-use Rattle.litscan.proofs.files.scan_files.Goals as goal
+use Rattle.litscan.proofs.files.scan_each.Goals as goal
 
 -- one element more
 any_more : (test : Searched → Bool) (xs : List Searched) (x : Searched) (b : Bool) → b ≡ list_any test xs
@@ -47,6 +48,7 @@ loop-name-preserved g c =
     let got = c.in_ok-scanned.ensures.printed in
     let names = c.args.names.now in
     let item = c.name-item.result in
+    let prints = PrintsFile c.args.search.now c.args.options c.args.output in
     let one : Searched =
     record { name = item.items; text = got.0; scanned = c.in_ok-scanned.scanned; out = got.1 } in
     record {
@@ -57,16 +59,15 @@ loop-name-preserved g c =
           (sym c.name-item.is) ∙ ap (λ front. front ++ item.items ∷ []) so_far.names
           ∙ sym (map_push (λ one. one.name) so_far.all one);
       each =
-          All-push (λ one. PrintsFile c.args.search.now c.args.options one.name one.text one.scanned one.out) so_far.all
-          one so_far.each
-          (subst (λ name. PrintsFile c.args.search.now c.args.options name got.0 c.in_ok-scanned.scanned got.1)
+          All-push (λ one. prints one.name one.text one.scanned one.out) so_far.all one so_far.each
+          (subst (λ name. prints name got.0 c.in_ok-scanned.scanned got.1)
           c.as_slice.ensures.value got.2);
       any =
           ap (λ found. found.any) c.with-found.ensures
           ∙ any_more (λ one. nat_lt 0 one.scanned.count) so_far.all one c.loop-name.found.any so_far.any;
       failed =
           ap (λ found. found.failed) c.with-found.ensures
-          ∙ any_more (λ one. one.scanned.failed) so_far.all one c.loop-name.found.failed so_far.failed;
+          ∙ any_more (λ one. is_some one.scanned.failure) so_far.all one c.loop-name.found.failed so_far.failed;
       written =
           subst (Appends _ _) (flat_map_more (λ one. one.out) [] so_far.all one)
           (Appends-trans _ _ _ (flat_map (λ one. one.out) so_far.all) got.1 so_far.written got.3);

@@ -1,0 +1,93 @@
+use Rattle.std.proofs.Common.{◌≡◌, ◌≢◌, ◌+◌, ◌++◌, ◌∷◌, [], ◌∙◌, ℕ, List, Result, Ok, Err, IfOk, Some, None, codes}
+use Rattle.std.proofs.Common.{append-nil, append_assoc, ap, arith, false, inl, inr, length, nat_lt, refl, subst}
+use Rattle.std.proofs.Common.{sym, true}
+use Rattle.std.proofs.lemmas.Result.{IfOk-weaker}
+use Rattle.std.specs.Str.{bytes_eq}
+use Rattle.std.proofs.lemmas.Bool.{cases_Bool, cond-false, lt-ltb, ne_eqb, or_cases}
+use Rattle.std.proofs.lemmas.Slice.Eq.{bytes_eq-Decides}
+use Rattle.std.specs.Option.{ok_or}
+use Rattle.litscan.specs.Options.{is_color, letter_named, takes_argument, with_letter}
+use Rattle.litscan.specs.Request.{Asked, RequestValue, asked_from, result_and_then, with_any, with_file}
+use Rattle.litscan.specs.Request.{with_letters, with_next}
+use Rattle.litscan.specs.declared.fault.Fault.{Fault}
+use Rattle.litscan.specs.declared.fault.Fault.TheVariants.{UnknownLetter, UnknownName}
+use Rattle.litscan.specs.declared.options.Options.{Options}
+use Rattle.litscan.specs.declared.request.Next.TheVariants as next
+use Rattle.litscan.proofs.laws.options_are_asked_for.Goals as goal
+
+-- letters behind one that takes no argument
+letters_more : (letter : ℕ) (more : List ℕ) (request : RequestValue) → takes_argument letter ≡ false
+    → with_letters (letter ∷ more) request ≡ result_and_then (with_letters more) (with_letters (letter ∷ []) request)
+letters_more letter more request none =
+    unfolded more ∙ one (ok_or (with_letter request.options letter) (UnknownLetter letter))
+    ∙ ap (result_and_then (with_letters more)) (sym (unfolded []))
+  where
+    with_rest : List ℕ → Options → Asked
+    with_rest rest options = with_letters rest (record request { options = options })
+
+    unfolded : (rest : List ℕ) → with_letters (letter ∷ rest) request
+        ≡ result_and_then (with_rest rest) (ok_or (with_letter request.options letter) (UnknownLetter letter))
+    unfolded rest = cond-false (takes_argument letter) _ _ none
+
+    one : (options : Result Options Fault) → result_and_then (with_rest more) options
+        ≡ result_and_then (with_letters more) (result_and_then (with_rest []) options)
+    one (Ok options) = refl
+    one (Err fault) = refl
+
+-- a word that begins with one dash has letters
+letters_of : (letter : ℕ) (more : List ℕ) (request : RequestValue) → letter ≢ 45
+    → with_any (45 ∷ letter ∷ more) request ≡ with_letters (letter ∷ more) request
+letters_of letter more request other =
+    let several : nat_lt 1 (length (45 ∷ letter ∷ more)) ≡ true =
+    lt-ltb 1 (length (45 ∷ letter ∷ more)) (omega arith) in
+    rw (ne_eqb letter 45 other, several) refl
+
+pub returns-clause-joined : goal.returns-clause-joined
+returns-clause-joined c = λ letter second more request none other others.
+    letters_of letter (second ∷ more) request other ∙ letters_more letter (second ∷ more) request none
+    ∙ in_a_word second more others (with_letters (letter ∷ []) request)
+    ∙ ap (result_and_then (with_any (45 ∷ second ∷ more))) (sym (letters_of letter [] request other))
+  where
+    in_a_word : (second : ℕ) (more : List ℕ) → second ≢ 45 → (asked : Asked)
+        → result_and_then (with_letters (second ∷ more)) asked ≡ result_and_then (with_any (45 ∷ second ∷ more)) asked
+    in_a_word second more other (Ok request) = sym (letters_of second more request other)
+    in_a_word second more other (Err fault) = refl
+
+-- a name that has a letter is not that of the option for colours
+not_color : (name : List ℕ) (letter : ℕ) → letter_named name ≡ Some letter → is_color name ≡ false
+not_color name letter is =
+    elim (cases_Bool (is_color name)) [
+      | inl color ↦
+          absurd (elim (or_cases (bytes_eq name (codes "--color")) (bytes_eq name (codes "--colour")) color) [
+            | inl one ↦ has_none (codes "--color") ((bytes_eq-Decides name (codes "--color")).0 one) refl
+            | inr other ↦ has_none (codes "--colour") ((bytes_eq-Decides name (codes "--colour")).0 other) refl
+          ])
+      | inr other ↦ other
+    ]
+  where
+    has_none : (known : List ℕ) → name ≡ known → letter_named known ≡ None → ⊥
+    has_none known same none = let no_letter : Some letter ≡ None = sym is ∙ ap letter_named same ∙ none in absurd (cc)
+
+pub returns-clause-named : goal.returns-clause-named
+returns-clause-named c = λ name letter request is.
+    cond-false (is_color name) _ _ (not_color name letter is)
+    ∙ ap (λ found. result_and_then (λ l. with_letters (l ∷ []) request) (ok_or found (UnknownName request.at))) is
+
+-- the files behind two dashes
+files_from : (at : ℕ) (words : List (List ℕ)) (request : RequestValue) → request.next ≡ next.File
+    → IfOk (asked_from at words request)
+    (λ asked. (asked.files ≡ request.files ++ words) × (asked.options ≡ request.options)
+    × (asked.sources ≡ request.sources))
+files_from at [] request is = (sym (append-nil request.files), refl, refl)
+files_from at (word ∷ more) request is =
+    let here = record request { at = at } in
+    subst (λ asked. IfOk asked
+    (λ asked. (asked.files ≡ request.files ++ word ∷ more) × (asked.options ≡ request.options)
+    × (asked.sources ≡ request.sources)))
+    (sym (ap (λ n. result_and_then (asked_from (at + 1) more) (with_next n word here)) is))
+    (IfOk-weaker (asked_from (at + 1) more (with_file word here)) _ _
+    (λ asked has. (has.0 ∙ append_assoc request.files (word ∷ []) more, has.1, has.2))
+    (files_from (at + 1) more (with_file word here) is))
+
+pub returns-clause-files : goal.returns-clause-files
+returns-clause-files c = files_from
