@@ -26,10 +26,10 @@ CITATIONS = re.compile(
     r"|\bthe" r" papers?\b"
 )
 
-# Folders that are not read, by their paths from the top: git's own, what is built, and what Python keeps of the checks.
+# What is not read, by its path from the top: git's own, what is built, digests, and what Python keeps of the checks.
 # Elsewhere a folder of such a name is one of proofs, of a function that is called so.
 NOT_READ = re.compile(
-    r"\.git|dist/x86_64-linux-gnu|(?:crates/\w+/|bindings/)?out|bindings/rust/target"
+    r"\.git|dist/x86_64-linux-gnu|checks/refused|(?:crates/\w+/|bindings/)?out|bindings/rust/target"
     r"|(?:checks|bindings/(?:c|\w+/\w+))/__pycache__|.*\.so"
 )
 
