@@ -4,17 +4,21 @@ use Rattle.std.specs.Prelude.{Option, Some, None}
 use Rattle.std.specs.List.{list_any}
 use Rattle.literal_base.specs.MatchValue.{MatchValue}
 use Rattle.literal_base.specs.Query.{Query}
-use Rattle.literal_base.specs.Occurs.{NothingOccurs, rest_from}
+use Rattle.literal_base.specs.Occurs.{NothingOccurs, between, rest_from}
+use Rattle.literal_base.specs.declared.search.Span.{Span}
 use Rattle.literal_base.specs.Leftmost.{IsLeftmostMatch}
 
--- the list from a place on: the leftmost match of the rest of the haystack, followed by the list from that match's end
--- on. It is empty exactly if no pattern occurs in the rest
+-- all matches of a span, from the left: its leftmost match, followed by those of the rest of the span behind that match.
+-- It is empty exactly if no pattern occurs in the span
+abbrev pub IsGreedyIn : Query → Bool → List ℕ → Span → List MatchValue → Type 0
+IsGreedyIn query ignore_case haystack span [] = NothingOccurs query.patterns ignore_case haystack span
+IsGreedyIn query ignore_case haystack span (found ∷ more) =
+    IsLeftmostMatch query ignore_case haystack span found
+    × IsGreedyIn query ignore_case haystack (between found.end span.end) more
+
+-- the same of the haystack from a place on
 abbrev pub IsGreedy : Query → Bool → List ℕ → ℕ → List MatchValue → Type 0
-IsGreedy query ignore_case haystack at [] =
-    NothingOccurs query.patterns ignore_case haystack (rest_from haystack at)
-IsGreedy query ignore_case haystack at (found ∷ more) =
-    IsLeftmostMatch query ignore_case haystack (rest_from haystack at) found
-    × IsGreedy query ignore_case haystack found.end more
+IsGreedy query ignore_case haystack at all = IsGreedyIn query ignore_case haystack (rest_from haystack at) all
 
 -- where the search goes on: at the end of the match, or at the end of the haystack if there is none
 abbrev pub place_after : List ℕ → Option MatchValue → ℕ

@@ -10,14 +10,6 @@ use Rattle.literal_base.specs.declared.search.Span.{Span}
 use Rattle.literal_search.specs.SearchValue.{HoldsInClasses, longest_of}
 use Rattle.literal_search.specs.States.{HasTooManyStates}
 
--- the leftmost match of a span, followed by the list of the rest of the span behind that match. It is empty exactly if
--- no pattern occurs in the span
-abbrev pub IsGreedyIn : Query → Bool → List ℕ → Span → List MatchValue → Type 0
-IsGreedyIn query ignore_case haystack span [] = NothingOccurs query.patterns ignore_case haystack span
-IsGreedyIn query ignore_case haystack span (found ∷ more) =
-    IsLeftmostMatch query ignore_case haystack span found
-    × IsGreedyIn query ignore_case haystack (between found.end span.end) more
-
 -- at most twice as many bytes are scanned as the span has
 pub record ScansTwice (span : Span) (old new : Counts) : Type 0 where
   pub others : new ≡ record old { scanned = new.scanned }

@@ -19,7 +19,7 @@ ghost use Rattle.literal_search.specs.SearchValue.{ScansWithin, ScansListAtMost,
 ghost use Rattle.literal_search.specs.Earliest.{IsEarliestEnd, ScansToEnd, ScansToEndWithin};
 ghost use Rattle.literal_search.specs.Inside.Scan.{IsTableOf, match_by};
 ghost use Rattle.literal_search.specs.Inside.Search.{IsShortestOf};
-ghost use Rattle.literal_search.specs.Linear.{IsGreedyIn};
+ghost use Rattle.literal_base.specs.Greedy.{IsGreedyIn};
 ghost use Rattle.literal_search.specs.MatchesValue.{GivesMatch, most_to_come};
 ghost use Rattle.literal_search.specs.Memory.{TakesBytes};
 ghost use Rattle.literal_search.specs.Prepared.{AreShort, RefusesToPrepare, TakesPlaces, WritesPrepared};

@@ -12,7 +12,7 @@ use Rattle.literal_base.specs.MatchValue.{MatchValue}
 use Rattle.literal_base.specs.Occurs.{NothingOccurs, Occurs, between}
 use Rattle.literal_base.specs.Query.{Query}
 use Rattle.literal_search.specs.Inside.Linear.{IsGreedyUpTo}
-use Rattle.literal_search.specs.Linear.{IsGreedyIn}
+use Rattle.literal_base.specs.Greedy.{IsGreedyIn}
 use Rattle.literal_search.specs.LinearMatchesValue.{GivesInSpan, LinearMatchesValue}
 use Rattle.literal_search.specs.SearchValue.{SearchValue}
 
@@ -20,9 +20,7 @@ use Rattle.literal_search.specs.SearchValue.{SearchValue}
 pub greedy_rest : (query : Query) (ignore_case : Bool) (haystack : List ℕ) (at : ℕ) (all : List MatchValue)
     → IsGreedyIn query ignore_case haystack (between at (length haystack)) all
     → IsGreedy query ignore_case haystack at all
-greedy_rest query ignore_case haystack at [] nothing = nothing
-greedy_rest query ignore_case haystack at (found ∷ more) greedy =
-    (greedy.0, greedy_rest query ignore_case haystack found.end more greedy.1)
+greedy_rest query ignore_case haystack at all greedy = greedy
 
 -- what holds, holds at an Err
 pub on_err : {T E : Type 0} (r : Result T E) (Q : Type 0) → Q → OnErr r Q
@@ -34,8 +32,7 @@ pub greedy_whole : (query : Query) (ignore_case : Bool) (haystack : List ℕ)
     (result : Result (Vec MatchValue) AllocError)
     → IfOk result (λ all. IsGreedyIn query ignore_case haystack (between 0 (length haystack)) all.items)
     → IfOk result (λ all. IsGreedy query ignore_case haystack 0 all.items)
-greedy_whole query ignore_case haystack (Ok all) greedy = greedy_rest query ignore_case haystack 0 all.items greedy
-greedy_whole query ignore_case haystack (Err refused) greedy = tt
+greedy_whole query ignore_case haystack result greedy = greedy
 
 -- what an iteration gives up to its first `None`
 pub greedy_in_from_yields : (m : LinearMatchesValue) (all : List MatchValue) (n o : LinearMatchesValue)

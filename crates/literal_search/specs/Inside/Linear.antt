@@ -5,7 +5,7 @@ use Rattle.literal_base.specs.Occurs.{between}
 use Rattle.literal_base.specs.declared.search.MatchKind.TheVariants.{Standard}
 use Rattle.literal_base.specs.declared.search.Span.{Span}
 use Rattle.literal_search.specs.SearchValue.{SearchValue, search_by, width_for}
-use Rattle.literal_search.specs.Linear.{IsGreedyIn}
+use Rattle.literal_base.specs.Greedy.{IsGreedyIn}
 use Rattle.literal_search.specs.PreparedLinear.{AreBackTables, BackTables, texts_back}
 use Rattle.literal_search.specs.States.{IsRowsLength}
 use Rattle.literal_search.specs.declared.linear.Parts.{Parts}

@@ -1,7 +1,7 @@
 use Rattle.std.proofs.Common.{◌++◌, ◌∷◌, [], List, append-nil, append_assoc, arith, subst, sym}
 use Rattle.literal_base.specs.MatchValue.{MatchValue}
 use Rattle.literal_base.specs.Occurs.{NothingOccurs, between}
-use Rattle.literal_search.specs.Linear.{IsGreedyIn}
+use Rattle.literal_base.specs.Greedy.{IsGreedyIn}
 use Rattle.literal_search.proofs.lemmas.GreedyIn.{on_err}
 use Rattle.literal_search.proofs.Search.find_all_in.Goals as goal
 

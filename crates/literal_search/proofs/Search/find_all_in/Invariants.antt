@@ -1,6 +1,6 @@
 use Rattle.std.proofs.Common.{◌≡◌, ◌≤◌, ◌-◌, ◌++◌, List, length}
 use Rattle.literal_base.specs.MatchValue.{MatchValue}
-use Rattle.literal_search.specs.Linear.{IsGreedyIn}
+use Rattle.literal_base.specs.Greedy.{IsGreedyIn}
 use Rattle.literal_search.proofs.Search.find_all_in.Given as goal
 
 -- whatever matches the rest has, they go on from those so far

@@ -4,7 +4,7 @@ use Rattle.literal_base.specs.MatchValue.{MatchValue}
 use Rattle.literal_base.specs.Occurs.{NothingOccurs, between}
 use Rattle.literal_search.specs.SearchValue.{SearchValue}
 use Rattle.literal_search.specs.Inside.Linear.{IsGreedyUpTo, linear_value}
-use Rattle.literal_search.specs.Linear.{IsGreedyIn}
+use Rattle.literal_base.specs.Greedy.{IsGreedyIn}
 use Rattle.literal_search.proofs.lemmas.GreedyIn.{leftmost_occurs, occurs_earlier, on_err, up_to_all, up_to_next}
 use Rattle.literal_search.proofs.linear.Linear.find_all_in_counted.Goals as goal
 
