@@ -50,7 +50,7 @@ mod walk;
 mod window;
 
 pub use builder::SearchBuilder;
-use classes::{ClassNumbers, classes_for};
+use classes::classes_for;
 use grow::GrowError;
 pub use linear::{Linear, LinearMatches};
 pub use literal_base::count::Tally;
@@ -150,7 +150,8 @@ pub struct Search {
     kind: MatchKind,
     ignore_case: bool,
     patterns: Vec<Vec<u8>>,
-    classes: ClassNumbers,
+    /// How many classes of bytes there are.
+    width: usize,
     rows: Rows,
     longest: usize,
     shortest: usize,
@@ -195,7 +196,7 @@ impl Search {
             kind,
             ignore_case,
             patterns,
-            classes: classes.to_numbers(),
+            width: classes.width,
             rows,
             longest,
             shortest,
@@ -235,7 +236,7 @@ impl Search {
         ensures not_empty { IfSome result (λ found. found.start < found.end) }
         ensures bounded { ScansWithin self.now.query.patterns span result tally.old tally.new }
     {
-        let answer = self.table().search(haystack, span, false, true, tally);
+        let answer = self.table().search(haystack, span, false, tally);
         let ended = answer.unwrap_or(None)?;
         Some(self.match_by(haystack, span, ended))
     }
@@ -250,7 +251,7 @@ impl Search {
         ensures not_empty { IfSome result (λ found. found.start < found.end) }
         ensures bounded { ScansOnce self.now.query.patterns span result tally.old tally.new }
     {
-        let answer = self.table().search_once(haystack, span, false, true, tally);
+        let answer = self.table().search_once(haystack, span, false, tally);
         let ended = answer.unwrap_or(None)?;
         Some(self.match_by(haystack, span, ended))
     }
@@ -303,8 +304,8 @@ impl Search {
         ensures { IsTableOf result self.now.query self.now.ignore_case }
     {
         Table {
-            classes: &self.classes.table,
-            width: self.classes.width,
+            classes: self.rows.classes(),
+            width: self.width,
             rows: self.rows.as_slice(),
             longest: self.longest,
             shortest: self.shortest,
@@ -428,7 +429,7 @@ impl Search {
         ensures end { IsEarliestEnd self.now.query.patterns self.now.ignore_case haystack.now span result }
         ensures bounded { ScansToEndWithin span result tally.old tally.new }
     {
-        let answer = self.table().search(haystack, span, true, true, tally);
+        let answer = self.table().search(haystack, span, true, tally);
         let ended = answer.unwrap_or(None)?;
         Some(ended.end)
     }
@@ -442,7 +443,7 @@ impl Search {
         ensures bounded { ScansToEnd span result tally.old tally.new }
         ensures all { IsNone result → tally.new.scanned ≡ tally.old.scanned + (span.end - span.start) }
     {
-        let answer = self.table().search_once(haystack, span, true, true, tally);
+        let answer = self.table().search_once(haystack, span, true, tally);
         let ended = answer.unwrap_or(None)?;
         Some(ended.end)
     }
@@ -470,7 +471,7 @@ impl Search {
         let prints = prepared::fingerprint_numbers(self.shortest, self.fingerprints());
         prepared::write(
             version,
-            &self.classes,
+            self.width,
             &self.patterns,
             self.rows.as_slice(),
             &[],
@@ -501,7 +502,7 @@ impl Search {
     pub fn memory_usage(&self) -> u128
         ensures { TakesBytes self.now result }
     {
-        self.rows.as_slice().len() as u128 * 4 + total_bytes(&self.patterns)
+        self.rows.without_classes().len() as u128 * 4 + total_bytes(&self.patterns)
     }
 
     /// Which of the patterns that match at one place is taken.
