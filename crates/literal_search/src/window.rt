@@ -73,9 +73,12 @@ impl Window {
         ensures sound { IsSoundReading reading.new (R.remaining reader.new) }
         ensures more { IsOpen reading.new → length (held self.old) < length (held self.new) }
     {
+        let known = self.offset + (self.end - self.start);
+        if known == usize::MAX {
+            return reading.stop(known);
+        }
         self.make_room();
-        let countable = usize::MAX - self.offset - (self.end - self.start);
-        let room = (self.bytes.len() - self.end).min(countable);
+        let room = (self.bytes.len() - self.end).min(usize::MAX - known);
         let count = reading.read(reader, &mut self.bytes[self.end..self.end + room]);
         self.end += count;
     }
