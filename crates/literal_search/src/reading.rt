@@ -72,8 +72,8 @@ impl Reading {
         ensures { MatchResult answer
             (λ count. (result ≡ count) × (self.new ≡ record self.old { is_whole = count == 0 }))
             (λ error. (result ≡ 0) × (self.new ≡ record self.old {
-                failure = Some (error_kind error);
-                error = Some error;
+              failure = Some (error_kind error);
+              error = Some error;
             })) }
     {
         match answer {

@@ -1,6 +1,6 @@
-use Rattle.std.proofs.Common.{◌≡◌, ◌==◌, ◌<◌, ℕ, Err, List, MatchResult, None, Ok, Option, Result, Some, arith, eqb-true, length}
-use Rattle.std.proofs.Common.{false, subst, sym, refl, true}
-use Rattle.std.specs.Io.KnownBytes.{IsAtEnd, ReadConsumes}
+use Rattle.std.proofs.Common.{◌≡◌, ◌==◌, ◌<◌, ℕ, Err, List, MatchResult, None, Ok, Option, Result, Some, arith}
+use Rattle.std.proofs.Common.{eqb-true, length, refl, subst, sym}
+use Rattle.std.specs.Io.KnownBytes.{ReadConsumes}
 use Rattle.std.specs.IoError.{error_kind}
 use Rattle.std.specs.declared.io.Error.{Error}
 use Rattle.literal_search.specs.Inside.Stream.{IsOpen, IsSoundReading}
