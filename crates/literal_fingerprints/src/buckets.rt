@@ -1,5 +1,8 @@
-//! Patterns dealt out to buckets. Nothing is proved of how, since the tables that come of it are tried afterwards.
-ghost use Rattle.std.specs.Prelude.{◌<◌};
+//! Patterns dealt out to buckets. Each is held by one. Nothing is proved of which, since that makes a scan faster or
+//! slower, and no more.
+ghost use Rattle.std.specs.Prelude.{ℕ, ◌<◌, List, map};
+ghost use Rattle.std.specs.List.{All};
+ghost use Rattle.literal_fingerprints.specs.Inside.Buckets.{HasByte, Holds, IsHeld};
 
 use crate::nibbles::{Nibbles, other_case};
 
@@ -24,7 +27,10 @@ struct Halves {
 
 impl Halves {
     /// The same with those of a byte more.
-    fn with(self, byte: u8) -> Halves {
+    fn with(self, byte: u8) -> Halves
+        ensures has { HasByte result byte }
+        ensures keeps { (other : ℕ) → HasByte self other → HasByte result other }
+    {
         Halves {
             low: self.low | 1u16 << (byte % 16),
             high: self.high | 1u16 << (byte / 16),
@@ -57,7 +63,10 @@ impl Bucket {
     }
 
     /// The same with a pattern more, in both cases where case is ignored.
-    fn with(self, ignore_case: bool, pattern: &[u8]) -> Bucket {
+    fn with(self, ignore_case: bool, pattern: &[u8]) -> Bucket
+        ensures holds { Holds result ignore_case pattern.now }
+        ensures keeps { (other : List ℕ) → Holds self ignore_case other → Holds result ignore_case other }
+    {
         let mut places = self.places;
         for place in 0..LOOKED_AT.min(pattern.len()) {
             let byte = pattern[place];
@@ -97,7 +106,10 @@ pub struct Buckets {
 
 impl Buckets {
     /// Each pattern in the bucket by which the fewest texts more pass.
-    pub fn of(ignore_case: bool, patterns: &[Vec<u8>]) -> Buckets {
+    pub fn of(ignore_case: bool, patterns: &[Vec<u8>]) -> Buckets
+        ensures { All (λ (pattern : List ℕ). IsHeld result.buckets ignore_case pattern)
+            (map (λ pattern. pattern.items) patterns.now) }
+    {
         let none = Bucket::behind(shortest_len(patterns));
         let kinds = together(ignore_case, patterns).kinds();
         let mut buckets = [none; BUCKETS];
