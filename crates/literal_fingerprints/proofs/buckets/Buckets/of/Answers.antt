@@ -37,7 +37,7 @@ loop-pattern-preserved c =
           );
     }
 
-pub returns : goal.returns
-returns c =
+pub returns-clause-held : goal.returns-clause-held
+returns-clause-held c =
     of_all (IsHeld c.loop-pattern.buckets c.args.ignore_case) c.args.patterns.now
     (λ k d below. c.loop-pattern.invariant.held k d (omega (arith, c.loop-pattern-test.false)))
