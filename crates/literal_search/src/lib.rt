@@ -30,6 +30,7 @@ mod best;
 mod builder;
 mod classes;
 mod copied;
+mod ends;
 mod grow;
 pub mod laws;
 mod linear;

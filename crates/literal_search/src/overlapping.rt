@@ -6,7 +6,9 @@ ghost use Rattle.literal_base.specs.Occurs.{IsValidSpan, between, whole_of};
 ghost use Rattle.literal_base.specs.declared.search.MatchKind.TheVariants.{Standard};
 ghost use Rattle.literal_base.specs.Given.{CanBeTaken};
 ghost use Rattle.literal_search.specs.SearchValue.{CanBeKept, NeedFewStates, NeedTooManyStates, RefusesSearch};
-ghost use Rattle.literal_search.specs.Earliest.{ScansToEnd};
+ghost use Rattle.literal_fingerprints.specs.FingerprintsValue.{AllPass};
+ghost use Rattle.literal_search.specs.Earliest.{IsEarliestEnd, ScansToEnd, ScansToEndWithin};
+ghost use Rattle.literal_search.specs.Inside.Scan.{IsTableFor};
 ghost use Rattle.literal_search.specs.Inside.Walk.{FindsEnd, IsRow};
 ghost use Rattle.literal_search.specs.Memory.{TakesListedBytes};
 ghost use Rattle.literal_search.specs.Overlapping.{BuildsOverlapping};
@@ -14,7 +16,7 @@ ghost use Rattle.literal_search.specs.OverlappingMatchesValue.{GivesOverlapping,
 ghost use Rattle.literal_search.specs.OverlappingMatchesValue.{gone_on, most_overlapping};
 ghost use Rattle.literal_search.specs.PreparedOverlapping.{AreTables, RefusesOverlapping, WritesOverlapping};
 ghost use Rattle.literal_search.specs.declared.standing.Standing.{Standing};
-ghost use Rattle.literal_search.specs.Inside.Standing.{HaveSameToCome, IsStanding, longest_at};
+ghost use Rattle.literal_search.specs.Inside.Standing.{HaveSameToCome, IsStanding, PassesBy, longest_at};
 ghost use Rattle.literal_search.specs.Inside.Standing.{overlapping_value, standing_at, standing_value, tables_of};
 
 use crate::classes::{ClassNumbers, classes_for};
@@ -23,10 +25,11 @@ use crate::rows::{Rows, rows_for};
 use crate::standing::Standing;
 use crate::suffixes::{Lists, Recognised};
 use crate::walk::{Stop, Table};
-use crate::{BuildError, copies, total_bytes};
+use crate::{BuildError, copies, longest_len, total_bytes};
 use literal_base::count::Tally;
 use literal_base::search::MatchKind;
 use literal_base::{Match, Span};
+use literal_fingerprints::Fingerprints;
 use std::alloc::Global;
 use std::fmt;
 use std::marker::Model;
@@ -56,18 +59,20 @@ struct Parts {
     classes: ClassNumbers,
     rows: Rows,
     lists: Lists,
+    longest: usize,
+    fingerprints: Option<Fingerprints>,
 }
 
 impl Model for Overlapping {
     ghost use Rattle.literal_search.specs.Overlapping.{OverlappingValue};
     ghost use Rattle.literal_search.specs.PreparedOverlapping.{AreSized, AreTables};
-    ghost use Rattle.literal_search.specs.Inside.Standing.{overlapping_value, tables_of};
+    ghost use Rattle.literal_search.specs.Inside.Standing.{PassesBy, overlapping_value, tables_of};
 
     ghost Value = { OverlappingValue };
 
     ghost view = { λ o. overlapping_value (tables_of o.parts) };
 
-    ghost invariant = { λ o. AreTables (tables_of o.parts) × AreSized (tables_of o.parts) };
+    ghost invariant = { λ o. AreTables (tables_of o.parts) × AreSized (tables_of o.parts) × PassesBy o.parts };
 }
 
 impl Overlapping {
@@ -96,12 +101,16 @@ impl Overlapping {
             patterns: &patterns,
         };
         let lists = recognised.lists(alloc)?;
+        let longest = longest_len(&patterns);
+        let fingerprints = Fingerprints::new(ignore_case, &patterns);
         let parts = Parts {
             ignore_case,
             patterns,
             classes: classes.to_numbers(),
             rows,
             lists,
+            longest,
+            fingerprints,
         };
         Ok(Overlapping { parts })
     }
@@ -144,6 +153,33 @@ impl Overlapping {
             span,
             standing: self.parts.before_all(haystack, span),
         }
+    }
+
+    /// The earliest end of an occurrence that lies whole in a span of the haystack, an offset in bytes of the whole
+    /// haystack, and `None` where nothing occurs in the span. It is known sooner than the leftmost match, and may be
+    /// the end of another one. The span has to be valid.
+    pub fn earliest_end(&self, haystack: &[u8], span: Span) -> Option<usize>
+        requires { IsValidSpan haystack.now span }
+        ensures { IsEarliestEnd self.now.patterns self.now.ignore_case haystack.now span result }
+    {
+        self.earliest_end_counted(haystack, span, &mut Tally::new())
+    }
+
+    /// Answers as [`Overlapping::earliest_end`], and adds each byte that it looks up to a tally, as scanned: at least
+    /// as many as there are up to that end, or in the span where nothing ends, and at most three times as many.
+    pub fn earliest_end_counted(
+        &self,
+        haystack: &[u8],
+        span: Span,
+        tally: &mut Tally,
+    ) -> Option<usize>
+        requires { IsValidSpan haystack.now span }
+        ensures end { IsEarliestEnd self.now.patterns self.now.ignore_case haystack.now span result }
+        ensures bounded { ScansToEndWithin span result tally.old tally.new }
+    {
+        let answer = self.parts.table().next_end(haystack, 0, span, true, tally);
+        let stop = answer.unwrap_or(None)?;
+        Some(stop.end)
     }
 
     /// Writes the search into the first places of an array, and answers how many these are: about as many as the
@@ -219,6 +255,7 @@ impl Parts {
         tally: &mut Tally,
     ) -> Option<Standing>
         requires parts { AreTables (tables_of self.now) }
+        requires passes { PassesBy self.now }
         requires valid { IsValidSpan haystack.now span }
         requires standing { IsStanding (tables_of self.now) haystack.now span standing }
         ensures stands { IfSome result (IsStanding (tables_of self.now) haystack.now span) }
@@ -253,6 +290,7 @@ impl Parts {
         tally: &mut Tally,
     ) -> Option<Stop>
         requires parts { AreTables (tables_of self.now) }
+        requires passes { PassesBy self.now }
         requires row { IsRow self.now.classes.width self.now.rows from }
         requires valid { IsValidSpan haystack.now span }
         ensures first { FindsEnd self.now.classes.width self.now.rows from self.now.classes.table haystack.now span
@@ -265,7 +303,11 @@ impl Parts {
     }
 
     /// What a walk reads of them.
+    #[inline(always)]
     fn table(&self) -> Table<'_>
+        requires parts { AreTables (tables_of self.now) }
+        requires passes { PassesBy self.now }
+        ensures table { IsTableFor result Standard (tables_of self.now).patterns self.now.ignore_case }
         ensures classes { result.classes.now ≡ self.now.classes.table }
         ensures width { result.width ≡ self.now.classes.width }
         ensures rows { result.rows.now ≡ self.now.rows }
@@ -274,10 +316,18 @@ impl Parts {
             classes: &self.classes.table,
             width: self.classes.width,
             rows: self.rows.as_slice(),
-            longest: 0, // (not asked for where a walk stops at each end of a pattern)
-            shortest: 0,
-            fingerprints: None,
+            longest: self.longest,
+            shortest: 0, // (not asked for where each end of a pattern is)
+            fingerprints: self.fingerprints(),
         }
+    }
+
+    /// The fingerprints of the patterns, if there are any.
+    fn fingerprints(&self) -> Option<&Fingerprints>
+        requires { PassesBy self.now }
+        ensures { IfSome result (λ f. AllPass f.now self.now.ignore_case (tables_of self.now).patterns) }
+    {
+        self.fingerprints.as_ref()
     }
 
     /// Where a walk stands that stopped where a pattern ends: before all patterns that end there.
@@ -385,7 +435,7 @@ pub struct OverlappingMatches<'s, 'h> {
 impl<'s, 'h> Model for OverlappingMatches<'s, 'h> {
     ghost use Rattle.literal_search.specs.OverlappingMatchesValue.{OverlappingMatchesValue};
     ghost use Rattle.literal_search.specs.PreparedOverlapping.{AreTables};
-    ghost use Rattle.literal_search.specs.Inside.Standing.{IsStanding, standing_value, tables_of};
+    ghost use Rattle.literal_search.specs.Inside.Standing.{IsStanding, PassesBy, standing_value, tables_of};
     ghost use Rattle.literal_base.specs.Occurs.{IsValidSpan};
 
     ghost Value = { OverlappingMatchesValue };
@@ -393,7 +443,7 @@ impl<'s, 'h> Model for OverlappingMatches<'s, 'h> {
     ghost view = { λ m. standing_value (tables_of m.parts.now) m.haystack.now m.span m.standing };
 
     ghost invariant = { λ m. AreTables (tables_of m.parts.now) × IsValidSpan m.haystack.now m.span
-        × IsStanding (tables_of m.parts.now) m.haystack.now m.span m.standing };
+        × IsStanding (tables_of m.parts.now) m.haystack.now m.span m.standing × PassesBy m.parts.now };
 }
 
 impl<'s, 'h> OverlappingMatches<'s, 'h> {

@@ -1,10 +1,11 @@
 //! A search for everything that occurs as numbers in an array that its caller lends. It does not trust the array,
 //! either.
-ghost use Rattle.std.specs.Prelude.{◌≡◌, ◌+◌, ◌-◌, ◌<◌, ◌≤◌, ◌^◌, ◌↔◌, length, slice_index, List, ℕ};
+ghost use Rattle.std.specs.Prelude.{◌≡◌, ◌+◌, ◌-◌, ◌*◌, ◌<◌, ◌≤◌, ◌^◌, ◌↔◌, length, slice_index, List, ℕ};
 ghost use Rattle.std.specs.Prelude.{IfOk, IfSome, IsTrue, MatchOption, MatchResult, None, ⊤};
 ghost use Rattle.std.specs.Result.{IsOkAnd};
 ghost use Rattle.literal_base.specs.MatchValue.{MatchValue};
 ghost use Rattle.literal_base.specs.Occurs.{IsValidSpan};
+ghost use Rattle.literal_search.specs.Earliest.{IsEarliestEnd, ScansToEndWithin};
 ghost use Rattle.literal_search.specs.Overlapping.{OverlappingValue};
 ghost use Rattle.literal_search.specs.OverlappingMatchesValue.{GivesOverlapping, IsToCome};
 ghost use Rattle.literal_search.specs.Prepared.{LiesIn};
@@ -86,6 +87,42 @@ impl<'p> PreparedOverlapping<'p> {
         } = &self.lent;
         let end = LENGTHS_AT + header.lengths.len() + header.rows.len() + starts.len() + ends.len();
         is_checked(header.numbers, end)
+    }
+
+    /// The earliest end of an occurrence in a span of the haystack, for which the same holds as for
+    /// [`Overlapping::earliest_end`](crate::Overlapping::earliest_end). With numbers that were changed it may be another
+    /// place of the span, or [`Damaged`].
+    pub fn earliest_end(&self, haystack: &[u8], span: Span) -> Result<Option<usize>, Damaged>
+        requires { IsValidSpan haystack.now span }
+        ensures prepared { ForOverlapping self.now (λ search. IsOkAnd result
+            (IsEarliestEnd search.patterns search.ignore_case haystack.now span)) }
+        ensures inside { IfOk result (λ answer. IfSome answer (λ end. (span.start < end) × (end ≤ span.end))) }
+    {
+        self.earliest_end_counted(haystack, span, &mut Tally::new())
+    }
+
+    /// Answers as [`PreparedOverlapping::earliest_end`], and adds each byte that it looks up to a tally, as scanned:
+    /// whatever the numbers are, at least as many as there are up to that end, or in the span where it answers none, and
+    /// at most three times as many; and at most three times the bytes of the span before [`Damaged`].
+    pub fn earliest_end_counted(
+        &self,
+        haystack: &[u8],
+        span: Span,
+        tally: &mut Tally,
+    ) -> Result<Option<usize>, Damaged>
+        requires { IsValidSpan haystack.now span }
+        ensures prepared { ForOverlapping self.now (λ search. IsOkAnd result
+            (IsEarliestEnd search.patterns search.ignore_case haystack.now span)) }
+        ensures inside { IfOk result (λ answer. IfSome answer (λ end. (span.start < end) × (end ≤ span.end))) }
+        ensures bounded { IfOk result (λ answer. ScansToEndWithin span answer tally.old tally.new) }
+        ensures others { tally.new ≡ record tally.old { scanned = tally.new.scanned } }
+        ensures most { tally.new.scanned ≤ tally.old.scanned + 3 * (span.end - span.start) }
+    {
+        let table = self.lent.header.table(0, None);
+        match table.next_end(haystack, 0, span, false, tally)? {
+            Some(stop) => Ok(Some(stop.end)),
+            None => Ok(None),
+        }
     }
 
     /// Every occurrence in a span of the haystack, for which the same holds as for

@@ -6,7 +6,8 @@ ghost use Rattle.std.specs.Result.{IsOkAnd};
 ghost use Rattle.literal_base.specs.Occurs.{IsValidSpan};
 ghost use Rattle.literal_search.specs.Inside.Classes.{AreClasses};
 ghost use Rattle.literal_search.specs.Inside.Walk.{ClassesFit, FindsEnd, IsRow, IsTable, LiesWithin, NoneInFour};
-ghost use Rattle.literal_search.specs.Inside.Walk.{IsWalked, StopsBy, Walks, WalksFar};
+ghost use Rattle.literal_search.specs.Inside.Walk.{IsReached, IsWalked, Reaches, ReachesWithin, ReadsTo};
+ghost use Rattle.literal_search.specs.Inside.Walk.{StopsBy, Walks, WalksFar};
 
 use crate::prepared::Damaged;
 use literal_base::Span;
@@ -40,6 +41,17 @@ pub enum Walked {
 pub struct Stop {
     pub place: usize,
     pub end: usize,
+}
+
+/// What a walk has reached that looks for the end of a pattern.
+#[derive(Clone, Copy)]
+pub enum Reached {
+    /// Where a pattern ends, and none before.
+    Ends(Stop),
+    /// Behind this place the walk is back in the first state.
+    Back(usize),
+    /// The end of what it was to read.
+    Nowhere,
 }
 
 /// The numbers of an automaton.
@@ -280,6 +292,107 @@ impl<'t> Table<'t> {
         Ok(None)
     }
 
+    /// Walks from a row on through a span until a pattern ends, or, from the least place on, the walk is back in the
+    /// first state.
+    #[inline(always)]
+    fn reach(
+        &self,
+        haystack: &[u8],
+        from: usize,
+        span: Span,
+        least: usize,
+        fits: bool,
+        tally: &mut Tally,
+    ) -> Result<Reached, Damaged>
+        requires classes { length self.now.classes.now ≡ 256 }
+        requires valid { IsValidSpan haystack.now span }
+        requires fits { fits ≡ true → ClassesFit self.now }
+        ensures reaches { AreClasses self.now.classes.now self.now.width
+            → Reaches self.now.width self.now.rows.now from self.now.classes.now haystack.now span result }
+        ensures inside { IfOk result (ReachesWithin span least) }
+        ensures others { tally.new ≡ record tally.old { scanned = tally.new.scanned } }
+        ensures grows { tally.old.scanned ≤ tally.new.scanned }
+        ensures once { tally.new.scanned ≤ tally.old.scanned + (span.end - span.start) }
+        ensures counted { IfOk result (ReadsTo span (tally.new.scanned - tally.old.scanned)) }
+    {
+        let limit = self.limit()?;
+        if from >= limit {
+            return Err(Damaged);
+        }
+        let mut place = from;
+        for at in span.start..span.end {
+            let class = self.class_at(haystack, at, fits, tally)?;
+            let code = self.number_at(place, class);
+            if at >= least && code == 0 {
+                return Ok(Reached::Back(at + 1));
+            }
+            if code as usize >= limit {
+                let place = behind_end(code, limit)?;
+                return Ok(Reached::Ends(Stop { place, end: at + 1 }));
+            }
+            place = code as usize;
+        }
+        Ok(Reached::Nowhere)
+    }
+
+    /// As [`Table::reach`], by code of its own for numbers that fit and for others.
+    #[inline(always)]
+    pub fn reach_apart(
+        &self,
+        haystack: &[u8],
+        from: usize,
+        span: Span,
+        least: usize,
+        fits: bool,
+        tally: &mut Tally,
+    ) -> Result<Reached, Damaged>
+        requires classes { length self.now.classes.now ≡ 256 }
+        requires valid { IsValidSpan haystack.now span }
+        requires fits { fits ≡ true → ClassesFit self.now }
+        ensures { IsReached self.now haystack.now from span least tally.old tally.new result }
+    {
+        if fits {
+            self.reach_fitting(haystack, from, span, least, tally)
+        } else {
+            self.reach_tested(haystack, from, span, least, tally)
+        }
+    }
+
+    /// Where the classes fit.
+    #[inline(never)]
+    fn reach_fitting(
+        &self,
+        haystack: &[u8],
+        from: usize,
+        span: Span,
+        least: usize,
+        tally: &mut Tally,
+    ) -> Result<Reached, Damaged>
+        requires classes { length self.now.classes.now ≡ 256 }
+        requires valid { IsValidSpan haystack.now span }
+        requires fits { ClassesFit self.now }
+        ensures { IsReached self.now haystack.now from span least tally.old tally.new result }
+    {
+        self.reach(haystack, from, span, least, true, tally)
+    }
+
+    /// Where each class is tested.
+    #[inline(never)]
+    fn reach_tested(
+        &self,
+        haystack: &[u8],
+        from: usize,
+        span: Span,
+        least: usize,
+        tally: &mut Tally,
+    ) -> Result<Reached, Damaged>
+        requires classes { length self.now.classes.now ≡ 256 }
+        requires valid { IsValidSpan haystack.now span }
+        ensures { IsReached self.now haystack.now from span least tally.old tally.new result }
+    {
+        self.reach(haystack, from, span, least, false, tally)
+    }
+
     /// Whether nothing occurs in any of four spans, each as long as a block and the longest pattern, which begin one
     /// block behind another. It walks through all four at once, so that no look-up waits for those of the others. Where
     /// a number leads out of the rows it does not know.
@@ -299,7 +412,6 @@ impl<'t> Table<'t> {
         requires within { limit + self.now.width ≤ length self.now.rows.now }
         requires inside { at + 4 * block + self.now.longest ≤ length haystack.now }
         ensures none { result ≡ true → AreClasses self.now.classes.now self.now.width
-            → IsTable self.now.width self.now.rows.now
             → NoneInFour self.now haystack.now at block (block + self.now.longest) }
         ensures others { tally.new ≡ record tally.old { scanned = tally.new.scanned } }
         ensures grows { tally.old.scanned ≤ tally.new.scanned }

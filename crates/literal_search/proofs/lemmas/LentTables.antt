@@ -9,7 +9,8 @@ use Rattle.literal_base.specs.declared.search.MatchKind.TheVariants.{Standard}
 use Rattle.literal_base.specs.declared.search.Span.{Span}
 use Rattle.literal_search.specs.Inside.Classes.{AreClasses}
 use Rattle.literal_search.specs.Inside.LentTables.{AreFor, AreLent, IsNextBy, IsNextEnd, tables_by}
-use Rattle.literal_search.specs.Inside.Prepared.{IsHeader, Puts, RefusesArray, numbers_for}
+use Rattle.literal_search.specs.Inside.Prepared.{IsHeader, Puts, RefusesArray, header_table, numbers_for}
+use Rattle.literal_search.specs.Inside.Scan.{IsTableFor}
 use Rattle.literal_search.specs.Inside.Standing.{IsStanding, longest_at, overlapping_value, standing_at}
 use Rattle.literal_search.specs.Inside.Walk.{FindsEnd, IsRow, IsTable}
 use Rattle.literal_search.specs.Overlapping.{OverlappingValue}
@@ -77,6 +78,20 @@ are_for p lent search prepared = record {
       (sym lent.header.classes_are) (sym lent.header.width_is) (sym lent.header.rows_are) (sym lent.ends_are)
       (sym lent.starts_are) prepared.tables;
   lengths = lent.header.lengths_are ∙ prepared.lengths;
+  longest = lent.header.longest_is ∙ prepared.longest;
+}
+
+-- so they are those by which a walk goes for it
+pub lent_table : (p : LentTables) (search : OverlappingValue) → AreFor search p
+    → IsTableFor (header_table p.header) Standard search.patterns search.ignore_case
+lent_table p search are = record {
+  classes = are.tables.classes;
+  tells = are.tables.tells;
+  recognises = are.tables.recognises;
+  some = are.tables.kept.some;
+  longest = are.longest;
+  shortest = λ i below. omega arith;
+  fingerprints = tt;
 }
 
 -- where the rows end, and how many lengths there are, by the parts of an array
@@ -264,6 +279,7 @@ module _ (t : Tables) (tables : AreTables t) where
       check = check_written OVERLAPPING_VERSION t.classes t.width t.patterns t.rows t.starts t.ends tables.classes.each
           (listed_len all_of) (omega (arith, size, listed_is));
     };
+    longest = refl;
     tables = same_tables (overlapping_value t) t.classes _ t.width _ t.rows _ t.ends _ t.starts _
         (sym (classes_written OVERLAPPING_VERSION t.classes t.width t.patterns t.rows t.starts t.ends
         tables.classes.each)) refl

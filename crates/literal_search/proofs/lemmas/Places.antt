@@ -162,6 +162,7 @@ module _ (search : OverlappingValue) (old new : List ℕ)
                 ∙ ap check_of
                 (sym (part_is 2 (listed_len old) 2 (listed_len new) refl listed_is (omega arith) (omega arith))));
           };
+          longest = same 5 (omega arith) ∙ prepared.longest;
           tables = same_tables search _ _ _ _ _ _ _ _ _ _ (sym (parts 6 262 (omega arith) (omega arith)))
               (sym (same 2 (omega arith)))
               (sym (part_is (rows_at old) (rows_end old) (rows_at new) (rows_end new) rows_is len_is

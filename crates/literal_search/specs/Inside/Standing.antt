@@ -1,5 +1,5 @@
 -- The fields of `Parts` and `Standing`.
-use Rattle.std.specs.Prelude.{◌↔◌, ℕ, ◌+◌, ◌<◌, ◌≤◌, List, length, map, slice_index}
+use Rattle.std.specs.Prelude.{◌≡◌, ◌↔◌, IfSome, ℕ, ◌+◌, ◌<◌, ◌≤◌, List, length, map, slice_index}
 use Rattle.literal_base.specs.declared.search.MatchKind.TheVariants.{Standard}
 use Rattle.literal_base.specs.declared.search.Span.{Span}
 use Rattle.literal_base.specs.MatchValue.{MatchValue}
@@ -10,6 +10,8 @@ use Rattle.literal_search.specs.Inside.Walk.{IsAt, text_of}
 use Rattle.literal_search.specs.Overlapping.{OverlappingValue}
 use Rattle.literal_search.specs.OverlappingMatchesValue.{IsToCome, OverlappingMatchesValue}
 use Rattle.literal_search.specs.PreparedOverlapping.{Tables, texts_in}
+use Rattle.literal_fingerprints.specs.FingerprintsValue.{AllPass}
+use Rattle.literal_search.specs.SearchValue.{longest_of}
 use Rattle.literal_search.specs.Table.{Recognises}
 use Rattle.literal_search.specs.declared.overlapping.Parts.{Parts}
 use Rattle.literal_search.specs.declared.standing.Standing.{Standing}
@@ -26,6 +28,11 @@ tables_of p = record {
   ends = p.lists.ends.items;
   starts = starts_of p.lists.starts.items;
 }
+
+-- the parts by which a search passes over bytes: the length of the longest pattern, and fingerprints that let all pass
+pub record PassesBy (p : Parts) : Type 0 where
+  pub longest : p.longest ≡ longest_of (tables_of p).patterns
+  pub fingerprints : IfSome p.fingerprints (λ f. AllPass f p.ignore_case (tables_of p).patterns)
 
 -- what a caller sees of a search by tables
 abbrev pub overlapping_value : Tables → OverlappingValue

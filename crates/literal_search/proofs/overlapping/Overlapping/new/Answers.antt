@@ -1,14 +1,15 @@
-use Rattle.std.proofs.Common.{◌∙◌, ℕ, List, arith, ap, length, map, subst, sym}
+use Rattle.std.proofs.Common.{◌∙◌, IfSome, ℕ, List, arith, ap, length, map, subst, sym}
 use Rattle.std.proofs.lemmas.List.{length-map}
 use Rattle.std.specs.Global.{Global}
 use Rattle.std.specs.declared.vec.Vec.{Vec}
 use Rattle.literal_base.specs.Occurs.{NoneIsEmpty}
 use Rattle.literal_base.specs.declared.search.MatchKind.TheVariants.{Standard}
-use Rattle.literal_search.specs.SearchValue.{NeedTooManyStates, width_for}
+use Rattle.literal_search.specs.SearchValue.{NeedTooManyStates, longest_of, width_for}
 use Rattle.literal_search.specs.Inside.Classes.{Tells, symbols_in}
 use Rattle.literal_search.specs.Inside.Lists.{AreLists, starts_of}
 use Rattle.literal_search.specs.States.{HasTooManyStates, IsRowsLength}
-use Rattle.literal_search.specs.Inside.Standing.{tables_of}
+use Rattle.literal_fingerprints.specs.FingerprintsValue.{AllPass}
+use Rattle.literal_search.specs.Inside.Standing.{PassesBy, tables_of}
 use Rattle.literal_search.specs.PreparedOverlapping.{AreSized, AreTables}
 use Rattle.literal_search.specs.Table.{Recognises}
 use Rattle.literal_search.specs.declared.classes.ClassNumbers.{ClassNumbers}
@@ -96,7 +97,9 @@ invariant_of-result g c =
       classes = n;
       rows = c.in_ok-rows.rows;
       lists = c.in_ok-lists.lists;
-    } in AreTables (tables_of p) × AreSized (tables_of p)) (sym c.to_numbers.ensures) (
+      longest = c.longest_len-longest.result;
+      fingerprints = c.new-fingerprints.result;
+    } in AreTables (tables_of p) × AreSized (tables_of p) × PassesBy p) (sym c.to_numbers.ensures) (
       record {
         classes = c.classes_for-classes.ensures.classes;
         tells = subst (λ (patterns : List (Vec ℕ Global)). Tells c.args.ignore_case classes.table
@@ -121,6 +124,13 @@ invariant_of-result g c =
             (map (λ (pattern : Vec ℕ Global). pattern.items) patterns)) c.deref.ensures.value;
         rows = subst (λ (texts : List (List ℕ)). IsRowsLength Standard texts classes.width
             (length c.in_ok-rows.rows)) texts_are c.in_ok-rows.ensures.states;
+      },
+      record {
+        longest = c.longest_len-longest.ensures ∙ ap (λ (patterns : List (Vec ℕ Global)). longest_of
+            (map (λ (pattern : Vec ℕ Global). pattern.items) patterns)) c.deref-4.ensures.value;
+        fingerprints = subst (λ (patterns : List (Vec ℕ Global)). IfSome c.new-fingerprints.result
+            (λ f. AllPass f c.args.ignore_case (map (λ (pattern : Vec ℕ Global). pattern.items) patterns)))
+            c.deref-5.ensures.value c.new-fingerprints.ensures.pass;
       },
     )
 
