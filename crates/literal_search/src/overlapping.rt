@@ -1,5 +1,5 @@
 //! A search for everything that occurs.
-ghost use Rattle.std.specs.Prelude.{◌≡◌, ◌+◌, ◌<◌, ◌≤◌, length, IfErr, IfOk, IfSome, MatchOption, None, OnErr, Some};
+ghost use Rattle.std.specs.Prelude.{◌≡◌, ◌+◌, ◌<◌, ◌≤◌, ◌^◌, length, IfErr, IfOk, IfSome, MatchOption, None, OnErr, Some};
 ghost use Rattle.std.specs.Option.{option_map};
 ghost use Rattle.literal_base.specs.MatchValue.{MatchValue};
 ghost use Rattle.literal_base.specs.Occurs.{IsValidSpan, between, whole_of};
@@ -7,9 +7,9 @@ ghost use Rattle.literal_base.specs.declared.search.MatchKind.TheVariants.{Stand
 ghost use Rattle.literal_base.specs.Given.{CanBeTaken};
 ghost use Rattle.literal_search.specs.SearchValue.{CanBeKept, NeedFewStates, NeedTooManyStates, RefusesSearch};
 ghost use Rattle.literal_fingerprints.specs.FingerprintsValue.{AllPass};
-ghost use Rattle.literal_search.specs.Earliest.{IsEarliestEnd, ScansToEnd, ScansToEndWithin};
+ghost use Rattle.literal_search.specs.Earliest.{IsEarliestEnd, ScansToEndWithin};
 ghost use Rattle.literal_search.specs.Inside.Scan.{IsTableFor};
-ghost use Rattle.literal_search.specs.Inside.Walk.{FindsEnd, IsRow};
+ghost use Rattle.literal_search.specs.Inside.NextEnd.{IsNextStop, Stands};
 ghost use Rattle.literal_search.specs.Memory.{TakesListedBytes};
 ghost use Rattle.literal_search.specs.Overlapping.{BuildsOverlapping};
 ghost use Rattle.literal_search.specs.OverlappingMatchesValue.{GivesOverlapping, IsNextToCome, IsToCome};
@@ -37,7 +37,7 @@ use std::marker::Model;
 /// Searches for every occurrence of any number of patterns: those that overlap others, and those that stand within
 /// others, too. Contracts see the patterns, and whether ASCII case is ignored.
 ///
-/// An iteration looks up each byte at most once ([`OverlappingMatches::next_counted`]). The search has the states of
+/// An iteration looks up at most three times as many bytes as there are ([`OverlappingMatches::next_counted`]). The search has the states of
 /// an automaton, and for each pattern the list of those that are a suffix of it.
 ///
 /// ```rust
@@ -177,8 +177,11 @@ impl Overlapping {
         ensures end { IsEarliestEnd self.now.patterns self.now.ignore_case haystack.now span result }
         ensures bounded { ScansToEndWithin span result tally.old tally.new }
     {
-        let answer = self.parts.table().next_end(haystack, 0, span, true, tally);
-        let stop = answer.unwrap_or(None)?;
+        let first = Stop {
+            place: 0,
+            end: span.start,
+        };
+        let stop = self.parts.next_stop(haystack, span, first, tally)?;
         Some(stop.end)
     }
 
@@ -264,7 +267,7 @@ impl Parts {
             ((found : MatchValue) → ¬ IsToCome (standing_value (tables_of self.now) haystack.now span standing) found)
             (λ here. HaveSameToCome (standing_value (tables_of self.now) haystack.now span standing)
             (standing_value (tables_of self.now) haystack.now span here)) }
-        ensures bounded { ScansToEnd (between standing.at span.end) (option_map (λ here. here.at) result)
+        ensures bounded { ScansToEndWithin (between standing.at span.end) (option_map (λ here. here.at) result)
             tally.old tally.new }
     {
         if standing.next < standing.end {
@@ -273,32 +276,37 @@ impl Parts {
         if standing.at == span.end {
             return None;
         }
-        let rest = Span {
-            start: standing.at,
-            end: span.end,
+        let from = Stop {
+            place: standing.place,
+            end: standing.at,
         };
-        let stop = self.first_ended(haystack, standing.place, rest, tally)?;
+        let stop = self.next_stop(haystack, span, from, tally)?;
         Some(self.standing_at(stop))
     }
 
-    /// The first place in a span behind which a pattern ends, and the row there, from a row on.
-    fn first_ended(
-        &self,
-        haystack: &[u8],
-        from: usize,
-        span: Span,
-        tally: &mut Tally,
-    ) -> Option<Stop>
+    /// Where a pattern ends next in a span, and the row there, for a walk that stands at a row and has read up to a
+    /// place.
+    fn next_stop(&self, haystack: &[u8], span: Span, from: Stop, tally: &mut Tally) -> Option<Stop>
         requires parts { AreTables (tables_of self.now) }
         requires passes { PassesBy self.now }
-        requires row { IsRow self.now.classes.width self.now.rows from }
         requires valid { IsValidSpan haystack.now span }
-        ensures first { FindsEnd self.now.classes.width self.now.rows from self.now.classes.table haystack.now span
-            result }
-        ensures inside { IfSome result (λ stop. (span.start < stop.end) × (stop.end ≤ span.end)) }
-        ensures bounded { ScansToEnd span (option_map (λ stop. stop.end) result) tally.old tally.new }
+        requires inside { from.end ≤ span.end }
+        requires stands { Stands (tables_of self.now).patterns self.now.ignore_case self.now.classes.table
+            self.now.classes.width self.now.rows haystack.now span from.end from }
+        ensures next { IsNextStop (tables_of self.now).patterns self.now.ignore_case self.now.classes.table
+            self.now.classes.width self.now.rows haystack.now span from.end result }
+        ensures inside { IfSome result
+            (λ stop. (from.end < stop.end) × (stop.end ≤ span.end) × (stop.place < 2 ^ 32)) }
+        ensures bounded { ScansToEndWithin (between from.end span.end) (option_map (λ stop. stop.end) result)
+            tally.old tally.new }
     {
-        let answer = self.table().first_ended(haystack, from, span, true, tally);
+        let rest = Span {
+            start: from.end,
+            end: span.end,
+        };
+        let answer = self
+            .table()
+            .next_end(haystack, from.place, rest, true, tally);
         answer.unwrap_or(None)
     }
 
@@ -447,11 +455,12 @@ impl<'s, 'h> Model for OverlappingMatches<'s, 'h> {
 }
 
 impl<'s, 'h> OverlappingMatches<'s, 'h> {
-    /// Answers as `next`, and adds each byte that it looks up to a tally, as scanned: those from the end where it stood
-    /// up to that of the match, each once. An iteration so looks up at most as many bytes as the span has.
+    /// Answers as `next`, and adds each byte that it looks up to a tally, as scanned: at least as many as there are from
+    /// the end where it stood up to that of the match, or up to that of the span, and at most three times as many. An
+    /// iteration so looks up at most three times as many bytes as the span has.
     pub fn next_counted(&mut self, tally: &mut Tally) -> Option<Match>
         ensures gives { GivesOverlapping self.old result self.new }
-        ensures bounded { ScansToEnd (between self.old.end self.old.span.end)
+        ensures bounded { ScansToEndWithin (between self.old.end self.old.span.end)
             (option_map (λ found. found.end) result) tally.old tally.new }
     {
         let next_end = self

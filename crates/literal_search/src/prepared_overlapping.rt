@@ -235,9 +235,9 @@ impl<'p> LentTables<'p> {
         ensures ordered { IfOk result (λ next. IfSome next (λ here.
             IsNotBefore here.at here.pattern standing.at standing.pattern)) }
         ensures others { tally.new ≡ record tally.old { scanned = tally.new.scanned } }
-        ensures once { tally.new.scanned + standing.at ≤ tally.old.scanned + span.end }
+        ensures most { tally.new.scanned + 3 * standing.at ≤ tally.old.scanned + 3 * span.end }
         ensures near { IfOk result (λ next. IfSome next (λ here.
-            tally.new.scanned + standing.at ≤ tally.old.scanned + here.at)) }
+            tally.new.scanned + 3 * standing.at ≤ tally.old.scanned + 3 * here.at)) }
     {
         if standing.next < standing.end {
             return Ok(Some(standing));
@@ -250,7 +250,7 @@ impl<'p> LentTables<'p> {
             end: span.end,
         };
         let table = self.header.table(0, None);
-        let Some(stop) = table.first_ended(haystack, standing.place, rest, false, tally)? else {
+        let Some(stop) = table.next_end(haystack, standing.place, rest, false, tally)? else {
             return Ok(None);
         };
         Ok(Some(self.standing_at(stop)?))
@@ -316,9 +316,9 @@ impl<'p> LentTables<'p> {
             (λ r. IsNotBefore r.0.end r.0.pattern standing.at standing.pattern
             × (r.1.pattern ≡ r.0.pattern + 1))) }
         ensures others { tally.new ≡ record tally.old { scanned = tally.new.scanned } }
-        ensures once { tally.new.scanned + standing.at ≤ tally.old.scanned + span.end }
+        ensures most { tally.new.scanned + 3 * standing.at ≤ tally.old.scanned + 3 * span.end }
         ensures near { IfOk result (λ answer. IfSome answer (λ r.
-            tally.new.scanned + standing.at ≤ tally.old.scanned + r.0.end)) }
+            tally.new.scanned + 3 * standing.at ≤ tally.old.scanned + 3 * r.0.end)) }
     {
         let Some(here) = self.next_end(haystack, span, standing, tally)? else {
             return Ok(None);
@@ -378,9 +378,9 @@ impl<'s, 'p, 'h> PreparedOverlappingMatches<'s, 'p, 'h> {
         self.next_counted(&mut Tally::new())
     }
 
-    /// Answers as `next_match`, and adds each byte that it looks up to a tally, as scanned: at most those from the end
-    /// where it stood up to that where it stands, in the span. An iteration so looks up each byte of the span at most
-    /// once, whatever the numbers are.
+    /// Answers as `next_match`, and adds each byte that it looks up to a tally, as scanned: at most three times as many as
+    /// there are from the end where it stood up to that where it stands, in the span. An iteration so looks up at most
+    /// three times as many bytes as the span has, whatever the numbers are.
     pub fn next_counted(&mut self, tally: &mut Tally) -> Result<Option<Match>, Damaged>
         ensures prepared { ForOverlapping self.old.numbers (λ search. IsOkAnd result (λ answer.
             GivesOverlapping (matches_for search self.old) answer (matches_for search self.new))) }
@@ -395,7 +395,7 @@ impl<'s, 'p, 'h> PreparedOverlappingMatches<'s, 'p, 'h> {
         ensures ended { HasEnded self.old → IsOkAnd result (λ answer. answer ≡ None) }
         ensures same { self.new ≡ record self.old { end = self.new.end; pattern = self.new.pattern } }
         ensures others { tally.new ≡ record tally.old { scanned = tally.new.scanned } }
-        ensures once { tally.new.scanned + self.old.end ≤ tally.old.scanned + self.new.end }
+        ensures most { tally.new.scanned + 3 * self.old.end ≤ tally.old.scanned + 3 * self.new.end }
         ensures within { self.new.end ≤ self.old.span.end }
     {
         if self.has_ended() {

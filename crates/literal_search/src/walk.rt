@@ -5,7 +5,7 @@ ghost use Rattle.std.specs.Prelude.{IfOk, IfSome, IsTrue, MatchResult, length, m
 ghost use Rattle.std.specs.Result.{IsOkAnd};
 ghost use Rattle.literal_base.specs.Occurs.{IsValidSpan};
 ghost use Rattle.literal_search.specs.Inside.Classes.{AreClasses};
-ghost use Rattle.literal_search.specs.Inside.Walk.{ClassesFit, FindsEnd, IsRow, IsTable, LiesWithin, NoneInFour};
+ghost use Rattle.literal_search.specs.Inside.Walk.{ClassesFit, IsTable, LiesWithin, NoneInFour};
 ghost use Rattle.literal_search.specs.Inside.Walk.{IsReached, IsWalked, Reaches, ReachesWithin, ReadsTo};
 ghost use Rattle.literal_search.specs.Inside.Walk.{StopsBy, Walks, WalksFar};
 
@@ -246,50 +246,6 @@ impl<'t> Table<'t> {
         ensures { IsWalked self.now haystack.now span least is_earliest tally.old tally.new result }
     {
         self.walk(haystack, span, least, is_earliest, false, tally)
-    }
-
-    /// The first place in a span behind which a match ends, and the row there. The walk stands at a row as it begins to
-    /// read the span. It stops where no more bytes matter.
-    #[inline(always)]
-    pub fn first_ended(
-        &self,
-        haystack: &[u8],
-        from: usize,
-        span: Span,
-        fits: bool,
-        tally: &mut Tally,
-    ) -> Result<Option<Stop>, Damaged>
-        requires classes { length self.now.classes.now ≡ 256 }
-        requires valid { IsValidSpan haystack.now span }
-        requires fits { fits ≡ true → ClassesFit self.now }
-        ensures first { AreClasses self.now.classes.now self.now.width → IsTable self.now.width self.now.rows.now
-            → IsRow self.now.width self.now.rows.now from → IsOkAnd result
-            (FindsEnd self.now.width self.now.rows.now from self.now.classes.now haystack.now span) }
-        ensures inside { IfOk result (λ answer. IfSome answer
-            (λ stop. (span.start < stop.end) × (stop.end ≤ span.end) × (stop.place < 2 ^ 32))) }
-        ensures others { tally.new ≡ record tally.old { scanned = tally.new.scanned } }
-        ensures once { tally.new.scanned ≤ tally.old.scanned + (span.end - span.start) }
-        ensures near { IfOk result (λ answer. IfSome answer
-            (λ stop. tally.new.scanned + span.start ≡ tally.old.scanned + stop.end)) }
-    {
-        let limit = self.limit()?;
-        if from >= limit {
-            return Err(Damaged);
-        }
-        let mut place = from;
-        for at in span.start..span.end {
-            let class = self.class_at(haystack, at, fits, tally)?;
-            let code = self.number_at(place, class);
-            if (code as usize) < limit {
-                place = code as usize;
-            } else if code == NOTHING {
-                return Ok(None);
-            } else {
-                let place = behind_end(code, limit)?;
-                return Ok(Some(Stop { place, end: at + 1 }));
-            }
-        }
-        Ok(None)
     }
 
     /// Walks from a row on through a span until a pattern ends, or, from the least place on, the walk is back in the

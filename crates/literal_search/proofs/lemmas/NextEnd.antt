@@ -5,12 +5,13 @@ use Rattle.std.proofs.Common.{◌^◌, IfOk, IfSome, IsSome, None, Option, Resul
 use Rattle.std.specs.Result.{IsOkAnd}
 use Rattle.std.specs.Option.{option_map}
 use Rattle.std.proofs.lemmas.Bool.{cases_lt}
-use Rattle.literal_base.specs.Occurs.{IsValidSpan, Occurs, between, pattern_at}
+use Rattle.literal_base.specs.Counts.{Counts}
+use Rattle.literal_base.specs.Occurs.{IsValidSpan, NoneIsEmpty, Occurs, between, pattern_at}
 use Rattle.literal_base.specs.declared.search.MatchKind.TheVariants.{Standard}
 use Rattle.literal_base.specs.declared.search.Span.{Span}
-use Rattle.literal_search.specs.Earliest.{IsEarliestEnd}
-use Rattle.literal_search.specs.Inside.Classes.{symbols_in}
-use Rattle.literal_search.specs.Inside.NextEnd.{FindsNext, IsNextStop, Stands, StandsNext}
+use Rattle.literal_search.specs.Earliest.{IsEarliestEnd, ScansToEndWithin}
+use Rattle.literal_search.specs.Inside.Classes.{Tells, symbols_in}
+use Rattle.literal_search.specs.Inside.NextEnd.{FindsNext, IsNextStop, Stands, StandsNext, StepsToStop}
 use Rattle.literal_search.specs.Inside.Scan.{IsTableFor, NoneBefore}
 use Rattle.literal_search.specs.Inside.Walk.{IsAt, IsFirstEnd, NoneEnds, read_to, text_of}
 use Rattle.literal_search.specs.Table.{Recognises, stride_of}
@@ -33,6 +34,20 @@ at_root patterns width rows recognises text at =
     first : (state : ℕ) → 0 ≡ state * stride_of width → state ≡ 0
     first zero is = refl
     first (suc state) is = grind arith
+
+-- a walk stands at the first row where it has read nothing
+pub stands_first : (patterns : List (List ℕ)) (ignore_case : Bool) (classes : List ℕ) (width : ℕ)
+    (rows haystack : List ℕ) (span : Span)
+    → Stands patterns ignore_case classes width rows haystack span span.start (record { place = 0; end = span.start })
+stands_first patterns ignore_case classes width rows haystack span = record {
+  from = span.start;
+  after = omega arith;
+  before = omega arith;
+  at = λ recognises. subst (λ text. IsAt Standard (map (symbols_in classes) patterns) width rows recognises text 0)
+      (sym (nothing_read classes haystack span.start))
+      (at_start Standard (map (symbols_in classes) patterns) width rows recognises);
+  begins = λ i place o further. o.after_start;
+}
 
 module _ (t : Table) (patterns : List (List ℕ)) (ignore_case : Bool) (is : IsTableFor t Standard patterns ignore_case)
     (haystack : List ℕ) (bytes : (i : ℕ) → get_or haystack i 0 < 256) (span : Span) (valid : IsValidSpan haystack span)
@@ -144,55 +159,55 @@ module _ (t : Table) (patterns : List (List ℕ)) (ignore_case : Bool) (is : IsT
             let long = is.some i [] o.is_pattern in
             omega arith
 
-module _ (t : Table) (patterns : List (List ℕ)) (ignore_case : Bool) (is : IsTableFor t Standard patterns ignore_case)
-    (haystack : List ℕ) (bytes : (i : ℕ) → get_or haystack i 0 < 256) (span : Span) (valid : IsValidSpan haystack span)
+module _ (patterns : List (List ℕ)) (ignore_case : Bool) (classes : List ℕ) (width : ℕ) (rows : List ℕ)
+    (tells : Tells ignore_case classes patterns) (some : NoneIsEmpty patterns) (haystack : List ℕ)
+    (bytes : (i : ℕ) → get_or haystack i 0 < 256) (span : Span) (valid : IsValidSpan haystack span)
   where
-    -- a walk stands at the first row where it has read nothing
-    pub stands_first : Stands patterns ignore_case t.classes.now t.width t.rows.now haystack span span.start
-        (record { place = 0; end = span.start })
-    stands_first = record {
-      from = span.start;
-      after = omega arith;
-      before = omega arith;
-      at = λ recognises. subst (λ text. IsAt Standard (map (symbols_in t.classes.now) patterns) t.width t.rows.now
-          recognises text 0) (sym (nothing_read t.classes.now haystack span.start))
-          (at_start Standard (map (symbols_in t.classes.now) patterns) t.width t.rows.now recognises);
-      begins = λ i place o further. o.after_start;
-    }
-
     -- where something ends next behind the start of a span, it ends earliest in it
     pub earliest_is : (answer : Option Stop)
-        → IsNextStop patterns ignore_case t.classes.now t.width t.rows.now haystack span span.start answer
+        → IsNextStop patterns ignore_case classes width rows haystack span span.start answer
         → IfSome answer (λ stop. (span.start < stop.end) × (stop.end ≤ span.end) × (stop.place < 2 ^ 32))
         → IsEarliestEnd patterns ignore_case haystack span (option_map (λ stop. stop.end) answer)
     earliest_is None none inside = λ i place o.
-        let long = is.some i [] o.is_pattern in
+        let long = some i [] o.is_pattern in
         let after = o.after_start in
         let end = none i place o in omega arith
     earliest_is (Some stop) next inside =
-        let texts = map (symbols_in t.classes.now) patterns in
-        let text = text_of t.classes.now haystack (between next.stands.from stop.end) in
+        let texts = map (symbols_in classes) patterns in
+        let text = text_of classes haystack (between next.stands.from stop.end) in
         let one = some_is (ending Standard texts text) next.ends in
-        let first = first_ends texts (some_symbols t.classes.now patterns is.some) text one.0 one.1 in
-        let occurs = end_occurs ignore_case t.classes.now patterns is.tells is.some haystack bytes span valid
+        let first = first_ends texts (some_symbols classes patterns some) text one.0 one.1 in
+        let occurs = end_occurs ignore_case classes patterns tells some haystack bytes span valid
         next.stands.from stop.end one.0 next.stands.after next.stands.before inside.1 first.is in
         record {
           occurs = (one.0, stop.end - length (pattern_at patterns one.0), occurs.0, sym occurs.1);
           first = λ i place o.
-              let long = is.some i [] o.is_pattern in
+              let long = some i [] o.is_pattern in
               let after = o.after_start in
               next.first i place o (omega arith);
         }
       where
         some_is : {T : Type 0} (o : Option T) → IsSome o → (v : T) × (o ≡ Some v)
-        some_is None some = cc
-        some_is (Some v) some = (v, refl)
+        some_is None is = cc
+        some_is (Some v) is = (v, refl)
 
-    pub finds_earliest : (result : Result (Option Stop) Damaged) → FindsNext t haystack 0 span result
-        → IfOk result (λ answer. IfSome answer
-        (λ stop. (span.start < stop.end) × (stop.end ≤ span.end) × (stop.place < 2 ^ 32)))
-        → IsOkAnd result (λ answer. IsEarliestEnd patterns ignore_case haystack span
-        (option_map (λ stop. stop.end) answer))
-    finds_earliest result finds inside =
-        also_ok result _ _ _ (λ answer next lies. earliest_is answer next lies)
-        (finds patterns ignore_case is span.start stands_first) inside
+pub finds_earliest : (t : Table) (patterns : List (List ℕ)) (ignore_case : Bool)
+    → IsTableFor t Standard patterns ignore_case → (haystack : List ℕ) → ((i : ℕ) → get_or haystack i 0 < 256)
+    → (span : Span) → IsValidSpan haystack span → (result : Result (Option Stop) Damaged)
+    → FindsNext t haystack 0 span result → IfOk result (λ answer. IfSome answer
+    (λ stop. (span.start < stop.end) × (stop.end ≤ span.end) × (stop.place < 2 ^ 32)))
+    → IsOkAnd result (λ answer. IsEarliestEnd patterns ignore_case haystack span (option_map (λ stop. stop.end) answer))
+finds_earliest t patterns ignore_case is haystack bytes span valid result finds inside =
+    also_ok result _ _ _ (λ answer next lies. earliest_is patterns ignore_case t.classes.now t.width t.rows.now is.tells
+    is.some haystack bytes span valid answer next lies)
+    (finds patterns ignore_case is span.start
+    (stands_first patterns ignore_case t.classes.now t.width t.rows.now haystack span)) inside
+
+-- what is scanned up to there
+pub scans_to_end : (span : Span) (old new : Counts) → new ≡ record old { scanned = new.scanned }
+    → old.scanned ≤ new.scanned → (answer : Option Stop) → StepsToStop span (new.scanned - old.scanned) answer
+    → ScansToEndWithin span (option_map (λ stop. stop.end) answer) old new
+scans_to_end span old new others grows None steps =
+    record { others = others; least = omega (arith, steps.0); scanned = omega (arith, steps.1) }
+scans_to_end span old new others grows (Some stop) steps =
+    record { others = others; least = omega (arith, steps.0); scanned = omega (arith, steps.1) }

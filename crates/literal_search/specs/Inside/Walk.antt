@@ -125,14 +125,6 @@ pub record IsFirstEnd (kind : search.MatchKind) (patterns : List (List ℕ)) (wi
   pub ends : IsSome (ending kind patterns (read_to text classes haystack start stop.end))
   pub at : IsAt kind patterns width rows recognises (read_to text classes haystack start stop.end) stop.place
 
--- the first such place in a span, for all patterns that the rows recognise, from all texts whose state has the row
-abbrev pub FindsEnd : ℕ → List ℕ → ℕ → List ℕ → List ℕ → Span → Option Stop → Type 0
-FindsEnd width rows place classes haystack span answer =
-    (kind : search.MatchKind) (patterns : List (List ℕ)) (recognises : Recognises kind patterns width rows)
-    (text : List ℕ) → IsAt kind patterns width rows recognises text place
-    → MatchOption answer (NoneEnds kind patterns text classes haystack span.start span.end)
-    (IsFirstEnd kind patterns width rows recognises text classes haystack span.start)
-
 -- what a walk has reached that reads a span: the first place where a pattern ends, or a place where it is back in the
 -- first state, or the end of the span, and no pattern ended before
 abbrev pub HasReached : (patterns : List (List ℕ)) (width : ℕ) (rows : List ℕ) → Recognises Standard patterns width rows
@@ -161,15 +153,6 @@ WalksOn width rows from classes haystack start at place =
     (text : List ℕ) → IsAt kind patterns width rows recognises text from
     → IsAt kind patterns width rows recognises (read_to text classes haystack start at) place
     × NoneEnds kind patterns text classes haystack start at
-
--- a walk that stood at a row stands at another, and no pattern has ended since
-pub record GoesOn (width : ℕ) (rows : List ℕ) (from : ℕ) (classes haystack : List ℕ) (start at place : ℕ)
-    : Type 0 where
-  pub row : IsRow width rows place
-  pub stands : (kind : search.MatchKind) (patterns : List (List ℕ)) (recognises : Recognises kind patterns width rows)
-      (text : List ℕ) → IsAt kind patterns width rows recognises text from
-      → IsAt kind patterns width rows recognises (read_to text classes haystack start at) place
-      × NoneEnds kind patterns text classes haystack start at
 
 -- no pattern stands at any place of a text, however it goes on, for all patterns, none empty, that the rows recognise
 abbrev pub BeginsAnew : ℕ → List ℕ → List ℕ → Type 0
