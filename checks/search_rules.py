@@ -32,8 +32,9 @@ CONFIRMING = "crates/literal_prefilters/src/prefilter/confirming.rt"
 # The functions that may make a tally: for the hashes of patterns, or for a search that is given none.
 MAKERS = (
     "Builder::build", "Searcher::find_in", "Searcher::find_iter", "Prefilter::find_in", "ConfirmingSearch::find_in",
-    "Search::find_in", "Search::match_at", "Search::find_all", "Search::earliest_end", "MatchesIterator::next",
-    "OverlappingMatchesIterator::next", "Prepared::find_in", "PreparedOverlappingMatches::next_match",
+    "Search::find_in", "Search::match_at", "Search::find_all", "MatchesIterator::next",
+    "Overlapping::earliest_end", "OverlappingMatchesIterator::next", "Prepared::find_in",
+    "PreparedOverlapping::earliest_end", "PreparedOverlappingMatches::next_match",
     "Linear::find_all_in", "LinearMatchesIterator::next", "PreparedLinearMatches::next_match",
 )
 

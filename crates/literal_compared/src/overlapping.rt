@@ -5,7 +5,7 @@ use crate::asserted::{assert_holds, assert_same};
 use crate::automaton::{LISTS, bytes_of};
 use crate::made::place;
 use crate::plain::occurs;
-use literal_search::{MatchKind, Overlapping, Search, Span};
+use literal_search::{Overlapping, Span};
 use std::alloc::Global;
 use std::process::Abort;
 use std::test::Fail;
@@ -19,7 +19,6 @@ struct Compared<'c> {
     list: &'static [&'static [u8]],
     ignore_case: bool,
     all: &'c Overlapping,
-    leftmost: &'c Search,
 }
 
 /// Whether a pattern that occurs whole in a span ends at a place.
@@ -55,7 +54,7 @@ fn compare_in(rt: &impl Abort, of: Compared<'_>, haystack: &[u8], span: Span)
     }
     assert_holds(rt, matches.next().is_none(), "more than occurs");
     let note = format_args!("{list:?}: the earliest end in {haystack:?}, {span:?}");
-    assert_same(rt, of.leftmost.earliest_end(haystack, span), earliest, note);
+    assert_same(rt, of.all.earliest_end(haystack, span), earliest, note);
 }
 
 /// Compares in some spans of all these haystacks, and returns how many there are.
@@ -84,13 +83,10 @@ fn assert_list(
     ignore_case: bool,
 ) -> Result<(), Fail> {
     let all = Overlapping::new(alloc, ignore_case, list.iter().copied())?;
-    let kind = MatchKind::LeftmostFirst;
-    let leftmost = Search::new(alloc, kind, ignore_case, list.iter().copied())?;
     let of = Compared {
         list,
         ignore_case,
         all: &all,
-        leftmost: &leftmost,
     };
     for digits in [b"aA@[`", b"aA{\x80\xFF"] {
         assert_same(rt, compare(rt, of, digits), 625, format_args!("{list:?}"));

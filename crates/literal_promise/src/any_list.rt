@@ -43,9 +43,16 @@ pub struct AnySearch<'p> {
 pub struct Searched {
     /// By [`Search::find_in_counted`], in the span.
     pub found: Option<Match>,
-    /// By [`Search::earliest_end`], in the span.
-    pub earliest: Option<usize>,
     /// By [`Search::find_iter`], up to its first `None`.
+    pub all: Vec<Match>,
+}
+
+/// What an [`Overlapping`] finds in the span.
+#[derive(Drop)]
+pub struct Occurring {
+    /// By [`Overlapping::earliest_end`].
+    pub earliest: Option<usize>,
+    /// By [`Overlapping::find_overlapping_in`], up to its first `None`.
     pub all: Vec<Match>,
 }
 
@@ -53,8 +60,7 @@ pub struct Searched {
 #[derive(Drop)]
 pub struct AnyFound {
     pub searched: Searched,
-    /// By [`Overlapping::find_overlapping_in`], in the span, up to its first `None`.
-    pub occurring: Vec<Match>,
+    pub occurring: Occurring,
     /// By [`Linear::find_all_in_counted`], of the whole haystack.
     pub linear: Vec<Match>,
     /// By [`Prepared::find_in`], in the span, if the array is long enough.
@@ -80,7 +86,7 @@ pub fn search_any_list(
     ensures leftmost { IfOk result (λ any. IsLeftmost (searched_for asked.now).query asked.now.ignore_case
         haystack.now span any.searched.found) }
     ensures earliest { IfOk result (λ any. IsEarliestEnd (searched_for asked.now).query.patterns asked.now.ignore_case
-        haystack.now span any.searched.earliest) }
+        haystack.now span any.occurring.earliest) }
     ensures scanned { IfOk result (λ any. ScansWithin (searched_for asked.now).query.patterns span any.searched.found
         once.old once.new) }
     ensures greedy { IfOk result (λ any. IsGreedy (searched_for asked.now).query asked.now.ignore_case
@@ -88,7 +94,7 @@ pub fn search_any_list(
     ensures iteration { IfOk result (λ any. ScansListAtMost (searched_for asked.now).query.patterns
         (length haystack.now) (length any.searched.all.items) iterated.old iterated.new) }
     ensures overlapping { IfOk result (λ any. IsOverlapping (searched_for asked.now).query.patterns
-        asked.now.ignore_case haystack.now span any.occurring.items) }
+        asked.now.ignore_case haystack.now span any.occurring.all.items) }
     ensures same_list { IfOk result (λ any. any.linear.items ≡ any.searched.all.items) }
     ensures twice { IfOk result (λ _. ScansTwice (whole_of haystack.now) listed.old listed.new) }
     ensures by_array { IfOk result (λ any. MatchResult any.by_array
@@ -125,8 +131,6 @@ fn search(
     ensures refused { IfErr result (RefusesAnyList asked.now) }
     ensures leftmost { IfOk result (λ searched. IsLeftmost (searched_for asked.now).query asked.now.ignore_case
         haystack.now span searched.found) }
-    ensures earliest { IfOk result (λ searched. IsEarliestEnd (searched_for asked.now).query.patterns
-        asked.now.ignore_case haystack.now span searched.earliest) }
     ensures scanned { IfOk result (λ searched. ScansWithin (searched_for asked.now).query.patterns span searched.found
         once.old once.new) }
     ensures greedy { IfOk result (λ searched. IsGreedy (searched_for asked.now).query asked.now.ignore_case
@@ -137,13 +141,8 @@ fn search(
 {
     let search = search_for(alloc, asked)?;
     let found = search.find_in_counted(haystack, span, once);
-    let earliest = search.earliest_end(haystack, span);
     let all = taken_in_turn(alloc, &search, haystack, iterated)?;
-    Ok(Searched {
-        found,
-        earliest,
-        all,
-    })
+    Ok(Searched { found, all })
 }
 
 fn search_for(alloc: Global, asked: &AnySearch<'_>) -> Result<Search, BuildError>
@@ -211,15 +210,19 @@ fn all_that_occurs(
     asked: &AnySearch<'_>,
     haystack: &[u8],
     span: Span,
-) -> Result<Vec<Match>, BuildError>
+) -> Result<Occurring, BuildError>
     requires { IsValidSpan haystack.now span }
     ensures refused { IfErr result (RefusesAnyList asked.now) }
-    ensures overlapping { IfOk result (λ all. IsOverlapping (searched_for asked.now).query.patterns
-        asked.now.ignore_case haystack.now span all.items) }
+    ensures earliest { IfOk result (λ occurring. IsEarliestEnd (searched_for asked.now).query.patterns
+        asked.now.ignore_case haystack.now span occurring.earliest) }
+    ensures overlapping { IfOk result (λ occurring. IsOverlapping (searched_for asked.now).query.patterns
+        asked.now.ignore_case haystack.now span occurring.all.items) }
 {
     let patterns = asked.patterns.iter().copied();
     let search = Overlapping::new(alloc, asked.ignore_case, patterns)?;
-    Ok(taken_overlapping(alloc, &search, haystack, span)?)
+    let earliest = search.earliest_end(haystack, span);
+    let all = taken_overlapping(alloc, &search, haystack, span)?;
+    Ok(Occurring { earliest, all })
 }
 
 /// The matches that an iteration over all that occurs gives.

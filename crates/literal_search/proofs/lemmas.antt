@@ -12,6 +12,7 @@ pub mod Classes
 pub mod Copied
 pub mod SuffixLists
 pub mod Ends
+pub mod EndsFound
 pub mod Found
 pub mod GreedyIn
 pub mod Growing
@@ -24,6 +25,7 @@ pub mod Failures
 pub mod Lists
 pub mod Longest
 pub mod Memory
+pub mod NextEnd
 pub mod Numbers
 pub mod Overlapping
 pub mod Places

@@ -17,15 +17,8 @@ IsEarliestEnd patterns ignore_case haystack span answer =
     MatchOption answer (NothingOccurs patterns ignore_case haystack span)
     (EndsEarliest patterns ignore_case haystack span)
 
--- what a search for the earliest end scans: each byte up to that end once, and none behind it; where nothing ends, each
--- byte of the span at most once
-pub record ScansToEnd (span : Span) (answer : Option ℕ) (old new : Counts) : Type 0 where
-  pub others : new ≡ record old { scanned = new.scanned }
-  pub scanned : MatchOption answer (new.scanned ≤ old.scanned + (span.end - span.start))
-      (λ end. new.scanned + span.start ≡ old.scanned + end)
-
--- what a search for the earliest end scans that may read ahead: at least as many bytes as there are up to that end, or
--- in the span where nothing ends, and at most three times as many
+-- what a search for the earliest end scans: at least as many bytes as there are up to that end, or in the span where
+-- nothing ends, and at most three times as many
 pub record ScansToEndWithin (span : Span) (answer : Option ℕ) (old new : Counts) : Type 0 where
   pub others : new ≡ record old { scanned = new.scanned }
   pub least : MatchOption answer (old.scanned + (span.end - span.start) ≤ new.scanned)

@@ -9,6 +9,7 @@ pub mod Grown
 pub mod LentTables
 pub mod Linear
 pub mod Lists
+pub mod NextEnd
 pub mod Prepared
 pub mod PreparedLinear
 pub mod Rewriting

@@ -2,13 +2,13 @@
 use Rattle.std.specs.Prelude.{◌≡◌, ◌⊎◌, ◌+◌, ◌<◌, ◌≤◌, ◌^◌, ℕ, Bool, List, length, map, slice_index, slice_range}
 use Rattle.literal_base.specs.declared.search.MatchKind.TheVariants.{Standard}
 use Rattle.literal_base.specs.declared.search.Span.{Span}
-use Rattle.literal_search.specs.SearchValue.{CanBeKept, HoldsInClasses, width_for}
+use Rattle.literal_search.specs.SearchValue.{CanBeKept, HoldsInClasses, longest_of, width_for}
 use Rattle.literal_search.specs.Inside.Classes.{AreClasses, Tells, symbols_in}
 use Rattle.literal_search.specs.Inside.Lists.{AreLists}
 use Rattle.literal_search.specs.Overlapping.{OverlappingValue}
 use Rattle.literal_search.specs.OverlappingMatchesValue.{OverlappingMatchesValue}
 use Rattle.literal_search.specs.Prepared.{HasParts, RefusesNumbers, WritesNumbers, check_of, classes_end}
-use Rattle.literal_search.specs.Prepared.{classes_in, lengths_in, rows_in, width_in}
+use Rattle.literal_search.specs.Prepared.{classes_in, lengths_in, longest_in, rows_in, width_in}
 use Rattle.literal_search.specs.States.{IsRowsLength}
 use Rattle.literal_search.specs.Table.{Recognises}
 use Rattle.literal_search.specs.declared.classes.TheConstants.{CLASSES_LEN}
@@ -82,9 +82,11 @@ tables_in search numbers = record {
   starts = starts_in numbers;
 }
 
--- the array begins with a whole search for everything that occurs: with its tables, and the length of each pattern
+-- the array begins with a whole search for everything that occurs: with the length of the longest pattern, its tables,
+-- and the length of each pattern
 pub record IsPreparedOverlapping (search : OverlappingValue) (numbers : List ℕ) : Type 0 where
   pub whole : IsWholeOverlapping numbers
+  pub longest : longest_in numbers ≡ longest_of search.patterns
   pub tables : AreTables (tables_in search numbers)
   pub lengths : lengths_in numbers ≡ map (λ bytes. length bytes) search.patterns
 

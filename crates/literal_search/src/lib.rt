@@ -4,7 +4,7 @@
 #![tactic(auto)]
 
 ghost use Rattle.std.specs.Prelude.{◌≡◌, ◌+◌, ◌-◌, ◌^◌, ◌<◌, ◌≤◌, ◌↔◌, ◌++◌, ◌∷◌, [], ℕ, length, map, sum_by, take};
-ghost use Rattle.std.specs.Prelude.{IfErr, IfOk, IfSome, IsNone, IsTrue, MatchOption, OnErr};
+ghost use Rattle.std.specs.Prelude.{IfErr, IfOk, IfSome, IsTrue, MatchOption, OnErr};
 ghost use Rattle.literal_base.specs.Greedy.{IsGreedy, RefusesList};
 ghost use Rattle.literal_base.specs.Kinds.{root_kind_of};
 ghost use Rattle.literal_base.specs.Leftmost.{IsLeftmost, IsLeftmostMatch};
@@ -16,7 +16,6 @@ ghost use Rattle.literal_search.specs.At.{IsMatchAt, ScansAt};
 ghost use Rattle.literal_search.specs.SearchValue.{BuildsSearch, CanBeKept, GivesAll, NeedFewStates};
 ghost use Rattle.literal_search.specs.SearchValue.{NeedTooManyStates, NoneIsShorter, RefusesSearch};
 ghost use Rattle.literal_search.specs.SearchValue.{ScansWithin, ScansListAtMost, ScansOnce, longest_of, shortest_of};
-ghost use Rattle.literal_search.specs.Earliest.{IsEarliestEnd, ScansToEnd, ScansToEndWithin};
 ghost use Rattle.literal_search.specs.Inside.Scan.{IsTableOf, match_by};
 ghost use Rattle.literal_search.specs.Inside.Search.{IsShortestOf};
 ghost use Rattle.literal_base.specs.Greedy.{IsGreedyIn};
@@ -30,6 +29,7 @@ mod best;
 mod builder;
 mod classes;
 mod copied;
+mod ends;
 mod grow;
 pub mod laws;
 mod linear;
@@ -241,11 +241,10 @@ impl Search {
         Some(self.match_by(haystack, span, ended))
     }
 
-    /// Answers as [`Search::find_in`] by one walk through the span, which takes longer where matches are rare. It adds
-    /// each byte that it looks up to a tally, as scanned: no more than the span has, all where nothing is
-    /// found, and else at least those up to the match's end, and none that is further behind its start than the longest
-    /// pattern is long.
-    pub fn find_in_once(&self, haystack: &[u8], span: Span, tally: &mut Tally) -> Option<Match>
+    /// Answers as [`Search::find_in`] by one walk through the span. It adds each byte that it looks up to a tally, as
+    /// scanned: no more than the span has, all where nothing is found, and else at least those up to the match's end, and
+    /// none that is further behind its start than the longest pattern is long.
+    fn find_in_once(&self, haystack: &[u8], span: Span, tally: &mut Tally) -> Option<Match>
         requires { IsValidSpan haystack.now span }
         ensures leftmost { IsLeftmost self.now.query self.now.ignore_case haystack.now span result }
         ensures not_empty { IfSome result (λ found. found.start < found.end) }
@@ -407,56 +406,13 @@ impl Search {
         Ok(all)
     }
 
-    /// The earliest end of an occurrence that lies whole in a span of the haystack, an offset in bytes of the whole
-    /// haystack, and `None` where nothing occurs in the span. It is known sooner than the leftmost match, and may be
-    /// the end of another one. The span has to be valid.
-    pub fn earliest_end(&self, haystack: &[u8], span: Span) -> Option<usize>
-        requires { IsValidSpan haystack.now span }
-        ensures { IsEarliestEnd self.now.query.patterns self.now.ignore_case haystack.now span result }
-    {
-        self.earliest_end_counted(haystack, span, &mut Tally::new())
-    }
-
-    /// Answers as [`Search::earliest_end`], and adds each byte that it looks up to a tally, as scanned: at least as
-    /// many as there are up to that end, or in the span where nothing ends, and at most three times as many.
-    pub fn earliest_end_counted(
-        &self,
-        haystack: &[u8],
-        span: Span,
-        tally: &mut Tally,
-    ) -> Option<usize>
-        requires { IsValidSpan haystack.now span }
-        ensures end { IsEarliestEnd self.now.query.patterns self.now.ignore_case haystack.now span result }
-        ensures bounded { ScansToEndWithin span result tally.old tally.new }
-    {
-        let answer = self.table().search(haystack, span, true, tally);
-        let ended = answer.unwrap_or(None)?;
-        Some(ended.end)
-    }
-
-    /// Answers as [`Search::earliest_end`] by one walk through the span, which takes longer where matches are rare. It
-    /// adds each byte that it looks up to a tally, as scanned: each up to that end once, and none behind it; all of the
-    /// span where nothing ends.
-    pub fn earliest_end_once(&self, haystack: &[u8], span: Span, tally: &mut Tally) -> Option<usize>
-        requires { IsValidSpan haystack.now span }
-        ensures end { IsEarliestEnd self.now.query.patterns self.now.ignore_case haystack.now span result }
-        ensures bounded { ScansToEnd span result tally.old tally.new }
-        ensures all { IsNone result → tally.new.scanned ≡ tally.old.scanned + (span.end - span.start) }
-    {
-        let answer = self.table().search_once(haystack, span, true, tally);
-        let ended = answer.unwrap_or(None)?;
-        Some(ended.end)
-    }
-
     /// Whether a pattern occurs in the haystack.
     pub fn is_match(&self, haystack: &[u8]) -> bool
         ensures occurs { IsTrue result ↔ ((i : ℕ) × (at : ℕ)
             × Occurs self.now.query.patterns self.now.ignore_case haystack.now (whole_of haystack.now) i at) }
         ensures told { result ≡ one_occurs self.now.query.patterns self.now.ignore_case haystack.now }
     {
-        let end = haystack.len();
-        self.earliest_end(haystack, Span { start: 0, end })
-            .is_some()
+        self.find(haystack).is_some()
     }
 
     /// Writes the search into the first places of an array, and answers how many these are: about as many as the

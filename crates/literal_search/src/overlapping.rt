@@ -1,20 +1,23 @@
 //! A search for everything that occurs.
-ghost use Rattle.std.specs.Prelude.{◌≡◌, ◌+◌, ◌<◌, ◌≤◌, length, IfErr, IfOk, IfSome, MatchOption, None, OnErr, Some};
+ghost use Rattle.std.specs.Prelude.{◌≡◌, ◌+◌, ◌<◌, ◌≤◌, ◌^◌, length, IfErr, IfOk, IfSome, MatchOption, None, OnErr, Some};
 ghost use Rattle.std.specs.Option.{option_map};
 ghost use Rattle.literal_base.specs.MatchValue.{MatchValue};
 ghost use Rattle.literal_base.specs.Occurs.{IsValidSpan, between, whole_of};
 ghost use Rattle.literal_base.specs.declared.search.MatchKind.TheVariants.{Standard};
 ghost use Rattle.literal_base.specs.Given.{CanBeTaken};
 ghost use Rattle.literal_search.specs.SearchValue.{CanBeKept, NeedFewStates, NeedTooManyStates, RefusesSearch};
-ghost use Rattle.literal_search.specs.Earliest.{ScansToEnd};
-ghost use Rattle.literal_search.specs.Inside.Walk.{FindsEnd, IsRow, rows_by};
+ghost use Rattle.literal_fingerprints.specs.FingerprintsValue.{AllPass};
+ghost use Rattle.literal_search.specs.Earliest.{IsEarliestEnd, ScansToEndWithin};
+ghost use Rattle.literal_search.specs.Inside.Scan.{IsTableFor};
+ghost use Rattle.literal_search.specs.Inside.NextEnd.{IsNextStop, Stands};
+ghost use Rattle.literal_search.specs.Inside.Walk.{rows_by};
 ghost use Rattle.literal_search.specs.Memory.{TakesListedBytes};
 ghost use Rattle.literal_search.specs.Overlapping.{BuildsOverlapping};
 ghost use Rattle.literal_search.specs.OverlappingMatchesValue.{GivesOverlapping, IsNextToCome, IsToCome};
 ghost use Rattle.literal_search.specs.OverlappingMatchesValue.{gone_on, most_overlapping};
 ghost use Rattle.literal_search.specs.PreparedOverlapping.{AreTables, RefusesOverlapping, WritesOverlapping};
 ghost use Rattle.literal_search.specs.declared.standing.Standing.{Standing};
-ghost use Rattle.literal_search.specs.Inside.Standing.{HaveSameToCome, IsStanding, longest_at};
+ghost use Rattle.literal_search.specs.Inside.Standing.{HaveSameToCome, IsStanding, PassesBy, longest_at};
 ghost use Rattle.literal_search.specs.Inside.Standing.{overlapping_value, standing_at, standing_value, tables_of};
 
 use crate::classes::classes_for;
@@ -23,10 +26,11 @@ use crate::rows::{Rows, rows_for};
 use crate::standing::Standing;
 use crate::suffixes::{Lists, Recognised};
 use crate::walk::{Stop, Table};
-use crate::{BuildError, copies, total_bytes};
+use crate::{BuildError, copies, longest_len, total_bytes};
 use literal_base::count::Tally;
 use literal_base::search::MatchKind;
 use literal_base::{Match, Span};
+use literal_fingerprints::Fingerprints;
 use std::alloc::Global;
 use std::fmt;
 use std::marker::Model;
@@ -34,7 +38,7 @@ use std::marker::Model;
 /// Searches for every occurrence of any number of patterns: those that overlap others, and those that stand within
 /// others, too. Contracts see the patterns, and whether ASCII case is ignored.
 ///
-/// An iteration looks up each byte at most once ([`OverlappingMatches::next_counted`]). The search has the states of
+/// An iteration looks up at most three times as many bytes as there are ([`OverlappingMatches::next_counted`]). The search has the states of
 /// an automaton, and for each pattern the list of those that are a suffix of it.
 ///
 /// ```rust
@@ -57,18 +61,20 @@ struct Parts {
     width: usize,
     rows: Rows,
     lists: Lists,
+    longest: usize,
+    fingerprints: Option<Fingerprints>,
 }
 
 impl Model for Overlapping {
     ghost use Rattle.literal_search.specs.Overlapping.{OverlappingValue};
     ghost use Rattle.literal_search.specs.PreparedOverlapping.{AreSized, AreTables};
-    ghost use Rattle.literal_search.specs.Inside.Standing.{overlapping_value, tables_of};
+    ghost use Rattle.literal_search.specs.Inside.Standing.{PassesBy, overlapping_value, tables_of};
 
     ghost Value = { OverlappingValue };
 
     ghost view = { λ o. overlapping_value (tables_of o.parts) };
 
-    ghost invariant = { λ o. AreTables (tables_of o.parts) × AreSized (tables_of o.parts) };
+    ghost invariant = { λ o. AreTables (tables_of o.parts) × AreSized (tables_of o.parts) × PassesBy o.parts };
 }
 
 impl Overlapping {
@@ -97,12 +103,16 @@ impl Overlapping {
             patterns: &patterns,
         };
         let lists = recognised.lists(alloc)?;
+        let longest = longest_len(&patterns);
+        let fingerprints = Fingerprints::new(ignore_case, &patterns);
         let parts = Parts {
             ignore_case,
             patterns,
             width: classes.width,
             rows,
             lists,
+            longest,
+            fingerprints,
         };
         Ok(Overlapping { parts })
     }
@@ -145,6 +155,36 @@ impl Overlapping {
             span,
             standing: self.parts.before_all(haystack, span),
         }
+    }
+
+    /// The earliest end of an occurrence that lies whole in a span of the haystack, an offset in bytes of the whole
+    /// haystack, and `None` where nothing occurs in the span. It is known sooner than the leftmost match, and may be
+    /// the end of another one. The span has to be valid.
+    pub fn earliest_end(&self, haystack: &[u8], span: Span) -> Option<usize>
+        requires { IsValidSpan haystack.now span }
+        ensures { IsEarliestEnd self.now.patterns self.now.ignore_case haystack.now span result }
+    {
+        self.earliest_end_counted(haystack, span, &mut Tally::new())
+    }
+
+    /// Answers as [`Overlapping::earliest_end`], and adds each byte that it looks up to a tally, as scanned: at least
+    /// as many as there are up to that end, or in the span where nothing ends, and at most three times as many.
+    pub fn earliest_end_counted(
+        &self,
+        haystack: &[u8],
+        span: Span,
+        tally: &mut Tally,
+    ) -> Option<usize>
+        requires { IsValidSpan haystack.now span }
+        ensures end { IsEarliestEnd self.now.patterns self.now.ignore_case haystack.now span result }
+        ensures bounded { ScansToEndWithin span result tally.old tally.new }
+    {
+        let first = Stop {
+            place: 0,
+            end: span.start,
+        };
+        let stop = self.parts.next_stop(haystack, span, first, tally)?;
+        Some(stop.end)
     }
 
     /// Writes the search into the first places of an array, and answers how many these are: about as many as the
@@ -220,6 +260,7 @@ impl Parts {
         tally: &mut Tally,
     ) -> Option<Standing>
         requires parts { AreTables (tables_of self.now) }
+        requires passes { PassesBy self.now }
         requires valid { IsValidSpan haystack.now span }
         requires standing { IsStanding (tables_of self.now) haystack.now span standing }
         ensures stands { IfSome result (IsStanding (tables_of self.now) haystack.now span) }
@@ -228,7 +269,7 @@ impl Parts {
             ((found : MatchValue) → ¬ IsToCome (standing_value (tables_of self.now) haystack.now span standing) found)
             (λ here. HaveSameToCome (standing_value (tables_of self.now) haystack.now span standing)
             (standing_value (tables_of self.now) haystack.now span here)) }
-        ensures bounded { ScansToEnd (between standing.at span.end) (option_map (λ here. here.at) result)
+        ensures bounded { ScansToEndWithin (between standing.at span.end) (option_map (λ here. here.at) result)
             tally.old tally.new }
     {
         if standing.next < standing.end {
@@ -237,36 +278,44 @@ impl Parts {
         if standing.at == span.end {
             return None;
         }
-        let rest = Span {
-            start: standing.at,
-            end: span.end,
+        let from = Stop {
+            place: standing.place,
+            end: standing.at,
         };
-        let stop = self.first_ended(haystack, standing.place, rest, tally)?;
+        let stop = self.next_stop(haystack, span, from, tally)?;
         Some(self.standing_at(stop))
     }
 
-    /// The first place in a span behind which a pattern ends, and the row there, from a row on.
-    fn first_ended(
-        &self,
-        haystack: &[u8],
-        from: usize,
-        span: Span,
-        tally: &mut Tally,
-    ) -> Option<Stop>
+    /// Where a pattern ends next in a span, and the row there, for a walk that stands at a row and has read up to a
+    /// place.
+    fn next_stop(&self, haystack: &[u8], span: Span, from: Stop, tally: &mut Tally) -> Option<Stop>
         requires parts { AreTables (tables_of self.now) }
-        requires row { IsRow self.now.width self.now.rows.rows from }
+        requires passes { PassesBy self.now }
         requires valid { IsValidSpan haystack.now span }
-        ensures first { FindsEnd self.now.width self.now.rows.rows from self.now.rows.classes haystack.now span result }
-        ensures inside { IfSome result (λ stop. (span.start < stop.end) × (stop.end ≤ span.end)) }
-        ensures bounded { ScansToEnd span (option_map (λ stop. stop.end) result) tally.old tally.new }
+        requires inside { from.end ≤ span.end }
+        requires stands { Stands (tables_of self.now).patterns self.now.ignore_case self.now.rows.classes
+            self.now.width self.now.rows.rows haystack.now span from.end from }
+        ensures next { IsNextStop (tables_of self.now).patterns self.now.ignore_case self.now.rows.classes
+            self.now.width self.now.rows.rows haystack.now span from.end result }
+        ensures inside { IfSome result
+            (λ stop. (from.end < stop.end) × (stop.end ≤ span.end) × (stop.place < 2 ^ 32)) }
+        ensures bounded { ScansToEndWithin (between from.end span.end) (option_map (λ stop. stop.end) result)
+            tally.old tally.new }
     {
-        let answer = self.table().first_ended(haystack, from, span, tally);
+        let rest = Span {
+            start: from.end,
+            end: span.end,
+        };
+        let answer = self.table().next_end(haystack, from.place, rest, tally);
         answer.unwrap_or(None)
     }
 
     /// What a walk reads of them.
+    #[inline(always)]
     fn table(&self) -> Table<'_>
-        requires { length self.now.rows.classes ≡ 256 }
+        requires parts { AreTables (tables_of self.now) }
+        requires passes { PassesBy self.now }
+        ensures table { IsTableFor result Standard (tables_of self.now).patterns self.now.ignore_case }
         ensures classes { result.classes.now ≡ self.now.rows.classes }
         ensures width { result.width ≡ self.now.width }
         ensures rows { rows_by result ≡ self.now.rows.rows }
@@ -275,10 +324,18 @@ impl Parts {
             classes: self.rows.classes(),
             width: self.width,
             rows: self.rows.as_slice(),
-            longest: 0, // (not asked for where a walk stops at each end of a pattern)
-            shortest: 0,
-            fingerprints: None,
+            longest: self.longest,
+            shortest: 0, // (not asked for where each end of a pattern is)
+            fingerprints: self.fingerprints(),
         }
+    }
+
+    /// The fingerprints of the patterns, if there are any.
+    fn fingerprints(&self) -> Option<&Fingerprints>
+        requires { PassesBy self.now }
+        ensures { IfSome result (λ f. AllPass f.now self.now.ignore_case (tables_of self.now).patterns) }
+    {
+        self.fingerprints.as_ref()
     }
 
     /// Where a walk stands that stopped where a pattern ends: before all patterns that end there.
@@ -387,7 +444,7 @@ pub struct OverlappingMatches<'s, 'h> {
 impl<'s, 'h> Model for OverlappingMatches<'s, 'h> {
     ghost use Rattle.literal_search.specs.OverlappingMatchesValue.{OverlappingMatchesValue};
     ghost use Rattle.literal_search.specs.PreparedOverlapping.{AreTables};
-    ghost use Rattle.literal_search.specs.Inside.Standing.{IsStanding, standing_value, tables_of};
+    ghost use Rattle.literal_search.specs.Inside.Standing.{IsStanding, PassesBy, standing_value, tables_of};
     ghost use Rattle.literal_base.specs.Occurs.{IsValidSpan};
 
     ghost Value = { OverlappingMatchesValue };
@@ -395,15 +452,16 @@ impl<'s, 'h> Model for OverlappingMatches<'s, 'h> {
     ghost view = { λ m. standing_value (tables_of m.parts.now) m.haystack.now m.span m.standing };
 
     ghost invariant = { λ m. AreTables (tables_of m.parts.now) × IsValidSpan m.haystack.now m.span
-        × IsStanding (tables_of m.parts.now) m.haystack.now m.span m.standing };
+        × IsStanding (tables_of m.parts.now) m.haystack.now m.span m.standing × PassesBy m.parts.now };
 }
 
 impl<'s, 'h> OverlappingMatches<'s, 'h> {
-    /// Answers as `next`, and adds each byte that it looks up to a tally, as scanned: those from the end where it stood
-    /// up to that of the match, each once. An iteration so looks up at most as many bytes as the span has.
+    /// Answers as `next`, and adds each byte that it looks up to a tally, as scanned: at least as many as there are from
+    /// the end where it stood up to that of the match, or up to that of the span, and at most three times as many. An
+    /// iteration so looks up at most three times as many bytes as the span has.
     pub fn next_counted(&mut self, tally: &mut Tally) -> Option<Match>
         ensures gives { GivesOverlapping self.old result self.new }
-        ensures bounded { ScansToEnd (between self.old.end self.old.span.end)
+        ensures bounded { ScansToEndWithin (between self.old.end self.old.span.end)
             (option_map (λ found. found.end) result) tally.old tally.new }
     {
         let next_end = self

@@ -1,10 +1,11 @@
 //! A search for everything that occurs as numbers in an array that its caller lends. It does not trust the array,
 //! either.
-ghost use Rattle.std.specs.Prelude.{◌≡◌, ◌+◌, ◌-◌, ◌<◌, ◌≤◌, ◌^◌, ◌↔◌, length, slice_index, List, ℕ};
+ghost use Rattle.std.specs.Prelude.{◌≡◌, ◌+◌, ◌-◌, ◌*◌, ◌<◌, ◌≤◌, ◌^◌, ◌↔◌, length, slice_index, List, ℕ};
 ghost use Rattle.std.specs.Prelude.{IfOk, IfSome, IsTrue, MatchOption, MatchResult, None, ⊤};
 ghost use Rattle.std.specs.Result.{IsOkAnd};
 ghost use Rattle.literal_base.specs.MatchValue.{MatchValue};
 ghost use Rattle.literal_base.specs.Occurs.{IsValidSpan};
+ghost use Rattle.literal_search.specs.Earliest.{IsEarliestEnd, ScansToEndWithin};
 ghost use Rattle.literal_search.specs.Overlapping.{OverlappingValue};
 ghost use Rattle.literal_search.specs.OverlappingMatchesValue.{GivesOverlapping, IsToCome};
 ghost use Rattle.literal_search.specs.Prepared.{LiesIn};
@@ -87,6 +88,42 @@ impl<'p> PreparedOverlapping<'p> {
         } = &self.lent;
         let end = LENGTHS_AT + header.lengths.len() + header.rows.len() + starts.len() + ends.len();
         is_checked(header.numbers, end)
+    }
+
+    /// The earliest end of an occurrence in a span of the haystack, for which the same holds as for
+    /// [`Overlapping::earliest_end`](crate::Overlapping::earliest_end). With numbers that were changed it may be another
+    /// place of the span, or [`Damaged`].
+    pub fn earliest_end(&self, haystack: &[u8], span: Span) -> Result<Option<usize>, Damaged>
+        requires { IsValidSpan haystack.now span }
+        ensures prepared { ForOverlapping self.now (λ search. IsOkAnd result
+            (IsEarliestEnd search.patterns search.ignore_case haystack.now span)) }
+        ensures inside { IfOk result (λ answer. IfSome answer (λ end. (span.start < end) × (end ≤ span.end))) }
+    {
+        self.earliest_end_counted(haystack, span, &mut Tally::new())
+    }
+
+    /// Answers as [`PreparedOverlapping::earliest_end`], and adds each byte that it looks up to a tally, as scanned:
+    /// whatever the numbers are, at least as many as there are up to that end, or in the span where it answers none, and
+    /// at most three times as many; and at most three times the bytes of the span before [`Damaged`].
+    pub fn earliest_end_counted(
+        &self,
+        haystack: &[u8],
+        span: Span,
+        tally: &mut Tally,
+    ) -> Result<Option<usize>, Damaged>
+        requires { IsValidSpan haystack.now span }
+        ensures prepared { ForOverlapping self.now (λ search. IsOkAnd result
+            (IsEarliestEnd search.patterns search.ignore_case haystack.now span)) }
+        ensures inside { IfOk result (λ answer. IfSome answer (λ end. (span.start < end) × (end ≤ span.end))) }
+        ensures bounded { IfOk result (λ answer. ScansToEndWithin span answer tally.old tally.new) }
+        ensures others { tally.new ≡ record tally.old { scanned = tally.new.scanned } }
+        ensures most { tally.new.scanned ≤ tally.old.scanned + 3 * (span.end - span.start) }
+    {
+        let table = self.lent.header.table(0, None);
+        match table.next_end(haystack, 0, span, tally)? {
+            Some(stop) => Ok(Some(stop.end)),
+            None => Ok(None),
+        }
     }
 
     /// Every occurrence in a span of the haystack, for which the same holds as for
@@ -194,9 +231,9 @@ impl<'p> LentTables<'p> {
         ensures ordered { IfOk result (λ next. IfSome next (λ here.
             IsNotBefore here.at here.pattern standing.at standing.pattern)) }
         ensures others { tally.new ≡ record tally.old { scanned = tally.new.scanned } }
-        ensures once { tally.new.scanned + standing.at ≤ tally.old.scanned + span.end }
+        ensures most { tally.new.scanned + 3 * standing.at ≤ tally.old.scanned + 3 * span.end }
         ensures near { IfOk result (λ next. IfSome next (λ here.
-            tally.new.scanned + standing.at ≤ tally.old.scanned + here.at)) }
+            tally.new.scanned + 3 * standing.at ≤ tally.old.scanned + 3 * here.at)) }
     {
         if standing.next < standing.end {
             return Ok(Some(standing));
@@ -209,7 +246,7 @@ impl<'p> LentTables<'p> {
             end: span.end,
         };
         let table = self.header.table(0, None);
-        let Some(stop) = table.first_ended(haystack, standing.place, rest, tally)? else {
+        let Some(stop) = table.next_end(haystack, standing.place, rest, tally)? else {
             return Ok(None);
         };
         Ok(Some(self.standing_at(stop)?))
@@ -275,9 +312,9 @@ impl<'p> LentTables<'p> {
             (λ r. IsNotBefore r.0.end r.0.pattern standing.at standing.pattern
             × (r.1.pattern ≡ r.0.pattern + 1))) }
         ensures others { tally.new ≡ record tally.old { scanned = tally.new.scanned } }
-        ensures once { tally.new.scanned + standing.at ≤ tally.old.scanned + span.end }
+        ensures most { tally.new.scanned + 3 * standing.at ≤ tally.old.scanned + 3 * span.end }
         ensures near { IfOk result (λ answer. IfSome answer (λ r.
-            tally.new.scanned + standing.at ≤ tally.old.scanned + r.0.end)) }
+            tally.new.scanned + 3 * standing.at ≤ tally.old.scanned + 3 * r.0.end)) }
     {
         let Some(here) = self.next_end(haystack, span, standing, tally)? else {
             return Ok(None);
@@ -337,9 +374,9 @@ impl<'s, 'p, 'h> PreparedOverlappingMatches<'s, 'p, 'h> {
         self.next_counted(&mut Tally::new())
     }
 
-    /// Answers as `next_match`, and adds each byte that it looks up to a tally, as scanned: at most those from the end
-    /// where it stood up to that where it stands, in the span. An iteration so looks up each byte of the span at most
-    /// once, whatever the numbers are.
+    /// Answers as `next_match`, and adds each byte that it looks up to a tally, as scanned: at most three times as many as
+    /// there are from the end where it stood up to that where it stands, in the span. An iteration so looks up at most
+    /// three times as many bytes as the span has, whatever the numbers are.
     #[tactic(auto, using(crate::proofs::lemmas::LentTables::are_for))]
     pub fn next_counted(&mut self, tally: &mut Tally) -> Result<Option<Match>, Damaged>
         ensures prepared { ForOverlapping self.old.numbers (λ search. IsOkAnd result (λ answer.
@@ -355,7 +392,7 @@ impl<'s, 'p, 'h> PreparedOverlappingMatches<'s, 'p, 'h> {
         ensures ended { HasEnded self.old → IsOkAnd result (λ answer. answer ≡ None) }
         ensures same { self.new ≡ record self.old { end = self.new.end; pattern = self.new.pattern } }
         ensures others { tally.new ≡ record tally.old { scanned = tally.new.scanned } }
-        ensures once { tally.new.scanned + self.old.end ≤ tally.old.scanned + self.new.end }
+        ensures most { tally.new.scanned + 3 * self.old.end ≤ tally.old.scanned + 3 * self.new.end }
         ensures within { self.new.end ≤ self.old.span.end }
     {
         if self.has_ended() {

@@ -5,7 +5,7 @@ ghost use Rattle.std.specs.Prelude.{IfOk, IfSome, None, false, length, true};
 ghost use Rattle.std.specs.Result.{IsOkAnd};
 ghost use Rattle.literal_base.specs.Occurs.{IsValidSpan, between};
 ghost use Rattle.literal_search.specs.Inside.Classes.{AreClasses};
-ghost use Rattle.literal_search.specs.Inside.Scan.{Answers, AreNear, ForTable};
+ghost use Rattle.literal_search.specs.Inside.Scan.{Answers, AreNear, ForPatterns, ForTable};
 ghost use Rattle.literal_search.specs.Inside.Scan.{NoneBefore, SearchesTo, StepsToEnd};
 ghost use Rattle.literal_search.specs.Inside.Scan.{WalksTo};
 
@@ -43,7 +43,7 @@ pub struct Nearest {
 
 impl Nearest {
     /// How many these are the next time, where they were so many, and then so many bytes were passed over.
-    fn next(self, near: usize, passed: usize) -> usize
+    pub fn next(self, near: usize, passed: usize) -> usize
         ensures least { self.later ≤ result }
         ensures short { near ≤ 6 * LONGEST → self.later ≤ 6 * LONGEST → result ≤ 6 * LONGEST }
     {
@@ -129,7 +129,7 @@ impl<'t> Table<'t> {
 
     /// Whether bytes can be passed over: by fingerprints, or by four walks if the bytes are many enough, and no pattern
     /// is too long.
-    fn can_pass(&self, bytes: usize) -> bool
+    pub fn can_pass(&self, bytes: usize) -> bool
         ensures { result ≡ true → self.now.fingerprints ≡ None → self.now.longest ≤ LONGEST }
     {
         self.fingerprints.is_some()
@@ -137,7 +137,7 @@ impl<'t> Table<'t> {
     }
 
     /// How far one walk goes before bytes are passed over.
-    fn nearest(&self) -> Nearest
+    pub fn nearest(&self) -> Nearest
         ensures { AreNear self.now result }
     {
         if self.fingerprints.is_some() {
@@ -160,7 +160,7 @@ impl<'t> Table<'t> {
     /// A place in a span before which nothing begins. It is called, and not put in its place, so that what calls it
     /// keeps what it needs in registers.
     #[inline(never)]
-    fn pass_over(
+    pub fn pass_over(
         &self,
         haystack: &[u8],
         span: Span,
@@ -172,8 +172,8 @@ impl<'t> Table<'t> {
         requires some { 8 ≤ near }
         requires long { self.now.fingerprints ≡ None → 6 * self.now.longest ≤ near }
         requires short { near ≤ 6 * LONGEST }
-        ensures none { ForTable self.now (λ query ignore_case. IsOkAnd result
-            (NoneBefore query ignore_case haystack.now span)) }
+        ensures none { ForPatterns self.now (λ patterns ignore_case. IsOkAnd result
+            (NoneBefore patterns ignore_case haystack.now span)) }
         ensures inside { IfOk result (λ at. (span.start ≤ at) × (at ≤ span.end)) }
         ensures others { tally.new ≡ record tally.old { scanned = tally.new.scanned } }
         ensures most { tally.new.scanned ≤ tally.old.scanned + 2 * near + 3 * (span.end - span.start) }
@@ -204,8 +204,8 @@ impl<'t> Table<'t> {
         requires some { BLOCKS_NEAR ≤ near }
         requires long { 6 * self.now.longest ≤ near }
         requires short { near ≤ 6 * LONGEST }
-        ensures none { ForTable self.now (λ query ignore_case. IsOkAnd result
-            (NoneBefore query ignore_case haystack.now span)) }
+        ensures none { ForPatterns self.now (λ patterns ignore_case. IsOkAnd result
+            (NoneBefore patterns ignore_case haystack.now span)) }
         ensures inside { IfOk result (λ at. (span.start ≤ at) × (at ≤ span.end)) }
         ensures others { tally.new ≡ record tally.old { scanned = tally.new.scanned } }
         ensures most { tally.new.scanned ≤ tally.old.scanned + 2 * near + 3 * (span.end - span.start) }
@@ -241,8 +241,8 @@ impl<'t> Table<'t> {
         requires limit { limit ≤ 2 ^ 31 }
         requires within { limit + CLASSES_LEN ≤ length self.now.rows.now }
         requires inside { at + 4 * block + self.now.longest ≤ length haystack.now }
-        ensures none { result ≡ true → ForTable self.now (λ query ignore_case.
-            NoneBefore query ignore_case haystack.now (between at (length haystack.now)) (at + 4 * block)) }
+        ensures none { result ≡ true → ForPatterns self.now (λ patterns ignore_case.
+            NoneBefore patterns ignore_case haystack.now (between at (length haystack.now)) (at + 4 * block)) }
         ensures others { tally.new ≡ record tally.old { scanned = tally.new.scanned } }
         ensures grows { tally.old.scanned ≤ tally.new.scanned }
         ensures most { tally.new.scanned ≤ tally.old.scanned + 4 * (block + self.now.longest) }

@@ -5,7 +5,8 @@ ghost use Rattle.std.specs.Prelude.{IfOk, IfSome, IsTrue, MatchResult, length, m
 ghost use Rattle.std.specs.Result.{IsOkAnd};
 ghost use Rattle.literal_base.specs.Occurs.{IsValidSpan};
 ghost use Rattle.literal_search.specs.Inside.Classes.{AreClasses};
-ghost use Rattle.literal_search.specs.Inside.Walk.{FindsEnd, IsRow, IsTable, LiesWithin, NoneInFour, rows_by};
+ghost use Rattle.literal_search.specs.Inside.Walk.{IsTable, LiesWithin, NoneInFour, Reaches, ReachesWithin};
+ghost use Rattle.literal_search.specs.Inside.Walk.{ReadsTo, rows_by};
 ghost use Rattle.literal_search.specs.Inside.Walk.{StopsBy, Walks, WalksFar};
 
 use crate::classes::CLASSES_LEN;
@@ -41,6 +42,17 @@ pub enum Walked {
 pub struct Stop {
     pub place: usize,
     pub end: usize,
+}
+
+/// What a walk has reached that looks for the end of a pattern.
+#[derive(Clone, Copy)]
+pub enum Reached {
+    /// Where a pattern ends, and none before.
+    Ends(Stop),
+    /// Behind this place the walk is back in the first state.
+    Back(usize),
+    /// The end of what it was to read.
+    Nowhere,
 }
 
 /// The numbers of an automaton.
@@ -154,27 +166,26 @@ impl<'t> Table<'t> {
         Ok(Walked::Known(last))
     }
 
-    /// The first place in a span behind which a match ends, and the row there. The walk stands at a row as it begins to
-    /// read the span. It stops where no more bytes matter.
-    #[inline(always)]
-    pub fn first_ended(
+    /// Walks from a row on through a span until a pattern ends, or, from the least place on, the walk is back in the
+    /// first state.
+    #[inline(never)]
+    pub fn reach(
         &self,
         haystack: &[u8],
         from: usize,
         span: Span,
+        least: usize,
         tally: &mut Tally,
-    ) -> Result<Option<Stop>, Damaged>
+    ) -> Result<Reached, Damaged>
         requires classes { length self.now.classes.now ≡ 256 }
         requires valid { IsValidSpan haystack.now span }
-        ensures first { AreClasses self.now.classes.now self.now.width → IsTable self.now.width (rows_by self.now)
-            → IsRow self.now.width (rows_by self.now) from → IsOkAnd result
-            (FindsEnd self.now.width (rows_by self.now) from self.now.classes.now haystack.now span) }
-        ensures inside { IfOk result (λ answer. IfSome answer
-            (λ stop. (span.start < stop.end) × (stop.end ≤ span.end) × (stop.place < 2 ^ 32))) }
+        ensures reaches { AreClasses self.now.classes.now self.now.width
+            → Reaches self.now.width (rows_by self.now) from self.now.classes.now haystack.now span result }
+        ensures inside { IfOk result (ReachesWithin span least) }
         ensures others { tally.new ≡ record tally.old { scanned = tally.new.scanned } }
+        ensures grows { tally.old.scanned ≤ tally.new.scanned }
         ensures once { tally.new.scanned ≤ tally.old.scanned + (span.end - span.start) }
-        ensures near { IfOk result (λ answer. IfSome answer
-            (λ stop. tally.new.scanned + span.start ≡ tally.old.scanned + stop.end)) }
+        ensures counted { IfOk result (ReadsTo span (tally.new.scanned - tally.old.scanned)) }
     {
         let limit = self.limit()?;
         if from >= limit {
@@ -183,16 +194,16 @@ impl<'t> Table<'t> {
         let mut place = from;
         for at in span.start..span.end {
             let code = self.code_at(place, haystack, at, tally);
-            if (code as usize) < limit {
-                place = code as usize;
-            } else if code == NOTHING {
-                return Ok(None);
-            } else {
-                let place = behind_end(code, limit)?;
-                return Ok(Some(Stop { place, end: at + 1 }));
+            if at >= least && code == 0 {
+                return Ok(Reached::Back(at + 1));
             }
+            if code as usize >= limit {
+                let place = behind_end(code, limit)?;
+                return Ok(Reached::Ends(Stop { place, end: at + 1 }));
+            }
+            place = code as usize;
         }
-        Ok(None)
+        Ok(Reached::Nowhere)
     }
 
     /// Whether nothing occurs in any of four spans, each as long as a block and the longest pattern, which begin one
@@ -214,7 +225,6 @@ impl<'t> Table<'t> {
         requires within { limit + CLASSES_LEN ≤ length self.now.rows.now }
         requires inside { at + 4 * block + self.now.longest ≤ length haystack.now }
         ensures none { result ≡ true → AreClasses self.now.classes.now self.now.width
-            → IsTable self.now.width (rows_by self.now)
             → NoneInFour self.now haystack.now at block (block + self.now.longest) }
         ensures others { tally.new ≡ record tally.old { scanned = tally.new.scanned } }
         ensures grows { tally.old.scanned ≤ tally.new.scanned }

@@ -2,7 +2,7 @@
 use crate::case::{Case, Query, Text};
 use crate::refusal::Refusal;
 use crate::searches::{NO_SEARCH, if_built, lent};
-use crate::told::{push_list, push_lists, push_word};
+use crate::told::{NONE, push_list, push_lists, push_word};
 use literal_prefilters::Match;
 use literal_search::Overlapping;
 use std::alloc::{AllocError, Global};
@@ -20,7 +20,7 @@ fn search_for(alloc: Global, case: &Case<'_>) -> Result<Option<Overlapping>, Ref
     build(alloc, &query)
 }
 
-/// Everything that occurs, by both calls, or what occurs in a span.
+/// Everything that occurs, by both calls; what occurs in a span; or the earliest end of it.
 pub fn overlapping(text: &mut String, alloc: Global, case: &Case<'_>) -> Result<(), Refusal> {
     match search_for(alloc, case)? {
         Some(search) => push_answer(text, alloc, case, &search),
@@ -45,9 +45,18 @@ fn push_answer(
             search,
             listed.as_slice(),
         )?,
-        _ => push_list(text, listed.as_slice())?,
+        "overlapping_in" => push_list(text, listed.as_slice())?,
+        _ => push_earliest(text, &asked, search)?,
     }
     Ok(())
+}
+
+/// Writes the earliest end in a span.
+fn push_earliest(text: &mut String, asked: &Text, search: &Overlapping) -> Result<(), AllocError> {
+    match search.earliest_end(asked.haystack.as_slice(), asked.span) {
+        Some(end) => write!(text, "{end}"),
+        None => text.push_str(NONE),
+    }
 }
 
 /// What occurs in a span.

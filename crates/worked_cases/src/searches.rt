@@ -2,7 +2,7 @@
 use crate::case::{Case, Query, Text};
 use crate::refusal::Refusal;
 use crate::told::{
-    NO_PREFILTER, NONE, OTHERWISE, push_found, push_list, push_lists, push_other, push_word,
+    NO_PREFILTER, OTHERWISE, push_found, push_list, push_lists, push_other, push_word,
 };
 use literal_prefilters::Match;
 use literal_prefilters::count::Tally;
@@ -45,7 +45,7 @@ fn search_for(alloc: Global, case: &Case<'_>) -> Result<Option<Search>, Refusal>
     build(alloc, &query)
 }
 
-/// All matches, by all calls of a `Search`; the leftmost one in a span; or the earliest end of an occurrence there.
+/// All matches, by all calls of a `Search`, or the leftmost one in a span.
 pub fn search(text: &mut String, alloc: Global, case: &Case<'_>) -> Result<(), Refusal> {
     match search_for(alloc, case)? {
         Some(search) => push_answer(text, alloc, case, &search),
@@ -63,8 +63,7 @@ fn push_answer(
     let asked = case.text(alloc)?;
     match case.call() {
         "search" => push_matches(text, alloc, asked.haystack.as_slice(), search)?,
-        "search_in" => push_leftmost(text, &asked, search)?,
-        _ => push_earliest(text, &asked, search)?,
+        _ => push_leftmost(text, &asked, search)?,
     }
     Ok(())
 }
@@ -90,14 +89,6 @@ fn push_matches(
 /// Writes the leftmost match in a span.
 fn push_leftmost(text: &mut String, asked: &Text, search: &Search) -> Result<(), AllocError> {
     push_found(text, search.find_in(asked.haystack.as_slice(), asked.span))
-}
-
-/// Writes the earliest end in a span.
-fn push_earliest(text: &mut String, asked: &Text, search: &Search) -> Result<(), AllocError> {
-    match search.earliest_end(asked.haystack.as_slice(), asked.span) {
-        Some(end) => write!(text, "{end}"),
-        None => text.push_str(NONE),
-    }
 }
 
 /// The confirming search for the patterns.

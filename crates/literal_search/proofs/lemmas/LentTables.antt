@@ -2,17 +2,20 @@
 use Rattle.std.proofs.Common.{◌≡◌, ℕ, ◌+◌, ◌-◌, ◌<◌, ◌≤◌, ◌^◌, List, [], drop, length, get_or}
 use Rattle.std.proofs.Common.{Err, IfErr, IfOk, Ok, None, Result, Some, refl, sym, ap, subst, ◌∙◌, arith}
 use Rattle.std.proofs.lemmas.List.{get_or-drop, get_or-map, get_or-take, length-map}
+use Rattle.std.proofs.Common.{Option}
 use Rattle.std.specs.List.{slice_range}
+use Rattle.std.specs.Result.{IsOkAnd}
 use Rattle.literal_base.specs.MatchValue.{MatchValue}
 use Rattle.literal_base.specs.Occurs.{IsValidSpan, between, pattern_at}
 use Rattle.literal_base.specs.declared.search.MatchKind.TheVariants.{Standard}
 use Rattle.literal_base.specs.declared.search.Span.{Span}
 use Rattle.literal_search.specs.Inside.Classes.{AreClasses}
 use Rattle.literal_search.specs.Inside.LentTables.{AreFor, AreLent, IsNextBy, IsNextEnd, tables_by}
-use Rattle.literal_search.specs.Inside.Prepared.{IsHeader, Puts, RefusesArray, numbers_for}
+use Rattle.literal_search.specs.Inside.Prepared.{IsHeader, Puts, RefusesArray, header_table, numbers_for}
 use Rattle.literal_search.specs.Inside.Rows.{rows_of}
+use Rattle.literal_search.specs.Inside.Scan.{IsTableFor}
 use Rattle.literal_search.specs.Inside.Standing.{IsStanding, longest_at, overlapping_value, standing_at}
-use Rattle.literal_search.specs.Inside.Walk.{FindsEnd, IsRow, IsTable}
+use Rattle.literal_search.specs.Inside.NextEnd.{FindsNext, IsNextStop, StandsNext}
 use Rattle.literal_search.specs.Overlapping.{OverlappingValue}
 use Rattle.literal_search.specs.PreparedOverlapping.{AreSized, AreTables, HasLongLists, HaveTables}
 use Rattle.literal_search.specs.PreparedOverlapping.{IsPreparedOverlapping, RefusesOverlapping, Tables}
@@ -21,6 +24,7 @@ use Rattle.literal_search.specs.PreparedOverlapping.{listed_len, starts_in, text
 use Rattle.literal_search.specs.Prepared.{classes_end, rows_at}
 use Rattle.literal_search.specs.States.{IsRowsLength}
 use Rattle.literal_search.specs.declared.prepared.Header.{Header}
+use Rattle.literal_search.specs.declared.prepared.Damaged.{Damaged}
 use Rattle.literal_search.specs.declared.prepared.PrepareError.{PrepareError}
 use Rattle.literal_search.specs.declared.prepared.TheConstants.{OVERLAPPING_VERSION}
 use Rattle.literal_search.specs.declared.prepared_overlapping.LentTables.{LentTables}
@@ -32,7 +36,6 @@ use Rattle.literal_search.proofs.lemmas.Numbers.{starts_written}
 use Rattle.literal_search.proofs.lemmas.Prepared.{length_part, rows_are}
 use Rattle.literal_search.proofs.lemmas.Standing.{is_pattern, longest_below, next_is, none_to_come, nothing_to_come}
 use Rattle.literal_search.proofs.lemmas.Standing.{row_inside, same_to_come, some_left, stands_next, stands_there}
-use Rattle.literal_search.proofs.lemmas.Walk.{row_at, rows_are_table}
 
 -- tables of a search whose parts are equal
 pub same_tables : (search : OverlappingValue) (classes classes' : List ℕ) (width width' : ℕ)
@@ -79,6 +82,20 @@ are_for p lent search prepared = record {
       (sym lent.header.classes_are) (sym lent.header.width_is) (sym (rows_are lent.header)) (sym lent.ends_are)
       (sym lent.starts_are) prepared.tables;
   lengths = lent.header.lengths_are ∙ prepared.lengths;
+  longest = lent.header.longest_is ∙ prepared.longest;
+}
+
+-- so they are those by which a walk goes for it
+pub lent_table : (p : LentTables) (search : OverlappingValue) → AreFor search p
+    → IsTableFor (header_table p.header) Standard search.patterns search.ignore_case
+lent_table p search are = record {
+  classes = are.tables.classes;
+  tells = are.tables.tells;
+  recognises = are.tables.recognises;
+  some = are.tables.kept.some;
+  longest = are.longest;
+  shortest = λ i below. omega arith;
+  fingerprints = tt;
 }
 
 -- where the classes end, and how many lengths there are, by the parts of an array
@@ -121,55 +138,42 @@ module _ {search : OverlappingValue} {p : LentTables} (are : AreFor search p) (h
       to_come = nothing_to_come t are.tables haystack bytes span valid s standing empty last;
     }
 
-    module _ (empty : s.end ≤ s.next) (more : s.at < span.end) where
-      is_table : IsTable t.width t.rows
-      is_table = rows_are_table Standard (texts_in t) t.width t.rows are.tables.recognises
+    -- what a walk by it finds from there on
+    pub finds_there : s.at < span.end → (result : Result (Option Stop) Damaged)
+        → FindsNext (header_table p.header) haystack s.place (between s.at span.end) result
+        → IsOkAnd result (IsNextStop search.patterns search.ignore_case t.classes t.width t.rows haystack span s.at)
+    finds_there more result finds =
+        finds search.patterns search.ignore_case (lent_table p search are) span.start (standing.stands more)
 
-      is_row : IsRow t.width t.rows s.place
-      is_row =
-          row_at Standard (texts_in t) t.width t.rows are.tables.recognises _ s.place
-          (standing.stands more are.tables.recognises)
-
-      -- no walk by it says that it is damaged
-      pub walk_is_whole : ¬ (AreClasses t.classes t.width → IsTable t.width t.rows → IsRow t.width t.rows s.place → ⊥)
-      walk_is_whole damaged = damaged are.tables.classes is_table is_row
-
+    module _ (empty : s.end ≤ s.next) where
       -- where it finds no end, there is none
-      pub next_nowhere : (AreClasses t.classes t.width → IsTable t.width t.rows → IsRow t.width t.rows s.place
-          → FindsEnd t.width t.rows s.place t.classes haystack (between s.at span.end) None)
+      pub next_nowhere : IsNextStop search.patterns search.ignore_case t.classes t.width t.rows haystack span s.at None
           → IsNextEnd t haystack span s None
-      next_nowhere finds = record {
+      next_nowhere none = record {
         stands = tt;
         more = tt;
-        to_come = none_to_come t are.tables haystack bytes span valid s standing more
-            (finds are.tables.classes is_table is_row) empty;
+        to_come = none_to_come t are.tables haystack bytes span valid s standing none empty;
       }
 
       -- and else it is where the walk stops, whose row and list lie in the array
       module _ (stop : Stop)
-          (finds : AreClasses t.classes t.width → IsTable t.width t.rows → IsRow t.width t.rows s.place
-          → FindsEnd t.width t.rows s.place t.classes haystack (between s.at span.end) (Some stop))
+          (next : StandsNext search.patterns search.ignore_case t.classes t.width t.rows haystack span s.at stop)
           (after : s.at < stop.end) (inside : stop.end ≤ span.end)
         where
-          found : FindsEnd t.width t.rows s.place t.classes haystack (between s.at span.end) (Some stop)
-          found = finds are.tables.classes is_table is_row
-
           pub row_there : stop.place + t.width < length t.rows
-          row_there = row_inside t are.tables haystack bytes span valid s standing more stop found after inside
+          row_there = row_inside t are.tables haystack bytes span valid s standing stop next after inside
 
           pub list_there : longest_at t stop + 1 < length t.starts
           list_there =
-              let below = longest_below t are.tables haystack bytes span valid s standing more stop found after inside
-              in
+              let below = longest_below t are.tables haystack bytes span valid s standing stop next after inside in
               let long = are.tables.lists.long in
               omega (arith, below, long)
 
           pub next_there : IsNextEnd t haystack span s (Some (standing_at t stop))
           next_there = record {
-            stands = stands_there t are.tables haystack bytes span valid s standing more stop found after inside;
-            more = some_left t are.tables haystack bytes span valid s standing more stop found after inside;
-            to_come = same_to_come t are.tables haystack bytes span valid s standing more stop found after inside
-                empty;
+            stands = stands_there t are.tables haystack bytes span valid s standing stop next after inside;
+            more = some_left t are.tables haystack bytes span valid s standing stop next after inside;
+            to_come = same_to_come t are.tables haystack bytes span valid s standing stop next after inside empty;
           }
 
     -- where the list has more
@@ -266,6 +270,7 @@ module _ (t : Tables) (tables : AreTables t) where
       check = check_written OVERLAPPING_VERSION t.classes t.width t.patterns t.rows t.starts t.ends tables.classes.each
           (listed_len all_of) (omega (arith, size, listed_is));
     };
+    longest = refl;
     tables = same_tables (overlapping_value t) t.classes _ t.width _ t.rows _ t.ends _ t.starts _
         (sym (classes_written OVERLAPPING_VERSION t.classes t.width t.patterns t.rows t.starts t.ends
         tables.classes.each)) refl

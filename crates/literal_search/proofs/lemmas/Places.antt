@@ -165,6 +165,7 @@ module _ (search : OverlappingValue) (old new : List ℕ)
                 ∙ ap check_of
                 (sym (part_is 2 (listed_len old) 2 (listed_len new) refl listed_is (omega arith) (omega arith))));
           };
+          longest = same 5 (omega arith) ∙ prepared.longest;
           tables = same_tables search _ _ _ _ _ _ _ _ _ _ (sym (part_is (rows_end old) (classes_end old) (rows_end new)
               (classes_end new) len_is (omega (arith, len_is)) (omega arith) (omega arith)))
               (sym (same 2 (omega arith)))

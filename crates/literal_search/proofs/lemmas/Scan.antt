@@ -13,10 +13,11 @@ use Rattle.literal_base.specs.Kinds.{root_kind_of}
 use Rattle.literal_base.specs.Leftmost.{IsLeftmostMatch}
 use Rattle.literal_base.specs.Occurs.{IsValidSpan, NothingOccurs, Occurs, between, pattern_at}
 use Rattle.literal_base.specs.Query.{Query}
+use Rattle.literal_base.specs.declared.search.MatchKind as search
 use Rattle.literal_base.specs.declared.search.Span.{Span}
 use Rattle.literal_search.specs.SearchValue.{ScansWithin, ScansOnce, longest_of}
 use Rattle.literal_search.specs.Inside.Classes.{symbols_in}
-use Rattle.literal_search.specs.Inside.Scan.{Answers, IsTableOf, NoneBefore, SearchesTo, StepsToEnd}
+use Rattle.literal_search.specs.Inside.Scan.{Answers, IsTableFor, IsTableOf, NoneBefore, SearchesTo, StepsToEnd}
 use Rattle.literal_search.specs.Inside.Scan.{WalksTo}
 use Rattle.literal_search.specs.Inside.Scan.{match_by}
 use Rattle.literal_search.specs.Inside.Walk.{BeginsAnew, Finds, FindsIn, IsFound, IsTable, LiesWithin}
@@ -25,6 +26,7 @@ use Rattle.literal_search.specs.declared.walk.Ended.{Ended}
 use Rattle.literal_search.specs.declared.walk.Table.{Table}
 use Rattle.literal_search.specs.declared.walk.Walked.TheVariants.{Known}
 use Rattle.literal_search.proofs.lemmas.Ends.{from_match_at, from_match_short}
+use Rattle.literal_search.proofs.lemmas.EndsFound.{nothing_ends}
 use Rattle.literal_search.proofs.lemmas.Found.{leftmost_found, nothing_found, some_symbols, stands_where}
 use Rattle.literal_search.proofs.lemmas.Found.{symbols_length}
 use Rattle.literal_search.proofs.lemmas.Longest.{longest_is}
@@ -115,7 +117,7 @@ module _ (t : Table) (query : Query) (ignore_case : Bool) (is : IsTableOf t quer
       -- what is known of a walk that is back in the first state
       pub none_before : (at : ℕ) → span.start ≤ at → at ≤ span.end
           → BeginsAnew t.width (rows_by t) (text_in t haystack span.start at)
-          → NoneBefore query ignore_case haystack span at
+          → NoneBefore query.patterns ignore_case haystack span at
       none_before at after inside anew i place o = elim (cases_lt place at) [
         | inr not ↦ not
         | inl early ↦
@@ -196,53 +198,58 @@ module _ (t : Table) (query : Query) (ignore_case : Bool) (is : IsTableOf t quer
           (longest_of query.patterns) (short_words t.classes.now query.patterns) in
           (far.0, omega (arith, near, symbols_length t.classes.now query.patterns e.pattern))
 
-  -- where four walks find nothing, nothing begins in the blocks from which they begin
-  module _ (haystack : List ℕ) (bytes : (i : ℕ) → get_or haystack i 0 < 256) (at block : ℕ)
-      (inside : at + 4 * block + t.longest ≤ length haystack)
-      (none : NoneInFour t haystack at block (block + t.longest))
-    where
-      none_in : (k : ℕ) → k < 4 → (i place : ℕ)
-          → Occurs query.patterns ignore_case haystack (between at (length haystack)) i place
-          → at + k * block ≤ place → place < at + k * block + block → ⊥
-      none_in k below i place o after before =
-          let start = at + k * block in
-          let most : k * block + block ≤ 4 * block = (let up : (k + 1) * block ≤ 4 * block =
-          mul-le-mul_right block (let next : k + 1 ≤ 4 = omega arith in next) in
-          let split : (k + 1) * block ≡ k * block + block = grind arith in omega (arith, up, split)) in
-          let short = longest_is query.patterns i in
-          let same = is.longest in
-          let valid : IsValidSpan haystack (between start (start + (block + t.longest))) =
-          record { ordered = omega arith; in_haystack = omega arith } in
-          nothing_by haystack bytes (between start (start + (block + t.longest))) valid (none k below) i place (record {
-            is_pattern = o.is_pattern;
-            after_start = after;
-            before_end = omega arith;
-            same = o.same;
-          })
+-- where four walks find nothing, nothing begins in the blocks from which they begin
+module _ (t : Table) (kind : search.MatchKind) (patterns : List (List ℕ)) (ignore_case : Bool)
+    (is : IsTableFor t kind patterns ignore_case)
+  where
+    module _ (haystack : List ℕ) (bytes : (i : ℕ) → get_or haystack i 0 < 256) (at block : ℕ)
+        (inside : at + 4 * block + t.longest ≤ length haystack)
+        (none : NoneInFour t haystack at block (block + t.longest))
+      where
+        none_in : (k : ℕ) → k < 4 → (i place : ℕ)
+            → Occurs patterns ignore_case haystack (between at (length haystack)) i place
+            → at + k * block ≤ place → place < at + k * block + block → ⊥
+        none_in k below i place o after before =
+            let start = at + k * block in
+            let most : k * block + block ≤ 4 * block = (let up : (k + 1) * block ≤ 4 * block =
+            mul-le-mul_right block (let next : k + 1 ≤ 4 = omega arith in next) in
+            let split : (k + 1) * block ≡ k * block + block = grind arith in omega (arith, up, split)) in
+            let short = longest_is patterns i in
+            let same = is.longest in
+            let valid : IsValidSpan haystack (between start (start + (block + t.longest))) =
+            record { ordered = omega arith; in_haystack = omega arith } in
+            nothing_ends ignore_case t.classes.now patterns is.tells is.some haystack bytes
+            (between start (start + (block + t.longest))) valid kind
+            (none k below kind (map (symbols_in t.classes.now) patterns) is.recognises) i place (record {
+              is_pattern = o.is_pattern;
+              after_start = after;
+              before_end = omega arith;
+              same = o.same;
+            })
 
-      pub none_in_blocks : NoneBefore query ignore_case haystack (between at (length haystack)) (at + 4 * block)
-      none_in_blocks i place o =
-          let after = o.after_start in
-          elim (cases_lt place (at + 4 * block)) [
-            | inr far ↦ far
-            | inl near ↦ elim (cases_lt place (at + block)) [
-              | inl one ↦ absurd (none_in 0 (omega arith) i place o (omega arith) (omega arith))
-              | inr behind_one ↦ elim (cases_lt place (at + 2 * block)) [
-                | inl two ↦ absurd (none_in 1 (omega arith) i place o (omega arith) (omega arith))
-                | inr behind_two ↦ elim (cases_lt place (at + 3 * block)) [
-                  | inl three ↦ absurd (none_in 2 (omega arith) i place o (omega arith) (omega arith))
-                  | inr behind_three ↦ absurd (none_in 3 (omega arith) i place o (omega arith) (omega arith))
+        pub none_in_blocks : NoneBefore patterns ignore_case haystack (between at (length haystack)) (at + 4 * block)
+        none_in_blocks i place o =
+            let after = o.after_start in
+            elim (cases_lt place (at + 4 * block)) [
+              | inr far ↦ far
+              | inl near ↦ elim (cases_lt place (at + block)) [
+                | inl one ↦ absurd (none_in 0 (omega arith) i place o (omega arith) (omega arith))
+                | inr behind_one ↦ elim (cases_lt place (at + 2 * block)) [
+                  | inl two ↦ absurd (none_in 1 (omega arith) i place o (omega arith) (omega arith))
+                  | inr behind_two ↦ elim (cases_lt place (at + 3 * block)) [
+                    | inl three ↦ absurd (none_in 2 (omega arith) i place o (omega arith) (omega arith))
+                    | inr behind_three ↦ absurd (none_in 3 (omega arith) i place o (omega arith) (omega arith))
+                  ]
                 ]
               ]
             ]
-          ]
 
 -- where nothing begins before a place of a span, the rest of the span from there on tells all
-module _ (query : Query) (ignore_case : Bool) (haystack : List ℕ) (span : Span) (start : ℕ)
-    (after : span.start ≤ start) (none : NoneBefore query ignore_case haystack span start)
+module _ (patterns : List (List ℕ)) (ignore_case : Bool) (haystack : List ℕ) (span : Span) (start : ℕ)
+    (after : span.start ≤ start) (none : NoneBefore patterns ignore_case haystack span start)
   where
-    in_rest : (i place : ℕ) → Occurs query.patterns ignore_case haystack span i place
-        → Occurs query.patterns ignore_case haystack (between start span.end) i place
+    pub in_rest : (i place : ℕ) → Occurs patterns ignore_case haystack span i place
+        → Occurs patterns ignore_case haystack (between start span.end) i place
     in_rest i place o = record {
       is_pattern = o.is_pattern;
       after_start = none i place o;
@@ -250,34 +257,45 @@ module _ (query : Query) (ignore_case : Bool) (haystack : List ℕ) (span : Span
       same = o.same;
     }
 
-    of_rest : (i place : ℕ) → Occurs query.patterns ignore_case haystack (between start span.end) i place
-        → Occurs query.patterns ignore_case haystack span i place
+    of_rest : (i place : ℕ) → Occurs patterns ignore_case haystack (between start span.end) i place
+        → Occurs patterns ignore_case haystack span i place
     of_rest i place o =
         let begins = o.after_start in
         record { is_pattern = o.is_pattern; after_start = omega arith; before_end = o.before_end; same = o.same }
 
-    pub none_later : (at : ℕ) → NoneBefore query ignore_case haystack (between start span.end) at
-        → NoneBefore query ignore_case haystack span at
+    pub none_later : (at : ℕ) → NoneBefore patterns ignore_case haystack (between start span.end) at
+        → NoneBefore patterns ignore_case haystack span at
     none_later at later i place o = later i place (in_rest i place o)
+
+module _ (query : Query) (ignore_case : Bool) (haystack : List ℕ) (span : Span) (start : ℕ)
+    (after : span.start ≤ start) (none : NoneBefore query.patterns ignore_case haystack span start)
+  where
+    abbrev from_rest : (i place : ℕ) → Occurs query.patterns ignore_case haystack (between start span.end) i place
+        → Occurs query.patterns ignore_case haystack span i place
+    from_rest = of_rest query.patterns ignore_case haystack span start after none
+
+    abbrev to_rest : (i place : ℕ) → Occurs query.patterns ignore_case haystack span i place
+        → Occurs query.patterns ignore_case haystack (between start span.end) i place
+    to_rest = in_rest query.patterns ignore_case haystack span start after none
 
     pub answers_later : (is_earliest : Bool) (answer : Option Ended)
         → Answers is_earliest query ignore_case haystack (between start span.end) answer
         → Answers is_earliest query ignore_case haystack span answer
-    answers_later is_earliest None nothing = λ i place o. nothing i place (in_rest i place o)
+    answers_later is_earliest None nothing = λ i place o. nothing i place (to_rest i place o)
     answers_later false (Some e) found = record {
-      occurs = of_rest e.pattern (e.end - length (pattern_at query.patterns e.pattern)) found.occurs;
+      occurs = from_rest e.pattern (e.end - length (pattern_at query.patterns e.pattern)) found.occurs;
       whole = found.whole;
-      earliest = λ i before early o. found.earliest i before early (in_rest i before o);
-      best = λ i better o. found.best i better (in_rest i _ o);
+      earliest = λ i before early o. found.earliest i before early (to_rest i before o);
+      best = λ i better o. found.best i better (to_rest i _ o);
     }
     answers_later true (Some e) found = record {
       occurs = (
         found.occurs.0,
         found.occurs.1,
-        of_rest found.occurs.0 found.occurs.1 found.occurs.2,
+        from_rest found.occurs.0 found.occurs.1 found.occurs.2,
         found.occurs.3,
       );
-      first = λ i place o. found.first i place (in_rest i place o);
+      first = λ i place o. found.first i place (to_rest i place o);
     }
 
 -- what a search scans that has gone on from a place, and up to there at least as much, and at most a little more than

@@ -22,8 +22,8 @@ use Rattle.literal_search.specs.Inside.Classes.{AreClasses, symbols_in}
 use Rattle.literal_search.specs.Inside.Grown.{ending_live}
 use Rattle.literal_search.specs.Inside.Walk.{FindsIn, IsAt, IsBehind, IsBest, IsFirstBest, IsFound, IsRow, IsTable}
 use Rattle.literal_search.specs.Inside.Walk.{HasRead}
-use Rattle.literal_search.specs.Inside.Walk.{Finds, FindsEarliest, FindsEnd, GoesOn, IsFirstEnd, NoneEnds}
-use Rattle.literal_search.specs.Inside.Walk.{WalksAll, StopsBy}
+use Rattle.literal_search.specs.Inside.Walk.{Finds, FindsEarliest, IsFirstEnd, NoneEnds}
+use Rattle.literal_search.specs.Inside.Walk.{WalksAll, WalksOn, StopsBy}
 use Rattle.literal_search.specs.Inside.Walk.{StopsNear, from_match, place_of, read_to, rows_by, text_in, text_of}
 use Rattle.literal_search.specs.Table.{LeadsTo, Leads, Recognises, code_of, nothing, stride_of}
 use Rattle.literal_search.specs.Words.{begins_one, ending, first_equal, live_suffix, word_of}
@@ -565,6 +565,21 @@ pub got_is : (numbers : List ℕ) (i : ℕ) (answer : Option (Bor ℕ)) (item : 
 got_is numbers i answer item is some =
     sym (ap (λ (o : Option (Bor ℕ)). unwrap_or (option_map (λ (b : Bor ℕ). b.now) o) 0) some) ∙ is.4 (omega arith) 0
 
+-- where all occurrences are wanted something is always live
+pub always_live : (patterns : List (List ℕ)) (text : List ℕ) → ¬ (live_suffix Standard patterns text ≡ None)
+always_live patterns [] is = cc
+always_live patterns (symbol ∷ text) is =
+    by_begun (begins_one Standard patterns (symbol ∷ text)) refl (always_live patterns text)
+  where
+    by_begun : (b : Bool) → begins_one Standard patterns (symbol ∷ text) ≡ b
+        → ¬ (live_suffix Standard patterns text ≡ None) → ⊥
+    by_begun true begun further =
+        let some : live_suffix Standard patterns (symbol ∷ text) ≡ Some (symbol ∷ text) = cond-true _ _ _ begun in cc
+    by_begun false unbegun further =
+        let same : live_suffix Standard patterns (symbol ∷ text)
+        ≡ live_suffix Standard patterns text = cond-false _ _ _ unbegun in
+        further (sym same ∙ is)
+
 -- a walk that stood at a row as it began to read
 module _ (width : ℕ) (rows : List ℕ) (from : ℕ) (classes haystack : List ℕ) (start : ℕ) where
   read_push : (text : List ℕ) (at : ℕ) → start ≤ at → at < length haystack
@@ -591,114 +606,69 @@ module _ (width : ℕ) (rows : List ℕ) (from : ℕ) (classes haystack : List �
     | inr before ↦ none end after before
   ]
 
-  pub goes_start : IsRow width rows from → GoesOn width rows from classes haystack start start from
-  goes_start row = record {
-    row = row;
-    stands = λ kind patterns recognises text at. (
-      subst (λ t. IsAt kind patterns width rows recognises t from) (sym (read_nothing text)) at,
-      λ end after upto. absurd (omega arith),
-    );
-  }
+  pub walks_start : WalksOn width rows from classes haystack start start from
+  walks_start kind patterns recognises text at = (
+    subst (λ t. IsAt kind patterns width rows recognises t from) (sym (read_nothing text)) at,
+    λ end after upto. absurd (omega arith),
+  )
 
-  module _ (table : IsTable width rows) (at place : ℕ)
-      (goes : GoesOn width rows from classes haystack start at place) (after : start ≤ at)
+  module _ (at place : ℕ) (walks : WalksOn width rows from classes haystack start at place) (after : start ≤ at)
       (inside : at < length haystack) (below : get_or classes (get_or haystack at 0) 0 < width) (code : ℕ)
-      (code_is : code ≡ get_or rows (place + get_or classes (get_or haystack at 0) 0) 0)
+      (code_if : place + width < length rows → code ≡ get_or rows (place + get_or classes (get_or haystack at 0) 0) 0)
     where
-      row_next : ¬ (code ≡ nothing) → IsRow width rows (place_of code)
-      row_next alive = elim (table.leads place (get_or classes (get_or haystack at 0) 0) goes.row below) [
-        | inl dead ↦ absurd (alive (code_is ∙ dead))
-        | inr row ↦ subst (λ n. IsRow width rows (place_of n)) (sym code_is) row
-      ]
+      number : (kind : search.MatchKind) (patterns : List (List ℕ)) (recognises : Recognises kind patterns width rows)
+          (text : List ℕ) → IsAt kind patterns width rows recognises (read_to text classes haystack start at) place
+          → code ≡ get_or rows (place + get_or classes (get_or haystack at 0) 0) 0
+      number kind patterns recognises text stood =
+          let row = row_at kind patterns width rows recognises (read_to text classes haystack start at) place stood in
+          code_if (omega (arith, row.fits))
 
       -- behind one byte more nothing ends
-      pub goes_further : code < 2 ^ 31 → GoesOn width rows from classes haystack start (at + 1) code
-      goes_further small = record {
-        row = subst (IsRow width rows) (cond-true _ _ _ (lt-ltb code (2 ^ 31) small)) (row_next (λ is. omega arith));
-        stands = λ kind patterns recognises text begins.
-            let stood = goes.stands kind patterns recognises text begins in
-            let on = at_without_end kind patterns width rows recognises (read_to text classes haystack start at) place
-            stood.0 _ below code code_is small in
-            let more = sym (read_push text at after inside) in (
-              subst (λ t. IsAt kind patterns width rows recognises t code) more on.0,
-              none_push kind patterns text at stood.1
-                  (subst (λ t. ending kind patterns t ≡ None) more on.1),
-            );
-      }
+      pub walks_further : code < 2 ^ 31 → WalksOn width rows from classes haystack start (at + 1) code
+      walks_further small kind patterns recognises text begins =
+          let stood = walks kind patterns recognises text begins in
+          let code_is = number kind patterns recognises text stood.0 in
+          let on = at_without_end kind patterns width rows recognises (read_to text classes haystack start at) place
+          stood.0 _ below code code_is small in
+          let more = sym (read_push text at after inside) in (
+            subst (λ t. IsAt kind patterns width rows recognises t code) more on.0,
+            none_push kind patterns text at stood.1 (subst (λ t. ending kind patterns t ≡ None) more on.1),
+          )
 
-      -- something ends
-      pub finds_end : 2 ^ 31 ≤ code → ¬ (code ≡ nothing) → (span : Span) → span.start ≡ start
-          → FindsEnd width rows from classes haystack span (Some (record { place = code - 2 ^ 31; end = at + 1 }))
-      finds_end large alive span same = λ kind patterns recognises text begins.
-          let stood = goes.stands kind patterns recognises text begins in
-          let on = at_with_end kind patterns width rows recognises (read_to text classes haystack start at) place
-          stood.0 _ below code code_is large alive in
-          let more = sym (read_push text at after inside) in
-          let stop : Stop = record { place = code - 2 ^ 31; end = at + 1 } in
-          let last : at ≡ at + 1 - 1 = omega arith in
-          subst (λ from. IsFirstEnd kind patterns width rows recognises text classes haystack from stop) (sym same)
-          (record {
-            none = subst (λ upto. NoneEnds kind patterns text classes haystack start upto) last stood.1;
-            ends = subst (λ t. IsSome (ending kind patterns t)) more
-                (subst (λ (o : Option ℕ). IsSome o) (sym on.1) refl);
-            at = subst (λ t. IsAt kind patterns width rows recognises t (code - 2 ^ 31)) more on.0;
-          })
-
-      -- nothing is live any more, and so nothing ends however far the text goes on
-      pub finds_dead_end : code ≡ nothing → (span : Span) → span.start ≡ start → span.end ≤ length haystack
-          → FindsEnd width rows from classes haystack span None
-      finds_dead_end is_dead span same short = λ kind patterns recognises text begins end begun upto.
-          let stood = goes.stands kind patterns recognises text begins in
-          let on = at_dead kind patterns width rows recognises (read_to text classes haystack start at) place stood.0 _
-          below code code_is is_dead in
-          let more = sym (read_push text at after inside) in
-          let later : start < end = omega (arith, same) in
-          subst (λ from. ending kind patterns (read_to text classes haystack from end) ≡ None) (sym same)
-          (elim (cases_lt at end) [
-            | inl longer ↦
-                dead_for_good kind patterns text end longer (omega arith)
-                (subst (λ t. live_suffix kind patterns t ≡ None) more on.0)
-            | inr before ↦ stood.1 end later before
-          ])
+      module _ (patterns : List (List ℕ)) (recognises : Recognises Standard patterns width rows) (text : List ℕ)
+          (begins : IsAt Standard patterns width rows recognises text from)
         where
-          dead_for_good : (kind : search.MatchKind) (patterns : List (List ℕ)) (text : List ℕ) (end : ℕ) → at < end
-              → end ≤ length haystack → live_suffix kind patterns (read_to text classes haystack start (at + 1)) ≡ None
-              → ending kind patterns (read_to text classes haystack start end) ≡ None
-          dead_for_good kind patterns text end longer short dead =
-              let first = text_of classes haystack (between start (at + 1)) in
-              let rest = text_of classes haystack (between (at + 1) end) in
-              let split : read_to text classes haystack start end ≡ read_to text classes haystack start (at + 1) ++
-              rest =
-              ap (λ l. text ++ l) (text_halves classes haystack start (at + 1) end (omega arith) (omega arith))
-              ∙ sym (append_assoc text first rest) in
-              ap (ending kind patterns) split
-              ∙ (ending_by_live kind patterns (read_to text classes haystack start (at + 1) ++ rest)
-              ∙ ap (ending_live kind patterns)
-              (sym (live_push kind patterns (read_to text classes haystack start (at + 1)) rest)
-              ∙ ap (λ o. live_on kind patterns o rest) dead))
+          -- something ends
+          pub reaches_end : 2 ^ 31 ≤ code → ¬ (code ≡ nothing) → IsFirstEnd Standard patterns width rows recognises text
+              classes haystack start (record { place = code - 2 ^ 31; end = at + 1 })
+          reaches_end large alive =
+              let stood = walks Standard patterns recognises text begins in
+              let code_is = number Standard patterns recognises text stood.0 in
+              let on = at_with_end Standard patterns width rows recognises (read_to text classes haystack start at) place
+              stood.0 _ below code code_is large alive in
+              let more = sym (read_push text at after inside) in
+              let last : at ≡ at + 1 - 1 = omega arith in
+              record {
+                none = subst (λ upto. NoneEnds Standard patterns text classes haystack start upto) last stood.1;
+                ends = subst (λ t. IsSome (ending Standard patterns t)) more
+                    (subst (λ (o : Option ℕ). IsSome o) (sym on.1) refl);
+                at = subst (λ t. IsAt Standard patterns width rows recognises t (code - 2 ^ 31)) more on.0;
+              }
 
-  -- behind all bytes
-  pub finds_no_end : (place : ℕ) (span : Span) → span.start ≡ start
-      → GoesOn width rows from classes haystack start span.end place
-      → FindsEnd width rows from classes haystack span None
-  finds_no_end place span same goes = λ kind patterns recognises text begins.
-      subst (λ first. NoneEnds kind patterns text classes haystack first span.end) (sym same)
-      (goes.stands kind patterns recognises text begins).1
-
--- where all occurrences are wanted something is always live
-pub always_live : (patterns : List (List ℕ)) (text : List ℕ) → ¬ (live_suffix Standard patterns text ≡ None)
-always_live patterns [] is = cc
-always_live patterns (symbol ∷ text) is =
-    by_begun (begins_one Standard patterns (symbol ∷ text)) refl (always_live patterns text)
-  where
-    by_begun : (b : Bool) → begins_one Standard patterns (symbol ∷ text) ≡ b
-        → ¬ (live_suffix Standard patterns text ≡ None) → ⊥
-    by_begun true begun further =
-        let some : live_suffix Standard patterns (symbol ∷ text) ≡ Some (symbol ∷ text) = cond-true _ _ _ begun in cc
-    by_begun false unbegun further =
-        let same : live_suffix Standard patterns (symbol ∷ text)
-        ≡ live_suffix Standard patterns text = cond-false _ _ _ unbegun in
-        further (sym same ∙ is)
+          -- the number leads to a row
+          pub number_leads : IsRow width rows (place_of code)
+          number_leads =
+              let stood = walks Standard patterns recognises text begins in
+              let code_is = number Standard patterns recognises text stood.0 in
+              let read = read_to text classes haystack start at in
+              let row = row_at Standard patterns width rows recognises read place stood.0 in
+              elim ((rows_are_table Standard patterns width rows recognises).leads place _ row below) [
+                | inl dead ↦
+                    let on = at_dead Standard patterns width rows recognises read place stood.0 _ below code code_is
+                    (code_is ∙ dead) in
+                    absurd (always_live patterns _ on.0)
+                | inr row ↦ subst (λ n. IsRow width rows (place_of n)) (sym code_is) row
+              ]
 
 -- what ends where a walk stands
 pub ends_at : (kind : search.MatchKind) (patterns : List (List ℕ)) (width : ℕ) (rows : List ℕ)

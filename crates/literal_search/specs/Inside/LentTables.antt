@@ -8,6 +8,7 @@ use Rattle.literal_search.specs.Inside.Standing.{HaveSameToCome, IsStanding, sta
 use Rattle.literal_search.specs.Overlapping.{OverlappingValue}
 use Rattle.literal_search.specs.OverlappingMatchesValue.{IsNextToCome, IsToCome, gone_on}
 use Rattle.literal_search.specs.Prepared.{LiesIn}
+use Rattle.literal_search.specs.SearchValue.{longest_of}
 use Rattle.literal_search.specs.PreparedOverlapping.{AreTables, HasLists, Tables, ends_in, starts_in}
 use Rattle.literal_search.specs.declared.prepared.TheConstants.{OVERLAPPING_VERSION}
 use Rattle.literal_search.specs.declared.prepared_overlapping.LentTables.{LentTables}
@@ -36,6 +37,7 @@ tables_by search p = record {
 pub record AreFor (search : OverlappingValue) (p : LentTables) : Type 0 where
   pub tables : AreTables (tables_by search p)
   pub lengths : p.header.lengths.now ≡ map (λ bytes. length bytes) search.patterns
+  pub longest : p.header.longest ≡ longest_of search.patterns
 
 -- a search stands in the span, at a row or another number
 pub record LiesAt (span : Span) (s : Standing) : Type 0 where

@@ -6,6 +6,7 @@ use Rattle.literal_base.specs.Leftmost.{IsLeftmostMatch}
 use Rattle.literal_base.specs.MatchValue.{MatchValue}
 use Rattle.literal_base.specs.Occurs.{NoneIsEmpty, NothingOccurs, Occurs, pattern_at}
 use Rattle.literal_base.specs.Query.{Query}
+use Rattle.literal_base.specs.declared.search.MatchKind as search
 use Rattle.literal_base.specs.declared.search.Span.{Span}
 use Rattle.literal_fingerprints.specs.FingerprintsValue.{AllPass}
 use Rattle.literal_search.specs.SearchValue.{NoneIsShorter, longest_of}
@@ -20,17 +21,25 @@ use Rattle.literal_search.specs.declared.walk.Table.{Table}
 
 -- the numbers are those of an automaton for patterns, none empty: classes that tell their bytes, rows that recognise
 -- their texts in these, the length of the longest, a length that none is below, and fingerprints that let all pass
-pub record IsTableOf (t : Table) (query : Query) (ignore_case : Bool) : Type 0 where
+pub record IsTableFor (t : Table) (kind : search.MatchKind) (patterns : List (List ℕ)) (ignore_case : Bool)
+    : Type 0 where
   pub classes : AreClasses t.classes.now t.width
-  pub tells : Tells ignore_case t.classes.now query.patterns
-  pub recognises : Recognises (root_kind_of query.kind) (map (symbols_in t.classes.now) query.patterns) t.width
-      (rows_by t)
-  pub some : NoneIsEmpty query.patterns
-  pub longest : t.longest ≡ longest_of query.patterns
-  pub shortest : NoneIsShorter t.shortest query.patterns
-  pub fingerprints : IfSome t.fingerprints (λ f. AllPass f.now ignore_case query.patterns)
+  pub tells : Tells ignore_case t.classes.now patterns
+  pub recognises : Recognises kind (map (symbols_in t.classes.now) patterns) t.width (rows_by t)
+  pub some : NoneIsEmpty patterns
+  pub longest : t.longest ≡ longest_of patterns
+  pub shortest : NoneIsShorter t.shortest patterns
+  pub fingerprints : IfSome t.fingerprints (λ f. AllPass f.now ignore_case patterns)
 
 -- what holds for all patterns of which these are the numbers
+abbrev pub ForPatterns : Table → (List (List ℕ) → Bool → Type 0) → Type 0
+ForPatterns t P = (kind : search.MatchKind) (patterns : List (List ℕ)) (ignore_case : Bool)
+    → IsTableFor t kind patterns ignore_case → P patterns ignore_case
+
+-- they are those for a leftmost kind of match
+abbrev pub IsTableOf : Table → Query → Bool → Type 0
+IsTableOf t query ignore_case = IsTableFor t (root_kind_of query.kind) query.patterns ignore_case
+
 abbrev pub ForTable : Table → (Query → Bool → Type 0) → Type 0
 ForTable t P = (query : Query) (ignore_case : Bool) → IsTableOf t query ignore_case → P query ignore_case
 
@@ -48,9 +57,9 @@ Answers true query ignore_case haystack span (Some e) =
     EndsEarliest query.patterns ignore_case haystack span e.end
 
 -- no occurrence in the span begins before a place
-abbrev pub NoneBefore : Query → Bool → List ℕ → Span → ℕ → Type 0
-NoneBefore query ignore_case haystack span at =
-    (i place : ℕ) → Occurs query.patterns ignore_case haystack span i place → at ≤ place
+abbrev pub NoneBefore : List (List ℕ) → Bool → List ℕ → Span → ℕ → Type 0
+NoneBefore patterns ignore_case haystack span at =
+    (i place : ℕ) → Occurs patterns ignore_case haystack span i place → at ≤ place
 
 -- how many steps one walk takes: all where nothing is found, and else at least those up to the match's end, and at most
 -- one more than those before the match and those of the longest pattern

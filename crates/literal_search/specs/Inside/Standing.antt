@@ -1,16 +1,17 @@
 -- The fields of `Parts` and `Standing`.
-use Rattle.std.specs.Prelude.{◌↔◌, ℕ, ◌+◌, ◌<◌, ◌≤◌, List, length, map, slice_index}
-use Rattle.literal_base.specs.declared.search.MatchKind.TheVariants.{Standard}
+use Rattle.std.specs.Prelude.{◌≡◌, ◌↔◌, IfSome, ℕ, ◌+◌, ◌<◌, ◌≤◌, List, length, map, slice_index}
 use Rattle.literal_base.specs.declared.search.Span.{Span}
 use Rattle.literal_base.specs.MatchValue.{MatchValue}
 use Rattle.literal_base.specs.Occurs.{between}
 use Rattle.literal_search.specs.Inside.Suffixes.{AreSuffixes}
 use Rattle.literal_search.specs.Inside.Lists.{starts_of}
-use Rattle.literal_search.specs.Inside.Walk.{IsAt, text_of}
+use Rattle.literal_search.specs.Inside.NextEnd.{Stands}
+use Rattle.literal_search.specs.Inside.Walk.{text_of}
 use Rattle.literal_search.specs.Overlapping.{OverlappingValue}
 use Rattle.literal_search.specs.OverlappingMatchesValue.{IsToCome, OverlappingMatchesValue}
 use Rattle.literal_search.specs.PreparedOverlapping.{Tables, texts_in}
-use Rattle.literal_search.specs.Table.{Recognises}
+use Rattle.literal_fingerprints.specs.FingerprintsValue.{AllPass}
+use Rattle.literal_search.specs.SearchValue.{longest_of}
 use Rattle.literal_search.specs.declared.overlapping.Parts.{Parts}
 use Rattle.literal_search.specs.declared.standing.Standing.{Standing}
 use Rattle.literal_search.specs.declared.walk.Stop.{Stop}
@@ -27,6 +28,11 @@ tables_of p = record {
   starts = starts_of p.lists.starts.items;
 }
 
+-- the parts by which a search passes over bytes: the length of the longest pattern, and fingerprints that let all pass
+pub record PassesBy (p : Parts) : Type 0 where
+  pub longest : p.longest ≡ longest_of (tables_of p).patterns
+  pub fingerprints : IfSome p.fingerprints (λ f. AllPass f p.ignore_case (tables_of p).patterns)
+
 -- what a caller sees of a search by tables
 abbrev pub overlapping_value : Tables → OverlappingValue
 overlapping_value t = record { patterns = t.patterns; ignore_case = t.ignore_case }
@@ -35,13 +41,13 @@ overlapping_value t = record { patterns = t.patterns; ignore_case = t.ignore_cas
 abbrev pub read_of : Tables → List ℕ → Span → ℕ → List ℕ
 read_of t haystack span at = text_of t.classes haystack (between span.start at)
 
--- a search stands at a place of the span: at its row, if more is to be read, and with those patterns of a list left
--- that end there, from one on
+-- a search stands at a place of the span: at a row from which a walk finds what ends further on, if more is to be read,
+-- and with those patterns of a list left that end there, from one on
 pub record IsStanding (t : Tables) (haystack : List ℕ) (span : Span) (s : Standing) : Type 0 where
   pub after : span.start ≤ s.at
   pub inside : s.at ≤ span.end
-  pub stands : s.at < span.end → (recognises : Recognises Standard (texts_in t) t.width t.rows)
-      → IsAt Standard (texts_in t) t.width t.rows recognises (read_of t haystack span s.at) s.place
+  pub stands : s.at < span.end → Stands t.patterns t.ignore_case t.classes t.width t.rows haystack span s.at
+      (record { place = s.place; end = s.at })
   pub ordered : s.next ≤ s.end
   pub within : s.end ≤ length t.ends
   pub left : AreSuffixes (texts_in t) (read_of t haystack span s.at) s.pattern t.ends s.next s.end

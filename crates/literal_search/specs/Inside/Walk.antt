@@ -1,11 +1,12 @@
 -- What a walk through the rows of an automaton finds.
 use Rattle.std.specs.Prelude.{◌≡◌, ℕ, ◌+◌, ◌*◌, ◌-◌, ◌<◌, ◌≤◌, ◌⊎◌, ◌^◌, Bool, true, false, List, [], ◌∷◌, ◌++◌}
-use Rattle.std.specs.Prelude.{⊤, Option, None, Some}
+use Rattle.std.specs.Prelude.{⊤, Option, None, Result, Some}
 use Rattle.std.specs.Prelude.{MatchOption, IfSome, IsSome, length}
 use Rattle.std.specs.Prelude.{if◌then◌else◌, nat_eq, nat_lt, slice_index, slice_range}
 use Rattle.std.specs.List.{starts_with}
 use Rattle.literal_base.specs.declared.packed.MatchKind.{MatchKind}
 use Rattle.literal_base.specs.declared.search.MatchKind as search
+use Rattle.literal_base.specs.declared.search.MatchKind.TheVariants.{Standard}
 use Rattle.literal_base.specs.declared.search.Span.{Span}
 use Rattle.literal_base.specs.Kinds.{root_kind_of}
 use Rattle.literal_base.specs.Leftmost.{IsBetter}
@@ -15,6 +16,8 @@ use Rattle.literal_search.specs.Inside.Rows.{rows_of}
 use Rattle.literal_search.specs.Table.{Recognises, nothing, stride_of}
 use Rattle.literal_search.specs.Words.{ending, live_suffix, one_stands, word_of}
 use Rattle.literal_search.specs.declared.walk.Ended.{Ended}
+use Rattle.literal_search.specs.declared.walk.Reached.{Reached}
+use Rattle.literal_search.specs.declared.walk.Reached.TheVariants.{Back, Ends, Nowhere}
 use Rattle.literal_search.specs.declared.walk.Stop.{Stop}
 use Rattle.literal_search.specs.declared.walk.Table.{Table}
 use Rattle.literal_search.specs.declared.walk.Walked.{Walked}
@@ -120,22 +123,34 @@ pub record IsFirstEnd (kind : search.MatchKind) (patterns : List (List ℕ)) (wi
   pub ends : IsSome (ending kind patterns (read_to text classes haystack start stop.end))
   pub at : IsAt kind patterns width rows recognises (read_to text classes haystack start stop.end) stop.place
 
--- the first such place in a span, for all patterns that the rows recognise, from all texts whose state has the row
-abbrev pub FindsEnd : ℕ → List ℕ → ℕ → List ℕ → List ℕ → Span → Option Stop → Type 0
-FindsEnd width rows place classes haystack span answer =
-    (kind : search.MatchKind) (patterns : List (List ℕ)) (recognises : Recognises kind patterns width rows)
-    (text : List ℕ) → IsAt kind patterns width rows recognises text place
-    → MatchOption answer (NoneEnds kind patterns text classes haystack span.start span.end)
-    (IsFirstEnd kind patterns width rows recognises text classes haystack span.start)
+-- what a walk has reached that reads a span: the first place where a pattern ends, or a place where it is back in the
+-- first state, or the end of the span, and no pattern ended before
+abbrev pub HasReached : (patterns : List (List ℕ)) (width : ℕ) (rows : List ℕ) → Recognises Standard patterns width rows
+    → List ℕ → List ℕ → List ℕ → Span → Reached → Type 0
+HasReached patterns width rows recognises text classes haystack span (Ends stop) =
+    IsFirstEnd Standard patterns width rows recognises text classes haystack span.start stop
+HasReached patterns width rows recognises text classes haystack span (Back at) =
+    IsAt Standard patterns width rows recognises (read_to text classes haystack span.start at) 0
+    × NoneEnds Standard patterns text classes haystack span.start at
+HasReached patterns width rows recognises text classes haystack span Nowhere =
+    NoneEnds Standard patterns text classes haystack span.start span.end
 
--- a walk that stood at a row stands at another, and no pattern has ended since
-pub record GoesOn (width : ℕ) (rows : List ℕ) (from : ℕ) (classes haystack : List ℕ) (start at place : ℕ)
-    : Type 0 where
-  pub row : IsRow width rows place
-  pub stands : (kind : search.MatchKind) (patterns : List (List ℕ)) (recognises : Recognises kind patterns width rows)
-      (text : List ℕ) → IsAt kind patterns width rows recognises text from
-      → IsAt kind patterns width rows recognises (read_to text classes haystack start at) place
-      × NoneEnds kind patterns text classes haystack start at
+-- the same for all patterns that the rows recognise where all that occurs is wanted, from all texts whose state has the
+-- row at which the walk stood
+abbrev pub Reaches : ℕ → List ℕ → ℕ → List ℕ → List ℕ → Span → Result Reached Damaged → Type 0
+Reaches width rows from classes haystack span result =
+    (patterns : List (List ℕ)) (recognises : Recognises Standard patterns width rows) (text : List ℕ)
+    → IsAt Standard patterns width rows recognises text from
+    → IsOkAnd result (HasReached patterns width rows recognises text classes haystack span)
+
+-- a walk that stood at a row stands at another, and no pattern has ended since, for all patterns that the rows recognise,
+-- from all texts whose state has the first of these rows
+abbrev pub WalksOn : ℕ → List ℕ → ℕ → List ℕ → List ℕ → ℕ → ℕ → ℕ → Type 0
+WalksOn width rows from classes haystack start at place =
+    (kind : search.MatchKind) (patterns : List (List ℕ)) (recognises : Recognises kind patterns width rows)
+    (text : List ℕ) → IsAt kind patterns width rows recognises text from
+    → IsAt kind patterns width rows recognises (read_to text classes haystack start at) place
+    × NoneEnds kind patterns text classes haystack start at
 
 -- no pattern stands at any place of a text, however it goes on, for all patterns, none empty, that the rows recognise
 abbrev pub BeginsAnew : ℕ → List ℕ → List ℕ → Type 0
@@ -197,8 +212,25 @@ LiesWithin span least (Known None) = ⊤
 LiesWithin span least (Known (Some e)) = (span.start < e.end) × (e.end ≤ span.end)
 LiesWithin span least (Anew at) = (span.start < at) × (at ≤ span.end) × (least < at)
 
--- nothing is found in any of four spans of one length that begin one block behind another
+-- no pattern ends from one place up to another, for all patterns that the rows recognise
+abbrev pub NoneEndsIn : Table → List ℕ → ℕ → ℕ → Type 0
+NoneEndsIn t haystack start end =
+    (kind : search.MatchKind) (patterns : List (List ℕ)) → Recognises kind patterns t.width (rows_by t)
+    → NoneEnds kind patterns [] t.classes.now haystack start end
+
+-- nor in any of four spans of one length that begin one block behind another
 abbrev pub NoneInFour : Table → List ℕ → ℕ → ℕ → ℕ → Type 0
 NoneInFour t haystack at block len =
-    (k : ℕ) → k < 4 → FindsIn t.width (rows_by t) (at + k * block)
-    (text_in t haystack (at + k * block) (at + k * block + len)) None
+    (k : ℕ) → k < 4 → NoneEndsIn t haystack (at + k * block) (at + k * block + len)
+
+-- how far a walk has read, whatever the numbers are: up to what it has reached
+abbrev pub ReadsTo : Span → ℕ → Reached → Type 0
+ReadsTo span steps (Ends stop) = span.start + steps ≡ stop.end
+ReadsTo span steps (Back at) = span.start + steps ≡ at
+ReadsTo span steps Nowhere = span.start + steps ≡ span.end
+
+-- what it has reached lies in the span, and where that is the first state, behind the least place
+abbrev pub ReachesWithin : Span → ℕ → Reached → Type 0
+ReachesWithin span least (Ends stop) = (span.start < stop.end) × (stop.end ≤ span.end) × (stop.place < 2 ^ 32)
+ReachesWithin span least (Back at) = (span.start < at) × (at ≤ span.end) × (least < at)
+ReachesWithin span least Nowhere = ⊤

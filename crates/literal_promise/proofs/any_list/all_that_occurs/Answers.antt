@@ -13,15 +13,21 @@ returns-in_err-search-clause-refused c =
     (NeedTooManyStates Standard asked.ignore_case) (λ patterns many. inr (inl many))
     c.in_err-search.field-0.0 c.in_err-search.ensures.error c.from_residual.ensures.1
 
-pub returns-in_err-taken_overlapping-clause-refused : goal.returns-in_err-taken_overlapping-clause-refused
-returns-in_err-taken_overlapping-clause-refused c =
+pub returns-in_err-all-clause-refused : goal.returns-in_err-all-clause-refused
+returns-in_err-all-clause-refused c =
     let same = overlapping_is_for (slice_gives c.args.asked.now.patterns.now (cc)) c.args.asked.now.ignore_case _
     c.in_ok-search.ensures.ok in
-    refused_memory c.args.asked.now c.from_residual-in_err-taken_overlapping.result
-    (rw same at c.in_err-taken_overlapping.ensures.no_memory) c.from_residual-in_err-taken_overlapping.ensures.1
+    refused_memory c.args.asked.now c.from_residual-in_err-all.result
+    (rw same at c.in_err-all.ensures.no_memory) c.from_residual-in_err-all.ensures.1
 
 pub returns-clause-overlapping : goal.returns-clause-overlapping
 returns-clause-overlapping c =
     let same = overlapping_is_for (slice_gives c.args.asked.now.patterns.now (cc)) c.args.asked.now.ignore_case _
     c.in_ok-search.ensures.ok in
-    rw same at c.in_ok-taken_overlapping.ensures.overlapping
+    rw same at c.in_ok-all.ensures.overlapping
+
+pub returns-clause-earliest : goal.returns-clause-earliest
+returns-clause-earliest c =
+    let same = overlapping_is_for (slice_gives c.args.asked.now.patterns.now (cc)) c.args.asked.now.ignore_case _
+    c.in_ok-search.ensures.ok in
+    rw same at c.earliest_end-earliest.ensures

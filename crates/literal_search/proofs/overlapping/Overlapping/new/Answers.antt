@@ -1,14 +1,15 @@
-use Rattle.std.proofs.Common.{◌∙◌, ℕ, List, arith, ap, length, map, subst, sym}
+use Rattle.std.proofs.Common.{◌∙◌, IfSome, ℕ, List, arith, ap, length, map, subst, sym}
 use Rattle.std.proofs.lemmas.List.{length-map}
 use Rattle.std.specs.Global.{Global}
 use Rattle.std.specs.declared.vec.Vec.{Vec}
 use Rattle.literal_base.specs.Occurs.{NoneIsEmpty}
 use Rattle.literal_base.specs.declared.search.MatchKind.TheVariants.{Standard}
-use Rattle.literal_search.specs.SearchValue.{NeedTooManyStates, width_for}
+use Rattle.literal_search.specs.SearchValue.{NeedTooManyStates, longest_of, width_for}
 use Rattle.literal_search.specs.Inside.Classes.{Tells, symbols_in}
 use Rattle.literal_search.specs.Inside.Lists.{AreLists, starts_of}
 use Rattle.literal_search.specs.States.{HasTooManyStates, IsRowsLength}
-use Rattle.literal_search.specs.Inside.Standing.{tables_of}
+use Rattle.literal_fingerprints.specs.FingerprintsValue.{AllPass}
+use Rattle.literal_search.specs.Inside.Standing.{PassesBy, tables_of}
 use Rattle.literal_search.specs.PreparedOverlapping.{AreSized, AreTables}
 use Rattle.literal_search.specs.Table.{Recognises}
 use Rattle.literal_search.specs.declared.overlapping.Parts.{Parts}
@@ -95,7 +96,9 @@ invariant_of-result g c =
       width = classes.width;
       rows = record { rows = c.in_ok-rows.rows.rows; classes = k };
       lists = c.in_ok-lists.lists;
-    } in AreTables (tables_of p) × AreSized (tables_of p)) (sym c.in_ok-rows.ensures.classes) (
+      longest = c.longest_len-longest.result;
+      fingerprints = c.new-fingerprints.result;
+    } in AreTables (tables_of p) × AreSized (tables_of p) × PassesBy p) (sym c.in_ok-rows.ensures.classes) (
       record {
         classes = c.classes_for-classes.ensures.classes;
         tells = subst (λ (patterns : List (Vec ℕ Global)). Tells c.args.ignore_case classes.table
@@ -120,6 +123,13 @@ invariant_of-result g c =
             (map (λ (pattern : Vec ℕ Global). pattern.items) patterns)) c.deref.ensures.value;
         rows = subst (λ (texts : List (List ℕ)). IsRowsLength Standard texts classes.width
             (length c.in_ok-rows.rows.rows)) texts_are c.in_ok-rows.ensures.states;
+      },
+      record {
+        longest = c.longest_len-longest.ensures ∙ ap (λ (patterns : List (Vec ℕ Global)). longest_of
+            (map (λ (pattern : Vec ℕ Global). pattern.items) patterns)) c.deref-4.ensures.value;
+        fingerprints = subst (λ (patterns : List (Vec ℕ Global)). IfSome c.new-fingerprints.result
+            (λ f. AllPass f c.args.ignore_case (map (λ (pattern : Vec ℕ Global). pattern.items) patterns)))
+            c.deref-5.ensures.value c.new-fingerprints.ensures.pass;
       },
     )
 

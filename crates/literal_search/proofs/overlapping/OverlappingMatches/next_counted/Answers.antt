@@ -29,4 +29,8 @@ pub returns-clause-bounded : goal.returns-clause-bounded
 returns-clause-bounded c =
     let at = ap (λ (v : OverlappingMatchesValue). v.end) c.self.view_is in
     let scanned = c.in-Some.ensures.bounded in
-    record { others = scanned.others; scanned = omega (arith, scanned.scanned, at, c.first_of-found.ensures.end) }
+    record {
+      others = scanned.others;
+      least = omega (arith, scanned.least, at, c.first_of-found.ensures.end);
+      scanned = omega (arith, scanned.scanned, at, c.first_of-found.ensures.end);
+    }

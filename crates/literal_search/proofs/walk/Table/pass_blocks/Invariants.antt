@@ -1,5 +1,5 @@
 use Rattle.std.proofs.Common.{◌≡◌, ◌+◌, ◌-◌, ◌*◌, ◌<◌, ◌≤◌, ◌^◌}
-use Rattle.literal_search.specs.Inside.Scan.{ForTable, NoneBefore}
+use Rattle.literal_search.specs.Inside.Scan.{ForPatterns, NoneBefore}
 use Rattle.literal_search.proofs.walk.Table.pass_blocks.Given as goal
 
 abbrev pub invariant-loop-block : goal.invariant-loop-block
@@ -9,7 +9,7 @@ invariant-loop-block l = record {
   some : 0 < l.block;
   long : 2 * l.self.longest ≤ l.block;
   short : l.block < 2 ^ 20;
-  none : ForTable l.self (λ query ignore_case. NoneBefore query ignore_case l.haystack l.fn.span l.at);
+  none : ForPatterns l.self (λ patterns ignore_case. NoneBefore patterns ignore_case l.haystack l.fn.span l.at);
   others : l.tally ≡ record l.initial.tally { scanned = l.tally.scanned };
   least : l.initial.tally.scanned + l.at ≤ l.tally.scanned + l.fn.span.start;
   counted : l.tally.scanned + 6 * l.block ≤ l.initial.tally.scanned + 2 * l.fn.near + 3 * (l.at - l.fn.span.start);

@@ -1,4 +1,5 @@
 use Rattle.std.proofs.Common.{◌+◌, ◌-◌, ◌≡◌, Bool, IfSome, arith, inl, inr, subst, true}
+use Rattle.literal_base.specs.Kinds.{root_kind_of}
 use Rattle.literal_base.specs.Occurs.{IsValidSpan, between}
 use Rattle.literal_search.specs.Inside.Scan.{Answers, ForTable, SearchesTo, StepsToEnd, WalksTo}
 use Rattle.literal_search.specs.Inside.Walk.{LiesWithin, StopsBy, Walks, WalksFar}
@@ -95,15 +96,15 @@ returns-in-Known-clause-first c = λ earliest query ignore_case is.
 
 pub returns-in_err-start-in-Anew-clause-found : goal.returns-in_err-start-in-Anew-clause-found
 returns-in_err-start-in-Anew-clause-found c = λ query ignore_case is. absurd
-    (c.in_err-start-in-Anew.ensures.none query ignore_case is)
+    (c.in_err-start-in-Anew.ensures.none (root_kind_of query.kind) query.patterns ignore_case is)
 
 pub returns-in_err-start-in-Anew-clause-near : goal.returns-in_err-start-in-Anew-clause-near
 returns-in_err-start-in-Anew-clause-near c = λ _ query ignore_case is. absurd
-    (c.in_err-start-in-Anew.ensures.none query ignore_case is)
+    (c.in_err-start-in-Anew.ensures.none (root_kind_of query.kind) query.patterns ignore_case is)
 
 pub returns-in_err-start-in-Anew-clause-first : goal.returns-in_err-start-in-Anew-clause-first
 returns-in_err-start-in-Anew-clause-first c = λ _ query ignore_case is. absurd
-    (c.in_err-start-in-Anew.ensures.none query ignore_case is)
+    (c.in_err-start-in-Anew.ensures.none (root_kind_of query.kind) query.patterns ignore_case is)
 
 pub loop-nearest-preserved : goal.loop-nearest-preserved
 loop-nearest-preserved c =
@@ -129,12 +130,12 @@ loop-nearest-preserved c =
       inside = passed.inside.1;
       short = next.short so_far.short nearest.short;
       none = λ query ignore_case is.
-          none_later query ignore_case haystack c.args.span start so_far.after (so_far.none query ignore_case is) new
-          (none_later query ignore_case haystack rest at (omega (arith, lies.0))
+          none_later query.patterns ignore_case haystack c.args.span start so_far.after (so_far.none query ignore_case is) new
+          (none_later query.patterns ignore_case haystack rest at (omega (arith, lies.0))
           (none_before t query ignore_case is haystack (λ k. omega (arith, c.type_inv.haystack k)) rest
           (record { ordered = so_far.inside; in_haystack = all }) at (omega (arith, lies.0)) lies.1
           (subst (Walks t haystack rest c.args.is_earliest) c.in-Anew.is
-          (told.found is.classes (is_table t query ignore_case is)))) new (passed.none query ignore_case is));
+          (told.found is.classes (is_table t query ignore_case is)))) new (passed.none (root_kind_of query.kind) query.patterns ignore_case is));
       others = others_on c.args.tally.now c.loop-nearest.tally c.walk.new.tally c.pass_over.new.tally
           so_far.others told.others passed.others;
       least = omega (arith, so_far.least, far, lies.0, passed.least, told.grows);

@@ -9,7 +9,7 @@ invariant-loop-nearest l = record {
   after : l.fn.span.start ≤ l.start;
   inside : l.start ≤ l.fn.span.end;
   short : l.near ≤ 6 * LONGEST;
-  none : ForTable l.self (λ query ignore_case. NoneBefore query ignore_case l.haystack l.fn.span l.start);
+  none : ForTable l.self (λ query ignore_case. NoneBefore query.patterns ignore_case l.haystack l.fn.span l.start);
   others : l.tally ≡ record l.fn.tally { scanned = l.tally.scanned };
   least : l.fn.tally.scanned + l.start ≤ l.tally.scanned + l.fn.span.start;
   counted : l.tally.scanned + 2 * l.nearest.later ≤ l.fn.tally.scanned + 3 * (l.start - l.fn.span.start)

@@ -1,0 +1,220 @@
+-- Patterns that end where a walk was told of an end, as occurrences in the haystack.
+use Rattle.std.proofs.Common.{◌≡◌, ℕ, ◌+◌, ◌-◌, ◌<◌, ◌≤◌, Bool, true, false, List, [], ◌∷◌, ◌++◌, length, get_or, map}
+use Rattle.std.proofs.Common.{Some, None, append-nil, drop, take, nat_eq, refl, sym, ap, ◌∙◌, arith}
+use Rattle.std.proofs.Common.{inl, inr, length-append, zero, suc}
+use Rattle.std.proofs.Math.Seq.{drop-append_seam}
+use Rattle.std.proofs.lemmas.Bool.{cases_lt, cond-false, cond-true, false≢true}
+use Rattle.std.proofs.lemmas.Bool.Decides.{Decides-eqb}
+use Rattle.std.proofs.lemmas.List.{drop-append-le, length-drop, length-map, take-append-drop}
+use Rattle.std.proofs.lemmas.List.Folds.{list_any_at}
+use Rattle.std.proofs.lemmas.Slice.Eq.{starts_is}
+use Rattle.std.specs.List.{starts_with}
+use Rattle.literal_base.specs.Kinds.{root_kind_of}
+use Rattle.literal_base.specs.Occurs.{IsValidSpan, NoneIsEmpty, NothingOccurs, Occurs, between, pattern_at}
+use Rattle.literal_base.specs.declared.packed.MatchKind.{MatchKind}
+use Rattle.literal_base.specs.declared.packed.MatchKind.TheVariants as leftmost
+use Rattle.literal_base.specs.declared.search.MatchKind as search
+use Rattle.literal_base.specs.declared.search.MatchKind.TheVariants.{LeftmostFirst, LeftmostLongest, Standard}
+use Rattle.literal_base.specs.declared.search.Span.{Span}
+use Rattle.literal_search.specs.Inside.Classes.{Tells, symbols_in}
+use Rattle.literal_search.specs.Inside.Suffixes.{IsSuffix}
+use Rattle.literal_search.specs.Inside.Walk.{NoneEnds, from_match, text_of}
+use Rattle.literal_search.specs.Words.{begins_one, ending, live_suffix}
+use Rattle.literal_search.proofs.lemmas.Ends.{whole_if_long}
+use Rattle.literal_search.proofs.lemmas.Found.{nothing_found, occurs_where, some_symbols, stands_where}
+use Rattle.literal_search.proofs.lemmas.Found.{symbols_length, text_long}
+use Rattle.literal_search.proofs.lemmas.Live.{stands_or_begins}
+use Rattle.literal_search.proofs.lemmas.Standard.{ends_length, none_ends}
+use Rattle.literal_search.proofs.lemmas.Walk.{found_push, text_halves, text_length, text_push}
+
+-- where the live suffix is empty no pattern begins with any of the suffixes
+nothing_begun : (patterns : List (List ℕ)) (text : List ℕ) → live_suffix Standard patterns text ≡ Some []
+    → (k : ℕ) → k < length text → begins_one Standard patterns (drop k text) ≡ false
+nothing_begun patterns [] is = λ k inside. absurd (omega arith)
+nothing_begun patterns (symbol ∷ text) is =
+    by_begun (begins_one Standard patterns (symbol ∷ text)) refl (nothing_begun patterns text)
+  where
+    by_begun : (b : Bool) → begins_one Standard patterns (symbol ∷ text) ≡ b
+        → (live_suffix Standard patterns text ≡ Some [] → (k : ℕ) → k < length text
+        → begins_one Standard patterns (drop k text) ≡ false)
+        → (k : ℕ) → k < length (symbol ∷ text) → begins_one Standard patterns (drop k (symbol ∷ text)) ≡ false
+    by_begun true begun further k inside =
+        let some : live_suffix Standard patterns (symbol ∷ text) ≡ Some (symbol ∷ text) = cond-true _ _ _ begun in cc
+    by_begun false unbegun further zero inside = unbegun
+    by_begun false unbegun further (suc k) inside =
+        let same : live_suffix Standard patterns (symbol ∷ text) ≡ live_suffix Standard patterns text =
+        cond-false _ _ _ unbegun in
+        further (sym same ∙ is) k (omega arith)
+
+pub nothing_read : (classes haystack : List ℕ) (at : ℕ) → text_of classes haystack (between at at) ≡ []
+nothing_read classes haystack at =
+    let none : at - at ≡ 0 = omega arith in
+    ap (λ n. symbols_in classes (take n (drop at haystack))) none
+
+module _ (ignore_case : Bool) (classes : List ℕ) (patterns : List (List ℕ)) (tells : Tells ignore_case classes patterns)
+    (some : NoneIsEmpty patterns) (haystack : List ℕ) (bytes : (i : ℕ) → get_or haystack i 0 < 256) (span : Span)
+    (valid : IsValidSpan haystack span)
+  where
+    abbrev words : List (List ℕ)
+    words = map (symbols_in classes) patterns
+
+    known : length words ≡ length patterns
+    known = length-map patterns (symbols_in classes)
+
+    valid_part : (from at : ℕ) → from ≤ at → at ≤ span.end → IsValidSpan haystack (between from at)
+    valid_part from at after inside =
+        let all = valid.in_haystack in record { ordered = after; in_haystack = omega arith }
+
+    -- an occurrence is a suffix of what is read up to its end, from no place behind its start on
+    pub occurrence_ends : (from i place end : ℕ) → from ≤ place → end ≡ place + length (pattern_at patterns i)
+        → Occurs patterns ignore_case haystack span i place
+        → IsSuffix words (text_of classes haystack (between from end)) i
+    occurrence_ends from i place end after whole o =
+        let last = o.before_end in
+        let here = between from end in
+        let valid_here = valid_part from end (omega arith) (omega arith) in
+        let text = text_of classes haystack here in
+        let word = pattern_at words i in
+        let stands = stands_where ignore_case classes patterns tells haystack bytes here valid_here i place (record {
+          is_pattern = o.is_pattern;
+          after_start = after;
+          before_end = omega arith;
+          same = o.same;
+        }) in
+        let long = text_long ignore_case classes patterns tells haystack bytes here valid_here in
+        let size = symbols_length classes patterns i in
+        let same : drop (place - from) text ≡ word =
+        whole_if_long (drop (place - from) text) word stands (omega (arith, length-drop (place - from) text, long, size))
+        in
+        record {
+          is_pattern = omega (arith, known, o.is_pattern);
+          ends = record {
+            prefix = take (place - from) text;
+            split = sym (take-append-drop (place - from) text) ∙ ap (λ l. take (place - from) text ++ l) same;
+          };
+        }
+
+    -- and a suffix of what is read occurs
+    pub end_occurs : (from at i : ℕ) → span.start ≤ from → from ≤ at → at ≤ span.end
+        → IsSuffix words (text_of classes haystack (between from at)) i
+        → Occurs patterns ignore_case haystack span i (at - length (pattern_at patterns i))
+        × (at ≡ at - length (pattern_at patterns i) + length (pattern_at patterns i))
+        × (from ≤ at - length (pattern_at patterns i))
+    end_occurs from at i begin after inside is =
+        let here = between from at in
+        let valid_here = valid_part from at after inside in
+        let text = text_of classes haystack here in
+        let word = pattern_at words i in
+        let prefix = is.ends.prefix in
+        let start = at - length (pattern_at patterns i) in
+        let long = text_long ignore_case classes patterns tells haystack bytes here valid_here in
+        let size = symbols_length classes patterns i in
+        let parts_long = ends_length text word is.ends in
+        let place : length prefix ≡ start - from = omega (arith, long, size, parts_long) in
+        let same : drop (start - from) text ≡ word =
+        ap (λ n. drop n text) (sym place) ∙ (ap (drop (length prefix)) is.ends.split ∙ drop-append_seam prefix word) in
+        let stands : starts_with nat_eq (drop (start - from) text) word ≡ true =
+        (starts_is Decides-eqb (drop (start - from) text) word _ refl).1 [] (same ∙ sym (append-nil word)) in
+        let is_pattern = is.is_pattern in
+        let occurs = occurs_where ignore_case classes patterns tells haystack bytes here valid_here i start
+        (omega (arith, known)) (omega (arith, long, size, parts_long)) (omega arith) stands in
+        let before = occurs.before_end in (
+          record {
+            is_pattern = occurs.is_pattern;
+            after_start = omega (arith, occurs.after_start);
+            before_end = omega arith;
+            same = occurs.same;
+          },
+          omega (arith, long, size, parts_long),
+          occurs.after_start,
+        )
+
+    -- where nothing is live, no occurrence that ends further on has begun
+    pub begins_behind : (from at i place : ℕ) → from ≤ at → from ≤ place → at < place + length (pattern_at patterns i)
+        → at ≤ span.end
+        → live_suffix Standard words (text_of classes haystack (between from at)) ≡ Some []
+        → Occurs patterns ignore_case haystack span i place → at ≤ place
+    begins_behind from at i place begin after further inside live o = elim (cases_lt place at) [
+      | inr not ↦ not
+      | inl early ↦
+          let last = o.before_end in
+          let all = valid.in_haystack in
+          let end = place + length (pattern_at patterns i) in
+          let here = between from end in
+          let read = text_of classes haystack (between from at) in
+          let more = text_of classes haystack (between at end) in
+          let k = place - from in
+          let word = pattern_at words i in
+          let long = text_length classes haystack from at begin (omega arith) in
+          let within : k < length read = omega arith in
+          let stands = stands_where ignore_case classes patterns tells haystack bytes here
+          (valid_part from end (omega arith) (omega arith)) i place (record {
+            is_pattern = o.is_pattern;
+            after_start = after;
+            before_end = omega arith;
+            same = o.same;
+          }) in
+          let split : drop k (text_of classes haystack here) ≡ drop k read ++ more =
+          ap (drop k) (text_halves classes haystack from at end begin (omega arith))
+          ∙ drop-append-le k read more (omega arith) in
+          elim (stands_or_begins (drop k read) more word
+          (ap (λ (t : List ℕ). starts_with nat_eq t word) (sym split) ∙ stands)) [
+            | inl whole ↦
+                let parts = (starts_is Decides-eqb (drop k read) word _ refl).0 whole in
+                absurd (omega (
+                  arith,
+                  ap (λ (l : List ℕ). length l) parts,
+                  length-append word (drop (length word) (drop k read)),
+                  length-drop k read,
+                  symbols_length classes patterns i,
+                ))
+            | inr begun ↦
+                absurd (false≢true (sym (nothing_begun words read live k within)
+                ∙ list_any_at (λ pattern. starts_with nat_eq pattern (drop k read)) words i []
+                (omega (arith, known, o.is_pattern)) begun))
+          ]
+    ]
+
+    -- where a walk from the first state on was told of no end, no pattern stands in what it read
+    none_stands : (kind : MatchKind) → NoneEnds (root_kind_of kind) words [] classes haystack span.start span.end
+        → (n : ℕ) → span.start + n ≤ span.end
+        → from_match words (text_of classes haystack (between span.start (span.start + n))) ≡ []
+    none_stands kind none zero inside =
+        let same : span.start + 0 ≡ span.start = omega arith in
+        ap (λ e. from_match words (text_of classes haystack (between span.start e))) same
+        ∙ ap (from_match words) (nothing_read classes haystack span.start)
+    none_stands kind none (suc n) inside =
+        let at = span.start + n in
+        let next : at + 1 ≡ span.start + suc n = omega arith in
+        let all = valid.in_haystack in
+        let push = text_push classes haystack span.start at (omega arith) (omega arith) in
+        let symbol = get_or classes (get_or haystack at 0) 0 in
+        ap (λ e. from_match words (text_of classes haystack (between span.start e))) (sym next)
+        ∙ (ap (from_match words) push
+        ∙ found_push kind words (some_symbols classes patterns some) span.start
+        (text_of classes haystack (between span.start at)) symbol None
+        (ap (ending (root_kind_of kind) words) (sym push) ∙ none (at + 1) (omega arith) (omega arith))
+        (none_stands kind none n (omega arith)))
+
+    nothing_by_kind : (kind : MatchKind)
+        → NoneEnds (root_kind_of kind) words [] classes haystack span.start span.end
+        → NothingOccurs patterns ignore_case haystack span
+    nothing_by_kind kind none =
+        let ordered = valid.ordered in
+        let all : span.start + (span.end - span.start) ≡ span.end = omega arith in
+        nothing_found ignore_case classes patterns tells haystack bytes span valid some kind
+        (ap (λ e. from_match words (text_of classes haystack (between span.start e))) (sym all)
+        ∙ none_stands kind none (span.end - span.start) (omega arith))
+
+    -- and nothing occurs
+    pub nothing_ends : (kind : search.MatchKind) → NoneEnds kind words [] classes haystack span.start span.end
+        → NothingOccurs patterns ignore_case haystack span
+    nothing_ends Standard none = λ i at o.
+        let long = some i [] o.is_pattern in
+        let last = o.before_end in
+        let after = o.after_start in
+        let end = at + length (pattern_at patterns i) in
+        none_ends words (some_symbols classes patterns some) (text_of classes haystack (between span.start end))
+        (none end (omega arith) (omega arith)) i (occurrence_ends span.start i at end after refl o)
+    nothing_ends LeftmostFirst none = nothing_by_kind leftmost.LeftmostFirst none
+    nothing_ends LeftmostLongest none = nothing_by_kind leftmost.LeftmostLongest none

@@ -1,0 +1,213 @@
+-- A walk from one end of patterns to the next.
+use Rattle.std.proofs.Common.{◌≡◌, ℕ, ◌+◌, ◌-◌, ◌*◌, ◌<◌, ◌≤◌, Bool, List, [], Some, get_or, length, map}
+use Rattle.std.proofs.Common.{ap, arith, inl, inr, refl, subst, suc, sym, zero, ◌∙◌}
+use Rattle.std.proofs.Common.{◌^◌, IfOk, IfSome, IsSome, None, Option, Result}
+use Rattle.std.specs.Result.{IsOkAnd}
+use Rattle.std.specs.Option.{option_map}
+use Rattle.std.proofs.lemmas.Bool.{cases_lt}
+use Rattle.literal_base.specs.Counts.{Counts}
+use Rattle.literal_base.specs.Occurs.{IsValidSpan, NoneIsEmpty, Occurs, between, pattern_at}
+use Rattle.literal_base.specs.declared.search.MatchKind.TheVariants.{Standard}
+use Rattle.literal_base.specs.declared.search.Span.{Span}
+use Rattle.literal_search.specs.Earliest.{IsEarliestEnd, ScansToEndWithin}
+use Rattle.literal_search.specs.Inside.Classes.{Tells, symbols_in}
+use Rattle.literal_search.specs.Inside.NextEnd.{FindsNext, IsNextStop, Stands, StandsNext, StepsToStop}
+use Rattle.literal_search.specs.Inside.Scan.{IsTableFor, NoneBefore}
+use Rattle.literal_search.specs.Inside.Walk.{rows_by, IsAt, IsFirstEnd, NoneEnds, read_to, text_of}
+use Rattle.literal_search.specs.Table.{Recognises, stride_of}
+use Rattle.literal_search.specs.Words.{ending, live_suffix, word_of}
+use Rattle.literal_search.specs.declared.prepared.Damaged.{Damaged}
+use Rattle.literal_search.specs.declared.walk.Stop.{Stop}
+use Rattle.literal_search.specs.declared.walk.Table.{Table}
+use Rattle.literal_search.proofs.lemmas.EndsFound.{begins_behind, end_occurs, nothing_read, occurrence_ends}
+use Rattle.literal_search.proofs.lemmas.Found.{some_symbols}
+use Rattle.literal_search.proofs.lemmas.Scan.{also_ok}
+use Rattle.literal_search.proofs.lemmas.Standard.{first_ends, none_ends}
+use Rattle.literal_search.proofs.lemmas.Walk.{at_start, text_halves}
+
+-- at the first row nothing is live
+at_root : (patterns : List (List ℕ)) (width : ℕ) (rows : List ℕ) (recognises : Recognises Standard patterns width rows)
+    (text : List ℕ) → IsAt Standard patterns width rows recognises text 0 → live_suffix Standard patterns text ≡ Some []
+at_root patterns width rows recognises text at =
+    at.live_suffix ∙ ap Some (ap (word_of recognises.words) (first at.state at.place_is) ∙ recognises.root)
+  where
+    first : (state : ℕ) → 0 ≡ state * stride_of width → state ≡ 0
+    first zero is = refl
+    first (suc state) is = grind arith
+
+-- a walk stands at the first row where it has read nothing
+pub stands_first : (patterns : List (List ℕ)) (ignore_case : Bool) (classes : List ℕ) (width : ℕ)
+    (rows haystack : List ℕ) (span : Span)
+    → Stands patterns ignore_case classes width rows haystack span span.start (record { place = 0; end = span.start })
+stands_first patterns ignore_case classes width rows haystack span = record {
+  from = span.start;
+  after = omega arith;
+  before = omega arith;
+  at = λ recognises. subst (λ text. IsAt Standard (map (symbols_in classes) patterns) width rows recognises text 0)
+      (sym (nothing_read classes haystack span.start))
+      (at_start Standard (map (symbols_in classes) patterns) width rows recognises);
+  begins = λ i place o further. o.after_start;
+}
+
+module _ (t : Table) (patterns : List (List ℕ)) (ignore_case : Bool) (is : IsTableFor t Standard patterns ignore_case)
+    (haystack : List ℕ) (bytes : (i : ℕ) → get_or haystack i 0 < 256) (span : Span) (valid : IsValidSpan haystack span)
+    (s : Stop) (inside : s.end ≤ span.end)
+    (stands : Stands patterns ignore_case t.classes.now t.width (rows_by t) haystack span s.end s) (behind : ℕ)
+    (later : (i place : ℕ) → Occurs patterns ignore_case haystack span i place
+    → behind < place + length (pattern_at patterns i) → s.end < place + length (pattern_at patterns i))
+  where
+    abbrev texts : List (List ℕ)
+    texts = map (symbols_in t.classes.now) patterns
+
+    abbrev pub read : List ℕ
+    read = text_of t.classes.now haystack (between stands.from s.end)
+
+    reads_to : (end : ℕ) → s.end ≤ end
+        → read_to read t.classes.now haystack s.end end ≡ text_of t.classes.now haystack (between stands.from end)
+    reads_to end further = sym (text_halves t.classes.now haystack stands.from s.end end stands.before further)
+
+    -- what is to come ends behind where no pattern ends
+    none_upto : (upto : ℕ) → NoneEnds Standard texts read t.classes.now haystack s.end upto → (i place : ℕ)
+        → Occurs patterns ignore_case haystack span i place → s.end < place + length (pattern_at patterns i)
+        → upto < place + length (pattern_at patterns i)
+    none_upto upto none i place o further =
+        let end = place + length (pattern_at patterns i) in
+        elim (cases_lt upto end) [
+          | inl past ↦ past
+          | inr within ↦ absurd (none_ends texts (some_symbols t.classes.now patterns is.some)
+              (text_of t.classes.now haystack (between stands.from end))
+              (ap (ending Standard texts) (sym (reads_to end (omega arith))) ∙ none end further within) i
+              (occurrence_ends ignore_case t.classes.now patterns is.tells is.some haystack bytes span valid stands.from i
+              place end (stands.begins i place o further) refl o))
+        ]
+
+    -- where something ends next
+    pub next_there : (stop : Stop) → s.end < stop.end
+        → ((recognises : Recognises Standard texts t.width (rows_by t))
+        → IsFirstEnd Standard texts t.width (rows_by t) recognises read t.classes.now haystack s.end stop)
+        → StandsNext patterns ignore_case t.classes.now t.width (rows_by t) haystack span behind stop
+    next_there stop further finds =
+        let first = finds is.recognises in
+        let same = reads_to stop.end (omega arith) in
+        let before = stands.before in
+        record {
+          stands = record {
+            from = stands.from;
+            after = stands.after;
+            before = omega arith;
+            at = λ recognises. subst (λ text. IsAt Standard texts t.width (rows_by t) recognises text stop.place) same
+                (finds recognises).at;
+            begins = λ i place o to_come. stands.begins i place o (later i place o to_come);
+          };
+          ends = subst (λ text. IsSome (ending Standard texts text)) same first.ends;
+          first = λ i place o to_come.
+              let past = none_upto (stop.end - 1) first.none i place o (later i place o to_come) in omega arith;
+        }
+
+    -- where nothing does
+    pub next_nowhere : NoneEnds Standard texts read t.classes.now haystack s.end span.end → (i place : ℕ)
+        → Occurs patterns ignore_case haystack span i place → place + length (pattern_at patterns i) ≤ behind
+    next_nowhere none i place o = elim (cases_lt behind (place + length (pattern_at patterns i))) [
+      | inl to_come ↦
+          let past = none_upto span.end none i place o (later i place o to_come) in
+          let last = o.before_end in absurd (omega arith)
+      | inr not ↦ not
+    ]
+
+    -- where the walk is back in the first state, and then nothing begins before another place
+    module _ (at new : ℕ) (after : s.end ≤ at) (on : at ≤ new) (within : new ≤ span.end)
+        (back : (recognises : Recognises Standard texts t.width (rows_by t))
+        → IsAt Standard texts t.width (rows_by t) recognises (read_to read t.classes.now haystack s.end at) 0
+        × NoneEnds Standard texts read t.classes.now haystack s.end at)
+        (none : NoneBefore patterns ignore_case haystack (between at span.end) new)
+      where
+        begins_new : (i place : ℕ) → Occurs patterns ignore_case haystack span i place
+            → s.end < place + length (pattern_at patterns i) → new ≤ place
+        begins_new i place o further =
+            let before = stands.before in
+            let live = at_root texts t.width (rows_by t) is.recognises _ (back is.recognises).0 in
+            let behind_at = begins_behind ignore_case t.classes.now patterns is.tells is.some haystack bytes span valid
+            stands.from at i place (omega arith) (stands.begins i place o further)
+            (none_upto at (back is.recognises).1 i place o further) (omega arith)
+            (ap (live_suffix Standard texts) (sym (reads_to at after)) ∙ live) o in
+            none i place (record {
+              is_pattern = o.is_pattern;
+              after_start = behind_at;
+              before_end = o.before_end;
+              same = o.same;
+            })
+
+        pub stands_new : Stands patterns ignore_case t.classes.now t.width (rows_by t) haystack span new
+            (record { place = 0; end = new })
+        stands_new =
+            let after_start = stands.after in
+            let before = stands.before in
+            record {
+              from = new;
+              after = omega arith;
+              before = omega arith;
+              at = λ recognises. subst (λ text. IsAt Standard texts t.width (rows_by t) recognises text 0)
+                  (sym (nothing_read t.classes.now haystack new))
+                  (at_start Standard texts t.width (rows_by t) recognises);
+              begins = λ i place o further. begins_new i place o (omega arith);
+            }
+
+        pub later_new : (i place : ℕ) → Occurs patterns ignore_case haystack span i place
+            → behind < place + length (pattern_at patterns i) → new < place + length (pattern_at patterns i)
+        later_new i place o to_come =
+            let begins = begins_new i place o (later i place o to_come) in
+            let long = is.some i [] o.is_pattern in
+            omega arith
+
+module _ (patterns : List (List ℕ)) (ignore_case : Bool) (classes : List ℕ) (width : ℕ) (rows : List ℕ)
+    (tells : Tells ignore_case classes patterns) (some : NoneIsEmpty patterns) (haystack : List ℕ)
+    (bytes : (i : ℕ) → get_or haystack i 0 < 256) (span : Span) (valid : IsValidSpan haystack span)
+  where
+    -- where something ends next behind the start of a span, it ends earliest in it
+    pub earliest_is : (answer : Option Stop)
+        → IsNextStop patterns ignore_case classes width rows haystack span span.start answer
+        → IfSome answer (λ stop. (span.start < stop.end) × (stop.end ≤ span.end) × (stop.place < 2 ^ 32))
+        → IsEarliestEnd patterns ignore_case haystack span (option_map (λ stop. stop.end) answer)
+    earliest_is None none inside = λ i place o.
+        let long = some i [] o.is_pattern in
+        let after = o.after_start in
+        let end = none i place o in omega arith
+    earliest_is (Some stop) next inside =
+        let texts = map (symbols_in classes) patterns in
+        let text = text_of classes haystack (between next.stands.from stop.end) in
+        let one = some_is (ending Standard texts text) next.ends in
+        let first = first_ends texts (some_symbols classes patterns some) text one.0 one.1 in
+        let occurs = end_occurs ignore_case classes patterns tells some haystack bytes span valid
+        next.stands.from stop.end one.0 next.stands.after next.stands.before inside.1 first.is in
+        record {
+          occurs = (one.0, stop.end - length (pattern_at patterns one.0), occurs.0, sym occurs.1);
+          first = λ i place o.
+              let long = some i [] o.is_pattern in
+              let after = o.after_start in
+              next.first i place o (omega arith);
+        }
+      where
+        some_is : {T : Type 0} (o : Option T) → IsSome o → (v : T) × (o ≡ Some v)
+        some_is None is = cc
+        some_is (Some v) is = (v, refl)
+
+pub finds_earliest : (t : Table) (patterns : List (List ℕ)) (ignore_case : Bool)
+    → IsTableFor t Standard patterns ignore_case → (haystack : List ℕ) → ((i : ℕ) → get_or haystack i 0 < 256)
+    → (span : Span) → IsValidSpan haystack span → (result : Result (Option Stop) Damaged)
+    → FindsNext t haystack 0 span result → IfOk result (λ answer. IfSome answer
+    (λ stop. (span.start < stop.end) × (stop.end ≤ span.end) × (stop.place < 2 ^ 32)))
+    → IsOkAnd result (λ answer. IsEarliestEnd patterns ignore_case haystack span (option_map (λ stop. stop.end) answer))
+finds_earliest t patterns ignore_case is haystack bytes span valid result finds inside =
+    also_ok result _ _ _ (λ answer next lies. earliest_is patterns ignore_case t.classes.now t.width (rows_by t) is.tells
+    is.some haystack bytes span valid answer next lies)
+    (finds patterns ignore_case is span.start
+    (stands_first patterns ignore_case t.classes.now t.width (rows_by t) haystack span)) inside
+
+-- what is scanned up to there
+pub scans_to_end : (span : Span) (old new : Counts) → new ≡ record old { scanned = new.scanned }
+    → old.scanned ≤ new.scanned → (answer : Option Stop) → StepsToStop span (new.scanned - old.scanned) answer
+    → ScansToEndWithin span (option_map (λ stop. stop.end) answer) old new
+scans_to_end span old new others grows None steps =
+    record { others = others; least = omega (arith, steps.0); scanned = omega (arith, steps.1) }
+scans_to_end span old new others grows (Some stop) steps =
+    record { others = others; least = omega (arith, steps.0); scanned = omega (arith, steps.1) }
