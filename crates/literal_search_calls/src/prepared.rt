@@ -102,11 +102,22 @@ fn found_by_overlapping(array: &[u32]) -> Result<Option<Match>, Fail> {
     Ok(matches.next_counted(&mut Tally::new())?)
 }
 
+/// The earliest end by it in the same part, by both calls.
+fn earliest_ends(array: &[u32]) -> Result<[Option<usize>; 2], Fail> {
+    let (span, tally) = (Span { start: 3, end: 18 }, &mut Tally::new());
+    let prepared = PreparedOverlapping::new(array)?;
+    Ok([
+        prepared.earliest_end(HAYSTACK, span)?,
+        prepared.earliest_end_counted(HAYSTACK, span, tally)?,
+    ])
+}
+
 #[test]
 fn counts_by_other_arrays(rt: HostRuntime) -> Result<(), Fail> {
     let array = filled_by_linear(rt.alloc())?;
     assert!(rt; found_by_linear(rt.alloc(), &array)? == second());
     let array = filled_by_overlapping(rt.alloc())?;
     assert!(rt; found_by_overlapping(&array)? == second());
+    assert!(rt; earliest_ends(&array)? == [Some(18); 2]);
     Ok(())
 }

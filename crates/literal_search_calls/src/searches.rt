@@ -128,6 +128,15 @@ fn counted_of_others(linear: &Linear, all: &Overlapping) -> Result<[Option<Match
     Ok([matches.next_counted(tally), overlapping.next_counted(tally)])
 }
 
+/// The earliest end in a part of the haystack, by both calls.
+fn earliest_ends(all: &Overlapping) -> [Option<usize>; 2] {
+    let (span, tally) = (Span { start: 3, end: 18 }, &mut Tally::new());
+    [
+        all.earliest_end(HAYSTACK, span),
+        all.earliest_end_counted(HAYSTACK, span, tally),
+    ]
+}
+
 #[test]
 fn others_count_what_they_look_up(rt: HostRuntime) -> Result<(), Fail> {
     let words = [b"password".as_slice(), b"secret"];
@@ -135,6 +144,7 @@ fn others_count_what_they_look_up(rt: HostRuntime) -> Result<(), Fail> {
     let all = Overlapping::new(rt.alloc(), true, words)?;
     let second = Some(Match::must(1, Span { start: 12, end: 18 }));
     assert!(rt; counted_of_others(&linear, &all)? == [second; 2]);
+    assert!(rt; earliest_ends(&all) == [Some(18); 2]);
     Ok(())
 }
 

@@ -56,7 +56,9 @@ fn answer(text: &mut String, alloc: Global, case: &Case<'_>) -> Result<(), Refus
         "find_in" | "find_iter" | "builder" => packed_search::packed(text, alloc, case),
         "search" | "search_in" => searches::search(text, alloc, case),
         "linear" | "linear_in" => linear::linear(text, alloc, case),
-        "overlapping" | "overlapping_in" | "earliest_end" => overlapping::overlapping(text, alloc, case),
+        "overlapping" | "overlapping_in" | "earliest_end" => overlapping::overlapping(
+            text, alloc, case,
+        ),
         "confirm" | "confirm_all" => searches::confirm(text, alloc, case),
         "candidate" | "choice" | "prefilter" => prefilters::prefilter(text, alloc, case),
         "choices" => prefilters::choices(text, alloc, case),
