@@ -2,7 +2,8 @@
 use Rattle.std.specs.Prelude.{◌≡◌, ◌+◌, ◌*◌, ◌/◌, ◌%◌, ◌^◌, ◌<◌, ◌≤◌, ℕ, Bool, List, length, map, take, drop, fold}
 use Rattle.std.specs.Prelude.{slice_index, slice_range}
 use Rattle.std.specs.Int.Bits.{bit_xor}
-use Rattle.std.specs.List.{All}
+use Rattle.std.specs.Int.{to_le_bytes, w32}
+use Rattle.std.specs.List.{All, flat_map}
 use Rattle.literal_base.specs.Kinds.{root_kind_of}
 use Rattle.literal_base.specs.MatchValue.{MatchValue}
 use Rattle.literal_base.specs.Query.{Query}
@@ -64,9 +65,9 @@ fingerprints_part numbers = slice_range numbers (classes_end numbers) (prepared_
 abbrev pub shortest_by : List ℕ → ℕ
 shortest_by prints = slice_index prints 0
 
--- the fingerprints by such numbers: each behind the first stands for the byte that its last eight bits are
+-- the fingerprints by such numbers: each behind the first stands for four bytes, the lowest first
 abbrev pub fingerprints_by : List ℕ → FingerprintsValue
-fingerprints_by prints = fingerprints_in (map (λ number. number % 256) (drop 1 prints))
+fingerprints_by prints = fingerprints_in (flat_map (to_le_bytes w32) (drop 1 prints))
 
 -- a number of 32 bits, stirred so that no other becomes the same: its upper half is xored into its lower one, and then
 -- it is multiplied by an odd factor, in 32 bits

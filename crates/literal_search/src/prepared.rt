@@ -3,6 +3,7 @@
 ghost use Rattle.std.specs.Prelude.{◌≡◌, ◌+◌, ◌-◌, ◌*◌, ◌<◌, ◌≤◌, ◌^◌, ◌↔◌, length, map};
 ghost use Rattle.std.specs.Prelude.{ℕ, IfErr, IfOk, IfSome, IsTrue, MatchOption, MatchResult, OnErr};
 ghost use Rattle.std.specs.Prelude.{min, slice_index, slice_range};
+ghost use Rattle.std.specs.Int.{to_le_bytes, w32};
 ghost use Rattle.std.specs.Result.{IsOkAnd};
 ghost use Rattle.literal_base.specs.Occurs.{IsValidSpan};
 ghost use Rattle.literal_base.specs.Leftmost.{IsLeftmost};
@@ -38,8 +39,8 @@ pub const LINEAR_VERSION: u32 = 0x4C4C_0002;
 pub const LENGTHS_AT: usize = 6;
 
 /// How many numbers fingerprints take, behind the classes: a length that no pattern is below, or 0 where there are no
-/// fingerprints, and one for each of their bytes.
-pub const FINGERPRINTS_LEN: usize = 1 + BYTES;
+/// fingerprints, and one for four of their bytes each.
+pub const FINGERPRINTS_LEN: usize = 1 + BYTES / 4;
 
 /// What a check over no numbers is. It is not zero, so that no zeros lead to a check of zero.
 const CHECK_START: u32 = 2_166_136_261;
@@ -302,10 +303,18 @@ pub fn fingerprint_numbers(
     };
     numbers[0] = shortest.min(u32::MAX as usize) as u32;
     let bytes = fingerprints.to_bytes();
-    for at in 0..BYTES {
-        numbers[1 + at] = u32::from(bytes[at]);
+    for at in 0..BYTES / 4 {
+        numbers[1 + at] = number_at(&bytes, 4 * at);
     }
     numbers
+}
+
+/// The number that four bytes from a place on stand for, the lowest first.
+fn number_at(bytes: &[u8], at: usize) -> u32
+    requires { at + 4 ≤ length bytes.now }
+    ensures { to_le_bytes w32 result ≡ slice_range bytes.now at (at + 4) }
+{
+    u32::from_le_bytes([bytes[at], bytes[at + 1], bytes[at + 2], bytes[at + 3]])
 }
 
 /// The fingerprints by such numbers.
@@ -314,8 +323,8 @@ fn fingerprints_by(prints: &[u32]) -> Fingerprints
     ensures { result ≡ fingerprints_by prints.now }
 {
     let mut bytes = [0; BYTES];
-    for at in 0..BYTES {
-        bytes[at] = (prints[1 + at] % 256) as u8;
+    for at in 0..BYTES / 4 {
+        bytes[4 * at..4 * at + 4].copy_from_slice(&prints[1 + at].to_le_bytes());
     }
     Fingerprints::from_bytes(&bytes)
 }

@@ -32,7 +32,7 @@ fn fills_as_many_places_as_it_tells(rt: HostRuntime) -> Result<(), Fail> {
     let mut array = vec![in rt.alloc(); 0; needed]?;
     assert!(rt; search.prepare(&mut array) == Ok(needed));
     // (the number in front of the fingerprints is how long the shortest word is: there are some)
-    assert!(rt; array[needed - 129] == 6);
+    assert!(rt; array[needed - 33] == 6);
     assert!(rt; array.pop().is_some());
     assert!(rt; search.prepare(&mut array) == Err(PrepareError::ArrayTooShort(needed)));
     Ok(())

@@ -1,10 +1,12 @@
 -- Searches by an array that is lent.
 use Rattle.std.proofs.Common.{◌≡◌, ℕ, ◌+◌, ◌-◌, ◌<◌, ◌≤◌, ◌^◌, Bool, List, [], drop, length, get_or, map}
 use Rattle.std.proofs.Common.{Bor, Err, IfErr, IfOk, IfSome, MatchOption, None, Ok, Option, Result, Some, min, refl}
-use Rattle.std.proofs.Common.{◌%◌, take}
+use Rattle.std.proofs.Common.{◌∷◌, ◌++◌, take, w32}
 use Rattle.std.proofs.Common.{sym, ap, subst, ◌∙◌, arith}
-use Rattle.std.proofs.lemmas.List.{ext_get_or, get_or-drop, get_or-map, length-drop, length-map, length-take, take-take}
-use Rattle.std.specs.List.{slice_range}
+use Rattle.std.proofs.lemmas.List.{get_or-map, length-drop, length-map, length-take, take-take, take_more}
+use Rattle.std.proofs.lemmas.List.Concat.{flat_map-append}
+use Rattle.std.specs.Int.{to_le_bytes}
+use Rattle.std.specs.List.{flat_map, slice_range}
 use Rattle.literal_base.specs.Kinds.{root_kind_of}
 use Rattle.literal_base.specs.Leftmost.{IsLeftmostMatch}
 use Rattle.literal_base.specs.Occurs.{pattern_at}
@@ -42,17 +44,14 @@ pub length_part : (numbers : List ℕ) (from to : ℕ) → from ≤ to → to �
 length_part numbers from to ordered inside =
     omega (arith, length-take (to - from) (drop from numbers), length-drop from numbers)
 
--- bytes for which numbers stand, behind the first of these
-pub bytes_read : (numbers bytes : List ℕ) → length numbers ≡ length bytes + 1
-    → ((k : ℕ) → k < length bytes → get_or bytes k 0 ≡ get_or numbers (1 + k) 0 % 256)
-    → bytes ≡ map (λ number. number % 256) (drop 1 numbers)
-bytes_read numbers bytes size each =
-    let others = drop 1 numbers in
-    let long : length others ≡ length bytes = omega (arith, length-drop 1 numbers) in
-    ext_get_or 0 bytes (map (λ (n : ℕ). n % 256) others)
-    (omega (arith, long, length-map others (λ (n : ℕ). n % 256))) (λ k below.
-    each k below ∙ (ap (λ n. n % 256) (sym (get_or-drop 1 numbers k 0))
-    ∙ sym (get_or-map (λ (n : ℕ). n % 256) others k 0 0 (omega (arith, long, below)))))
+-- the bytes for which numbers stand, with those of one number more
+pub bytes_more : (numbers : List ℕ) (k number : ℕ) → k < length numbers → number ≡ get_or numbers k 0
+    → flat_map (to_le_bytes w32) (take (k + 1) numbers)
+    ≡ flat_map (to_le_bytes w32) (take k numbers) ++ to_le_bytes w32 number
+bytes_more numbers k number below is =
+    ap (flat_map (to_le_bytes w32)) (take_more numbers k 0 below)
+    ∙ (flat_map-append (to_le_bytes w32) (take k numbers) (get_or numbers k 0 ∷ [])
+    ∙ ap (λ n. flat_map (to_le_bytes w32) (take k numbers) ++ to_le_bytes w32 n) (sym is))
 
 -- the rows without the classes behind them
 pub rows_are : {version : ℕ} {numbers classes : List ℕ} {width : ℕ} {lengths rows : List ℕ} {longest : ℕ}
@@ -167,7 +166,7 @@ module _ {version : ℕ} (f : Header) (split : IsHeader version f) (query : Quer
 module _ (classes : List ℕ) (width : ℕ) (kind : MatchKind) (ignore_case : Bool) (patterns : List (List ℕ))
     (rows : List ℕ) (are : AreClasses classes width) (told : Tells ignore_case classes patterns)
     (recognised : Recognises (root_kind_of kind) (map (symbols_in classes) patterns) width rows)
-    (kept : CanBeKept patterns) (prints : List ℕ) (size : length prints ≡ 129)
+    (kept : CanBeKept patterns) (prints : List ℕ) (size : length prints ≡ 33)
     (least : NoneIsShorter (shortest_by prints) patterns)
     (pass : 0 < shortest_by prints → AllPass (fingerprints_by prints) ignore_case patterns)
   where
@@ -231,7 +230,7 @@ prints_pass a value (Some f) prints view pass are some =
 
 -- so many places are the header, one for each pattern, the rows, and the fingerprints
 pub takes_places : (a : Inside) → IsSound a → (needed : ℕ)
-    → needed ≡ 6 + length (patterns_in a) + length a.rows.rows + 256 + 129
+    → needed ≡ 6 + length (patterns_in a) + length a.rows.rows + 256 + 33
     → TakesPlaces (let q : Query = record { kind = a.kind; patterns = patterns_in a } in q) a.ignore_case needed
 unfolding TakesPlaces
 takes_places a sound needed is = (
@@ -247,7 +246,7 @@ takes_places a sound needed is = (
 )
 
 -- what `write` answers for the parts of a `Search`, and the numbers of its fingerprints
-module _ (a : Inside) (sound : IsSound a) (old new prints : List ℕ) (size : length prints ≡ 129)
+module _ (a : Inside) (sound : IsSound a) (old new prints : List ℕ) (size : length prints ≡ 33)
     (least : shortest_by prints ≤ a.shortest)
     (pass : 0 < shortest_by prints → AllPass (fingerprints_by prints) a.ignore_case (patterns_in a))
   where

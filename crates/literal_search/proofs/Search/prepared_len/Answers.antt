@@ -21,7 +21,7 @@ returns-then-self-clause-error c =
 pub returns-clause-ok : goal.returns-clause-ok
 returns-clause-ok c =
     let a = c.self.inside in
-    let needed = 6 + c.len.result + length c.as_slice-rows.result.now + 129 in
+    let needed = 6 + c.len.result + length c.as_slice-rows.result.now + 33 in
     subst (λ (v : SearchValue). AreShort v.query.patterns × TakesPlaces v.query v.ignore_case needed) c.self.view_is (
       all_short (patterns_in a) (2 ^ 32) (omega (arith, c.self.invariant.longest, c.if-self.false)),
       takes_places a c.self.invariant needed (omega (

@@ -14,7 +14,7 @@ returns c =
     ∙ length_part numbers 6 (rows_at numbers) (omega arith) (omega arith) in
     let rows = ap (λ (l : List ℕ). length l) split.rows_are
     ∙ length_part numbers (rows_at numbers) (classes_end numbers) (omega arith) (omega arith) in
-    let end_is : 6 + length p.lengths.now + length p.rows.now + 129 ≡ prepared_len numbers =
+    let end_is : 6 + length p.lengths.now + length p.rows.now + 33 ≡ prepared_len numbers =
     omega (arith, lengths, rows) in
     let check_is = ap (λ end. check_of (slice_range numbers 2 end)) end_is in (
       λ same. subst IsWhole c.self.view_is

@@ -20,15 +20,15 @@ module _ (f : Header) (numbers : List ℕ) (same : f.numbers.now ≡ numbers) (h
     end_is : end f ≡ classes_end numbers
     end_is = (parts_end f numbers same header).0
 
-    has_all : 129 ≤ length numbers - end f → HasAllParts numbers
+    has_all : 33 ≤ length numbers - end f → HasAllParts numbers
     has_all long =
         let fits = parts.fits in
         record { parts = parts; long = omega (arith, long, end_is, fits) }
 
-    prints_are : slice_range numbers (end f) (end f + 129) ≡ fingerprints_part f.numbers.now
+    prints_are : slice_range numbers (end f) (end f + 33) ≡ fingerprints_part f.numbers.now
     prints_are =
-        ap (λ from. slice_range numbers from (end f + 129)) end_is
-        ∙ (ap (λ from. slice_range numbers (classes_end numbers) (from + 129)) end_is ∙ ap fingerprints_part (sym same))
+        ap (λ from. slice_range numbers from (end f + 33)) end_is
+        ∙ (ap (λ from. slice_range numbers (classes_end numbers) (from + 33)) end_is ∙ ap fingerprints_part (sym same))
 
 pub invariant_of-result : goal.invariant_of-result
 invariant_of-result c =
@@ -37,7 +37,7 @@ invariant_of-result c =
     let told = c.in_ok-header.ensures in
     let prints = prints_are f numbers told.0 told.2 told.1 in
     let Has : Option FingerprintsValue → Type 0 = λ o. IfSome o (λ print.
-    (0 < shortest_by (slice_range numbers (end f) (end f + 129)))
+    (0 < shortest_by (slice_range numbers (end f) (end f + 33)))
     × (print ≡ fingerprints_by (fingerprints_part f.numbers.now))) in
     record {
       header = told.2;
