@@ -361,7 +361,13 @@ impl<'t> Backward<'t> {
     }
 
     /// The match that begins at a place with a mark.
-    fn match_at(&self, haystack: &[u8], span: Span, at: usize, code: u32) -> Result<Match, Damaged>
+    pub(crate) fn match_at(
+        &self,
+        haystack: &[u8],
+        span: Span,
+        at: usize,
+        code: u32,
+    ) -> Result<Match, Damaged>
         requires safe { IsSafe self.now }
         requires valid { IsValidSpan haystack.now span }
         requires inside { at < span.end }

@@ -32,6 +32,7 @@ mod classes;
 mod copied;
 mod grow;
 pub mod laws;
+mod leftmost;
 mod linear;
 mod overlapping;
 mod prepared;

@@ -331,7 +331,13 @@ impl<'t> Table<'t> {
 
     /// As [`Table::code_at`], to be compared with a place.
     #[inline(always)]
-    fn next_at(&self, place: usize, haystack: &[u8], at: usize, tally: &mut Tally) -> usize
+    pub(crate) fn next_at(
+        &self,
+        place: usize,
+        haystack: &[u8],
+        at: usize,
+        tally: &mut Tally,
+    ) -> usize
         requires classes { length self.now.classes.now ≡ 256 }
         requires fits { ClassesFit self.now }
         requires inside { at < length haystack.now }
