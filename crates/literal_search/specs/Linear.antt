@@ -1,4 +1,4 @@
--- All leftmost matches of a span, and what a search for them scans that looks at no byte more often than twice.
+-- All leftmost matches of a span, and what a search for them scans.
 use Rattle.std.specs.Prelude.{◌≡◌, ℕ, ◌+◌, ◌-◌, ◌*◌, ◌≤◌, ◌/◌, Bool, List, None, Option, Some, [], ◌∷◌, map, max, min, reverse}
 use Rattle.literal_base.specs.Counts.{Counts}
 use Rattle.literal_base.specs.Leftmost.{IsLeftmostMatch}
@@ -11,10 +11,10 @@ use Rattle.literal_search.specs.SearchValue.{HoldsInClasses, longest_of}
 use Rattle.literal_search.specs.States.{HasTooManyStates}
 use Rattle.literal_search.specs.declared.leftmost.TheConstants.{FIRST}
 
--- at most twice as many bytes are scanned as the span has
-pub record ScansTwice (span : Span) (old new : Counts) : Type 0 where
+-- at most three times as many bytes are scanned as the span has
+pub record ScansThrice (span : Span) (old new : Counts) : Type 0 where
   pub others : new ≡ record old { scanned = new.scanned }
-  pub most : new.scanned ≤ old.scanned + 2 * (span.end - span.start)
+  pub most : new.scanned ≤ old.scanned + 3 * (span.end - span.start)
 
 -- up to where the bytes of a span are looked up once it is known what begins before a place: behind that place one
 -- fewer than the longest pattern has, but no more than stand before it in the span, and none behind the span

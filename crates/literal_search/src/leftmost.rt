@@ -1,18 +1,20 @@
 //! The leftmost match of a span, by walks from the right by an automaton of the reversed patterns. No memory is asked
 //! for. The numbers may be lent, and so any: they are damaged where one leads out of the rows.
 ghost use Rattle.std.specs.Prelude.{◌≡◌, ◌⊎◌, ◌+◌, ◌-◌, ◌*◌, ◌/◌, ◌<◌, ◌≤◌, ◌^◌, ◌%◌, ℕ, length, max, min};
-ghost use Rattle.std.specs.Prelude.{IfOk, IfSome, IsNone, MatchOption, Some, false, true};
+ghost use Rattle.std.specs.Prelude.{IfErr, IfOk, IfSome, IsNone, MatchOption, Some, false, true};
 ghost use Rattle.std.specs.Result.{IsOkAnd};
 ghost use Rattle.literal_base.specs.Leftmost.{IsLeftmost};
 ghost use Rattle.literal_base.specs.Occurs.{IsValidSpan, between, rest_from};
 ghost use Rattle.literal_base.specs.declared.search.Span.{Span};
 ghost use Rattle.literal_search.specs.At.{IsMatchAt};
-ghost use Rattle.literal_search.specs.Inside.Backward.{ForBackward, IsMatchBy, IsSafe, NoneFrom};
+ghost use Rattle.literal_search.specs.Inside.Backward.{AreMarked, AreMarks, ForBackward, IsMatchBy, IsPlaced};
+ghost use Rattle.literal_search.specs.Inside.Backward.{IsSafe, NoneFrom, StopsMarking};
 ghost use Rattle.literal_search.specs.Inside.Leftmost.{AreLanes, HaveRows, IsFirstBegun, IsFourParts, IsLane, IsLed};
 ghost use Rattle.literal_search.specs.Inside.Leftmost.{IsPart, IsStep, LiesInPart, ReadsFor, limit_of};
-ghost use Rattle.literal_search.specs.Linear.{LooksFor};
+ghost use Rattle.literal_search.specs.Linear.{LooksFor, ScansThrice, looked_by};
+ghost use Rattle.literal_search.specs.declared.backward.TheConstants.{LEAST};
 
-use crate::backward::{Backward, Begun};
+use crate::backward::{Backward, Begun, LEAST, Marks, Stopped};
 use crate::prepared::Damaged;
 use crate::walk::ENDS;
 use literal_base::count::Tally;
@@ -25,7 +27,10 @@ const FIRST: usize = 16;
 const LAST: usize = 1024;
 
 /// How long each of the last four parts is at least.
-const LEAST: usize = 6;
+const LEAST_PART: usize = 6;
+
+/// How long each of four parts is that are marked at once, if as much is left.
+const MARKED: usize = LEAST / 4;
 
 /// At which rows four walks stand, each in one of four neighbouring parts of a span.
 #[derive(Clone, Copy)]
@@ -345,6 +350,111 @@ impl<'t> Backward<'t> {
         }
     }
 
+    /// Marks each place of four neighbouring parts, by four walks at once that stand at their ends.
+    #[inline(never)]
+    fn mark_in_four(
+        &self,
+        haystack: &[u8],
+        span: Span,
+        at: usize,
+        part: usize,
+        lanes: Lanes,
+        limit: usize,
+        marks: &mut [u32],
+        tally: &mut Tally,
+    ) -> Result<(), Damaged>
+        requires safe { IsSafe self.now }
+        requires limit { limit ≡ limit_of self.now }
+        requires rows { HaveRows limit lanes }
+        requires valid { IsValidSpan haystack.now span }
+        requires inside { at + 4 * part ≤ span.end }
+        requires room { 4 * part ≤ length marks.old }
+        ensures marks { ForBackward self.now (λ tables. AreLanes tables haystack.now span at part part lanes
+            → IsOkAnd result (λ _. AreMarks tables haystack.now span.end marks.new at at (at + 4 * part))) }
+        ensures others { tally.new ≡ record tally.old { scanned = tally.new.scanned } }
+        ensures most { tally.new.scanned ≤ tally.old.scanned + 4 * part }
+        ensures all { IfOk result (λ _. tally.new.scanned ≡ tally.old.scanned + 4 * part) }
+    {
+        let (mut first, mut second) = (lanes.first, lanes.second);
+        let (mut third, mut fourth) = (lanes.third, lanes.fourth);
+        for step in (0..part).rev() {
+            let here = at + step;
+            let one = self.step(first, haystack, here, limit, tally)?;
+            let two = self.step(second, haystack, here + part, limit, tally)?;
+            let three = self.step(third, haystack, here + 2 * part, limit, tally)?;
+            let four = self.step(fourth, haystack, here + 3 * part, limit, tally)?;
+            marks[step] = one;
+            marks[step + part] = two;
+            marks[step + 2 * part] = three;
+            marks[step + 3 * part] = four;
+            first = (one % ENDS) as usize;
+            second = (two % ENDS) as usize;
+            third = (three % ENDS) as usize;
+            fourth = (four % ENDS) as usize;
+        }
+        Ok(())
+    }
+
+    /// Marks the block of four parts that begins at a place, unless nothing begins in it.
+    pub(crate) fn mark_four_parts(
+        &self,
+        haystack: &[u8],
+        span: Span,
+        from: usize,
+        part: usize,
+        marks: &mut Marks,
+        tally: &mut Tally,
+    ) -> Result<(), Stopped>
+        requires safe { IsSafe self.now }
+        requires valid { IsValidSpan haystack.now span }
+        requires after { marks.old.known ≤ from }
+        requires placed { IsPlaced self.now.table.longest span from marks.old }
+        requires inside { from + 4 * part + self.now.table.longest ≤ span.end }
+        requires long { self.now.table.longest ≤ part }
+        requires some { 2 ≤ part }
+        requires short { 4 * part ≤ LEAST }
+        ensures marked { ForBackward self.now (λ tables. IfOk result
+            (λ _. AreMarked tables haystack.now span from marks.new)) }
+        ensures refused { ForBackward self.now (λ tables. IfErr result
+            (StopsMarking tables haystack.now from span.end)) }
+        ensures placed { IfOk result (λ _. IsPlaced self.now.table.longest span from marks.new) }
+        ensures known { marks.new.known ≡ from + 4 * part }
+        ensures bounded { ScansThrice (between marks.old.known marks.new.known) tally.old tally.new }
+        ensures least { IfOk result (λ _. tally.old.scanned + looked_by self.now.table.longest span marks.new.known
+            ≤ tally.new.scanned + looked_by self.now.table.longest span marks.old.known) }
+        ensures more { length marks.old.numbers.items ≤ length marks.new.numbers.items }
+        ensures no_room { IfErr result (λ error. error ≡ Stopped.OutOfMemory
+            → length marks.old.numbers.items < min (max self.now.table.longest LEAST) (span.end - from)) }
+    {
+        let end = from + 4 * part;
+        let lead = self.table.longest.saturating_sub(1);
+        marks.first = from;
+        marks.upto = from;
+        marks.known = end;
+        let limit = self.table.limit()?;
+        let led = self.lead_in_four(haystack, span, from, Block { part, lead, end }, limit, tally)?;
+        if !self.pass_in_four(haystack, span, from, part, led.lanes, limit, tally) {
+            self.make_room(&mut marks.numbers, span.end - from)?;
+            self.mark_in_four(haystack, span, from, part, led.lanes, limit, &mut marks.numbers, tally)?;
+            marks.upto = end;
+        }
+        Ok(())
+    }
+
+    /// How long each of four parts is that are marked at once, where so many bytes are left; and none where these are
+    /// few, or the longest pattern is longer than such a part.
+    pub(crate) fn part_for_marks(&self, left: usize) -> Option<usize>
+        ensures inside { IfSome result (λ part. 4 * part + self.now.table.longest ≤ left) }
+        ensures long { IfSome result (λ part. (self.now.table.longest ≤ part) × (2 ≤ part)) }
+        ensures short { IfSome result (λ part. 4 * part ≤ LEAST) }
+    {
+        let part = (left.saturating_sub(self.table.longest) / 4).min(MARKED);
+        if part < LEAST_PART || part < self.table.longest {
+            return None;
+        }
+        Some(part)
+    }
+
     /// A block of the rest of a span from a place on, of parts that are so long, or of the whole rest if that is not
     /// much longer; and none where the rest is short.
     fn four_parts_at(&self, span: Span, at: usize, part: usize) -> Option<Block>
@@ -363,7 +473,7 @@ impl<'t> Backward<'t> {
             return Some(Block { part, lead, end });
         }
         let part = rest / 4;
-        if part < LEAST || lead / 2 > part {
+        if part < LEAST_PART || lead / 2 > part {
             return None;
         }
         let end = span.end;

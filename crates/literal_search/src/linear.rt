@@ -8,7 +8,7 @@ ghost use Rattle.literal_base.specs.Given.{CanBeTaken};
 ghost use Rattle.literal_search.specs.At.{IsMatchAt, ScansAt};
 ghost use Rattle.literal_search.specs.SearchValue.{BuildsSearch, CanBeKept, RefusesSearch};
 ghost use Rattle.literal_base.specs.Greedy.{IsGreedyIn};
-ghost use Rattle.literal_search.specs.Linear.{NeedFewReversed, NeedTooManyReversed, ScansTwice};
+ghost use Rattle.literal_search.specs.Linear.{NeedFewReversed, NeedTooManyReversed, ScansThrice};
 ghost use Rattle.literal_search.specs.Linear.{ScansBack, looked_upto, reversed};
 ghost use Rattle.literal_search.specs.LinearMatchesValue.{GivesInSpan, most_in_span, place_behind};
 ghost use Rattle.literal_search.specs.Memory.{TakesLinearBytes};
@@ -154,7 +154,7 @@ impl Linear {
         requires { IsValidSpan haystack.now span }
         ensures greedy { IfOk result
             (λ all. IsGreedyIn self.now.query self.now.ignore_case haystack.now span all.items) }
-        ensures bounded { ScansTwice span tally.old tally.new }
+        ensures bounded { ScansThrice span tally.old tally.new }
         ensures least { IfOk result (λ _. tally.old.scanned + (span.end - span.start) ≤ tally.new.scanned) }
         ensures no_memory { OnErr result
             (¬ NothingOccurs self.now.query.patterns self.now.ignore_case haystack.now span) }
@@ -332,7 +332,7 @@ impl Parts {
         ensures marked { IfOk result
             (λ answer. AreMarked (tables_of self.now) haystack.now span (place_behind span answer) marks.new) }
         ensures further { (marks.old.known ≤ marks.new.known) × (marks.new.known ≤ span.end) }
-        ensures bounded { ScansTwice (between marks.old.known marks.new.known) tally.old tally.new }
+        ensures bounded { ScansThrice (between marks.old.known marks.new.known) tally.old tally.new }
         ensures least { IfOk result (λ _. tally.old.scanned + looked_upto (patterns_of self.now) span marks.new.known
             ≤ tally.new.scanned + looked_upto (patterns_of self.now) span marks.old.known) }
         ensures more { IfOk result (λ _. length marks.old.numbers.items ≤ length marks.new.numbers.items) }
@@ -433,7 +433,7 @@ impl<'s, 'h> LinearMatches<'s, 'h> {
     /// pattern may reach. A whole iteration so looks up at least the bytes of the span, and at most twice as many.
     pub fn next_counted(&mut self, tally: &mut Tally) -> Option<Match>
         ensures gives { GivesInSpan self.old result self.new }
-        ensures bounded { ScansTwice (between self.old.known self.new.known) tally.old tally.new }
+        ensures bounded { ScansThrice (between self.old.known self.new.known) tally.old tally.new }
         ensures least { tally.old.scanned + looked_upto self.old.search.query.patterns self.old.span self.new.known
             ≤ tally.new.scanned + looked_upto self.old.search.query.patterns self.old.span self.old.known }
     {

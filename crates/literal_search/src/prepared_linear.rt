@@ -4,7 +4,7 @@ ghost use Rattle.std.specs.Prelude.{◌≡◌, ◌+◌, ◌-◌, ◌*◌, ◌<�
 ghost use Rattle.std.specs.Prelude.{IfOk, IfSome, IsTrue, MatchOption, MatchResult, None, OnErr, ⊤};
 ghost use Rattle.std.specs.Result.{IsOkAnd};
 ghost use Rattle.literal_base.specs.Occurs.{IsValidSpan, between};
-ghost use Rattle.literal_search.specs.Linear.{LooksFor, ScansTwice, looked_by};
+ghost use Rattle.literal_search.specs.Linear.{LooksFor, ScansThrice, looked_by};
 ghost use Rattle.literal_base.specs.Leftmost.{IsLeftmost};
 ghost use Rattle.literal_search.specs.LinearMatchesValue.{GivesInSpan, place_behind};
 ghost use Rattle.literal_search.specs.Prepared.{LiesIn, longest_in};
@@ -202,7 +202,7 @@ impl<'s, 'p, 'h> PreparedLinearMatches<'s, 'p, 'h> {
         ensures ended { self.old.at ≡ self.old.span.end → IsOkAnd result (λ answer. answer ≡ None) }
         ensures same { self.new ≡ record self.old { at = self.new.at; known = self.new.known } }
         ensures further { (self.old.known ≤ self.new.known) × (self.new.known ≤ self.old.span.end) }
-        ensures bounded { ScansTwice (between self.old.known self.new.known) tally.old tally.new }
+        ensures bounded { ScansThrice (between self.old.known self.new.known) tally.old tally.new }
         ensures least { IfOk result (λ _. tally.old.scanned
             + looked_by (longest_in self.old.numbers) self.old.span self.new.known
             ≤ tally.new.scanned + looked_by (longest_in self.old.numbers) self.old.span self.old.known) }

@@ -1,16 +1,18 @@
 -- What walks through parts of a span tell of the places of the parts.
 use Rattle.std.proofs.Common.{◌≡◌, ℕ, ◌+◌, ◌-◌, ◌*◌, ◌<◌, ◌≤◌, ◌⊎◌, ◌^◌, ◌%◌, List, Option, Some, None, arith}
-use Rattle.std.proofs.Common.{Err, Ok, Result, ap, get_or, inl, inr, length, subst, sym}
+use Rattle.std.proofs.Common.{◌∙◌, ◌≢◌, Err, Ok, Result, ap, get_or, inl, inr, length, set, subst, sym}
 use Rattle.std.proofs.lemmas.Bool.{cases_lt}
+use Rattle.std.proofs.lemmas.List.{get_or-set_other, get_or-set_same}
 use Rattle.std.specs.Result.{IsOkAnd}
 use Rattle.literal_base.specs.Counts.{Counts}
 use Rattle.literal_base.specs.Leftmost.{IsLeftmostMatch}
 use Rattle.literal_base.specs.MatchValue.{MatchValue}
 use Rattle.literal_base.specs.Occurs.{between}
 use Rattle.literal_base.specs.declared.search.Span.{Span}
-use Rattle.literal_search.specs.Inside.Backward.{AreBackFor, IsMark, NoneBeginsAt, NoneFrom, StandsDown, back_tables_by}
-use Rattle.literal_search.specs.Inside.Backward.{best_by}
-use Rattle.literal_search.specs.Inside.Leftmost.{IsFirstBegun, IsLane, IsStep, LiesInPart, NoneBehind, limit_of}
+use Rattle.literal_search.specs.Inside.Backward.{AreBackFor, AreMarks, IsMark, NoneBeginsAt, NoneFrom, StandsDown}
+use Rattle.literal_search.specs.Inside.Backward.{back_tables_by, best_by}
+use Rattle.literal_search.specs.Inside.Leftmost.{IsFirstBegun, IsLane, IsStep, LiesInPart, NoneBehind}
+use Rattle.literal_search.specs.Inside.Leftmost.{limit_of}
 use Rattle.literal_search.specs.PreparedLinear.{AreBackTables, BackTables}
 use Rattle.literal_search.specs.SearchValue.{SearchValue}
 use Rattle.literal_search.specs.declared.backward.Backward.{Backward}
@@ -201,3 +203,33 @@ none_left p haystack end at part left zero none = λ k after before. elim (cases
     ]
   ]
 ]
+
+-- a mark in another place stays
+pub marks_kept : (p : BackTables) (haystack : List ℕ) (end : ℕ) (marks : List ℕ) (at from upto slot code : ℕ) → at ≤ from
+    → (at + slot < from) ⊎ (upto ≤ at + slot) → AreMarks p haystack end marks at from upto
+    → AreMarks p haystack end (set marks slot code) at from upto
+marks_kept p haystack end marks at from upto slot code after apart are k behind before =
+    let other : k - at ≢ slot = λ same. elim apart [
+      | inl less ↦ omega (arith, same, less, behind, after)
+      | inr more ↦ omega (arith, same, more, before, behind, after)
+    ] in
+    let read = get_or-set_other marks slot (k - at) code 0 other in
+    subst (IsMark p haystack end k) (sym read) (are k behind before)
+
+-- and one more is written
+pub marks_on : (p : BackTables) (haystack : List ℕ) (end : ℕ) (marks : List ℕ) (at to next upto slot code : ℕ)
+    → at ≤ to → next ≡ to + 1 → at + slot ≡ to → slot < length marks → IsMark p haystack end to code
+    → AreMarks p haystack end marks at next upto → AreMarks p haystack end (set marks slot code) at to upto
+marks_on p haystack end marks at to next upto slot code after next_is slot_is inside mark are k behind before =
+    elim (cases_lt to k) [
+      | inl later ↦
+          let read = get_or-set_other marks slot (k - at) code 0 (λ same. omega (arith, same, later, slot_is, after)) in
+          subst (IsMark p haystack end k) (sym read) (are k (omega (arith, later, next_is)) before)
+      | inr not ↦
+          let same : to ≡ k = omega (arith, behind, not) in
+          let slot_there : slot ≡ k - at = omega (arith, slot_is, same) in
+          let read = get_or-set_same marks slot code 0 inside in
+          subst (λ n. IsMark p haystack end n (get_or (set marks slot code) (n - at) 0)) same
+          (subst (λ n. IsMark p haystack end to (get_or (set marks slot code) n 0))
+          (slot_there ∙ ap (λ n. n - at) (sym same)) (subst (IsMark p haystack end to) (sym read) mark))
+    ]

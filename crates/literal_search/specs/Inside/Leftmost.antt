@@ -4,7 +4,7 @@ use Rattle.std.specs.Prelude.{IfSome}
 use Rattle.literal_base.specs.Occurs.{between}
 use Rattle.literal_base.specs.declared.search.Span.{Span}
 use Rattle.literal_search.specs.Linear.{first_part}
-use Rattle.literal_search.specs.Inside.Backward.{IsMark, NoneFrom, StandsDown}
+use Rattle.literal_search.specs.Inside.Backward.{AreMarks, IsMark, NoneFrom, StandsDown}
 use Rattle.literal_search.specs.PreparedLinear.{BackTables}
 use Rattle.literal_search.specs.declared.backward.Backward.{Backward}
 use Rattle.literal_search.specs.declared.backward.Begun.{Begun}
@@ -72,6 +72,15 @@ pub record NoneBehind (p : BackTables) (haystack : List ℕ) (end at part left :
   pub second : NoneFrom p haystack end (at + part + left) (at + 2 * part)
   pub third : NoneFrom p haystack end (at + 2 * part + left) (at + 3 * part)
   pub fourth : NoneFrom p haystack end (at + 3 * part + left) (at + 4 * part)
+
+-- of each place of four neighbouring parts behind as many bytes of each there is a mark, in a list that has that of the
+-- first of these places first
+pub record AreMarksBehind (p : BackTables) (haystack : List ℕ) (end : ℕ) (marks : List ℕ) (at part left : ℕ)
+    : Type 0 where
+  pub first : AreMarks p haystack end marks at (at + left) (at + part)
+  pub second : AreMarks p haystack end marks at (at + part + left) (at + 2 * part)
+  pub third : AreMarks p haystack end marks at (at + 2 * part + left) (at + 3 * part)
+  pub fourth : AreMarks p haystack end marks at (at + 3 * part + left) (at + 4 * part)
 
 -- a block of four parts from a place on, and behind them as many bytes as a walk has to read first. Where these reach to
 -- the end of the span, they belong to the block
