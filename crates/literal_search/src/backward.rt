@@ -291,7 +291,9 @@ impl<'t> Backward<'t> {
         Ok(None)
     }
 
-    /// Marks the block that begins at a place, unless it is known what begins there.
+    /// Marks the block that begins at a place, unless it is known what begins there. It is called, and not put in its
+    /// place, so that the next match in a marked block costs little.
+    #[inline(never)]
     fn mark_from(
         &self,
         haystack: &[u8],

@@ -185,12 +185,12 @@ impl<'t> Backward<'t> {
         for step in (0..block.lead).rev() {
             let here = at + part + step;
             let one = self.step(first, haystack, here, limit, tally)?;
-            let two = self.step(second, haystack, here + part, limit, tally)?;
-            let three = self.step(third, haystack, here + 2 * part, limit, tally)?;
-            let four = self.step(fourth, haystack, here + 3 * part, limit, tally)?;
             first = (one % ENDS) as usize;
+            let two = self.step(second, haystack, here + part, limit, tally)?;
             second = (two % ENDS) as usize;
+            let three = self.step(third, haystack, here + 2 * part, limit, tally)?;
             third = (three % ENDS) as usize;
+            let four = self.step(fourth, haystack, here + 3 * part, limit, tally)?;
             fourth = (four % ENDS) as usize;
             behind = nearer(here + 3 * part, four, behind);
         }
@@ -377,19 +377,20 @@ impl<'t> Backward<'t> {
     {
         let (mut first, mut second) = (lanes.first, lanes.second);
         let (mut third, mut fourth) = (lanes.third, lanes.fourth);
+        let search = *self; // (a copy: what is written to the marks does not change it)
         for step in (0..part).rev() {
             let here = at + step;
-            let one = self.step(first, haystack, here, limit, tally)?;
-            let two = self.step(second, haystack, here + part, limit, tally)?;
-            let three = self.step(third, haystack, here + 2 * part, limit, tally)?;
-            let four = self.step(fourth, haystack, here + 3 * part, limit, tally)?;
+            let one = search.step(first, haystack, here, limit, tally)?;
             marks[step] = one;
-            marks[step + part] = two;
-            marks[step + 2 * part] = three;
-            marks[step + 3 * part] = four;
             first = (one % ENDS) as usize;
+            let two = search.step(second, haystack, here + part, limit, tally)?;
+            marks[step + part] = two;
             second = (two % ENDS) as usize;
+            let three = search.step(third, haystack, here + 2 * part, limit, tally)?;
+            marks[step + 2 * part] = three;
             third = (three % ENDS) as usize;
+            let four = search.step(fourth, haystack, here + 3 * part, limit, tally)?;
+            marks[step + 3 * part] = four;
             fourth = (four % ENDS) as usize;
         }
         Ok(())
