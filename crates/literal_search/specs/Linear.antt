@@ -1,10 +1,7 @@
 -- All leftmost matches of a span, and what a search for them scans.
-use Rattle.std.specs.Prelude.{◌≡◌, ℕ, ◌+◌, ◌-◌, ◌*◌, ◌≤◌, ◌/◌, Bool, List, None, Option, Some, [], ◌∷◌, map, max, min, reverse}
+use Rattle.std.specs.Prelude.{◌≡◌, ℕ, ◌+◌, ◌-◌, ◌*◌, ◌≤◌, ◌/◌, Bool, List, None, Option, Some, map, max, min, reverse}
 use Rattle.literal_base.specs.Counts.{Counts}
-use Rattle.literal_base.specs.Leftmost.{IsLeftmostMatch}
 use Rattle.literal_base.specs.MatchValue.{MatchValue}
-use Rattle.literal_base.specs.Occurs.{NothingOccurs, between}
-use Rattle.literal_base.specs.Query.{Query}
 use Rattle.literal_base.specs.declared.search.MatchKind.TheVariants.{Standard}
 use Rattle.literal_base.specs.declared.search.Span.{Span}
 use Rattle.literal_search.specs.SearchValue.{HoldsInClasses, longest_of}

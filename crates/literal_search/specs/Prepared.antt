@@ -13,10 +13,11 @@ use Rattle.literal_search.specs.SearchValue.{CanBeKept, HoldsInClasses, NoneIsSh
 use Rattle.literal_search.specs.Inside.Classes.{AreClasses, Tells, symbols_in}
 use Rattle.literal_search.specs.States.{IsRowsLength}
 use Rattle.literal_search.specs.Table.{Recognises}
+use Rattle.literal_search.specs.declared.classes.TheConstants.{CLASSES_LEN}
 use Rattle.literal_search.specs.declared.prepared.PrepareError.{PrepareError}
 use Rattle.literal_search.specs.declared.prepared.PrepareError.TheVariants.{ArrayTooShort, ListsTooLong}
 use Rattle.literal_search.specs.declared.prepared.PrepareError.TheVariants.{PatternTooLong}
-use Rattle.literal_search.specs.declared.prepared.TheConstants.{CLASSES_AT, FINGERPRINTS_LEN, LENGTHS_AT}
+use Rattle.literal_search.specs.declared.prepared.TheConstants.{FINGERPRINTS_LEN, LENGTHS_AT}
 use Rattle.literal_search.specs.declared.prepared.TheConstants.{PREPARED_VERSION}
 
 -- how many classes of bytes there are, by the third number
@@ -35,10 +36,6 @@ rows_end numbers = rows_at numbers + slice_index numbers 4
 abbrev pub longest_in : List ℕ → ℕ
 longest_in numbers = slice_index numbers 5
 
--- the classes of all bytes
-abbrev pub classes_in : List ℕ → List ℕ
-classes_in numbers = slice_range numbers CLASSES_AT LENGTHS_AT
-
 -- the lengths of the patterns
 abbrev pub lengths_in : List ℕ → List ℕ
 lengths_in numbers = slice_range numbers LENGTHS_AT (rows_at numbers)
@@ -47,13 +44,21 @@ lengths_in numbers = slice_range numbers LENGTHS_AT (rows_at numbers)
 abbrev pub rows_in : List ℕ → List ℕ
 rows_in numbers = slice_range numbers (rows_at numbers) (rows_end numbers)
 
--- how many numbers are those of a search for the leftmost match: behind its rows stand the numbers of its fingerprints
+-- where the classes end, one for each byte, which stand behind the rows
+abbrev pub classes_end : List ℕ → ℕ
+classes_end numbers = rows_end numbers + CLASSES_LEN
+
+-- the classes of all bytes
+abbrev pub classes_in : List ℕ → List ℕ
+classes_in numbers = slice_range numbers (rows_end numbers) (classes_end numbers)
+
+-- how many numbers are those of a search for the leftmost match: behind its classes stand those of its fingerprints
 abbrev pub prepared_len : List ℕ → ℕ
-prepared_len numbers = rows_end numbers + FINGERPRINTS_LEN
+prepared_len numbers = classes_end numbers + FINGERPRINTS_LEN
 
 -- the numbers of its fingerprints
 abbrev pub fingerprints_part : List ℕ → List ℕ
-fingerprints_part numbers = slice_range numbers (rows_end numbers) (prepared_len numbers)
+fingerprints_part numbers = slice_range numbers (classes_end numbers) (prepared_len numbers)
 
 -- the first of such numbers: where there are fingerprints a length that no pattern is below, and else 0
 abbrev pub shortest_by : List ℕ → ℕ
@@ -76,7 +81,7 @@ check_of numbers = fold (λ check number. stirred ((check + number) % 2 ^ 32)) 2
 pub record HasParts (version : ℕ) (numbers : List ℕ) : Type 0 where
   pub version_is : slice_index numbers 0 ≡ version
   pub few : slice_index numbers 3 ≤ PatternID.LIMIT
-  pub fits : rows_end numbers ≤ length numbers
+  pub fits : classes_end numbers ≤ length numbers
 
 -- the array has the parts of a search for the leftmost match, and is long enough for fingerprints
 pub record HasAllParts (numbers : List ℕ) : Type 0 where
@@ -108,11 +113,12 @@ abbrev pub ForPrepared : List ℕ → (Query → Bool → Type 0) → Type 0
 ForPrepared numbers P =
     (query : Query) (ignore_case : Bool) → IsPrepared query ignore_case numbers → P query ignore_case
 
--- how many places a search takes: the header, one for each pattern, the rows of all states, and the fingerprints
+-- how many places a search takes: the header, one for each pattern, the rows of all states, the classes, and the
+-- fingerprints
 unfoldable pub TakesPlaces : Query → Bool → ℕ → Type 0
 TakesPlaces query ignore_case needed =
     HoldsInClasses (λ texts width. (rows : ℕ) × IsRowsLength (root_kind_of query.kind) texts width rows
-    × (needed ≡ LENGTHS_AT + length query.patterns + rows + FINGERPRINTS_LEN)) ignore_case query.patterns
+    × (needed ≡ LENGTHS_AT + length query.patterns + rows + CLASSES_LEN + FINGERPRINTS_LEN)) ignore_case query.patterns
 
 -- numbers that are for a search are written into the first places of an array, as many as it takes, and the others stay
 -- as they were

@@ -1,6 +1,5 @@
 -- A search for all leftmost matches as numbers in an array that is lent.
 use Rattle.std.specs.Prelude.{◌≡◌, ◌+◌, ◌<◌, ◌≤◌, ℕ, List, length, map, slice_index, slice_range}
-use Rattle.std.specs.List.{All}
 use Rattle.literal_base.specs.declared.search.MatchKind.TheVariants.{Standard}
 use Rattle.literal_base.specs.declared.search.Span.{Span}
 use Rattle.literal_search.specs.SearchValue.{CanBeKept, HoldsInClasses, SearchValue, longest_of}
@@ -8,10 +7,11 @@ use Rattle.literal_search.specs.Inside.Best.{AreBest}
 use Rattle.literal_search.specs.Inside.Classes.{AreClasses, Tells, symbols_in}
 use Rattle.literal_search.specs.Linear.{reversed}
 use Rattle.literal_search.specs.LinearMatchesValue.{LinearMatchesValue}
-use Rattle.literal_search.specs.Prepared.{HasParts, RefusesNumbers, WritesNumbers, check_of, classes_in}
-use Rattle.literal_search.specs.Prepared.{lengths_in, longest_in, rows_end, rows_in, width_in}
+use Rattle.literal_search.specs.Prepared.{HasParts, RefusesNumbers, WritesNumbers, check_of, classes_end}
+use Rattle.literal_search.specs.Prepared.{classes_in, lengths_in, longest_in, rows_in, width_in}
 use Rattle.literal_search.specs.States.{IsRowsLength}
 use Rattle.literal_search.specs.Table.{Recognises}
+use Rattle.literal_search.specs.declared.classes.TheConstants.{CLASSES_LEN}
 use Rattle.literal_search.specs.declared.prepared.PrepareError.{PrepareError}
 use Rattle.literal_search.specs.declared.prepared.TheConstants.{LENGTHS_AT, LINEAR_VERSION}
 
@@ -39,21 +39,19 @@ pub record AreBackTables (t : BackTables) : Type 0 where
   pub longest : t.longest ≡ longest_of t.search.query.patterns
   pub kept : CanBeKept t.search.query.patterns
 
--- how many numbers are those of the search: behind its rows stands a number for each pattern
+-- how many numbers are those of the search: behind its classes stands a number for each pattern
 abbrev pub linear_len : List ℕ → ℕ
-linear_len numbers = rows_end numbers + slice_index numbers 3
+linear_len numbers = classes_end numbers + slice_index numbers 3
 
 -- these numbers
 abbrev pub best_in : List ℕ → List ℕ
-best_in numbers = slice_range numbers (rows_end numbers) (linear_len numbers)
+best_in numbers = slice_range numbers (classes_end numbers) (linear_len numbers)
 
--- the array has the parts of a search for all leftmost matches, and is as long as these are; there is a whole row, and
--- no class leads out of one
+-- the array has the parts of a search for all leftmost matches, and is as long as these are; there is a row
 pub record HasLinearParts (numbers : List ℕ) : Type 0 where
   pub parts : HasParts LINEAR_VERSION numbers
   pub fits : linear_len numbers ≤ length numbers
-  pub row : width_in numbers < slice_index numbers 4
-  pub classes : All (λ class. class ≤ width_in numbers) (classes_in numbers)
+  pub row : 0 < slice_index numbers 4
 
 -- the same, and the second number is the check over those of the search behind it
 pub record IsWholeLinear (numbers : List ℕ) : Type 0 where
@@ -81,11 +79,11 @@ pub record IsPreparedLinear (search : SearchValue) (numbers : List ℕ) : Type 0
 abbrev pub ForLinear : List ℕ → (SearchValue → Type 0) → Type 0
 ForLinear numbers P = (search : SearchValue) → IsPreparedLinear search numbers → P search
 
--- how many places a search takes: those of the header, two for each pattern, and the rows of all states
+-- how many places a search takes: those of the header, two for each pattern, the rows of all states, and the classes
 unfoldable pub TakesLinearPlaces : SearchValue → ℕ → Type 0
 TakesLinearPlaces search needed =
     HoldsInClasses (λ texts width. (rows : ℕ) × IsRowsLength Standard (reversed texts) width rows
-    × (needed ≡ LENGTHS_AT + length search.query.patterns + rows + length search.query.patterns))
+    × (needed ≡ LENGTHS_AT + length search.query.patterns + rows + CLASSES_LEN + length search.query.patterns))
     search.ignore_case search.query.patterns
 
 -- the search is written into the first places of an array

@@ -7,10 +7,11 @@ use Rattle.literal_search.specs.Inside.Classes.{AreClasses, Tells, symbols_in}
 use Rattle.literal_search.specs.Inside.Lists.{AreLists}
 use Rattle.literal_search.specs.Overlapping.{OverlappingValue}
 use Rattle.literal_search.specs.OverlappingMatchesValue.{OverlappingMatchesValue}
-use Rattle.literal_search.specs.Prepared.{HasParts, RefusesNumbers, WritesNumbers, check_of, classes_in}
-use Rattle.literal_search.specs.Prepared.{lengths_in, rows_end, rows_in, width_in}
+use Rattle.literal_search.specs.Prepared.{HasParts, RefusesNumbers, WritesNumbers, check_of, classes_end}
+use Rattle.literal_search.specs.Prepared.{classes_in, lengths_in, rows_in, width_in}
 use Rattle.literal_search.specs.States.{IsRowsLength}
 use Rattle.literal_search.specs.Table.{Recognises}
+use Rattle.literal_search.specs.declared.classes.TheConstants.{CLASSES_LEN}
 use Rattle.literal_search.specs.declared.prepared.PrepareError.{PrepareError}
 use Rattle.literal_search.specs.declared.prepared.TheConstants.{LENGTHS_AT, OVERLAPPING_VERSION}
 
@@ -45,15 +46,15 @@ pub record AreSized (t : Tables) : Type 0 where
 
 -- where the lists begin, behind a number for each pattern that says where its list does, and one more
 abbrev pub ends_at : List ℕ → ℕ
-ends_at numbers = rows_end numbers + slice_index numbers 3 + 1
+ends_at numbers = classes_end numbers + slice_index numbers 3 + 1
 
 -- how many numbers are those of the search; the last of these says how long the lists are
 abbrev pub listed_len : List ℕ → ℕ
-listed_len numbers = ends_at numbers + slice_index numbers (rows_end numbers + slice_index numbers 3)
+listed_len numbers = ends_at numbers + slice_index numbers (classes_end numbers + slice_index numbers 3)
 
 -- where each list begins, and the last ends
 abbrev pub starts_in : List ℕ → List ℕ
-starts_in numbers = slice_range numbers (rows_end numbers) (ends_at numbers)
+starts_in numbers = slice_range numbers (classes_end numbers) (ends_at numbers)
 
 -- the lists
 abbrev pub ends_in : List ℕ → List ℕ
@@ -98,11 +99,11 @@ HaveTables search P =
     × (ends : List ℕ) × (starts : List ℕ) × AreLists texts ends starts (length search.patterns) × P rows ends starts)
     search.ignore_case search.patterns
 
--- how many places a search takes: the header, one for each pattern, the rows of all states, and the lists with the
--- places where these begin
+-- how many places a search takes: the header, one for each pattern, the rows of all states, the classes, and the lists
+-- with the places where these begin
 unfoldable pub TakesListedPlaces : OverlappingValue → ℕ → Type 0
 TakesListedPlaces search needed = HaveTables search (λ rows ends starts. needed
-    ≡ LENGTHS_AT + length search.patterns + rows + length starts + length ends)
+    ≡ LENGTHS_AT + length search.patterns + rows + CLASSES_LEN + length starts + length ends)
 
 -- the lists have 2^32 numbers or more
 unfoldable pub HasLongLists : OverlappingValue → Type 0

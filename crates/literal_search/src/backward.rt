@@ -11,6 +11,7 @@ ghost use Rattle.literal_search.specs.Inside.Backward.{AreMarked, AreMarks, ForB
 ghost use Rattle.literal_search.specs.Inside.Backward.{IsLastBegun, IsMark, IsMatchBy, IsPlaced, IsRead, StopsMarking};
 ghost use Rattle.literal_search.specs.Inside.Backward.{IsSafe, LeadsOn, NoneFrom, StandsDown, lens_of};
 
+use crate::classes::CLASSES_LEN;
 use crate::prepared::Damaged;
 use crate::walk::{ENDS, Table};
 use literal_base::count::Tally;
@@ -143,7 +144,7 @@ impl<'t> Backward<'t> {
         tally: &mut Tally,
     ) -> Result<u32, Damaged>
         requires safe { IsSafe self.now }
-        requires row { place + self.now.table.width < length self.now.table.rows.now }
+        requires row { place + CLASSES_LEN < length self.now.table.rows.now }
         requires inside { at < length haystack.now }
         ensures read { ForBackward self.now (λ tables. (from : ℕ) → at < from → from ≤ length haystack.now
             → StandsDown tables haystack.now from (at + 1) place
@@ -152,7 +153,7 @@ impl<'t> Backward<'t> {
         ensures ticks { tally.new ≡ record tally.old { scanned = tally.old.scanned + 1 } }
     {
         let code = self.table.code_at(place, haystack, at, tally);
-        if (code % ENDS) as usize + self.table.width >= self.table.rows.len() {
+        if (code % ENDS) as usize >= self.table.rows.len() - CLASSES_LEN {
             return Err(Damaged);
         }
         Ok(code)
@@ -384,8 +385,7 @@ impl<'t> Backward<'t> {
         ensures here { IfOk result (λ found. found.start ≡ at) }
     {
         prove!(span.end <= haystack.len());
-        let place = (code - ENDS) as usize + self.table.width;
-        let longest = *self.table.rows.get(place).ok_or(Damaged)?;
+        let longest = self.table.ending_at((code - ENDS) as usize)?;
         let pattern = *self.best.get(longest as usize).ok_or(Damaged)? as usize;
         let len = self.lens.len_of(pattern)?;
         if len == 0 || len > self.table.longest || len > span.end - at {

@@ -5,34 +5,14 @@ ghost use Rattle.literal_search.specs.SearchValue.{width_for};
 ghost use Rattle.literal_search.specs.Inside.Classes.{AreClasses, AreNumbers, IsFoldOfOne, Marks, Tells};
 ghost use Rattle.literal_search.specs.Inside.Classes.{TellsMarked, folded};
 
+/// How many numbers stand behind the rows of an automaton: the class of each byte.
+pub const CLASSES_LEN: usize = 256;
+
 /// The class of each byte, and how many classes there are: 1 to 256.
 #[derive(Clone, Copy)]
 pub struct Classes {
     pub table: [u8; 256],
     pub width: usize,
-}
-
-/// The same with numbers as long as those in rows.
-#[derive(Clone, Copy)]
-pub struct ClassNumbers {
-    pub table: [u32; 256],
-    pub width: usize,
-}
-
-impl Classes {
-    /// Each class as a longer number.
-    pub fn to_numbers(&self) -> ClassNumbers
-        ensures { result ≡ record { table = self.now.table; width = self.now.width } }
-    {
-        let mut table = [0; 256];
-        for byte in 0usize..256 {
-            table[byte] = u32::from(self.table[byte]);
-        }
-        ClassNumbers {
-            table,
-            width: self.width,
-        }
-    }
 }
 
 /// Classes that tell the bytes of these patterns from all others. Where case is ignored, both letters

@@ -19,7 +19,7 @@ impl Search {
             kind: self.kind,
             ignore_case: self.ignore_case,
             patterns,
-            classes: self.classes,
+            width: self.width,
             rows,
             longest: self.longest,
             shortest: self.shortest,

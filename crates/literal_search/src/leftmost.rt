@@ -10,7 +10,7 @@ ghost use Rattle.literal_search.specs.At.{IsMatchAt};
 ghost use Rattle.literal_search.specs.Inside.Backward.{AreMarked, AreMarks, ForBackward, IsMatchBy, IsPlaced};
 ghost use Rattle.literal_search.specs.Inside.Backward.{IsSafe, NoneFrom, StopsMarking};
 ghost use Rattle.literal_search.specs.Inside.Leftmost.{AreLanes, HaveRows, IsFirstBegun, IsFourParts, IsLane, IsLed};
-ghost use Rattle.literal_search.specs.Inside.Leftmost.{IsPart, IsStep, LiesInPart, ReadsFor, limit_of};
+ghost use Rattle.literal_search.specs.Inside.Leftmost.{IsLimit, IsPart, IsStep, LiesInPart, ReadsFor};
 ghost use Rattle.literal_search.specs.Linear.{LooksFor, ScansThrice, looked_by};
 ghost use Rattle.literal_search.specs.declared.backward.TheConstants.{LEAST};
 
@@ -72,7 +72,7 @@ impl<'t> Backward<'t> {
         tally: &mut Tally,
     ) -> Result<u32, Damaged>
         requires safe { IsSafe self.now }
-        requires limit { limit ≡ limit_of self.now }
+        requires limit { IsLimit self.now limit }
         requires row { place < limit }
         requires inside { at < length haystack.now }
         ensures step { ForBackward self.now (λ tables. (span : Span) (end next to : ℕ) → span.end ≤ length haystack.now
@@ -98,7 +98,7 @@ impl<'t> Backward<'t> {
         tally: &mut Tally,
     ) -> Result<usize, Damaged>
         requires safe { IsSafe self.now }
-        requires limit { limit ≡ limit_of self.now }
+        requires limit { IsLimit self.now limit }
         requires valid { IsValidSpan haystack.now span }
         requires inside { end ≤ span.end }
         ensures lane { ForBackward self.now (λ tables. IsOkAnd result (IsLane tables haystack.now span end end)) }
@@ -135,7 +135,7 @@ impl<'t> Backward<'t> {
         tally: &mut Tally,
     ) -> Result<Option<Begun>, Damaged>
         requires safe { IsSafe self.now }
-        requires limit { limit ≡ limit_of self.now }
+        requires limit { IsLimit self.now limit }
         requires valid { IsValidSpan haystack.now span }
         requires part { IsPart span part }
         requires row { from < limit }
@@ -168,7 +168,7 @@ impl<'t> Backward<'t> {
         tally: &mut Tally,
     ) -> Result<Led, Damaged>
         requires safe { IsSafe self.now }
-        requires limit { limit ≡ limit_of self.now }
+        requires limit { IsLimit self.now limit }
         requires valid { IsValidSpan haystack.now span }
         requires parts { IsFourParts self.now.table.longest span at block }
         ensures led { ForBackward self.now (λ tables. IsOkAnd result (IsLed tables haystack.now span at block)) }
@@ -217,7 +217,7 @@ impl<'t> Backward<'t> {
         tally: &mut Tally,
     ) -> bool
         requires safe { IsSafe self.now }
-        requires limit { limit ≡ limit_of self.now }
+        requires limit { IsLimit self.now limit }
         requires rows { HaveRows limit lanes }
         requires valid { IsValidSpan haystack.now span }
         requires inside { at + 4 * part ≤ span.end }
@@ -269,7 +269,7 @@ impl<'t> Backward<'t> {
         tally: &mut Tally,
     ) -> Result<Option<Begun>, Damaged>
         requires safe { IsSafe self.now }
-        requires limit { limit ≡ limit_of self.now }
+        requires limit { IsLimit self.now limit }
         requires rows { HaveRows limit lanes }
         requires valid { IsValidSpan haystack.now span }
         requires after { span.start ≤ at }
@@ -321,7 +321,7 @@ impl<'t> Backward<'t> {
         tally: &mut Tally,
     ) -> Result<Option<Begun>, Damaged>
         requires safe { IsSafe self.now }
-        requires limit { limit ≡ limit_of self.now }
+        requires limit { IsLimit self.now limit }
         requires valid { IsValidSpan haystack.now span }
         requires after { span.start ≤ at }
         requires parts { IsFourParts self.now.table.longest span at block }
@@ -364,7 +364,7 @@ impl<'t> Backward<'t> {
         tally: &mut Tally,
     ) -> Result<(), Damaged>
         requires safe { IsSafe self.now }
-        requires limit { limit ≡ limit_of self.now }
+        requires limit { IsLimit self.now limit }
         requires rows { HaveRows limit lanes }
         requires valid { IsValidSpan haystack.now span }
         requires inside { at + 4 * part ≤ span.end }

@@ -51,7 +51,7 @@ mod walk;
 mod window;
 
 pub use builder::SearchBuilder;
-use classes::{ClassNumbers, classes_for};
+use classes::classes_for;
 use grow::GrowError;
 pub use linear::{Linear, LinearMatches};
 pub use literal_base::count::Tally;
@@ -151,7 +151,8 @@ pub struct Search {
     kind: MatchKind,
     ignore_case: bool,
     patterns: Vec<Vec<u8>>,
-    classes: ClassNumbers,
+    /// How many classes of bytes there are.
+    width: usize,
     rows: Rows,
     longest: usize,
     shortest: usize,
@@ -196,7 +197,7 @@ impl Search {
             kind,
             ignore_case,
             patterns,
-            classes: classes.to_numbers(),
+            width: classes.width,
             rows,
             longest,
             shortest,
@@ -236,7 +237,7 @@ impl Search {
         ensures not_empty { IfSome result (λ found. found.start < found.end) }
         ensures bounded { ScansWithin self.now.query.patterns span result tally.old tally.new }
     {
-        let answer = self.table().search(haystack, span, false, true, tally);
+        let answer = self.table().search(haystack, span, false, tally);
         let ended = answer.unwrap_or(None)?;
         Some(self.match_by(haystack, span, ended))
     }
@@ -251,7 +252,7 @@ impl Search {
         ensures not_empty { IfSome result (λ found. found.start < found.end) }
         ensures bounded { ScansOnce self.now.query.patterns span result tally.old tally.new }
     {
-        let answer = self.table().search_once(haystack, span, false, true, tally);
+        let answer = self.table().search_once(haystack, span, false, tally);
         let ended = answer.unwrap_or(None)?;
         Some(self.match_by(haystack, span, ended))
     }
@@ -304,8 +305,8 @@ impl Search {
         ensures { IsTableOf result self.now.query self.now.ignore_case }
     {
         Table {
-            classes: &self.classes.table,
-            width: self.classes.width,
+            classes: self.rows.classes(),
+            width: self.width,
             rows: self.rows.as_slice(),
             longest: self.longest,
             shortest: self.shortest,
@@ -429,7 +430,7 @@ impl Search {
         ensures end { IsEarliestEnd self.now.query.patterns self.now.ignore_case haystack.now span result }
         ensures bounded { ScansToEndWithin span result tally.old tally.new }
     {
-        let answer = self.table().search(haystack, span, true, true, tally);
+        let answer = self.table().search(haystack, span, true, tally);
         let ended = answer.unwrap_or(None)?;
         Some(ended.end)
     }
@@ -443,7 +444,7 @@ impl Search {
         ensures bounded { ScansToEnd span result tally.old tally.new }
         ensures all { IsNone result → tally.new.scanned ≡ tally.old.scanned + (span.end - span.start) }
     {
-        let answer = self.table().search_once(haystack, span, true, true, tally);
+        let answer = self.table().search_once(haystack, span, true, tally);
         let ended = answer.unwrap_or(None)?;
         Some(ended.end)
     }
@@ -471,7 +472,7 @@ impl Search {
         let prints = prepared::fingerprint_numbers(self.shortest, self.fingerprints());
         prepared::write(
             version,
-            &self.classes,
+            self.width,
             &self.patterns,
             self.rows.as_slice(),
             &[],
@@ -502,7 +503,7 @@ impl Search {
     pub fn memory_usage(&self) -> u128
         ensures { TakesBytes self.now result }
     {
-        self.rows.as_slice().len() as u128 * 4 + total_bytes(&self.patterns)
+        self.rows.without_classes().len() as u128 * 4 + total_bytes(&self.patterns)
     }
 
     /// Which of the patterns that match at one place is taken.

@@ -20,7 +20,7 @@ ghost use Rattle.literal_search.specs.declared.backward.TheConstants.{LEAST};
 ghost use Rattle.literal_search.specs.declared.prepared.PrepareError.TheVariants.{PatternTooLong};
 
 use crate::backward::{Backward, Lens, Marks, no_marks};
-use crate::classes::{ClassNumbers, classes_for};
+use crate::classes::classes_for;
 use crate::prepared::{self, PrepareError};
 use crate::rows::{Rows, rows_for};
 use crate::suffixes::Recognised;
@@ -57,7 +57,8 @@ struct Parts {
     kind: MatchKind,
     ignore_case: bool,
     patterns: Vec<Vec<u8>>,
-    classes: ClassNumbers,
+    /// How many classes of bytes there are.
+    width: usize,
     /// Those of an automaton for all that occurs of the reversed patterns.
     rows: Rows,
     /// For each pattern the best of those that are prefixes of it.
@@ -100,7 +101,7 @@ impl Linear {
         let recognised = Recognised {
             classes: &classes.table,
             width: classes.width,
-            rows: rows.as_slice(),
+            rows: rows.without_classes(),
             patterns: &backward,
         };
         let best = recognised.best_suffixes(alloc, kind)?;
@@ -109,7 +110,7 @@ impl Linear {
             kind,
             ignore_case,
             patterns,
-            classes: classes.to_numbers(),
+            width: classes.width,
             rows,
             best,
             longest,
@@ -250,7 +251,7 @@ impl Linear {
         let parts = &self.parts;
         prepared::write(
             prepared::LINEAR_VERSION,
-            &parts.classes,
+            parts.width,
             &parts.patterns,
             parts.rows.as_slice(),
             &[],
@@ -285,7 +286,7 @@ impl Linear {
             best,
             ..
         } = &self.parts;
-        let numbers = rows.as_slice().len() as u128 + best.len() as u128;
+        let numbers = rows.without_classes().len() as u128 + best.len() as u128;
         numbers * 4 + total_bytes(patterns)
     }
 
@@ -356,8 +357,8 @@ impl Parts {
         ensures longest { result.table.longest ≡ self.now.longest }
     {
         let table = Table {
-            classes: &self.classes.table,
-            width: self.classes.width,
+            classes: self.rows.classes(),
+            width: self.width,
             rows: self.rows.as_slice(),
             longest: self.longest,
             shortest: 0,

@@ -7,7 +7,7 @@ ghost use Rattle.literal_base.specs.declared.search.MatchKind.TheVariants.{Stand
 ghost use Rattle.literal_base.specs.Given.{CanBeTaken};
 ghost use Rattle.literal_search.specs.SearchValue.{CanBeKept, NeedFewStates, NeedTooManyStates, RefusesSearch};
 ghost use Rattle.literal_search.specs.Earliest.{ScansToEnd};
-ghost use Rattle.literal_search.specs.Inside.Walk.{FindsEnd, IsRow};
+ghost use Rattle.literal_search.specs.Inside.Walk.{FindsEnd, IsRow, rows_by};
 ghost use Rattle.literal_search.specs.Memory.{TakesListedBytes};
 ghost use Rattle.literal_search.specs.Overlapping.{BuildsOverlapping};
 ghost use Rattle.literal_search.specs.OverlappingMatchesValue.{GivesOverlapping, IsNextToCome, IsToCome};
@@ -17,7 +17,7 @@ ghost use Rattle.literal_search.specs.declared.standing.Standing.{Standing};
 ghost use Rattle.literal_search.specs.Inside.Standing.{HaveSameToCome, IsStanding, longest_at};
 ghost use Rattle.literal_search.specs.Inside.Standing.{overlapping_value, standing_at, standing_value, tables_of};
 
-use crate::classes::{ClassNumbers, classes_for};
+use crate::classes::classes_for;
 use crate::prepared::{OVERLAPPING_VERSION, PrepareError, write};
 use crate::rows::{Rows, rows_for};
 use crate::standing::Standing;
@@ -53,7 +53,8 @@ pub struct Overlapping {
 struct Parts {
     ignore_case: bool,
     patterns: Vec<Vec<u8>>,
-    classes: ClassNumbers,
+    /// How many classes of bytes there are.
+    width: usize,
     rows: Rows,
     lists: Lists,
 }
@@ -92,14 +93,14 @@ impl Overlapping {
         let recognised = Recognised {
             classes: &classes.table,
             width: classes.width,
-            rows: rows.as_slice(),
+            rows: rows.without_classes(),
             patterns: &patterns,
         };
         let lists = recognised.lists(alloc)?;
         let parts = Parts {
             ignore_case,
             patterns,
-            classes: classes.to_numbers(),
+            width: classes.width,
             rows,
             lists,
         };
@@ -155,7 +156,7 @@ impl Overlapping {
         ensures as_before { OnErr result (array.new ≡ array.old) }
     {
         let Parts {
-            classes,
+            width,
             patterns,
             rows,
             lists,
@@ -163,7 +164,7 @@ impl Overlapping {
         } = &self.parts;
         write(
             OVERLAPPING_VERSION,
-            classes,
+            *width,
             patterns,
             rows.as_slice(),
             lists.starts(),
@@ -184,7 +185,7 @@ impl Overlapping {
             lists,
             ..
         } = &self.parts;
-        let numbers = rows.as_slice().len() as u128 + lists.ends.len() as u128;
+        let numbers = rows.without_classes().len() as u128 + lists.ends.len() as u128;
         numbers * 4 + lists.starts().len() as u128 * 8 + total_bytes(patterns)
     }
 
@@ -253,26 +254,26 @@ impl Parts {
         tally: &mut Tally,
     ) -> Option<Stop>
         requires parts { AreTables (tables_of self.now) }
-        requires row { IsRow self.now.classes.width self.now.rows from }
+        requires row { IsRow self.now.width self.now.rows.rows from }
         requires valid { IsValidSpan haystack.now span }
-        ensures first { FindsEnd self.now.classes.width self.now.rows from self.now.classes.table haystack.now span
-            result }
+        ensures first { FindsEnd self.now.width self.now.rows.rows from self.now.rows.classes haystack.now span result }
         ensures inside { IfSome result (λ stop. (span.start < stop.end) × (stop.end ≤ span.end)) }
         ensures bounded { ScansToEnd span (option_map (λ stop. stop.end) result) tally.old tally.new }
     {
-        let answer = self.table().first_ended(haystack, from, span, true, tally);
+        let answer = self.table().first_ended(haystack, from, span, tally);
         answer.unwrap_or(None)
     }
 
     /// What a walk reads of them.
     fn table(&self) -> Table<'_>
-        ensures classes { result.classes.now ≡ self.now.classes.table }
-        ensures width { result.width ≡ self.now.classes.width }
-        ensures rows { result.rows.now ≡ self.now.rows }
+        requires { length self.now.rows.classes ≡ 256 }
+        ensures classes { result.classes.now ≡ self.now.rows.classes }
+        ensures width { result.width ≡ self.now.width }
+        ensures rows { rows_by result ≡ self.now.rows.rows }
     {
         Table {
-            classes: &self.classes.table,
-            width: self.classes.width,
+            classes: self.rows.classes(),
+            width: self.width,
             rows: self.rows.as_slice(),
             longest: 0, // (not asked for where a walk stops at each end of a pattern)
             shortest: 0,
@@ -282,11 +283,12 @@ impl Parts {
 
     /// Where a walk stands that stopped where a pattern ends: before all patterns that end there.
     fn standing_at(&self, stop: Stop) -> Standing
-        requires row { stop.place + self.now.classes.width < length self.now.rows }
+        requires classes { length self.now.rows.classes ≡ 256 }
+        requires row { stop.place + self.now.width < length self.now.rows.rows }
         requires listed { longest_at (tables_of self.now) stop + 1 < length (tables_of self.now).starts }
         ensures { result ≡ standing_at (tables_of self.now) stop }
     {
-        let longest = self.rows.as_slice()[stop.place + self.classes.width] as usize;
+        let longest = self.rows.without_classes()[stop.place + self.width] as usize;
         let starts = self.lists.starts();
         Standing {
             at: stop.end,

@@ -10,9 +10,10 @@ ghost use Rattle.literal_search.specs.Prepared.{AreShort, ForPrepared, HasAllPar
 ghost use Rattle.literal_search.specs.Prepared.{check_of, fingerprints_by, longest_in, shortest_by};
 ghost use Rattle.literal_search.specs.SearchValue.{ScansWithin};
 ghost use Rattle.literal_search.specs.Inside.Prepared.{IsHeader, Puts, RefusesArray, numbers_for, header_table};
+ghost use Rattle.literal_search.specs.Inside.Rows.{classes_of, rows_of};
 ghost use Rattle.literal_search.specs.Inside.Scan.{IsTableOf};
 
-use crate::classes::ClassNumbers;
+use crate::classes::CLASSES_LEN;
 use crate::longest_len;
 use crate::walk::Table;
 use literal_base::count::Tally;
@@ -24,22 +25,19 @@ use std::fmt;
 use std::marker::Model;
 
 /// What the first number of a prepared search for the leftmost match is.
-pub const PREPARED_VERSION: u32 = 0x4C50_0004;
+pub const PREPARED_VERSION: u32 = 0x4C50_0005;
 
 /// What that of one for everything that occurs is.
-pub const OVERLAPPING_VERSION: u32 = 0x4C4F_0003;
+pub const OVERLAPPING_VERSION: u32 = 0x4C4F_0004;
 
 /// What that of one for all leftmost matches in linear time is.
-pub const LINEAR_VERSION: u32 = 0x4C4C_0001;
+pub const LINEAR_VERSION: u32 = 0x4C4C_0002;
 
-/// Where the classes of all bytes begin, behind the version, the check, the width, how many patterns and places in the
-/// rows there are, and how long the longest pattern is.
-pub const CLASSES_AT: usize = 6;
+/// Where the lengths of the patterns begin, behind the version, the check, the width, how many patterns and places in
+/// the rows there are, and how long the longest pattern is. Behind them stand the rows, and the class of each byte.
+pub const LENGTHS_AT: usize = 6;
 
-/// Where the lengths of the patterns begin. Behind them stand the rows.
-pub const LENGTHS_AT: usize = CLASSES_AT + 256;
-
-/// How many numbers fingerprints take, behind the rows: a length that no pattern is below, or 0 where there are no
+/// How many numbers fingerprints take, behind the classes: a length that no pattern is below, or 0 where there are no
 /// fingerprints, and one for each of their bytes.
 pub const FINGERPRINTS_LEN: usize = 1 + BYTES;
 
@@ -102,6 +100,7 @@ pub struct Header<'p> {
     pub classes: &'p [u32],
     pub width: usize,
     pub lengths: &'p [u32],
+    /// With the classes behind them.
     pub rows: &'p [u32],
     pub longest: usize,
 }
@@ -134,16 +133,18 @@ pub fn split<'p>(numbers: &'p [u32], version: u32) -> Result<Header<'p>, Damaged
         return Err(Damaged);
     }
     let (patterns, places) = (numbers[3] as usize, numbers[4] as usize);
-    if patterns > PatternID::LIMIT || numbers.len() - LENGTHS_AT < patterns + places {
+    let rows_at = LENGTHS_AT + patterns;
+    let rows_end = rows_at + places;
+    let end = rows_end + CLASSES_LEN;
+    if patterns > PatternID::LIMIT || numbers.len() < end {
         return Err(Damaged);
     }
-    let rows_at = LENGTHS_AT + patterns;
     Ok(Header {
         numbers,
-        classes: &numbers[CLASSES_AT..LENGTHS_AT],
+        classes: &numbers[rows_end..end],
         width: numbers[2] as usize,
         lengths: &numbers[LENGTHS_AT..rows_at],
-        rows: &numbers[rows_at..rows_at + places],
+        rows: &numbers[rows_at..end],
         longest: numbers[5] as usize,
     })
 }
@@ -270,7 +271,7 @@ impl<'p> Prepared<'p> {
         ensures most { tally.new.scanned ≤ tally.old.scanned + 3 * (span.end - span.start) }
     {
         let header = &self.header;
-        let ended = self.table().search(haystack, span, false, false, tally)?;
+        let ended = self.table().search(haystack, span, false, tally)?;
         let Some(ended) = ended else {
             return Ok(None);
         };
@@ -319,31 +320,32 @@ fn fingerprints_by(prints: &[u32]) -> Fingerprints
     Fingerprints::from_bytes(&bytes)
 }
 
-/// Writes a search of a version into the first places of an array, and answers how many these are. Behind its rows
-/// may stand lists, of which `starts` says where each begins, or the numbers of fingerprints alone.
+/// Writes a search of a version into the first places of an array, and answers how many these are. Behind its rows and
+/// the classes behind these may stand lists, of which `starts` says where each begins, or the numbers of fingerprints
+/// alone.
 pub fn write(
     version: u32,
-    classes: &ClassNumbers,
+    width: usize,
     patterns: &[Vec<u8>],
     rows: &[u32],
     starts: &[usize],
     ends: &[u32],
     array: &mut [u32],
 ) -> Result<usize, PrepareError>
-    requires classes { length classes.now.table ≡ 256 }
-    requires width { classes.now.width < 2 ^ 32 }
+    requires classes { length (classes_of rows.now) ≡ 256 }
+    requires width { width < 2 ^ 32 }
     requires patterns { length patterns.now < 2 ^ 32 }
-    requires rows { length rows.now < 2 ^ 32 }
+    requires rows { length (rows_of rows.now) < 2 ^ 32 }
     requires starts { length starts.now ≤ 2 ^ 32 }
     requires inside { (i : ℕ) → slice_index starts.now i ≤ length ends.now }
     ensures ok { IfOk result (λ needed. (needed ≤ length array.old) × (length ends.now < 2 ^ 32)
-        × Puts 0 (numbers_for version classes.now.table classes.now.width
-        (map (λ pattern. pattern.items) patterns.now) rows.now starts.now ends.now) array.old array.new
-        × (needed ≡ length (numbers_for version classes.now.table classes.now.width
-        (map (λ pattern. pattern.items) patterns.now) rows.now starts.now ends.now))) }
+        × Puts 0 (numbers_for version (classes_of rows.now) width (map (λ pattern. pattern.items) patterns.now)
+        (rows_of rows.now) starts.now ends.now) array.old array.new
+        × (needed ≡ length (numbers_for version (classes_of rows.now) width
+        (map (λ pattern. pattern.items) patterns.now) (rows_of rows.now) starts.now ends.now))) }
     ensures error { IfErr result (RefusesArray (map (λ pattern. pattern.items) patterns.now) ends.now
-        (numbers_for version classes.now.table classes.now.width (map (λ pattern. pattern.items) patterns.now) rows.now
-        starts.now ends.now) array.old) }
+        (numbers_for version (classes_of rows.now) width (map (λ pattern. pattern.items) patterns.now)
+        (rows_of rows.now) starts.now ends.now) array.old) }
     ensures as_before { OnErr result (array.new ≡ array.old) }
 {
     let longest = longest_len(patterns);
@@ -360,14 +362,13 @@ pub fn write(
     if array.len() < needed {
         return Err(PrepareError::ArrayTooShort(needed));
     }
-    let width = classes.width as u32;
-    let (count, places) = (patterns.len() as u32, rows.len() as u32);
+    let width = width as u32;
+    let (count, places) = (patterns.len() as u32, (rows.len() - CLASSES_LEN) as u32);
     put_numbers(
         array,
         0,
         &[version, 0, width, count, places, longest as u32],
     );
-    put_numbers(array, CLASSES_AT, &classes.table);
     put_lengths(array, patterns);
     put_numbers(array, rows_at, rows);
     put_starts(array, starts_at, starts);

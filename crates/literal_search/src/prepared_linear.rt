@@ -14,6 +14,7 @@ ghost use Rattle.literal_search.specs.SearchValue.{SearchValue};
 ghost use Rattle.literal_search.specs.Inside.Backward.{AreBackFor, IsSafe, back_tables_by, lens_of};
 
 use crate::backward::{Backward, Lens, Marks, no_marks, place_after};
+use crate::classes::CLASSES_LEN;
 use crate::prepared::{Damaged, Header, LENGTHS_AT, LINEAR_VERSION, is_checked, split};
 use literal_base::count::Tally;
 use literal_base::{Match, Span};
@@ -41,8 +42,8 @@ impl<'p> Model for PreparedLinear<'p> {
 }
 
 impl<'p> PreparedLinear<'p> {
-    /// The search by the numbers in an array, where its first numbers say that it is one, it is as long as they say,
-    /// and its classes lie in a row. No more of it is read: [`PreparedLinear::is_whole`] goes over all of it.
+    /// The search by the numbers in an array, where its first numbers say that it is one, and it is as long as they
+    /// say. No more of it is read: [`PreparedLinear::is_whole`] goes over all of it.
     pub fn new(numbers: &'p [u32]) -> Result<PreparedLinear<'p>, Damaged>
         ensures { MatchResult result (λ prepared. (prepared ≡ numbers.now) × HasLinearParts numbers.now)
             (λ _. ¬ HasLinearParts numbers.now) }
@@ -50,7 +51,7 @@ impl<'p> PreparedLinear<'p> {
         let header = split(numbers, LINEAR_VERSION)?;
         let end = LENGTHS_AT + header.lengths.len() + header.rows.len();
         let is_short = numbers.len() - end < header.lengths.len();
-        if is_short || header.rows.len() <= header.width || !header.table(0, None).classes_fit() {
+        if is_short || header.rows.len() == CLASSES_LEN {
             return Err(Damaged);
         }
         let best = &numbers[end..end + header.lengths.len()];

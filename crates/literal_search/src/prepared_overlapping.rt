@@ -12,6 +12,7 @@ ghost use Rattle.literal_search.specs.PreparedOverlapping.{ForOverlapping, HasEn
 ghost use Rattle.literal_search.specs.PreparedOverlapping.{IsWholeOverlapping, matches_for};
 ghost use Rattle.literal_search.specs.Inside.LentTables.{AreFor, AreLent, EndsAt, IsNextBy, IsNextEnd, LiesAt};
 ghost use Rattle.literal_search.specs.Inside.LentTables.{StandsBy, tables_by};
+ghost use Rattle.literal_search.specs.Inside.Rows.{rows_of};
 ghost use Rattle.literal_search.specs.Inside.Standing.{IsStanding, longest_at, standing_at, standing_value};
 ghost use Rattle.literal_search.specs.declared.standing.Standing.{Standing};
 
@@ -156,19 +157,14 @@ impl<'p> LentTables<'p> {
 
     /// Where a walk stands that stopped where a pattern ends: before all patterns that end there.
     fn standing_at(&self, stop: Stop) -> Result<Standing, Damaged>
-        requires width { self.now.header.width < 2 ^ 32 }
-        requires small { stop.place < 2 ^ 32 }
         ensures prepared { (search : OverlappingValue)
-            → stop.place + self.now.header.width < length self.now.header.rows.now
+            → stop.place + self.now.header.width < length (rows_of self.now.header.rows.now)
             → longest_at (tables_by search self.now) stop + 1 < length self.now.starts.now
             → IsOkAnd result (λ s. s ≡ standing_at (tables_by search self.now) stop) }
         ensures at { IfOk result (λ s. (s.at ≡ stop.end) × (s.place ≡ stop.place)) }
     {
-        let longest = *self
-            .header
-            .rows
-            .get(stop.place + self.header.width)
-            .ok_or(Damaged)? as usize;
+        let table = self.header.table(0, None);
+        let longest = table.ending_at(stop.place)? as usize;
         let next = *self.starts.get(longest).ok_or(Damaged)? as usize;
         let end = *self.starts.get(longest + 1).ok_or(Damaged)? as usize;
         Ok(Standing {
@@ -213,7 +209,7 @@ impl<'p> LentTables<'p> {
             end: span.end,
         };
         let table = self.header.table(0, None);
-        let Some(stop) = table.first_ended(haystack, standing.place, rest, false, tally)? else {
+        let Some(stop) = table.first_ended(haystack, standing.place, rest, tally)? else {
             return Ok(None);
         };
         Ok(Some(self.standing_at(stop)?))
@@ -344,6 +340,7 @@ impl<'s, 'p, 'h> PreparedOverlappingMatches<'s, 'p, 'h> {
     /// Answers as `next_match`, and adds each byte that it looks up to a tally, as scanned: at most those from the end
     /// where it stood up to that where it stands, in the span. An iteration so looks up each byte of the span at most
     /// once, whatever the numbers are.
+    #[tactic(auto, using(crate::proofs::lemmas::LentTables::are_for))]
     pub fn next_counted(&mut self, tally: &mut Tally) -> Result<Option<Match>, Damaged>
         ensures prepared { ForOverlapping self.old.numbers (λ search. IsOkAnd result (λ answer.
             GivesOverlapping (matches_for search self.old) answer (matches_for search self.new))) }

@@ -1,22 +1,33 @@
-//! The rows of all states, which take memory only where there is a pattern.
-ghost use Rattle.std.specs.Prelude.{◌≡◌, ◌<◌, ◌≤◌, ◌^◌, ◌-◌, [], IfErr, IfOk, OnErr, length, map};
+//! The rows of all states, and the class of each byte, which take memory only where there is a pattern.
+ghost use Rattle.std.specs.Prelude.{◌≡◌, ◌<◌, ◌≤◌, ◌^◌, ◌-◌, ◌++◌, [], IfErr, IfOk, OnErr, length, map};
 ghost use Rattle.literal_base.specs.Occurs.{NoneIsEmpty};
 ghost use Rattle.literal_search.specs.Table.{Recognises};
 ghost use Rattle.literal_search.specs.Inside.Classes.{AreClasses, symbols_in};
-ghost use Rattle.literal_search.specs.Inside.Rows.{numbers_of};
+ghost use Rattle.literal_search.specs.Inside.Rows.{classes_of, rows_of, rows_value};
 ghost use Rattle.literal_search.specs.States.{HasTooManyStates, IsRowsLength};
 
-use crate::classes::Classes;
+use crate::classes::{CLASSES_LEN, Classes};
 use crate::grow::{GrowError, grow};
 use crate::walk::NOTHING;
 use literal_base::search::MatchKind;
 use std::alloc::{AllocError, Global};
 use std::marker::Model;
 
-/// The row of the one state where there is no pattern: its one class leads to itself, and nothing ends there.
-const NO_PATTERN: [u32; 2] = [0, NOTHING];
+/// The row of the one state where there is no pattern: its one class leads to itself, and nothing ends there. Behind it
+/// each byte has this class.
+const NO_PATTERN: [u32; 258] = [
+    0, NOTHING, 0, 0, 0, 0, 0, 0, 0, 0, 0, 0, 0, 0, 0, 0, 0, 0, 0, 0, 0, 0, 0, 0, 0, 0, 0, 0, 0, 0,
+    0, 0, 0, 0, 0, 0, 0, 0, 0, 0, 0, 0, 0, 0, 0, 0, 0, 0, 0, 0, 0, 0, 0, 0, 0, 0, 0, 0, 0, 0, 0, 0,
+    0, 0, 0, 0, 0, 0, 0, 0, 0, 0, 0, 0, 0, 0, 0, 0, 0, 0, 0, 0, 0, 0, 0, 0, 0, 0, 0, 0, 0, 0, 0, 0,
+    0, 0, 0, 0, 0, 0, 0, 0, 0, 0, 0, 0, 0, 0, 0, 0, 0, 0, 0, 0, 0, 0, 0, 0, 0, 0, 0, 0, 0, 0, 0, 0,
+    0, 0, 0, 0, 0, 0, 0, 0, 0, 0, 0, 0, 0, 0, 0, 0, 0, 0, 0, 0, 0, 0, 0, 0, 0, 0, 0, 0, 0, 0, 0, 0,
+    0, 0, 0, 0, 0, 0, 0, 0, 0, 0, 0, 0, 0, 0, 0, 0, 0, 0, 0, 0, 0, 0, 0, 0, 0, 0, 0, 0, 0, 0, 0, 0,
+    0, 0, 0, 0, 0, 0, 0, 0, 0, 0, 0, 0, 0, 0, 0, 0, 0, 0, 0, 0, 0, 0, 0, 0, 0, 0, 0, 0, 0, 0, 0, 0,
+    0, 0, 0, 0, 0, 0, 0, 0, 0, 0, 0, 0, 0, 0, 0, 0, 0, 0, 0, 0, 0, 0, 0, 0, 0, 0, 0, 0, 0, 0, 0, 0,
+    0, 0, 0, 0,
+];
 
-/// The rows of an automaton. Contracts see the numbers in them.
+/// The rows of an automaton, with the class of each byte behind them. Contracts see both.
 #[derive(Drop)]
 pub struct Rows {
     /// Empty where there is no pattern.
@@ -24,23 +35,42 @@ pub struct Rows {
 }
 
 impl Model for Rows {
-    ghost use Rattle.std.specs.Prelude.{List, ℕ};
-    ghost use Rattle.literal_search.specs.Inside.Rows.{numbers_of};
+    ghost use Rattle.literal_search.specs.Inside.Rows.{RowsValue, rows_value};
 
-    ghost Value = { List ℕ };
+    ghost Value = { RowsValue };
 
-    ghost view = { λ r. numbers_of r.numbers.items };
+    ghost view = { λ r. rows_value r.numbers.items };
 }
 
 impl Rows {
-    /// The numbers.
+    /// The rows, and behind them the classes.
     pub fn as_slice(&self) -> &[u32]
-        ensures { result.now ≡ self.now }
+        ensures rows { rows_of result.now ≡ self.now.rows }
+        ensures classes { classes_of result.now ≡ self.now.classes }
     {
         if self.numbers.is_empty() {
             return &NO_PATTERN;
         }
         &self.numbers
+    }
+
+    /// The rows alone.
+    pub fn without_classes(&self) -> &[u32]
+        requires { length self.now.classes ≡ 256 }
+        ensures { result.now ≡ self.now.rows }
+    {
+        let numbers = self.as_slice();
+        &numbers[..numbers.len() - CLASSES_LEN]
+    }
+
+    /// The classes alone.
+    #[inline(always)]
+    pub fn classes(&self) -> &[u32]
+        requires { length self.now.classes ≡ 256 }
+        ensures { result.now ≡ self.now.classes }
+    {
+        let numbers = self.as_slice();
+        &numbers[numbers.len() - CLASSES_LEN..]
     }
 }
 
@@ -55,10 +85,12 @@ pub fn rows_for(
     requires one { patterns.now ≡ [] → classes.now.width ≡ 1 }
     requires some { NoneIsEmpty (map (λ pattern. pattern.items) patterns.now) }
     requires few { length patterns.now ≤ 2 ^ 31 - 1 }
+    ensures classes { IfOk result (λ rows. rows.classes ≡ classes.now.table) }
     ensures recognises { IfOk result (λ rows. Recognises kind
-        (map (λ pattern. symbols_in classes.now.table pattern.items) patterns.now) classes.now.width rows) }
+        (map (λ pattern. symbols_in classes.now.table pattern.items) patterns.now) classes.now.width rows.rows) }
     ensures states { IfOk result (λ rows. IsRowsLength kind
-        (map (λ pattern. symbols_in classes.now.table pattern.items) patterns.now) classes.now.width (length rows)) }
+        (map (λ pattern. symbols_in classes.now.table pattern.items) patterns.now) classes.now.width
+        (length rows.rows)) }
     ensures few { IfOk result (λ _. HasTooManyStates kind
         (map (λ pattern. symbols_in classes.now.table pattern.items) patterns.now) classes.now.width → ⊥) }
     ensures too_many { IfErr result (λ error. error ≡ GrowError.TooManyStates → HasTooManyStates kind
@@ -70,8 +102,19 @@ pub fn rows_for(
             numbers: Vec::new(alloc),
         });
     }
-    let numbers = grow(alloc, kind, &classes.table, classes.width, patterns)?;
+    let mut numbers = grow(alloc, kind, &classes.table, classes.width, patterns)?;
+    push_classes(&mut numbers, &classes.table)?;
     Ok(Rows { numbers })
+}
+
+/// Puts the class of each byte behind some numbers.
+fn push_classes(numbers: &mut Vec<u32>, classes: &[u8]) -> Result<(), AllocError>
+    ensures { IfOk result (λ _. numbers.new.items ≡ numbers.old.items ++ classes.now) }
+{
+    for class in classes {
+        numbers.push(u32::from(*class))?;
+    }
+    Ok(())
 }
 
 /// A copy of the rows of some patterns, and those of no pattern where there is none. Memory is asked for only where
@@ -82,7 +125,7 @@ pub(crate) fn copy_of_rows(
     rows: &Rows,
 ) -> Result<Rows, AllocError>
     ensures same { 0 < length patterns.now → IfOk result (λ copy. copy ≡ rows.now) }
-    ensures none { length patterns.now ≡ 0 → IfOk result (λ copy. copy ≡ numbers_of []) }
+    ensures none { length patterns.now ≡ 0 → IfOk result (λ copy. copy ≡ rows_value []) }
     ensures no_memory { OnErr result (0 < length patterns.now) }
 {
     let mut numbers = Vec::new(alloc);

@@ -4,11 +4,11 @@ ghost use Rattle.std.specs.Prelude.{◌≡◌, ◌⊎◌, ◌+◌, ◌-◌, ◌*
 ghost use Rattle.std.specs.Prelude.{IfOk, IfSome, None, false, length, true};
 ghost use Rattle.std.specs.Result.{IsOkAnd};
 ghost use Rattle.literal_base.specs.Occurs.{IsValidSpan, between};
-ghost use Rattle.literal_search.specs.Inside.Walk.{ClassesFit};
 ghost use Rattle.literal_search.specs.Inside.Scan.{Answers, AreNear, ForTable};
 ghost use Rattle.literal_search.specs.Inside.Scan.{NoneBefore, SearchesTo, StepsToEnd};
 ghost use Rattle.literal_search.specs.Inside.Scan.{WalksTo};
 
+use crate::classes::CLASSES_LEN;
 use crate::prepared::Damaged;
 use crate::walk::{Ended, Table, Walked};
 use literal_base::Span;
@@ -65,12 +65,10 @@ impl<'t> Table<'t> {
         haystack: &[u8],
         span: Span,
         is_earliest: bool,
-        fits: bool,
         tally: &mut Tally,
     ) -> Result<Option<Ended>, Damaged>
         requires classes { length self.now.classes.now ≡ 256 }
         requires valid { IsValidSpan haystack.now span }
-        requires fits { fits ≡ true → ClassesFit self.now }
         ensures found { ForTable self.now (λ query ignore_case. IsOkAnd result
             (Answers is_earliest query ignore_case haystack.now span)) }
         ensures near { is_earliest ≡ false → ForTable self.now (λ query ignore_case. IsOkAnd result (SearchesTo
@@ -88,16 +86,16 @@ impl<'t> Table<'t> {
         let passes = self.can_pass(end - start);
         while passes && 3 * near <= end - start {
             let rest = Span { start, end };
-            match self.walk_apart(haystack, rest, start + near, is_earliest, fits, tally)? {
+            match self.walk(haystack, rest, start + near, is_earliest, tally)? {
                 Walked::Known(answer) => return Ok(answer),
                 Walked::Anew(at) => {
                     let later = Span { start: at, end };
-                    start = self.pass_over(haystack, later, nearest.later, fits, tally)?;
+                    start = self.pass_over(haystack, later, nearest.later, tally)?;
                     near = nearest.next(near, start - at);
                 }
             }
         }
-        self.search_once(haystack, Span { start, end }, is_earliest, fits, tally)
+        self.search_once(haystack, Span { start, end }, is_earliest, tally)
     }
 
     /// The same by one walk.
@@ -107,12 +105,10 @@ impl<'t> Table<'t> {
         haystack: &[u8],
         span: Span,
         is_earliest: bool,
-        fits: bool,
         tally: &mut Tally,
     ) -> Result<Option<Ended>, Damaged>
         requires classes { length self.now.classes.now ≡ 256 }
         requires valid { IsValidSpan haystack.now span }
-        requires fits { fits ≡ true → ClassesFit self.now }
         ensures found { ForTable self.now (λ query ignore_case. IsOkAnd result
             (Answers is_earliest query ignore_case haystack.now span)) }
         ensures near { ForTable self.now (λ query ignore_case. IsOkAnd result (WalksTo
@@ -124,7 +120,7 @@ impl<'t> Table<'t> {
         ensures first { IfOk result (λ answer. IfSome answer (λ e. is_earliest ≡ true
             → tally.new.scanned + span.start ≡ tally.old.scanned + e.end)) }
     {
-        match self.walk_apart(haystack, span, usize::MAX, is_earliest, fits, tally)? {
+        match self.walk(haystack, span, usize::MAX, is_earliest, tally)? {
             Walked::Known(answer) => Ok(answer),
             Walked::Anew(_) => Ok(None),
         }
@@ -160,16 +156,14 @@ impl<'t> Table<'t> {
         }
     }
 
-    /// A place in a span before which nothing begins: its start where the classes have to fit and do not, which is
-    /// looked for here, since where a match is near it takes longer than that. It is called, and not put in its place,
-    /// so that what calls it keeps what it needs in registers.
+    /// A place in a span before which nothing begins. It is called, and not put in its place, so that what calls it
+    /// keeps what it needs in registers.
     #[inline(never)]
     fn pass_over(
         &self,
         haystack: &[u8],
         span: Span,
         near: usize,
-        fits: bool,
         tally: &mut Tally,
     ) -> Result<usize, Damaged>
         requires classes { length self.now.classes.now ≡ 256 }
@@ -177,7 +171,6 @@ impl<'t> Table<'t> {
         requires some { 8 ≤ near }
         requires long { self.now.fingerprints ≡ None → 6 * self.now.longest ≤ near }
         requires short { near ≤ 6 * LONGEST }
-        requires fits { fits ≡ true → ClassesFit self.now }
         ensures none { ForTable self.now (λ query ignore_case. IsOkAnd result
             (NoneBefore query ignore_case haystack.now span)) }
         ensures inside { IfOk result (λ at. (span.start ≤ at) × (at ≤ span.end)) }
@@ -192,8 +185,7 @@ impl<'t> Table<'t> {
     {
         match self.fingerprints {
             Some(fingerprints) => Ok(fingerprints.next(haystack, span, tally)),
-            None if fits || self.classes_fit() => self.pass_blocks(haystack, span, near, tally),
-            None => Ok(span.start),
+            None => self.pass_blocks(haystack, span, near, tally),
         }
     }
 
@@ -211,7 +203,6 @@ impl<'t> Table<'t> {
         requires some { BLOCKS_NEAR ≤ near }
         requires long { 6 * self.now.longest ≤ near }
         requires short { near ≤ 6 * LONGEST }
-        requires fits { ClassesFit self.now }
         ensures none { ForTable self.now (λ query ignore_case. IsOkAnd result
             (NoneBefore query ignore_case haystack.now span)) }
         ensures inside { IfOk result (λ at. (span.start ≤ at) × (at ≤ span.end)) }
@@ -242,10 +233,9 @@ impl<'t> Table<'t> {
         tally: &mut Tally,
     ) -> bool
         requires classes { length self.now.classes.now ≡ 256 }
-        requires fits { ClassesFit self.now }
         requires some { 0 < limit }
         requires limit { limit ≤ 2 ^ 31 }
-        requires within { limit + self.now.width ≤ length self.now.rows.now }
+        requires within { limit + CLASSES_LEN ≤ length self.now.rows.now }
         requires inside { at + 4 * block + self.now.longest ≤ length haystack.now }
         ensures none { result ≡ true → ForTable self.now (λ query ignore_case.
             NoneBefore query ignore_case haystack.now (between at (length haystack.now)) (at + 4 * block)) }

@@ -5,9 +5,10 @@ ghost use Rattle.std.specs.Prelude.{IfOk, IfSome, IsTrue, MatchResult, length, m
 ghost use Rattle.std.specs.Result.{IsOkAnd};
 ghost use Rattle.literal_base.specs.Occurs.{IsValidSpan};
 ghost use Rattle.literal_search.specs.Inside.Classes.{AreClasses};
-ghost use Rattle.literal_search.specs.Inside.Walk.{ClassesFit, FindsEnd, IsRow, IsTable, LiesWithin, NoneInFour};
-ghost use Rattle.literal_search.specs.Inside.Walk.{IsWalked, StopsBy, Walks, WalksFar};
+ghost use Rattle.literal_search.specs.Inside.Walk.{FindsEnd, IsRow, IsTable, LiesWithin, NoneInFour, rows_by};
+ghost use Rattle.literal_search.specs.Inside.Walk.{StopsBy, Walks, WalksFar};
 
+use crate::classes::CLASSES_LEN;
 use crate::prepared::Damaged;
 use literal_base::Span;
 use literal_base::count::Tally;
@@ -45,11 +46,11 @@ pub struct Stop {
 /// The numbers of an automaton.
 #[derive(Clone, Copy)]
 pub struct Table<'t> {
-    /// The class of each byte.
+    /// The class of each byte: the last eight bits of its number.
     pub classes: &'t [u32],
     /// How many classes there are.
     pub width: usize,
-    /// A row for each state.
+    /// A row for each state, and [`CLASSES_LEN`] numbers more: from the place of a row on there is one for any class.
     pub rows: &'t [u32],
     /// How long the longest pattern is.
     pub longest: usize,
@@ -60,88 +61,65 @@ pub struct Table<'t> {
 }
 
 impl<'t> Table<'t> {
-    /// Whether no class is above the width: then no class has to be tested.
-    pub fn classes_fit(&self) -> bool
-        requires { length self.now.classes.now ≡ 256 }
-        ensures { IsTrue result ↔ ClassesFit self.now }
-    {
-        for class in self.classes {
-            if *class as usize > self.width {
-                return false;
-            }
-        }
-        true
-    }
-
-    /// The class of a byte of a haystack, which so counts as scanned. Where the classes do not fit, it is tested.
-    #[inline(always)]
-    fn class_at(
-        &self,
-        haystack: &[u8],
-        at: usize,
-        fits: bool,
-        tally: &mut Tally,
-    ) -> Result<usize, Damaged>
-        requires classes { length self.now.classes.now ≡ 256 }
-        requires inside { at < length haystack.now }
-        requires fits { fits ≡ true → ClassesFit self.now }
-        ensures class { MatchResult result
-            (λ class. (class ≡ slice_index self.now.classes.now (slice_index haystack.now at))
-            × (class ≤ self.now.width))
-            (λ _. self.now.width < slice_index self.now.classes.now (slice_index haystack.now at)) }
-        ensures ticks { tally.new ≡ record tally.old { scanned = tally.old.scanned + 1 } }
-    {
-        tally.tick_scanned();
-        let class = self.classes[haystack[at] as usize] as usize;
-        if !fits && class > self.width {
-            return Err(Damaged);
-        }
-        Ok(class)
-    }
-
-    /// Below which place rows begin: the last number of a row that begins there lies in the rows.
+    /// Below which place rows begin: behind it there is a number for any class.
     #[inline(always)]
     pub fn limit(&self) -> Result<usize, Damaged>
         ensures { MatchResult result
-            (λ limit. (0 < limit) × (limit ≤ 2 ^ 31)
-            × (limit ≡ min (length self.now.rows.now - self.now.width) (2 ^ 31)))
-            (λ _. length self.now.rows.now ≤ self.now.width) }
+            (λ limit. (0 < limit) × (limit ≤ 2 ^ 31) × (limit ≡ min (length (rows_by self.now)) (2 ^ 31))
+            × (limit + CLASSES_LEN ≤ length self.now.rows.now))
+            (λ _. length (rows_by self.now) ≡ 0) }
     {
-        if self.rows.len() <= self.width {
+        if self.rows.len() <= CLASSES_LEN {
             return Err(Damaged);
         }
-        Ok((self.rows.len() - self.width).min(ENDS as usize))
+        Ok((self.rows.len() - CLASSES_LEN).min(ENDS as usize))
     }
 
-    /// The number for a class in the row that begins at a place. What begins at the class is known before the place is,
-    /// so that a walk waits for one look-up a byte, and for no sum.
+    /// The number in the row that begins at a place for a byte of the haystack, which so counts as scanned. What begins
+    /// at the class is known before the place is, so that a walk waits for one look-up a byte, and for no sum.
     #[inline(always)]
-    fn number_at(&self, place: usize, class: usize) -> u32
-        requires { place + class < length self.now.rows.now }
-        ensures { result ≡ slice_index self.now.rows.now (place + class) }
+    pub(crate) fn code_at(&self, place: usize, haystack: &[u8], at: usize, tally: &mut Tally) -> u32
+        requires classes { length self.now.classes.now ≡ 256 }
+        requires inside { at < length haystack.now }
+        requires within { place + CLASSES_LEN ≤ length self.now.rows.now }
+        ensures number { AreClasses self.now.classes.now self.now.width
+            → place + self.now.width < length (rows_by self.now) → result ≡ slice_index (rows_by self.now)
+            (place + slice_index self.now.classes.now (slice_index haystack.now at)) }
+        ensures ticks { tally.new ≡ record tally.old { scanned = tally.old.scanned + 1 } }
     {
+        tally.tick_scanned();
+        let class = (self.classes[haystack[at] as usize] % 256) as usize;
         self.rows[class..][place]
+    }
+
+    /// The pattern that ends with the state whose row begins at a place. A lent width may lead out of the rows.
+    #[inline(always)]
+    pub(crate) fn ending_at(&self, place: usize) -> Result<u32, Damaged>
+        ensures { place + self.now.width < length (rows_by self.now)
+            → IsOkAnd result (λ pattern. pattern ≡ slice_index (rows_by self.now) (place + self.now.width)) }
+    {
+        let at = place.saturating_add(self.width);
+        let pattern = self.rows.get(at).ok_or(Damaged)?;
+        Ok(*pattern)
     }
 
     /// The leftmost match in a span of the haystack, or where `is_earliest` the match that ends first: the walk goes
     /// from state to state until no more bytes matter, and answers the last pattern that ended. It ends too where it
     /// comes back to the first state, from the least place on.
-    #[inline(always)]
-    fn walk(
+    #[inline(never)]
+    pub fn walk(
         &self,
         haystack: &[u8],
         span: Span,
         least: usize,
         is_earliest: bool,
-        fits: bool,
         tally: &mut Tally,
     ) -> Result<Walked, Damaged>
         requires classes { length self.now.classes.now ≡ 256 }
         requires valid { IsValidSpan haystack.now span }
-        requires fits { fits ≡ true → ClassesFit self.now }
-        ensures found { AreClasses self.now.classes.now self.now.width → IsTable self.now.width self.now.rows.now
+        ensures found { AreClasses self.now.classes.now self.now.width → IsTable self.now.width (rows_by self.now)
             → IsOkAnd result (Walks self.now haystack.now span is_earliest) }
-        ensures near { AreClasses self.now.classes.now self.now.width → IsTable self.now.width self.now.rows.now
+        ensures near { AreClasses self.now.classes.now self.now.width → IsTable self.now.width (rows_by self.now)
             → IsOkAnd result (StopsBy self.now span (tally.new.scanned - tally.old.scanned)) }
         ensures inside { IfOk result (LiesWithin span least) }
         ensures others { tally.new ≡ record tally.old { scanned = tally.new.scanned } }
@@ -153,8 +131,7 @@ impl<'t> Table<'t> {
         let mut last = None;
         let mut place = 0;
         for at in span.start..span.end {
-            let class = self.class_at(haystack, at, fits, tally)?;
-            let code = self.number_at(place, class);
+            let code = self.code_at(place, haystack, at, tally);
             if at >= least && code == 0 {
                 return Ok(Walked::Anew(at + 1));
             }
@@ -164,7 +141,7 @@ impl<'t> Table<'t> {
                 return Ok(Walked::Known(last));
             } else {
                 place = behind_end(code, limit)?;
-                let pattern = self.number_at(place, self.width);
+                let pattern = self.ending_at(place)?;
                 last = Some(Ended {
                     pattern,
                     end: at + 1,
@@ -177,65 +154,6 @@ impl<'t> Table<'t> {
         Ok(Walked::Known(last))
     }
 
-    /// As [`Table::walk`], by code of its own for numbers that fit and for others: the loop has nothing beside it that
-    /// takes registers, and no test that it can do without.
-    #[inline(always)]
-    pub fn walk_apart(
-        &self,
-        haystack: &[u8],
-        span: Span,
-        least: usize,
-        is_earliest: bool,
-        fits: bool,
-        tally: &mut Tally,
-    ) -> Result<Walked, Damaged>
-        requires classes { length self.now.classes.now ≡ 256 }
-        requires valid { IsValidSpan haystack.now span }
-        requires fits { fits ≡ true → ClassesFit self.now }
-        ensures { IsWalked self.now haystack.now span least is_earliest tally.old tally.new result }
-    {
-        if fits {
-            self.walk_fitting(haystack, span, least, is_earliest, tally)
-        } else {
-            self.walk_tested(haystack, span, least, is_earliest, tally)
-        }
-    }
-
-    /// Where the classes fit.
-    #[inline(never)]
-    fn walk_fitting(
-        &self,
-        haystack: &[u8],
-        span: Span,
-        least: usize,
-        is_earliest: bool,
-        tally: &mut Tally,
-    ) -> Result<Walked, Damaged>
-        requires classes { length self.now.classes.now ≡ 256 }
-        requires valid { IsValidSpan haystack.now span }
-        requires fits { ClassesFit self.now }
-        ensures { IsWalked self.now haystack.now span least is_earliest tally.old tally.new result }
-    {
-        self.walk(haystack, span, least, is_earliest, true, tally)
-    }
-
-    /// Where each class is tested.
-    #[inline(never)]
-    fn walk_tested(
-        &self,
-        haystack: &[u8],
-        span: Span,
-        least: usize,
-        is_earliest: bool,
-        tally: &mut Tally,
-    ) -> Result<Walked, Damaged>
-        requires classes { length self.now.classes.now ≡ 256 }
-        requires valid { IsValidSpan haystack.now span }
-        ensures { IsWalked self.now haystack.now span least is_earliest tally.old tally.new result }
-    {
-        self.walk(haystack, span, least, is_earliest, false, tally)
-    }
-
     /// The first place in a span behind which a match ends, and the row there. The walk stands at a row as it begins to
     /// read the span. It stops where no more bytes matter.
     #[inline(always)]
@@ -244,15 +162,13 @@ impl<'t> Table<'t> {
         haystack: &[u8],
         from: usize,
         span: Span,
-        fits: bool,
         tally: &mut Tally,
     ) -> Result<Option<Stop>, Damaged>
         requires classes { length self.now.classes.now ≡ 256 }
         requires valid { IsValidSpan haystack.now span }
-        requires fits { fits ≡ true → ClassesFit self.now }
-        ensures first { AreClasses self.now.classes.now self.now.width → IsTable self.now.width self.now.rows.now
-            → IsRow self.now.width self.now.rows.now from → IsOkAnd result
-            (FindsEnd self.now.width self.now.rows.now from self.now.classes.now haystack.now span) }
+        ensures first { AreClasses self.now.classes.now self.now.width → IsTable self.now.width (rows_by self.now)
+            → IsRow self.now.width (rows_by self.now) from → IsOkAnd result
+            (FindsEnd self.now.width (rows_by self.now) from self.now.classes.now haystack.now span) }
         ensures inside { IfOk result (λ answer. IfSome answer
             (λ stop. (span.start < stop.end) × (stop.end ≤ span.end) × (stop.place < 2 ^ 32))) }
         ensures others { tally.new ≡ record tally.old { scanned = tally.new.scanned } }
@@ -266,8 +182,7 @@ impl<'t> Table<'t> {
         }
         let mut place = from;
         for at in span.start..span.end {
-            let class = self.class_at(haystack, at, fits, tally)?;
-            let code = self.number_at(place, class);
+            let code = self.code_at(place, haystack, at, tally);
             if (code as usize) < limit {
                 place = code as usize;
             } else if code == NOTHING {
@@ -293,13 +208,12 @@ impl<'t> Table<'t> {
         tally: &mut Tally,
     ) -> bool
         requires classes { length self.now.classes.now ≡ 256 }
-        requires fits { ClassesFit self.now }
         requires some { 0 < limit }
         requires limit { limit ≤ 2 ^ 31 }
-        requires within { limit + self.now.width ≤ length self.now.rows.now }
+        requires within { limit + CLASSES_LEN ≤ length self.now.rows.now }
         requires inside { at + 4 * block + self.now.longest ≤ length haystack.now }
         ensures none { result ≡ true → AreClasses self.now.classes.now self.now.width
-            → IsTable self.now.width self.now.rows.now
+            → IsTable self.now.width (rows_by self.now)
             → NoneInFour self.now haystack.now at block (block + self.now.longest) }
         ensures others { tally.new ≡ record tally.old { scanned = tally.new.scanned } }
         ensures grows { tally.old.scanned ≤ tally.new.scanned }
@@ -339,30 +253,14 @@ impl<'t> Table<'t> {
         tally: &mut Tally,
     ) -> usize
         requires classes { length self.now.classes.now ≡ 256 }
-        requires fits { ClassesFit self.now }
         requires inside { at < length haystack.now }
-        requires within { place + self.now.width < length self.now.rows.now }
-        ensures number { result ≡ slice_index self.now.rows.now
+        requires within { place + CLASSES_LEN ≤ length self.now.rows.now }
+        ensures number { AreClasses self.now.classes.now self.now.width
+            → place + self.now.width < length (rows_by self.now) → result ≡ slice_index (rows_by self.now)
             (place + slice_index self.now.classes.now (slice_index haystack.now at)) }
         ensures ticks { tally.new ≡ record tally.old { scanned = tally.old.scanned + 1 } }
     {
         self.code_at(place, haystack, at, tally) as usize
-    }
-
-    /// The number in the row that begins at a place for a byte of the haystack, where the classes fit.
-    #[inline(always)]
-    pub(crate) fn code_at(&self, place: usize, haystack: &[u8], at: usize, tally: &mut Tally) -> u32
-        requires classes { length self.now.classes.now ≡ 256 }
-        requires fits { ClassesFit self.now }
-        requires inside { at < length haystack.now }
-        requires within { place + self.now.width < length self.now.rows.now }
-        ensures number { result ≡ slice_index self.now.rows.now
-            (place + slice_index self.now.classes.now (slice_index haystack.now at)) }
-        ensures ticks { tally.new ≡ record tally.old { scanned = tally.old.scanned + 1 } }
-    {
-        tally.tick_scanned();
-        let class = self.classes[haystack[at] as usize] as usize;
-        self.number_at(place, class)
     }
 }
 

@@ -19,3 +19,15 @@ returns-in-Err-clause-status c =
       sym (ap (matches_for search) c.find_overlapping_in-matches.ensures),
     )
     refl)
+
+pub returns-in-Ok-write_overlapping-clause-page : goal.returns-in-Ok-write_overlapping-clause-page
+returns-in-Ok-write_overlapping-clause-page c = λ search is _.
+    c.in-Ok-write_overlapping.ensures.page
+    (all_that_occurs search c.args.haystack.now (between c.args.start c.args.end)) (
+      subst (IsPreparedOverlapping search)
+          (sym (ap (λ (v : PreparedOverlappingMatchesValue). v.numbers) c.find_overlapping_in-matches.ensures
+          ∙ c.in-Ok.ensures.0))
+          is,
+      sym (ap (matches_for search) c.find_overlapping_in-matches.ensures),
+    )
+    refl

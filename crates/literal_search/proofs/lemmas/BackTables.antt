@@ -1,13 +1,12 @@
 -- The tables of a search from the right, in a `Linear` and in an array that is lent.
-use Rattle.std.proofs.Common.{◌≡◌, ◌∙◌, ◌+◌, ◌<◌, ◌≤◌, ◌^◌, ℕ, List, [], ap, arith, get_or, length, refl, subst, sym}
+use Rattle.std.proofs.Common.{◌≡◌, ◌∙◌, ◌+◌, ◌<◌, ◌≤◌, ◌^◌, ℕ, List, [], ap, arith, length, refl, subst, sym}
 use Rattle.std.proofs.Common.{Err, IfErr, IfOk, Ok, Result}
-use Rattle.std.proofs.lemmas.List.{get_or_default}
 use Rattle.std.specs.List.{slice_range}
 use Rattle.literal_base.specs.declared.search.MatchKind.TheVariants.{Standard}
 use Rattle.literal_search.specs.Inside.Classes.{AreClasses}
 use Rattle.literal_search.specs.Inside.Linear.{AreParts, linear_value, patterns_of, tables_of}
 use Rattle.literal_search.specs.Inside.Prepared.{Puts, RefusesArray, numbers_for}
-use Rattle.literal_search.specs.Prepared.{rows_end}
+use Rattle.literal_search.specs.Prepared.{classes_end}
 use Rattle.literal_search.specs.PreparedLinear.{AreBackTables, BackTables, IsPreparedLinear, RefusesLinear}
 use Rattle.literal_search.specs.PreparedLinear.{TakesLinearPlaces, WritesLinear, best_in, linear_len, texts_back}
 use Rattle.literal_search.specs.SearchValue.{SearchValue}
@@ -57,15 +56,15 @@ module _ (t : BackTables) (are : AreBackTables t) where
   abbrev pub all_of : List ℕ
   all_of = numbers_for LINEAR_VERSION t.classes t.width t.search.query.patterns t.rows [] t.best
 
-  size : length all_of ≡ 262 + length t.search.query.patterns + length t.rows + 0 + length t.best
+  size : length all_of ≡ 6 + length t.search.query.patterns + length t.rows + 256 + 0 + length t.best
   size = numbers_long LINEAR_VERSION t.classes t.width t.search.query.patterns t.rows [] t.best are.classes.each
 
   best_are : best_in all_of ≡ t.best
   best_are =
-      let from : rows_end all_of ≡ rows_end all_of + 0 = omega arith in
-      let to : linear_len all_of ≡ rows_end all_of + 0 + length t.best = omega (arith, are.best.long) in
+      let from : classes_end all_of ≡ classes_end all_of + 0 = omega arith in
+      let to : linear_len all_of ≡ classes_end all_of + 0 + length t.best = omega (arith, are.best.long) in
       ap (λ k. slice_range all_of k (linear_len all_of)) from
-      ∙ (ap (slice_range all_of (rows_end all_of + 0)) to
+      ∙ (ap (slice_range all_of (classes_end all_of + 0)) to
       ∙ ends_written LINEAR_VERSION t.classes t.width t.search.query.patterns t.rows [] t.best are.classes.each)
 
   pub prepared_all : IsPreparedLinear t.search all_of
@@ -79,12 +78,6 @@ module _ (t : BackTables) (are : AreBackTables t) where
             parts = record { version_is = refl; few = are.kept.few; fits = omega (arith, size) };
             fits = omega (arith, size, are.best.long);
             row = omega (arith, table.some.fits);
-            classes = subst (λ (l : List ℕ). (i d : ℕ) → i < length l → get_or l i d ≤ t.width) (sym classes)
-                (λ i d before. omega (
-                  arith,
-                  are.classes.below i (omega (arith, before, are.classes.each)),
-                  get_or_default t.classes i d 0 before,
-                ));
           };
           check = check_written LINEAR_VERSION t.classes t.width t.search.query.patterns t.rows [] t.best
               are.classes.each (linear_len all_of) (omega (arith, size, are.best.long));
@@ -99,16 +92,16 @@ module _ (t : BackTables) (are : AreBackTables t) where
 
 -- so many places are those in front, two for each pattern, and the rows
 pub takes_places : (p : Parts) → AreParts p → (needed : ℕ)
-    → needed ≡ 262 + length (patterns_of p) + length p.rows + length p.best.items
+    → needed ≡ 6 + length (patterns_of p) + length p.rows.rows + 256 + length p.best.items
     → TakesLinearPlaces (linear_value p) needed
 unfolding TakesLinearPlaces
 takes_places p parts needed is = (
-  p.classes.table,
-  subst (AreClasses p.classes.table) parts.width parts.tables.classes,
+  p.rows.classes,
+  subst (AreClasses p.rows.classes) parts.width parts.tables.classes,
   parts.tables.tells,
   (
-    length p.rows,
-    subst (λ width. IsRowsLength Standard (texts_back (tables_of p)) width (length p.rows)) parts.width parts.rows,
+    length p.rows.rows,
+    subst (λ width. IsRowsLength Standard (texts_back (tables_of p)) width (length p.rows.rows)) parts.width parts.rows,
     omega (arith, is, parts.tables.best.long),
   ),
 )

@@ -11,8 +11,7 @@ use Rattle.literal_base.specs.Occurs.{between}
 use Rattle.literal_base.specs.declared.search.Span.{Span}
 use Rattle.literal_search.specs.Inside.Backward.{AreBackFor, AreMarks, IsMark, NoneBeginsAt, NoneFrom, StandsDown}
 use Rattle.literal_search.specs.Inside.Backward.{back_tables_by, best_by}
-use Rattle.literal_search.specs.Inside.Leftmost.{IsFirstBegun, IsLane, IsStep, LiesInPart, NoneBehind}
-use Rattle.literal_search.specs.Inside.Leftmost.{limit_of}
+use Rattle.literal_search.specs.Inside.Leftmost.{IsFirstBegun, IsLane, IsLimit, IsStep, LiesInPart, NoneBehind}
 use Rattle.literal_search.specs.PreparedLinear.{AreBackTables, BackTables}
 use Rattle.literal_search.specs.SearchValue.{SearchValue}
 use Rattle.literal_search.specs.declared.backward.Backward.{Backward}
@@ -72,13 +71,13 @@ lane_small p haystack span end at code small step =
 
 -- where the number is not below the limit of the rows, a pattern begins
 pub begins_if_not : (b : Backward) (search : SearchValue) → AreBackFor search b → (haystack : List ℕ) (span : Span)
-    (end at code limit : ℕ) → limit ≡ limit_of b → at < end → limit ≤ code
+    (end at code limit : ℕ) → IsLimit b limit → at < end → limit ≤ code
     → IsStep (back_tables_by search b) haystack span end at code
     → ¬ NoneBeginsAt (back_tables_by search b) haystack span.end at
 begins_if_not b search is haystack span end at code limit limit_is before over step none = elim (cases_lt code (2 ^ 31)) [
   | inl small ↦
       let row = (lane_small (back_tables_by search b) haystack span end at code small step).stands.row in
-      absurd (omega (arith, row, limit_is, over, small))
+      absurd (omega (arith, row, limit_is.is, over, small))
   | inr large ↦
       let best = (step.mark before).best large in
       none (best_by (back_tables_by search b) code) best.occurs

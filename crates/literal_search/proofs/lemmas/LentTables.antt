@@ -10,6 +10,7 @@ use Rattle.literal_base.specs.declared.search.Span.{Span}
 use Rattle.literal_search.specs.Inside.Classes.{AreClasses}
 use Rattle.literal_search.specs.Inside.LentTables.{AreFor, AreLent, IsNextBy, IsNextEnd, tables_by}
 use Rattle.literal_search.specs.Inside.Prepared.{IsHeader, Puts, RefusesArray, numbers_for}
+use Rattle.literal_search.specs.Inside.Rows.{rows_of}
 use Rattle.literal_search.specs.Inside.Standing.{IsStanding, longest_at, overlapping_value, standing_at}
 use Rattle.literal_search.specs.Inside.Walk.{FindsEnd, IsRow, IsTable}
 use Rattle.literal_search.specs.Overlapping.{OverlappingValue}
@@ -17,7 +18,7 @@ use Rattle.literal_search.specs.PreparedOverlapping.{AreSized, AreTables, HasLon
 use Rattle.literal_search.specs.PreparedOverlapping.{IsPreparedOverlapping, RefusesOverlapping, Tables}
 use Rattle.literal_search.specs.PreparedOverlapping.{TakesListedPlaces, WritesOverlapping, ends_at, ends_in}
 use Rattle.literal_search.specs.PreparedOverlapping.{listed_len, starts_in, texts_in}
-use Rattle.literal_search.specs.Prepared.{rows_end, rows_at}
+use Rattle.literal_search.specs.Prepared.{classes_end, rows_at}
 use Rattle.literal_search.specs.States.{IsRowsLength}
 use Rattle.literal_search.specs.declared.prepared.Header.{Header}
 use Rattle.literal_search.specs.declared.prepared.PrepareError.{PrepareError}
@@ -28,7 +29,7 @@ use Rattle.literal_search.specs.declared.walk.Stop.{Stop}
 use Rattle.literal_search.proofs.lemmas.Numbers.{check_written, classes_written, ends_written, lengths_written}
 use Rattle.literal_search.proofs.lemmas.Numbers.{numbers_long, numbers_refused, numbers_written, rows_written}
 use Rattle.literal_search.proofs.lemmas.Numbers.{starts_written}
-use Rattle.literal_search.proofs.lemmas.Prepared.{length_part}
+use Rattle.literal_search.proofs.lemmas.Prepared.{length_part, rows_are}
 use Rattle.literal_search.proofs.lemmas.Standing.{is_pattern, longest_below, next_is, none_to_come, nothing_to_come}
 use Rattle.literal_search.proofs.lemmas.Standing.{row_inside, same_to_come, some_left, stands_next, stands_there}
 use Rattle.literal_search.proofs.lemmas.Walk.{row_at, rows_are_table}
@@ -73,24 +74,25 @@ same_tables search classes classes' width width' rows rows' ends ends' starts st
 pub are_for : (p : LentTables) → AreLent p → (search : OverlappingValue)
     → IsPreparedOverlapping search p.header.numbers.now → AreFor search p
 are_for p lent search prepared = record {
-  tables = same_tables search _ p.header.classes.now _ p.header.width _ p.header.rows.now _ p.ends.now _ p.starts.now
-      (sym lent.header.classes_are) (sym lent.header.width_is) (sym lent.header.rows_are) (sym lent.ends_are)
+  tables = same_tables search _ p.header.classes.now _ p.header.width _ (rows_of p.header.rows.now) _ p.ends.now _
+      p.starts.now
+      (sym lent.header.classes_are) (sym lent.header.width_is) (sym (rows_are lent.header)) (sym lent.ends_are)
       (sym lent.starts_are) prepared.tables;
   lengths = lent.header.lengths_are ∙ prepared.lengths;
 }
 
--- where the rows end, and how many lengths there are, by the parts of an array
+-- where the classes end, and how many lengths there are, by the parts of an array
 pub parts_end : {version : ℕ} (f : Header) (numbers : List ℕ) → f.numbers.now ≡ numbers → IsHeader version f
-    → (262 + length f.lengths.now + length f.rows.now ≡ rows_end numbers)
+    → (6 + length f.lengths.now + length f.rows.now ≡ classes_end numbers)
     × (length f.lengths.now ≡ get_or numbers 3 0)
 parts_end {version} f numbers same header =
     let own = f.numbers.now in
     let fits = header.parts.fits in
     let lengths = ap (λ (l : List ℕ). length l) header.lengths_are
-    ∙ length_part own 262 (rows_at own) (omega arith) (omega arith) in
+    ∙ length_part own 6 (rows_at own) (omega arith) (omega arith) in
     let rows = ap (λ (l : List ℕ). length l) header.rows_are
-    ∙ length_part own (rows_at own) (rows_end own) (omega arith) (omega arith) in
-    subst (λ (n : List ℕ). (262 + length f.lengths.now + length f.rows.now ≡ rows_end n)
+    ∙ length_part own (rows_at own) (classes_end own) (omega arith) (omega arith) in
+    subst (λ (n : List ℕ). (6 + length f.lengths.now + length f.rows.now ≡ classes_end n)
     × (length f.lengths.now ≡ get_or n 3 0)) same (omega (arith, lengths, rows), omega (arith, lengths))
 
 -- there are as many lengths as the fourth number says
@@ -222,32 +224,32 @@ module _ (t : Tables) (tables : AreTables t) where
   long : length t.starts ≡ length t.patterns + 1
   long = tables.lists.long
 
-  size : length all_of ≡ 262 + length t.patterns + length t.rows + length t.starts + length t.ends
+  size : length all_of ≡ 6 + length t.patterns + length t.rows + 256 + length t.starts + length t.ends
   size = numbers_long OVERLAPPING_VERSION t.classes t.width t.patterns t.rows t.starts t.ends tables.classes.each
 
-  ends_at_is : ends_at all_of ≡ rows_end all_of + length t.starts
+  ends_at_is : ends_at all_of ≡ classes_end all_of + length t.starts
   ends_at_is = omega (arith, long)
 
   starts_are : starts_in all_of ≡ t.starts
   starts_are =
-      ap (slice_range all_of (rows_end all_of)) ends_at_is
+      ap (slice_range all_of (classes_end all_of)) ends_at_is
       ∙ starts_written OVERLAPPING_VERSION t.classes t.width t.patterns t.rows t.starts t.ends tables.classes.each
 
   -- the last of the numbers that say where lists begin is how many numbers are in these
-  last_is : get_or all_of (rows_end all_of + length t.patterns) 0 ≡ length t.ends
+  last_is : get_or all_of (classes_end all_of + length t.patterns) 0 ≡ length t.ends
   last_is =
-      sym (get_or-drop (rows_end all_of) all_of (length t.patterns) 0)
-      ∙ (sym (get_or-take (ends_at all_of - rows_end all_of) (drop (rows_end all_of) all_of)
+      sym (get_or-drop (classes_end all_of) all_of (length t.patterns) 0)
+      ∙ (sym (get_or-take (ends_at all_of - classes_end all_of) (drop (classes_end all_of) all_of)
       (length t.patterns) 0 (omega arith))
       ∙ (ap (λ (l : List ℕ). get_or l (length t.patterns) 0) starts_are ∙ tables.lists.last))
 
-  listed_is : listed_len all_of ≡ rows_end all_of + length t.starts + length t.ends
+  listed_is : listed_len all_of ≡ classes_end all_of + length t.starts + length t.ends
   listed_is = omega (arith, last_is, ends_at_is)
 
   ends_are : ends_in all_of ≡ t.ends
   ends_are =
       ap (λ from. slice_range all_of from (listed_len all_of)) ends_at_is
-      ∙ (ap (slice_range all_of (rows_end all_of + length t.starts)) listed_is
+      ∙ (ap (slice_range all_of (classes_end all_of + length t.starts)) listed_is
       ∙ ends_written OVERLAPPING_VERSION t.classes t.width t.patterns t.rows t.starts t.ends tables.classes.each)
 
   pub prepared_all : IsPreparedOverlapping (overlapping_value t) all_of
@@ -294,7 +296,7 @@ module _ (t : Tables) (tables : AreTables t) where
     unfolding TakesListedPlaces
     takes_all =
         have_tables (λ rows ends starts. length all_of
-        ≡ 262 + length t.patterns + rows + length starts + length ends) size
+        ≡ 6 + length t.patterns + rows + 256 + length starts + length ends) size
 
     long_lists : 2 ^ 32 ≤ length t.ends → HasLongLists (overlapping_value t)
     unfolding HasLongLists

@@ -15,33 +15,34 @@ use Rattle.literal_search.specs.declared.linear.Parts.{Parts}
 use Rattle.literal_search.proofs.lemmas.LentTables.{have_tables}
 
 -- so many bytes are those of the rows, and of the patterns
-pub takes_bytes : (a : Inside) → IsSound a → (bytes : ℕ) → bytes ≡ 4 * length a.rows + sum_by length (patterns_in a)
+pub takes_bytes : (a : Inside) → IsSound a → (bytes : ℕ)
+    → bytes ≡ 4 * length a.rows.rows + sum_by length (patterns_in a)
     → TakesBytes (search_value a) bytes
 unfolding TakesBytes
 takes_bytes a sound bytes is = (
-  a.classes.table,
-  subst (AreClasses a.classes.table) sound.width sound.classes,
+  a.rows.classes,
+  subst (AreClasses a.rows.classes) sound.width sound.classes,
   sound.tells,
   (
-    length a.rows,
-    subst (λ width. IsRowsLength (root_kind_of a.kind) (map (symbols_in a.classes.table) (patterns_in a)) width
-        (length a.rows)) sound.width sound.rows,
+    length a.rows.rows,
+    subst (λ width. IsRowsLength (root_kind_of a.kind) (map (symbols_in a.rows.classes) (patterns_in a)) width
+        (length a.rows.rows)) sound.width sound.rows,
     is,
   ),
 )
 
 -- and of the numbers for patterns, in a `Linear`
 pub takes_linear_bytes : (p : Parts) → AreParts p → (bytes : ℕ)
-    → bytes ≡ 4 * (length p.rows + length p.best.items) + sum_by length (patterns_of p)
+    → bytes ≡ 4 * (length p.rows.rows + length p.best.items) + sum_by length (patterns_of p)
     → TakesLinearBytes (linear_value p) bytes
 unfolding TakesLinearBytes
 takes_linear_bytes p parts bytes is = (
-  p.classes.table,
-  subst (AreClasses p.classes.table) parts.width parts.tables.classes,
+  p.rows.classes,
+  subst (AreClasses p.rows.classes) parts.width parts.tables.classes,
   parts.tables.tells,
   (
-    length p.rows,
-    subst (λ width. IsRowsLength Standard (texts_back (tables_of p)) width (length p.rows)) parts.width parts.rows,
+    length p.rows.rows,
+    subst (λ width. IsRowsLength Standard (texts_back (tables_of p)) width (length p.rows.rows)) parts.width parts.rows,
     omega (arith, is, parts.tables.best.long),
   ),
 )

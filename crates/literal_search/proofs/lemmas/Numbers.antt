@@ -7,7 +7,7 @@ use Rattle.std.specs.List.{slice_range}
 use Rattle.literal_search.specs.Inside.Prepared.{Puts, RefusesArray, numbers_for}
 use Rattle.literal_search.specs.SearchValue.{longest_of}
 use Rattle.literal_search.specs.Prepared.{RefusesNumbers, WritesNumbers, check_of, classes_in, lengths_in}
-use Rattle.literal_search.specs.Prepared.{rows_end, rows_in}
+use Rattle.literal_search.specs.Prepared.{classes_end, rows_end, rows_in}
 use Rattle.literal_search.specs.declared.prepared.PrepareError.{PrepareError}
 use Rattle.literal_search.specs.declared.prepared.PrepareError.TheVariants.{ArrayTooShort, ListsTooLong}
 use Rattle.literal_search.specs.declared.prepared.PrepareError.TheVariants.{PatternTooLong}
@@ -32,7 +32,8 @@ module _ (version : ℕ) (classes : List ℕ) (width : ℕ) (patterns : List (Li
     numbers = numbers_for version classes width patterns rows starts ends
 
     abbrev body : List ℕ
-    body = width ∷ length patterns ∷ length rows ∷ longest_of patterns ∷ classes ++ lengths ++ rows ++ starts ++ ends
+    body =
+        width ∷ length patterns ∷ length rows ∷ longest_of patterns ∷ lengths ++ (rows ++ classes) ++ starts ++ ends
 
     abbrev head : List ℕ
     head = version ∷ check_of body ∷ width ∷ length patterns ∷ length rows ∷ longest_of patterns ∷ []
@@ -40,63 +41,81 @@ module _ (version : ℕ) (classes : List ℕ) (width : ℕ) (patterns : List (Li
     many : length lengths ≡ length patterns
     many = length-map patterns (λ (bytes : List ℕ). length bytes)
 
+    table_long : length (rows ++ classes) ≡ length rows + 256
+    table_long = omega (arith, length-append rows classes, each)
+
     -- how many they are
-    pub numbers_long : length numbers ≡ 262 + length patterns + length rows + length starts + length ends
+    pub numbers_long : length numbers
+        ≡ 6 + length patterns + length rows + 256 + length starts + length ends
     numbers_long = omega (
       arith,
-      length-append (classes ++ lengths ++ rows ++ starts) ends,
-      length-append (classes ++ lengths ++ rows) starts,
-      length-append (classes ++ lengths) rows,
-      length-append classes lengths,
+      length-append (lengths ++ (rows ++ classes) ++ starts) ends,
+      length-append (lengths ++ (rows ++ classes)) starts,
+      length-append lengths (rows ++ classes),
+      table_long,
       many,
-      each,
     )
 
     -- what stands behind the lengths
-    behind_lengths : classes ++ lengths ++ rows ++ starts ++ ends ≡ (classes ++ lengths) ++ (rows ++ (starts ++ ends))
+    behind_lengths : lengths ++ (rows ++ classes) ++ starts ++ ends
+        ≡ lengths ++ ((rows ++ classes) ++ (starts ++ ends))
     behind_lengths =
-        append_assoc ((classes ++ lengths) ++ rows) starts ends
-        ∙ append_assoc (classes ++ lengths) rows (starts ++ ends)
+        append_assoc (lengths ++ (rows ++ classes)) starts ends
+        ∙ append_assoc lengths (rows ++ classes) (starts ++ ends)
 
-    -- and behind the classes
-    behind_classes : classes ++ lengths ++ rows ++ starts ++ ends ≡ classes ++ (lengths ++ (rows ++ (starts ++ ends)))
-    behind_classes = behind_lengths ∙ append_assoc classes lengths (rows ++ (starts ++ ends))
-
-    pub classes_written : classes_in numbers ≡ classes
-    classes_written =
-        part_at numbers head classes (lengths ++ (rows ++ (starts ++ ends))) 6 262 (ap (λ l. head ++ l) behind_classes)
-        refl (omega (arith, each))
+    -- and behind the rows
+    behind_rows : lengths ++ (rows ++ classes) ++ starts ++ ends ≡ (lengths ++ rows) ++ (classes ++ (starts ++ ends))
+    behind_rows =
+        behind_lengths
+        ∙ (ap (λ l. lengths ++ l) (append_assoc rows classes (starts ++ ends))
+        ∙ sym (append_assoc lengths rows (classes ++ (starts ++ ends))))
 
     pub lengths_written : lengths_in numbers ≡ lengths
     lengths_written =
-        part_at numbers (head ++ classes) lengths (rows ++ (starts ++ ends)) 262 (262 + length patterns)
-        (ap (λ l. head ++ l) behind_classes) (omega (arith, length-append head classes, each)) (omega (arith, many))
-
-    upto_rows : length ((head ++ classes) ++ lengths) ≡ 262 + length patterns
-    upto_rows = omega (arith, length-append (head ++ classes) lengths, length-append head classes, each, many)
+        part_at numbers head lengths ((rows ++ classes) ++ (starts ++ ends)) 6 (6 + length patterns)
+        (ap (λ l. head ++ l) behind_lengths) refl (omega (arith, many))
 
     pub rows_written : rows_in numbers ≡ rows
     rows_written =
-        part_at numbers ((head ++ classes) ++ lengths) rows (starts ++ ends) (262 + length patterns)
-        (262 + length patterns + length rows) (ap (λ l. head ++ l) behind_lengths) (omega (arith, upto_rows))
-        (omega arith)
+        part_at numbers (head ++ lengths) rows (classes ++ (starts ++ ends)) (6 + length patterns)
+        (6 + length patterns + length rows)
+        (ap (λ l. head ++ l) (behind_rows ∙ append_assoc lengths rows (classes ++ (starts ++ ends))))
+        (omega (arith, length-append head lengths, many)) (omega arith)
 
-    upto_starts : length (((head ++ classes) ++ lengths) ++ rows) ≡ rows_end numbers
-    upto_starts = omega (arith, length-append ((head ++ classes) ++ lengths) rows, upto_rows)
+    pub classes_written : classes_in numbers ≡ classes
+    classes_written =
+        part_at numbers (head ++ (lengths ++ rows)) classes (starts ++ ends) (rows_end numbers) (classes_end numbers)
+        (ap (λ l. head ++ l) behind_rows)
+        (omega (arith, length-append head (lengths ++ rows), length-append lengths rows, many)) (omega (arith, each))
 
-    pub starts_written : slice_range numbers (rows_end numbers) (rows_end numbers + length starts) ≡ starts
+    upto_starts : length (head ++ (lengths ++ (rows ++ classes))) ≡ classes_end numbers
+    upto_starts = omega (
+      arith,
+      length-append head (lengths ++ (rows ++ classes)),
+      length-append lengths (rows ++ classes),
+      table_long,
+      many,
+    )
+
+    pub starts_written : slice_range numbers (classes_end numbers) (classes_end numbers + length starts) ≡ starts
     starts_written =
-        part_at numbers (((head ++ classes) ++ lengths) ++ rows) starts ends (rows_end numbers)
-        (rows_end numbers + length starts)
-        (ap (λ l. head ++ l) (append_assoc ((classes ++ lengths) ++ rows) starts ends)) (sym upto_starts) refl
+        part_at numbers (head ++ (lengths ++ (rows ++ classes))) starts ends (classes_end numbers)
+        (classes_end numbers + length starts)
+        (ap (λ l. head ++ l) (append_assoc (lengths ++ (rows ++ classes)) starts ends)) (sym upto_starts) refl
 
-    pub ends_written : slice_range numbers (rows_end numbers + length starts)
-        (rows_end numbers + length starts + length ends) ≡ ends
+    pub ends_written : slice_range numbers (classes_end numbers + length starts)
+        (classes_end numbers + length starts + length ends) ≡ ends
     ends_written =
-        part_at numbers ((((head ++ classes) ++ lengths) ++ rows) ++ starts) ends []
-        (rows_end numbers + length starts) (rows_end numbers + length starts + length ends)
-        (ap (λ l. ((((head ++ classes) ++ lengths) ++ rows) ++ starts) ++ l) (sym (append-nil ends)))
-        (omega (arith, length-append (((head ++ classes) ++ lengths) ++ rows) starts, upto_starts)) refl
+        part_at numbers (head ++ (lengths ++ (rows ++ classes) ++ starts)) ends []
+        (classes_end numbers + length starts) (classes_end numbers + length starts + length ends)
+        (ap (λ l. (head ++ (lengths ++ (rows ++ classes) ++ starts)) ++ l) (sym (append-nil ends)))
+        (omega (
+          arith,
+          length-append head (lengths ++ (rows ++ classes) ++ starts),
+          length-append (lengths ++ (rows ++ classes)) starts,
+          length-append head (lengths ++ (rows ++ classes)),
+          upto_starts,
+        )) refl
 
     -- the check is that over all numbers behind it
     pub check_written : (end : ℕ) → end ≡ length numbers → get_or numbers 1 0 ≡ check_of (slice_range numbers 2 end)

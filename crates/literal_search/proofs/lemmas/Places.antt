@@ -7,7 +7,8 @@ use Rattle.literal_base.specs.Kinds.{root_kind_of}
 use Rattle.literal_base.specs.Query.{Query}
 use Rattle.literal_fingerprints.specs.FingerprintsValue.{AllPass}
 use Rattle.literal_search.specs.Inside.Classes.{AreClasses, Tells, symbols_in}
-use Rattle.literal_search.specs.Prepared.{IsPrepared, IsWhole, check_of, classes_in, fingerprints_by, lengths_in}
+use Rattle.literal_search.specs.Prepared.{IsPrepared, IsWhole, check_of, classes_end, classes_in, fingerprints_by}
+use Rattle.literal_search.specs.Prepared.{lengths_in}
 use Rattle.literal_search.specs.Prepared.{prepared_len, fingerprints_part, rows_at, rows_end, rows_in, shortest_by}
 use Rattle.literal_search.specs.Prepared.{width_in}
 use Rattle.literal_search.specs.SearchValue.{NoneIsShorter, SearchValue}
@@ -62,18 +63,20 @@ module _ (query : Query) (ignore_case : Bool) (old new : List ℕ)
 
     pub prepared_as : IsPrepared query ignore_case old → IsPrepared query ignore_case new
     prepared_as prepared =
-        let classes_same : classes_in new ≡ classes_in old = parts 6 262 (omega arith) (omega arith) in
+        let classes_same : classes_in new ≡ classes_in old =
+        ap (λ from. slice_range new from (from + 256)) end_same
+        ∙ parts (rows_end old) (classes_end old) (omega arith) (omega arith) in
         let width_same : width_in new ≡ width_in old = same 2 (omega arith) in
         let lengths_same : lengths_in new ≡ lengths_in old =
-        ap (slice_range new 262) rows_same ∙ parts 262 (rows_at old) (omega arith) (omega arith) in
+        ap (slice_range new 6) rows_same ∙ parts 6 (rows_at old) (omega arith) (omega arith) in
         let rows_are : rows_in new ≡ rows_in old =
         ap (λ from. slice_range new from (rows_end new)) rows_same
         ∙ (ap (slice_range new (rows_at old)) end_same
         ∙ parts (rows_at old) (rows_end old) (omega arith) (omega arith)) in
         let prints_are : fingerprints_part new ≡ fingerprints_part old =
-        ap (λ from. slice_range new from (prepared_len new)) end_same
-        ∙ (ap (slice_range new (rows_end old)) len_same
-        ∙ parts (rows_end old) (prepared_len old) (omega arith) (omega arith)) in
+        ap (λ from. slice_range new (from + 256) (prepared_len new)) end_same
+        ∙ (ap (slice_range new (classes_end old)) len_same
+        ∙ parts (classes_end old) (prepared_len old) (omega arith) (omega arith)) in
         record {
           whole = is_whole prepared.whole;
           longest = same 5 (omega arith) ∙ prepared.longest;
@@ -129,13 +132,13 @@ module _ (search : OverlappingValue) (old new : List ℕ)
 
     listed_is : listed_len new ≡ listed_len old
     listed_is =
-        let last : rows_end new + get_or new 3 0 ≡ rows_end old + get_or old 3 0 =
+        let last : classes_end new + get_or new 3 0 ≡ classes_end old + get_or old 3 0 =
         omega (arith, same 3 (omega arith), len_is) in
         omega (
           arith,
           ends_is,
           ap (λ k. get_or new k 0) last,
-          same (rows_end old + get_or old 3 0) (omega arith),
+          same (classes_end old + get_or old 3 0) (omega arith),
         )
 
     -- a part that lies at the same places is the same
@@ -162,15 +165,17 @@ module _ (search : OverlappingValue) (old new : List ℕ)
                 ∙ ap check_of
                 (sym (part_is 2 (listed_len old) 2 (listed_len new) refl listed_is (omega arith) (omega arith))));
           };
-          tables = same_tables search _ _ _ _ _ _ _ _ _ _ (sym (parts 6 262 (omega arith) (omega arith)))
+          tables = same_tables search _ _ _ _ _ _ _ _ _ _ (sym (part_is (rows_end old) (classes_end old) (rows_end new)
+              (classes_end new) len_is (omega (arith, len_is)) (omega arith) (omega arith)))
               (sym (same 2 (omega arith)))
               (sym (part_is (rows_at old) (rows_end old) (rows_at new) (rows_end new) rows_is len_is
               (omega arith) (omega arith)))
               (sym (part_is (ends_at old) (listed_len old) (ends_at new) (listed_len new) ends_is listed_is
               (omega arith) (omega arith)))
-              (sym (part_is (rows_end old) (ends_at old) (rows_end new) (ends_at new) len_is ends_is
+              (sym (part_is (classes_end old) (ends_at old) (classes_end new) (ends_at new)
+              (omega (arith, len_is)) ends_is
               (omega arith) (omega arith))) prepared.tables;
-          lengths = part_is 262 (rows_at old) 262 (rows_at new) refl rows_is (omega arith) (omega arith)
+          lengths = part_is 6 (rows_at old) 6 (rows_at new) refl rows_is (omega arith) (omega arith)
               ∙ prepared.lengths;
         }
 
@@ -212,7 +217,8 @@ module _ (search : SearchValue) (old new : List ℕ)
     linear_as prepared =
         let all = prepared.whole.parts in
         let few = all.parts.few in
-        let first : classes_in new ≡ classes_in old = parts 6 262 (omega arith) (omega arith) in
+        let first : classes_in new ≡ classes_in old = range_is (rows_end old) (classes_end old) (rows_end new)
+        (classes_end new) end_is (omega (arith, end_is)) (omega arith) (omega arith) in
         let rows_is : rows_at new ≡ rows_at old = omega (arith, same 3 (omega arith)) in
         record {
           whole = record {
@@ -223,9 +229,7 @@ module _ (search : SearchValue) (old new : List ℕ)
                 fits = omega (arith, end_is, fits);
               };
               fits = omega (arith, linear_is, fits);
-              row = omega (arith, all.row, same 2 (omega arith), same 4 (omega arith));
-              classes = subst (λ (l : List ℕ). (i d : ℕ) → i < length l → get_or l i d ≤ width_in new) (sym first)
-                  (λ i d before. omega (arith, all.classes i d before, same 2 (omega arith)));
+              row = omega (arith, all.row, same 4 (omega arith));
             };
             check = same 1 (omega arith)
                 ∙ (prepared.whole.check
@@ -236,10 +240,11 @@ module _ (search : SearchValue) (old new : List ℕ)
               (sym (same 2 (omega arith)))
               (sym (range_is (rows_at old) (rows_end old) (rows_at new) (rows_end new) rows_is end_is
               (omega arith) (omega arith)))
-              (sym (range_is (rows_end old) (linear_len old) (rows_end new) (linear_len new) end_is linear_is
+              (sym (range_is (classes_end old) (linear_len old) (classes_end new) (linear_len new)
+              (omega (arith, end_is)) linear_is
               (omega arith) (omega arith)))
               (sym (same 5 (omega arith)))) prepared.tables;
-          lengths = range_is 262 (rows_at old) 262 (rows_at new) refl rows_is (omega arith) (omega arith)
+          lengths = range_is 6 (rows_at old) 6 (rows_at new) refl rows_is (omega arith) (omega arith)
               ∙ prepared.lengths;
         }
 

@@ -1,9 +1,9 @@
 -- Searches by an array that is lent.
 use Rattle.std.proofs.Common.{◌≡◌, ℕ, ◌+◌, ◌-◌, ◌<◌, ◌≤◌, ◌^◌, Bool, List, [], drop, length, get_or, map}
 use Rattle.std.proofs.Common.{Bor, Err, IfErr, IfOk, IfSome, MatchOption, None, Ok, Option, Result, Some, min, refl}
-use Rattle.std.proofs.Common.{◌%◌}
+use Rattle.std.proofs.Common.{◌%◌, take}
 use Rattle.std.proofs.Common.{sym, ap, subst, ◌∙◌, arith}
-use Rattle.std.proofs.lemmas.List.{ext_get_or, get_or-drop, get_or-map, length-drop, length-map, length-take}
+use Rattle.std.proofs.lemmas.List.{ext_get_or, get_or-drop, get_or-map, length-drop, length-map, length-take, take-take}
 use Rattle.std.specs.List.{slice_range}
 use Rattle.literal_base.specs.Kinds.{root_kind_of}
 use Rattle.literal_base.specs.Leftmost.{IsLeftmostMatch}
@@ -14,6 +14,7 @@ use Rattle.literal_base.specs.declared.search.Span.{Span}
 use Rattle.literal_fingerprints.specs.FingerprintsValue.{AllPass, FingerprintsValue}
 use Rattle.literal_search.specs.SearchValue.{CanBeKept, NoneIsShorter, SearchValue}
 use Rattle.literal_search.specs.Inside.Classes.{AreClasses, Tells, symbols_in}
+use Rattle.literal_search.specs.Inside.Rows.{rows_of}
 use Rattle.literal_search.specs.Inside.Scan.{IsTableOf, match_by}
 use Rattle.literal_search.specs.Inside.Prepared.{IsHeader, IsLent, IsSplit, header_table}
 use Rattle.literal_search.specs.declared.prepared.Header.{Header}
@@ -21,7 +22,8 @@ use Rattle.literal_base.specs.MatchValue.{MatchValue}
 use Rattle.literal_search.specs.Inside.Prepared.{Puts, RefusesArray, numbers_for}
 use Rattle.literal_search.specs.Inside.Search.{IsSound, patterns_in, search_value}
 use Rattle.literal_search.specs.Prepared.{IsPrepared, RefusesToPrepare, TakesPlaces, WritesPrepared, classes_in}
-use Rattle.literal_search.specs.Prepared.{fingerprints_by, prepared_len, fingerprints_part, rows_end, rows_in}
+use Rattle.literal_search.specs.Prepared.{classes_end, fingerprints_by, prepared_len, fingerprints_part, rows_at}
+use Rattle.literal_search.specs.Prepared.{rows_end, rows_in}
 use Rattle.literal_search.specs.Prepared.{shortest_by}
 use Rattle.literal_search.specs.Prepared.{width_in}
 use Rattle.literal_search.specs.declared.prepared.Prepared.TheInside.{Inside as Lent}
@@ -52,12 +54,26 @@ bytes_read numbers bytes size each =
     each k below ∙ (ap (λ n. n % 256) (sym (get_or-drop 1 numbers k 0))
     ∙ sym (get_or-map (λ (n : ℕ). n % 256) others k 0 0 (omega (arith, long, below)))))
 
+-- the rows without the classes behind them
+pub rows_are : {version : ℕ} {numbers classes : List ℕ} {width : ℕ} {lengths rows : List ℕ} {longest : ℕ}
+    → IsSplit version numbers classes width lengths rows longest → rows_of rows ≡ rows_in numbers
+rows_are {version} {numbers} split =
+    let fits = split.parts.fits in
+    let from = rows_at numbers in
+    let size = length_part numbers from (classes_end numbers) (omega arith) (omega arith) in
+    let places : length (slice_range numbers from (classes_end numbers)) - 256 ≡ rows_end numbers - from =
+    omega (arith, size) in
+    ap rows_of split.rows_are
+    ∙ (ap (λ n. take n (slice_range numbers from (classes_end numbers))) places
+    ∙ take-take (rows_end numbers - from) (classes_end numbers - from) (drop from numbers) (omega arith))
+
 -- there is a class for each byte
 pub classes_long : {version : ℕ} {numbers classes : List ℕ} {width : ℕ} {lengths rows : List ℕ} {longest : ℕ}
     → IsSplit version numbers classes width lengths rows longest → length classes ≡ 256
 classes_long {version} {numbers} split =
     let fits = split.parts.fits in
-    ap (λ (l : List ℕ). length l) split.classes_are ∙ length_part numbers 6 262 (omega arith) (omega arith)
+    let size = length_part numbers (rows_end numbers) (classes_end numbers) (omega arith) (omega arith) in
+    omega (arith, size, ap (λ (l : List ℕ). length l) split.classes_are)
 
 -- an array that is prepared, in its parts
 module _ {version : ℕ} {numbers classes : List ℕ} {width : ℕ} {lengths rows : List ℕ} {longest : ℕ}
@@ -73,16 +89,16 @@ module _ {version : ℕ} {numbers classes : List ℕ} {width : ℕ} {lengths row
     tells : Tells ignore_case classes query.patterns
     tells = subst (λ (c : List ℕ). Tells ignore_case c query.patterns) (sym split.classes_are) prepared.tells
 
-    recognises : Recognises (root_kind_of query.kind) (map (symbols_in classes) query.patterns) width rows
+    recognises : Recognises (root_kind_of query.kind) (map (symbols_in classes) query.patterns) width (rows_of rows)
     recognises =
-        subst (λ (c : List ℕ). Recognises (root_kind_of query.kind) (map (symbols_in c) query.patterns) width rows)
-        (sym split.classes_are)
+        subst (λ (c : List ℕ). Recognises (root_kind_of query.kind) (map (symbols_in c) query.patterns) width
+        (rows_of rows)) (sym split.classes_are)
         (subst (λ (w : ℕ). Recognises (root_kind_of query.kind)
-        (map (symbols_in (classes_in numbers)) query.patterns) w rows)
+        (map (symbols_in (classes_in numbers)) query.patterns) w (rows_of rows))
         (sym split.width_is)
         (subst (λ (r : List ℕ). Recognises (root_kind_of query.kind)
         (map (symbols_in (classes_in numbers)) query.patterns)
-        (width_in numbers) r) (sym split.rows_are) prepared.recognises))
+        (width_in numbers) r) (sym (rows_are split)) prepared.recognises))
 
     -- there is the length of each pattern
     pub lengths_many : length lengths ≡ length query.patterns
@@ -160,10 +176,10 @@ module _ (classes : List ℕ) (width : ℕ) (kind : MatchKind) (ignore_case : Bo
 
     prints_written : fingerprints_part numbers ≡ prints
     prints_written =
-        let from : rows_end numbers ≡ rows_end numbers + 0 = omega arith in
-        let to : prepared_len numbers ≡ rows_end numbers + 0 + length prints = omega (arith, size) in
+        let from : classes_end numbers ≡ classes_end numbers + 0 = omega arith in
+        let to : prepared_len numbers ≡ classes_end numbers + 0 + length prints = omega (arith, size) in
         ap (λ k. slice_range numbers k (prepared_len numbers)) from
-        ∙ (ap (slice_range numbers (rows_end numbers + 0)) to
+        ∙ (ap (slice_range numbers (classes_end numbers + 0)) to
         ∙ ends_written PREPARED_VERSION classes width patterns rows [] prints are.each)
 
     pub prepared_numbers : IsPrepared (record { kind = kind; patterns = patterns }) ignore_case numbers
@@ -215,17 +231,17 @@ prints_pass a value (Some f) prints view pass are some =
 
 -- so many places are the header, one for each pattern, the rows, and the fingerprints
 pub takes_places : (a : Inside) → IsSound a → (needed : ℕ)
-    → needed ≡ 262 + length (patterns_in a) + length a.rows + 129
+    → needed ≡ 6 + length (patterns_in a) + length a.rows.rows + 256 + 129
     → TakesPlaces (let q : Query = record { kind = a.kind; patterns = patterns_in a } in q) a.ignore_case needed
 unfolding TakesPlaces
 takes_places a sound needed is = (
-  a.classes.table,
-  subst (AreClasses a.classes.table) sound.width sound.classes,
+  a.rows.classes,
+  subst (AreClasses a.rows.classes) sound.width sound.classes,
   sound.tells,
   (
-    length a.rows,
-    subst (λ width. IsRowsLength (root_kind_of a.kind) (map (symbols_in a.classes.table) (patterns_in a)) width
-        (length a.rows)) sound.width sound.rows,
+    length a.rows.rows,
+    subst (λ width. IsRowsLength (root_kind_of a.kind) (map (symbols_in a.rows.classes) (patterns_in a)) width
+        (length a.rows.rows)) sound.width sound.rows,
     is,
   ),
 )
@@ -239,18 +255,18 @@ module _ (a : Inside) (sound : IsSound a) (old new prints : List ℕ) (size : le
     query = record { kind = a.kind; patterns = patterns_in a }
 
     abbrev all : List ℕ
-    all = numbers_for PREPARED_VERSION a.classes.table a.classes.width (patterns_in a) a.rows [] prints
+    all = numbers_for PREPARED_VERSION a.rows.classes a.width (patterns_in a) a.rows.rows [] prints
 
     is_prepared : IsPrepared query a.ignore_case all
     is_prepared =
-        prepared_numbers a.classes.table a.classes.width a.kind a.ignore_case (patterns_in a) a.rows sound.classes
+        prepared_numbers a.rows.classes a.width a.kind a.ignore_case (patterns_in a) a.rows.rows sound.classes
         sound.tells sound.recognises sound.kept prints size
         (λ i below. let all = sound.shortest i below in omega (arith, all, least)) pass
 
     takes : TakesPlaces query a.ignore_case (length all)
     takes = takes_places a sound (length all) (omega (
       arith,
-      numbers_long PREPARED_VERSION a.classes.table a.classes.width (patterns_in a) a.rows [] prints sound.classes.each,
+      numbers_long PREPARED_VERSION a.rows.classes a.width (patterns_in a) a.rows.rows [] prints sound.classes.each,
       size,
     ))
 

@@ -1,19 +1,77 @@
--- The rows where there is no pattern.
-use Rattle.std.proofs.Common.{◌≡◌, ◌+◌, ◌*◌, ◌<◌, ◌≤◌, ℕ, suc, zero, Bool, List, [], ◌∷◌, ◌++◌, ap, arith}
-use Rattle.std.proofs.Common.{◌⊎◌, true, get_or, inl, length, map, min, refl, subst, sym}
-use Rattle.std.proofs.lemmas.List.{get_or_past, nil_from_length}
-use Rattle.std.specs.List.{count_by, range_with_len}
+-- The rows that are kept, with the classes behind them, and those where there is no pattern.
+use Rattle.std.proofs.Common.{◌≡◌, ◌+◌, ◌*◌, ◌-◌, ◌<◌, ◌≤◌, ◌∙◌, ℕ, suc, zero, Bool, List, [], ◌∷◌, ◌++◌, ap, arith}
+use Rattle.std.proofs.Common.{◌⊎◌, true, drop, get_or, inl, length, length-append, map, min, refl, subst, sym, take}
+use Rattle.std.proofs.Math.Seq.{drop-append_seam, take-append_seam}
+use Rattle.std.proofs.lemmas.List.{ext_get_or, get_or_past, length-drop, length-take, nil_from_length}
+use Rattle.std.specs.List.{count_by, range_with_len, repeat}
 use Rattle.std.specs.Option.{unwrap_or}
 use Rattle.std.specs.Global.{Vec}
 use Rattle.literal_base.specs.declared.search.MatchKind.{MatchKind}
 use Rattle.literal_base.specs.declared.search.MatchKind.TheVariants.{LeftmostFirst, LeftmostLongest, Standard}
 use Rattle.literal_search.specs.SearchValue.{is_in_patterns, width_for}
-use Rattle.literal_search.specs.Inside.Classes.{symbols_in}
-use Rattle.literal_search.specs.Inside.Rows.{numbers_of}
+use Rattle.literal_search.specs.Inside.Classes.{AreClasses, symbols_in}
+use Rattle.literal_search.specs.Inside.Rows.{RowsValue, classes_of, rows_of, rows_value}
 use Rattle.literal_search.specs.States.{AreStates, HasTooManyStates, IsRowsLength}
 use Rattle.literal_search.specs.Table.{Leads, Recognises, nothing}
 use Rattle.literal_search.specs.Words.{begins_one, ending, word_of}
 use Rattle.literal_search.proofs.lemmas.States.{few_states}
+
+-- where there are rows before the classes
+module _ (rows classes : List ℕ) (each : length classes ≡ 256) where
+  before : length (rows ++ classes) - 256 ≡ length rows
+  before = omega (arith, each, length-append rows classes)
+
+  pub rows_kept : rows_of (rows ++ classes) ≡ rows
+  rows_kept = ap (λ n. take n (rows ++ classes)) before ∙ take-append_seam rows classes
+
+  pub classes_kept : classes_of (rows ++ classes) ≡ classes
+  classes_kept = ap (λ n. drop n (rows ++ classes)) before ∙ drop-append_seam rows classes
+
+  pub both_kept : rows_value (rows ++ classes) ≡ record { rows = rows; classes = classes }
+  both_kept =
+      some (rows ++ classes) (omega (arith, each, length-append rows classes))
+      ∙ (ap (λ (r : List ℕ). let v : RowsValue = record { rows = r; classes = classes_of (rows ++ classes) } in v)
+      rows_kept
+      ∙ ap (λ (k : List ℕ). let v : RowsValue = record { rows = rows; classes = k } in v) classes_kept)
+    where
+      some : (numbers : List ℕ) → 0 < length numbers
+          → rows_value numbers ≡ record { rows = rows_of numbers; classes = classes_of numbers }
+      some [] none = absurd (omega (arith, none))
+      some (number ∷ more) one = refl
+
+-- how many they are
+pub rows_long : (numbers : List ℕ) → length (rows_of numbers) ≡ length numbers - 256
+rows_long numbers = omega (arith, length-take (length numbers - 256) numbers)
+
+pub length_rows : (numbers : List ℕ) → length (classes_of numbers) ≡ 256
+    → length numbers ≡ length (rows_of numbers) + 256
+length_rows numbers each =
+    omega (
+      arith,
+      each,
+      length-drop (length numbers - 256) numbers,
+      length-take (length numbers - 256) numbers,
+    )
+
+-- where there is one class each byte has it
+zeros_at : (n k : ℕ) → let zero : List ℕ = 0 ∷ [] in get_or (repeat n zero) k 0 ≡ 0
+zeros_at zero k = refl
+zeros_at (suc n) zero = refl
+zeros_at (suc n) (suc k) = zeros_at n k
+
+pub zeros_classes : AreClasses (repeat 256 (0 ∷ [])) 1
+zeros_classes = record {
+  each = refl;
+  some = omega arith;
+  few = omega arith;
+  below = λ byte before. omega (arith, zeros_at 256 byte);
+}
+
+pub zeros_are : (classes : List ℕ) (width : ℕ) → AreClasses classes width → width ≡ 1 → repeat 256 (0 ∷ []) ≡ classes
+zeros_are classes width are one =
+    sym (ext_get_or 0 classes (repeat 256 (0 ∷ [])) are.each (λ k below.
+    let zero_is : get_or classes k 0 ≡ 0 = omega (arith, are.below k (omega (arith, below, are.each)), one) in
+    zero_is ∙ sym (zeros_at 256 k)))
 
 -- there is one class where there is no pattern
 none_counted : (ignore_case : Bool) (bytes : List ℕ) → count_by (is_in_patterns ignore_case []) bytes ≡ 0
@@ -86,11 +144,11 @@ none_few kind many =
 -- what holds of no text, one class and these rows holds where there is no pattern and no number is kept
 pub for_none : (P : List (List ℕ) → ℕ → List ℕ → Type 0) (classes : List ℕ) (width : ℕ) (patterns : List (Vec ℕ))
     (kept : List ℕ) → length patterns ≡ 0 → (patterns ≡ [] → width ≡ 1) → kept ≡ [] → P [] 1 (0 ∷ nothing ∷ [])
-    → P (map (λ (pattern : Vec ℕ). symbols_in classes pattern.items) patterns) width (numbers_of kept)
+    → P (map (λ (pattern : Vec ℕ). symbols_in classes pattern.items) patterns) width (rows_value kept).rows
 for_none P classes width patterns kept long one empty holds =
     let none = nil_from_length patterns long in
     subst (λ (l : List ℕ). P (map (λ (pattern : Vec ℕ). symbols_in classes pattern.items) patterns) width
-    (numbers_of l)) (sym empty)
+    (rows_value l).rows) (sym empty)
     (subst (λ (n : ℕ). P (map (λ (pattern : Vec ℕ). symbols_in classes pattern.items) patterns) n (0 ∷ nothing ∷ []))
     (sym (one none))
     (subst (λ (l : List (Vec ℕ)). P (map (λ (pattern : Vec ℕ). symbols_in classes pattern.items) l) 1

@@ -20,7 +20,7 @@ use Rattle.literal_search.specs.Inside.Scan.{Answers, IsTableOf, NoneBefore, Sea
 use Rattle.literal_search.specs.Inside.Scan.{WalksTo}
 use Rattle.literal_search.specs.Inside.Scan.{match_by}
 use Rattle.literal_search.specs.Inside.Walk.{BeginsAnew, Finds, FindsIn, IsFound, IsTable, LiesWithin}
-use Rattle.literal_search.specs.Inside.Walk.{NoneInFour, StopsBy, WalksFar, from_match, text_in, text_of}
+use Rattle.literal_search.specs.Inside.Walk.{NoneInFour, rows_by, StopsBy, WalksFar, from_match, text_in, text_of}
 use Rattle.literal_search.specs.declared.walk.Ended.{Ended}
 use Rattle.literal_search.specs.declared.walk.Table.{Table}
 use Rattle.literal_search.specs.declared.walk.Walked.TheVariants.{Known}
@@ -94,19 +94,19 @@ module _ (t : Table) (query : Query) (ignore_case : Bool) (is : IsTableOf t quer
   abbrev words : List (List ℕ)
   words = map (symbols_in t.classes.now) query.patterns
 
-  pub is_table : IsTable t.width t.rows.now
-  is_table = rows_are_table (root_kind_of query.kind) words t.width t.rows.now is.recognises
+  pub is_table : IsTable t.width (rows_by t)
+  is_table = rows_are_table (root_kind_of query.kind) words t.width (rows_by t) is.recognises
 
   module _ (haystack : List ℕ) (bytes : (i : ℕ) → get_or haystack i 0 < 256) (span : Span)
       (valid : IsValidSpan haystack span)
     where
       found_by : (answer : Option Ended)
-          → FindsIn t.width t.rows.now span.start (text_of t.classes.now haystack span) answer
+          → FindsIn t.width (rows_by t) span.start (text_of t.classes.now haystack span) answer
           → IsFound query.kind words span.start (text_of t.classes.now haystack span) answer
       found_by answer finds =
           finds query.kind words is.recognises (some_symbols t.classes.now query.patterns is.some)
 
-      pub nothing_by : FindsIn t.width t.rows.now span.start (text_of t.classes.now haystack span) None
+      pub nothing_by : FindsIn t.width (rows_by t) span.start (text_of t.classes.now haystack span) None
           → NothingOccurs query.patterns ignore_case haystack span
       nothing_by finds =
           nothing_found ignore_case t.classes.now query.patterns is.tells haystack bytes span valid is.some query.kind
@@ -114,7 +114,7 @@ module _ (t : Table) (query : Query) (ignore_case : Bool) (is : IsTableOf t quer
 
       -- what is known of a walk that is back in the first state
       pub none_before : (at : ℕ) → span.start ≤ at → at ≤ span.end
-          → BeginsAnew t.width t.rows.now (text_in t haystack span.start at)
+          → BeginsAnew t.width (rows_by t) (text_in t haystack span.start at)
           → NoneBefore query ignore_case haystack span at
       none_before at after inside anew i place o = elim (cases_lt place at) [
         | inr not ↦ not

@@ -24,7 +24,7 @@ use Rattle.literal_search.specs.Inside.Walk.{FindsIn, IsAt, IsBehind, IsBest, Is
 use Rattle.literal_search.specs.Inside.Walk.{HasRead}
 use Rattle.literal_search.specs.Inside.Walk.{Finds, FindsEarliest, FindsEnd, GoesOn, IsFirstEnd, NoneEnds}
 use Rattle.literal_search.specs.Inside.Walk.{WalksAll, StopsBy}
-use Rattle.literal_search.specs.Inside.Walk.{StopsNear, from_match, place_of, read_to, text_in, text_of}
+use Rattle.literal_search.specs.Inside.Walk.{StopsNear, from_match, place_of, read_to, rows_by, text_in, text_of}
 use Rattle.literal_search.specs.Table.{LeadsTo, Leads, Recognises, code_of, nothing, stride_of}
 use Rattle.literal_search.specs.Words.{begins_one, ending, first_equal, live_suffix, word_of}
 use Rattle.literal_search.specs.declared.walk.Ended.{Ended}
@@ -537,7 +537,7 @@ module _ (classes rows haystack : List ℕ) (width : ℕ) (are : AreClasses clas
 -- what is found is the match of the span, if that is asked for
 pub finds_by : (t : Table) (haystack : List ℕ) (span : Span) (is_earliest : Bool) (last : Option Ended)
     → (is_earliest ≡ true → last ≡ None)
-    → FindsIn t.width t.rows.now span.start (text_in t haystack span.start span.end) last
+    → FindsIn t.width (rows_by t) span.start (text_in t haystack span.start span.end) last
     → Finds t haystack span is_earliest last
 finds_by t haystack span is_earliest None none finds = finds
 finds_by t haystack span false (Some e) none finds = finds
@@ -554,10 +554,10 @@ finds_first t haystack span false e is finds =
 -- how far a walk goes that knows what it found
 pub stops_by : (t : Table) (span : Span) (steps place : ℕ) (last : Option Ended)
     → (last ≡ None → WalksAll t span steps) → place ≡ span.start + steps - 1
-    → StopsNear t.width t.rows.now place last → StopsBy t span steps (Known last)
+    → StopsNear t.width (rows_by t) place last → StopsBy t span steps (Known last)
 stops_by t span steps place None all is near = all refl
 stops_by t span steps place (Some e) all is near =
-    subst (λ (n : ℕ). StopsNear t.width t.rows.now n (Some e)) is near
+    subst (λ (n : ℕ). StopsNear t.width (rows_by t) n (Some e)) is near
 
 -- what `get` answers, if it answers, is the number there
 pub got_is : (numbers : List ℕ) (i : ℕ) (answer : Option (Bor ℕ)) (item : Bor ℕ) → IsItemAt numbers i answer

@@ -68,56 +68,46 @@ puts_behind at prefix numbers old now new at_is before puts =
     ∙ sym (append_assoc prefix numbers (drop (length (prefix ++ numbers)) old))))
 
 -- the parts of a prepared search, one behind the other, and the check over them
-module _ (version width patterns places longest : ℕ) (classes lengths rows starts ends old : List ℕ)
-    (each : length classes ≡ 256) (lengths_are : length lengths ≡ patterns) (rows_are : length rows ≡ places)
+module _ (version width patterns places longest : ℕ) (lengths table starts ends old : List ℕ)
+    (lengths_are : length lengths ≡ patterns) (table_is : length table ≡ places + 256)
   where
     abbrev body : List ℕ
-    body = width ∷ patterns ∷ places ∷ longest ∷ classes ++ lengths ++ rows ++ starts ++ ends
+    body = width ∷ patterns ∷ places ∷ longest ∷ lengths ++ table ++ starts ++ ends
 
     -- how many they are
-    pub size_of_all : length (checked version body) ≡ 262 + patterns + places + length starts + length ends
+    pub size_of_all : length (checked version body) ≡ 6 + patterns + length table + length starts + length ends
     size_of_all = omega (
       arith,
-      length-append (classes ++ lengths ++ rows ++ starts) ends,
-      length-append (classes ++ lengths ++ rows) starts,
-      length-append (classes ++ lengths) rows,
-      length-append classes lengths,
+      length-append (lengths ++ table ++ starts) ends,
+      length-append (lengths ++ table) starts,
+      length-append lengths table,
     )
 
-    pub puts_all : (first second third fourth fifth last : List ℕ) (check : ℕ)
+    pub puts_all : (first second third fourth last : List ℕ) (check : ℕ)
         → Puts 0 (version ∷ 0 ∷ width ∷ patterns ∷ places ∷ longest ∷ []) old first
-        → Puts 6 classes first second → Puts 262 lengths second third → Puts (262 + patterns) rows third fourth
-        → Puts (262 + patterns + places) starts fourth fifth
-        → Puts (262 + patterns + places + length starts) ends fifth last
-        → check ≡ check_of (slice_range last 2 (262 + patterns + places + length starts + length ends))
+        → Puts 6 lengths first second → Puts (6 + patterns) table second third
+        → Puts (6 + patterns + length table) starts third fourth
+        → Puts (6 + patterns + length table + length starts) ends fourth last
+        → check ≡ check_of (slice_range last 2 (6 + patterns + length table + length starts + length ends))
         → Puts 0 (checked version body) old (set last 1 check)
-    puts_all first second third fourth fifth last check a b c d e f check_is =
+    puts_all first second third fourth last check a b c d e check_is =
         let prefix = version ∷ 0 ∷ width ∷ patterns ∷ places ∷ longest ∷ [] in
-        let needed = 262 + patterns + places + length starts + length ends in
+        let needed = 6 + patterns + length table + length starts + length ends in
         let size : length (checked version body) ≡ needed = size_of_all in
         let rest = drop needed old in
         let one = puts_behind 0 [] prefix old old first refl refl a in
-        let two = puts_behind 6 prefix classes old first second refl one b in
-        let three = puts_behind 262 (prefix ++ classes) lengths old second third
-        (omega (arith, length-append prefix classes)) two c in
-        let four = puts_behind (262 + patterns) ((prefix ++ classes) ++ lengths) rows old third fourth
-        (omega (arith, length-append (prefix ++ classes) lengths, length-append prefix classes)) three d in
-        let upto_rows = length-append ((prefix ++ classes) ++ lengths) rows in
-        let upto_lengths = length-append (prefix ++ classes) lengths in
-        let upto_classes = length-append prefix classes in
-        let five = puts_behind (262 + patterns + places) (((prefix ++ classes) ++ lengths) ++ rows) starts old fourth
-        fifth (omega (arith, upto_rows, upto_lengths, upto_classes)) four e in
-        let six = puts_behind (262 + patterns + places + length starts)
-        ((((prefix ++ classes) ++ lengths) ++ rows) ++ starts) ends old fifth last
-        (omega (
-          arith,
-          length-append (((prefix ++ classes) ++ lengths) ++ rows) starts,
-          upto_rows,
-          upto_lengths,
-          upto_classes,
-        )) five f in
+        let two = puts_behind 6 prefix lengths old first second refl one b in
+        let upto_lengths = length-append prefix lengths in
+        let three = puts_behind (6 + patterns) (prefix ++ lengths) table old second third
+        (omega (arith, upto_lengths)) two c in
+        let upto_table = length-append (prefix ++ lengths) table in
+        let four = puts_behind (6 + patterns + length table) ((prefix ++ lengths) ++ table) starts old third fourth
+        (omega (arith, upto_table, upto_lengths)) three d in
+        let five = puts_behind (6 + patterns + length table + length starts) (((prefix ++ lengths) ++ table) ++ starts)
+        ends old fourth last
+        (omega (arith, length-append ((prefix ++ lengths) ++ table) starts, upto_table, upto_lengths)) four e in
         let last_is : last ≡ version ∷ 0 ∷ body ++ rest =
-        six ∙ ap (λ k. version ∷ 0 ∷ body ++ drop k old) size in
+        five ∙ ap (λ k. version ∷ 0 ∷ body ++ drop k old) size in
         let places_are : needed ≡ 0 + length (checked version body) = omega (arith, size) in
         let all : length body ≡ needed - 2 = omega (arith, size) in
         let over : slice_range last 2 needed ≡ body =

@@ -8,7 +8,7 @@ use Rattle.literal_base.specs.declared.search.MatchKind.TheVariants.{Standard}
 use Rattle.literal_base.specs.declared.search.Span.{Span}
 use Rattle.literal_ids.specs.declared.primitives.pattern_id.TheConstants.PatternID
 use Rattle.literal_search.specs.SearchValue.{SearchValue}
-use Rattle.literal_search.specs.Inside.Walk.{ClassesFit, IsAt, text_of}
+use Rattle.literal_search.specs.Inside.Walk.{IsAt, rows_by, text_of}
 use Rattle.literal_search.specs.Linear.{looked_by}
 use Rattle.literal_search.specs.PreparedLinear.{AreBackTables, BackTables, texts_back}
 use Rattle.literal_search.specs.Table.{Recognises}
@@ -26,12 +26,10 @@ abbrev pub lens_of : Lens → List ℕ
 lens_of (Patterns patterns) = map (λ pattern. length pattern.items) patterns.now
 lens_of (Numbers numbers) = numbers.now
 
--- a walk by them leaves neither the classes nor the rows, and there are identifiers for the patterns
+-- each byte has a class, there is a row, and there are identifiers for the patterns
 pub record IsSafe (b : Backward) : Type 0 where
   pub each : length b.table.classes.now ≡ 256
-  pub fits : ClassesFit b.table
-  pub small : b.table.width < 2 ^ 32
-  pub row : b.table.width < length b.table.rows.now
+  pub row : 256 < length b.table.rows.now
   pub few : length (lens_of b.lens) ≤ PatternID.LIMIT
 
 -- the tables that they would be of a search
@@ -40,7 +38,7 @@ back_tables_by search b = record {
   search = search;
   classes = b.table.classes.now;
   width = b.table.width;
-  rows = b.table.rows.now;
+  rows = rows_by b.table;
   best = b.best.now;
   longest = b.table.longest;
 }
@@ -54,9 +52,9 @@ pub record AreBackFor (search : SearchValue) (b : Backward) : Type 0 where
 abbrev pub ForBackward : Backward → (BackTables → Type 0) → Type 0
 ForBackward b P = (search : SearchValue) → AreBackFor search b → P (back_tables_by search b)
 
--- the number in a row leads to another, which is whole
+-- the number in a row leads to another
 abbrev pub LeadsOn : Backward → ℕ → Type 0
-LeadsOn b code = code % 2 ^ 31 + b.table.width < length b.table.rows.now
+LeadsOn b code = code % 2 ^ 31 + 256 < length b.table.rows.now
 
 -- a walk stands at the row of what it read of a haystack, from a place down to another
 pub record StandsDown (p : BackTables) (haystack : List ℕ) (from at place : ℕ) : Type 0 where

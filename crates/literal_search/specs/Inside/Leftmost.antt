@@ -5,6 +5,7 @@ use Rattle.literal_base.specs.Occurs.{between}
 use Rattle.literal_base.specs.declared.search.Span.{Span}
 use Rattle.literal_search.specs.Linear.{first_part}
 use Rattle.literal_search.specs.Inside.Backward.{AreMarks, IsMark, NoneFrom, StandsDown}
+use Rattle.literal_search.specs.Inside.Walk.{rows_by}
 use Rattle.literal_search.specs.PreparedLinear.{BackTables}
 use Rattle.literal_search.specs.declared.backward.Backward.{Backward}
 use Rattle.literal_search.specs.declared.backward.Begun.{Begun}
@@ -41,9 +42,11 @@ pub record IsStep (p : BackTables) (haystack : List ℕ) (span : Span) (end at c
   pub lane : IsLane p haystack span end at (code % 2 ^ 31)
   pub mark : at < end → IsMark p haystack span.end at code
 
--- below which place the rows of a search begin
-abbrev pub limit_of : Backward → ℕ
-limit_of b = min (length b.table.rows.now - b.table.width) (2 ^ 31)
+-- below that place the rows of a search begin, and behind it there is a number for any class
+pub record IsLimit (b : Backward) (limit : ℕ) : Type 0 where
+  pub some : 0 < limit
+  pub is : limit ≡ min (length (rows_by b.table)) (2 ^ 31)
+  pub fits : limit + 256 ≤ length b.table.rows.now
 
 -- four walks stand at rows
 pub record HaveRows (limit : ℕ) (l : Lanes) : Type 0 where

@@ -3,6 +3,7 @@ use Rattle.std.specs.Prelude.{◌≡◌, ◌<◌, ◌≤◌, ◌^◌, ℕ, List,
 use Rattle.literal_base.specs.MatchValue.{MatchValue}
 use Rattle.literal_base.specs.declared.search.Span.{Span}
 use Rattle.literal_search.specs.Inside.Prepared.{IsHeader}
+use Rattle.literal_search.specs.Inside.Rows.{rows_of}
 use Rattle.literal_search.specs.Inside.Standing.{HaveSameToCome, IsStanding, standing_value}
 use Rattle.literal_search.specs.Overlapping.{OverlappingValue}
 use Rattle.literal_search.specs.OverlappingMatchesValue.{IsNextToCome, IsToCome, gone_on}
@@ -26,7 +27,7 @@ tables_by search p = record {
   ignore_case = search.ignore_case;
   classes = p.header.classes.now;
   width = p.header.width;
-  rows = p.header.rows.now;
+  rows = rows_of p.header.rows.now;
   ends = p.ends.now;
   starts = p.starts.now;
 }

@@ -22,9 +22,9 @@ linear_value p = search_by p.kind p.ignore_case (patterns_of p)
 abbrev pub tables_of : Parts → BackTables
 tables_of p = record {
   search = linear_value p;
-  classes = p.classes.table;
-  width = p.classes.width;
-  rows = p.rows;
+  classes = p.rows.classes;
+  width = p.width;
+  rows = p.rows.rows;
   best = p.best.items;
   longest = p.longest;
 }
@@ -32,8 +32,8 @@ tables_of p = record {
 -- what the fields keep: these tables, of as many classes and rows as the patterns need
 pub record AreParts (p : Parts) : Type 0 where
   pub tables : AreBackTables (tables_of p)
-  pub width : p.classes.width ≡ width_for p.ignore_case (patterns_of p)
-  pub rows : IsRowsLength Standard (texts_back (tables_of p)) p.classes.width (length p.rows)
+  pub width : p.width ≡ width_for p.ignore_case (patterns_of p)
+  pub rows : IsRowsLength Standard (texts_back (tables_of p)) p.width (length p.rows.rows)
 
 -- the matches so far, before a place: whatever is the list of the rest goes on from them
 pub record IsGreedyUpTo (search : SearchValue) (haystack : List ℕ) (span : Span) (done : List MatchValue) (at : ℕ)

@@ -1,10 +1,10 @@
 -- The parts of a prepared search, and how they are written.
 use Rattle.std.specs.Prelude.{◌≡◌, ◌+◌, ◌<◌, ◌≤◌, ◌^◌, ℕ, List, ◌∷◌, ◌++◌, IfSome, None}
-use Rattle.std.specs.Prelude.{length, map, slice_index}
+use Rattle.std.specs.Prelude.{length, map, slice_index, slice_range}
 use Rattle.std.specs.List.{splice}
 use Rattle.literal_search.specs.SearchValue.{longest_of}
 use Rattle.literal_search.specs.Prepared.{AreShort, HasAllParts, HasParts, check_of, classes_in, fingerprints_by}
-use Rattle.literal_search.specs.Prepared.{lengths_in, fingerprints_part, rows_in, shortest_by, width_in}
+use Rattle.literal_search.specs.Prepared.{classes_end, lengths_in, fingerprints_part, rows_at, shortest_by, width_in}
 use Rattle.literal_search.specs.declared.prepared.Header.{Header}
 use Rattle.literal_search.specs.declared.prepared.Prepared.TheInside.{Inside}
 use Rattle.literal_search.specs.declared.prepared.TheConstants.{PREPARED_VERSION}
@@ -13,7 +13,7 @@ use Rattle.literal_search.specs.declared.prepared.PrepareError.{PrepareError}
 use Rattle.literal_search.specs.declared.prepared.PrepareError.TheVariants.{ArrayTooShort, ListsTooLong}
 use Rattle.literal_search.specs.declared.prepared.PrepareError.TheVariants.{PatternTooLong}
 
--- the parts of an array that begins as a prepared search of a version
+-- the parts of an array that begins as a prepared search of a version, where the classes stand behind the rows too
 pub record IsSplit (version : ℕ) (numbers classes : List ℕ) (width : ℕ) (lengths rows : List ℕ)
     (longest : ℕ) : Type 0 where
   pub parts : HasParts version numbers
@@ -21,7 +21,7 @@ pub record IsSplit (version : ℕ) (numbers classes : List ℕ) (width : ℕ) (l
   pub width_is : width ≡ width_in numbers
   pub small : width < 2 ^ 32
   pub lengths_are : lengths ≡ lengths_in numbers
-  pub rows_are : rows ≡ rows_in numbers
+  pub rows_are : rows ≡ slice_range numbers (rows_at numbers) (classes_end numbers)
   pub longest_is : longest ≡ slice_index numbers 5
 
 -- the fields of a `Header` are these parts
@@ -56,11 +56,11 @@ Puts at numbers old new = new ≡ splice old at (at + length numbers) numbers
 abbrev pub checked : ℕ → List ℕ → List ℕ
 checked version numbers = version ∷ check_of numbers ∷ numbers
 
--- the numbers of a prepared search, which may have lists behind its rows
+-- the numbers of a prepared search, which may have lists behind its rows and classes
 abbrev pub numbers_for : ℕ → List ℕ → ℕ → List (List ℕ) → List ℕ → List ℕ → List ℕ → List ℕ
 numbers_for version classes width patterns rows starts ends =
     checked version (width ∷ length patterns ∷ length rows ∷ longest_of patterns
-    ∷ classes ++ map (λ bytes. length bytes) patterns ++ rows ++ starts ++ ends)
+    ∷ map (λ bytes. length bytes) patterns ++ (rows ++ classes) ++ starts ++ ends)
 
 -- why numbers are not written over an array: not all patterns are short; or they are, and there are too many numbers in
 -- lists; or there are not, and the array is too short

@@ -11,6 +11,7 @@ use Rattle.literal_fingerprints.specs.FingerprintsValue.{AllPass}
 use Rattle.literal_search.specs.SearchValue.{NoneIsShorter, longest_of}
 use Rattle.literal_search.specs.Earliest.{EndsEarliest}
 use Rattle.literal_search.specs.Inside.Classes.{AreClasses, Tells, symbols_in}
+use Rattle.literal_search.specs.Inside.Walk.{rows_by}
 use Rattle.literal_search.specs.Table.{Recognises}
 use Rattle.literal_search.specs.declared.scan.TheConstants.{LONGEST}
 use Rattle.literal_search.specs.declared.scan.Nearest.{Nearest}
@@ -23,7 +24,7 @@ pub record IsTableOf (t : Table) (query : Query) (ignore_case : Bool) : Type 0 w
   pub classes : AreClasses t.classes.now t.width
   pub tells : Tells ignore_case t.classes.now query.patterns
   pub recognises : Recognises (root_kind_of query.kind) (map (symbols_in t.classes.now) query.patterns) t.width
-      t.rows.now
+      (rows_by t)
   pub some : NoneIsEmpty query.patterns
   pub longest : t.longest ≡ longest_of query.patterns
   pub shortest : NoneIsShorter t.shortest query.patterns

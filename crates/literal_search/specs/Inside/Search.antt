@@ -30,13 +30,13 @@ IsShortestOf n patterns = 0 < length patterns → n ≡ shortest_of patterns
 -- what the fields keep: each byte has a class, by which those of the patterns are told from others, and the rows, one
 -- for each state, recognise the classes of the patterns, none of which is empty
 pub record IsSound (a : Inside) : Type 0 where
-  pub classes : AreClasses a.classes.table a.classes.width
-  pub tells : Tells a.ignore_case a.classes.table (patterns_in a)
-  pub recognises : Recognises (root_kind_of a.kind) (map (symbols_in a.classes.table) (patterns_in a)) a.classes.width
-      a.rows
-  pub width : a.classes.width ≡ width_for a.ignore_case (patterns_in a)
-  pub rows : IsRowsLength (root_kind_of a.kind) (map (symbols_in a.classes.table) (patterns_in a)) a.classes.width
-      (length a.rows)
+  pub classes : AreClasses a.rows.classes a.width
+  pub tells : Tells a.ignore_case a.rows.classes (patterns_in a)
+  pub recognises : Recognises (root_kind_of a.kind) (map (symbols_in a.rows.classes) (patterns_in a)) a.width
+      a.rows.rows
+  pub width : a.width ≡ width_for a.ignore_case (patterns_in a)
+  pub rows : IsRowsLength (root_kind_of a.kind) (map (symbols_in a.rows.classes) (patterns_in a)) a.width
+      (length a.rows.rows)
   pub longest : a.longest ≡ longest_of (patterns_in a)
   pub shortest : NoneIsShorter a.shortest (patterns_in a)
   pub shortest_is : IsShortestOf a.shortest (patterns_in a)

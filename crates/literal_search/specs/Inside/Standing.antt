@@ -20,9 +20,9 @@ abbrev pub tables_of : Parts → Tables
 tables_of p = record {
   patterns = map (λ pattern. pattern.items) p.patterns.items;
   ignore_case = p.ignore_case;
-  classes = p.classes.table;
-  width = p.classes.width;
-  rows = p.rows;
+  classes = p.rows.classes;
+  width = p.width;
+  rows = p.rows.rows;
   ends = p.lists.ends.items;
   starts = starts_of p.lists.starts.items;
 }

@@ -1,21 +1,19 @@
 -- What a walk through the rows of an automaton finds.
 use Rattle.std.specs.Prelude.{◌≡◌, ℕ, ◌+◌, ◌*◌, ◌-◌, ◌<◌, ◌≤◌, ◌⊎◌, ◌^◌, Bool, true, false, List, [], ◌∷◌, ◌++◌}
 use Rattle.std.specs.Prelude.{⊤, Option, None, Some}
-use Rattle.std.specs.Prelude.{MatchOption, IfOk, IfSome, IsSome, Result, length}
+use Rattle.std.specs.Prelude.{MatchOption, IfSome, IsSome, length}
 use Rattle.std.specs.Prelude.{if◌then◌else◌, nat_eq, nat_lt, slice_index, slice_range}
 use Rattle.std.specs.List.{starts_with}
-use Rattle.std.specs.Result.{IsOkAnd}
-use Rattle.literal_base.specs.Counts.{Counts}
 use Rattle.literal_base.specs.declared.packed.MatchKind.{MatchKind}
 use Rattle.literal_base.specs.declared.search.MatchKind as search
 use Rattle.literal_base.specs.declared.search.Span.{Span}
 use Rattle.literal_base.specs.Kinds.{root_kind_of}
 use Rattle.literal_base.specs.Leftmost.{IsBetter}
 use Rattle.literal_base.specs.Occurs.{NoneIsEmpty, between, pattern_at}
-use Rattle.literal_search.specs.Inside.Classes.{AreClasses, symbols_in}
+use Rattle.literal_search.specs.Inside.Classes.{symbols_in}
+use Rattle.literal_search.specs.Inside.Rows.{rows_of}
 use Rattle.literal_search.specs.Table.{Recognises, nothing, stride_of}
 use Rattle.literal_search.specs.Words.{ending, live_suffix, one_stands, word_of}
-use Rattle.literal_search.specs.declared.prepared.Damaged.{Damaged}
 use Rattle.literal_search.specs.declared.walk.Ended.{Ended}
 use Rattle.literal_search.specs.declared.walk.Stop.{Stop}
 use Rattle.literal_search.specs.declared.walk.Table.{Table}
@@ -145,9 +143,9 @@ BeginsAnew width rows text =
     (kind : MatchKind) (patterns : List (List ℕ)) → Recognises (root_kind_of kind) patterns width rows
     → NoneIsEmpty patterns → (more : List ℕ) → from_match patterns (text ++ more) ≡ from_match patterns more
 
--- no class is above the width
-abbrev pub ClassesFit : Table → Type 0
-ClassesFit t = (byte : ℕ) → byte < 256 → slice_index t.classes.now byte ≤ t.width
+-- the rows of a table, behind which stand the classes
+abbrev pub rows_by : Table → List ℕ
+rows_by t = rows_of t.rows.now
 
 -- the classes of the bytes from one place to another
 abbrev pub text_in : Table → List ℕ → ℕ → ℕ → List ℕ
@@ -155,34 +153,34 @@ text_in t haystack start end = text_of t.classes.now haystack (between start end
 
 -- up to one byte before its end no pattern stands in the span, and up to its end it is the match
 pub record FindsEarliest (t : Table) (haystack : List ℕ) (start : ℕ) (e : Ended) : Type 0 where
-  pub before : FindsIn t.width t.rows.now start (text_in t haystack start (e.end - 1)) None
-  pub there : FindsIn t.width t.rows.now start (text_in t haystack start e.end) (Some e)
+  pub before : FindsIn t.width (rows_by t) start (text_in t haystack start (e.end - 1)) None
+  pub there : FindsIn t.width (rows_by t) start (text_in t haystack start e.end) (Some e)
 
 -- the match of the span, or the one that ends first
 abbrev pub Finds : Table → List ℕ → Span → Bool → Option Ended → Type 0
 Finds t haystack span is_earliest None =
-    FindsIn t.width t.rows.now span.start (text_in t haystack span.start span.end) None
+    FindsIn t.width (rows_by t) span.start (text_in t haystack span.start span.end) None
 Finds t haystack span false (Some e) =
-    FindsIn t.width t.rows.now span.start (text_in t haystack span.start span.end) (Some e)
+    FindsIn t.width (rows_by t) span.start (text_in t haystack span.start span.end) (Some e)
 Finds t haystack span true (Some e) = FindsEarliest t haystack span.start e
 
 -- a walk knows it, or no pattern stands before the place where it ended
 abbrev pub Walks : Table → List ℕ → Span → Bool → Walked → Type 0
 Walks t haystack span is_earliest (Known answer) = Finds t haystack span is_earliest answer
 Walks t haystack span is_earliest (Anew at) =
-    BeginsAnew t.width t.rows.now (text_in t haystack span.start at)
+    BeginsAnew t.width (rows_by t) (text_in t haystack span.start at)
 
 -- all bytes of a span were read, for all patterns, none empty, that the rows recognise
 abbrev pub WalksAll : Table → Span → ℕ → Type 0
 WalksAll t span steps =
-    (kind : MatchKind) (patterns : List (List ℕ)) → Recognises (root_kind_of kind) patterns t.width t.rows.now
+    (kind : MatchKind) (patterns : List (List ℕ)) → Recognises (root_kind_of kind) patterns t.width (rows_by t)
     → NoneIsEmpty patterns → steps ≡ span.end - span.start
 
 -- how far a walk goes that knows the answer: to the end of the span where there is none, and else at most as far behind
 -- the place of the match as the longest pattern is long
 abbrev pub StopsBy : Table → Span → ℕ → Walked → Type 0
 StopsBy t span steps (Known None) = WalksAll t span steps
-StopsBy t span steps (Known (Some e)) = StopsNear t.width t.rows.now (span.start + steps - 1) (Some e)
+StopsBy t span steps (Known (Some e)) = StopsNear t.width (rows_by t) (span.start + steps - 1) (Some e)
 StopsBy t span steps (Anew at) = ⊤
 
 -- whatever the numbers are, it goes as far as its answer says, and no further where that is the first end, or none is
@@ -202,18 +200,5 @@ LiesWithin span least (Anew at) = (span.start < at) × (at ≤ span.end) × (lea
 -- nothing is found in any of four spans of one length that begin one block behind another
 abbrev pub NoneInFour : Table → List ℕ → ℕ → ℕ → ℕ → Type 0
 NoneInFour t haystack at block len =
-    (k : ℕ) → k < 4 → FindsIn t.width t.rows.now (at + k * block)
+    (k : ℕ) → k < 4 → FindsIn t.width (rows_by t) (at + k * block)
     (text_in t haystack (at + k * block) (at + k * block + len)) None
-
--- what a walk through a span answers, and how many steps it takes: the contract of `Table::walk`, for its two copies
-pub record IsWalked (t : Table) (haystack : List ℕ) (span : Span) (least : ℕ) (is_earliest : Bool) (old new : Counts)
-    (result : Result Walked Damaged) : Type 0 where
-  pub found : AreClasses t.classes.now t.width → IsTable t.width t.rows.now
-      → IsOkAnd result (Walks t haystack span is_earliest)
-  pub near : AreClasses t.classes.now t.width → IsTable t.width t.rows.now
-      → IsOkAnd result (StopsBy t span (new.scanned - old.scanned))
-  pub inside : IfOk result (LiesWithin span least)
-  pub others : new ≡ record old { scanned = new.scanned }
-  pub grows : old.scanned ≤ new.scanned
-  pub once : new.scanned ≤ old.scanned + (span.end - span.start)
-  pub counted : IfOk result (WalksFar span is_earliest (new.scanned - old.scanned))

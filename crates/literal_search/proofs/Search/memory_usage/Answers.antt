@@ -7,11 +7,11 @@ use Rattle.literal_search.proofs.Search.memory_usage.Goals as goal
 
 pub returns : goal.returns
 returns c =
-    let bytes = length c.as_slice.result.now * 4 + c.total_bytes.result in
+    let bytes = length c.without_classes.result.now * 4 + c.total_bytes.result in
     subst (λ (v : SearchValue). TakesBytes v bytes) c.self.view_is
     (takes_bytes c.self.inside c.self.invariant bytes (omega (
       arith,
       c.total_bytes.ensures.total,
       ap (λ (l : List (Vec ℕ)). sum_by length (map (λ pattern. pattern.items) l)) c.deref.ensures.value,
-      ap (λ (l : List ℕ). length l) c.as_slice.ensures,
+      ap (λ (l : List ℕ). length l) c.without_classes.ensures,
     )))

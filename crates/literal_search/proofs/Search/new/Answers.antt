@@ -9,7 +9,6 @@ use Rattle.literal_search.specs.Inside.Classes.{Tells}
 use Rattle.literal_search.specs.Inside.Search.{IsShortestOf, IsSound}
 use Rattle.literal_search.specs.SearchValue.{NoneIsShorter}
 use Rattle.literal_search.specs.declared.Search.TheInside.{Inside}
-use Rattle.literal_search.specs.declared.classes.ClassNumbers.{ClassNumbers}
 use Rattle.literal_search.specs.States.{HasTooManyStates, IsRowsLength}
 use Rattle.literal_search.specs.Table.{Recognises}
 use Rattle.literal_search.proofs.lemmas.Built.{holds_in, holds_of, refused_rows}
@@ -26,27 +25,27 @@ rows_for-requires-clause-one g c none =
 pub invariant_of-result : goal.invariant_of-result
 invariant_of-result g c =
     let classes = c.classes_for-classes.result in
-    subst (λ (n : ClassNumbers). let a : Inside = record {
+    subst (λ (k : List ℕ). let a : Inside = record {
       kind = c.args.kind;
       ignore_case = c.args.ignore_case;
       patterns = c.in_ok-patterns.patterns;
-      classes = n;
-      rows = c.in_ok-rows.rows;
+      width = classes.width;
+      rows = record { rows = c.in_ok-rows.rows.rows; classes = k };
       longest = c.longest_len-longest.result;
       shortest = c.shortest_len-shortest.result;
       fingerprints = c.new-fingerprints.result;
-    } in IsSound a) (sym c.to_numbers.ensures) (record {
+    } in IsSound a) (sym c.in_ok-rows.ensures.classes) (record {
       classes = c.classes_for-classes.ensures.classes;
       tells = subst (λ (patterns : List (Vec ℕ Global)). Tells c.args.ignore_case classes.table
           (map (λ (pattern : Vec ℕ Global). pattern.items) patterns)) c.deref.ensures.value
           c.classes_for-classes.ensures.tells;
-      recognises = holds_of (λ kind texts. Recognises kind texts classes.width c.in_ok-rows.rows) c.args.kind
+      recognises = holds_of (λ kind texts. Recognises kind texts classes.width c.in_ok-rows.rows.rows) c.args.kind
           c.from.result classes.table c.deref-2.result.now c.in_ok-patterns.patterns.items c.from.ensures
           c.deref-2.ensures.value c.in_ok-rows.ensures.recognises;
       width = c.classes_for-classes.ensures.width
           ∙ ap (λ (patterns : List (Vec ℕ Global)). width_for c.args.ignore_case
           (map (λ (pattern : Vec ℕ Global). pattern.items) patterns)) c.deref.ensures.value;
-      rows = holds_of (λ kind texts. IsRowsLength kind texts classes.width (length c.in_ok-rows.rows))
+      rows = holds_of (λ kind texts. IsRowsLength kind texts classes.width (length c.in_ok-rows.rows.rows))
           c.args.kind c.from.result classes.table c.deref-2.result.now c.in_ok-patterns.patterns.items
           c.from.ensures c.deref-2.ensures.value c.in_ok-rows.ensures.states;
       longest = c.longest_len-longest.ensures ∙ ap (λ (patterns : List (Vec ℕ Global)). longest_of

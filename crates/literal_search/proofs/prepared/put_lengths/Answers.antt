@@ -6,7 +6,7 @@ use Rattle.literal_search.proofs.lemmas.Written.{puts_next, puts_none}
 use Rattle.literal_search.proofs.prepared.put_lengths.Goals as goal
 
 pub loop-i-init : goal.loop-i-init
-loop-i-init c = puts_none 262 c.args.array.now
+loop-i-init c = puts_none 6 c.args.array.now
 
 pub overflow_cast-array : goal.overflow_cast-array
 overflow_cast-array c =
@@ -28,7 +28,7 @@ loop-i-preserved c =
     let room = c.requires.room in
     let read = get_or-map (λ (p : Vec ℕ). length p.items) patterns i pattern 0 c.loop-i-test.true
     ∙ ap (λ (p : Vec ℕ). length p.items) (sym c.index-patterns-i.is) in
-    puts_next 262 i (map (λ (p : Vec ℕ). length p.items) patterns) c.args.array.now c.loop-i.array c.len.result
+    puts_next 6 i (map (λ (p : Vec ℕ). length p.items) patterns) c.args.array.now c.loop-i.array c.len.result
     (omega (arith, room, count)) (omega (arith, count, c.loop-i-test.true))
     (omega (arith, read, pattern.ok.0, c.len.ensures))
     c.loop-i.invariant
@@ -37,6 +37,6 @@ pub returns : goal.returns
 returns c =
     let patterns = c.args.patterns.now in
     let all = map (λ (p : Vec ℕ). length p.items) patterns in
-    subst (λ (numbers : List ℕ). Puts 262 numbers c.args.array.now c.loop-i.array)
+    subst (λ (numbers : List ℕ). Puts 6 numbers c.args.array.now c.loop-i.array)
     (take_all c.loop-i.i all
     (omega (arith, c.loop-i-test.false, length-map patterns (λ (p : Vec ℕ). length p.items)))) c.loop-i.invariant

@@ -1,23 +1,26 @@
-use Rattle.std.proofs.Common.{◌≡◌, ◌-◌, ◌≤◌, ◌^◌, ◌∷◌, ◌++◌, ◌∙◌, ℕ, List, arith, length, map, refl, subst, sym}
+use Rattle.std.proofs.Common.{◌≡◌, ◌+◌, ◌-◌, ◌≤◌, ◌^◌, ◌∷◌, ◌++◌, ◌∙◌, ℕ, List, ap, arith, length, map, subst, sym}
 use Rattle.std.proofs.Math.ListN.{set}
-use Rattle.std.proofs.lemmas.List.{length-map}
+use Rattle.std.proofs.lemmas.List.{length-map, take-append-drop}
 use Rattle.std.proofs.lemmas.Simd.{map-map}
 use Rattle.std.specs.Global.{Vec}
 use Rattle.literal_search.specs.Inside.Prepared.{Puts, checked}
+use Rattle.literal_search.specs.Inside.Rows.{classes_of, rows_of}
 use Rattle.literal_search.specs.SearchValue.{longest_of}
 use Rattle.literal_search.specs.Prepared.{AreShort}
 use Rattle.literal_search.proofs.lemmas.Longest.{all_short, longest_short}
 use Rattle.literal_search.proofs.lemmas.Numbers.{numbers_long}
+use Rattle.literal_search.proofs.lemmas.Rows.{length_rows, rows_long}
 use Rattle.literal_search.proofs.lemmas.Written.{puts_all, size_of_all}
 use Rattle.literal_search.proofs.prepared.write.Goals as goal
 
 pub returns-clause-ok : goal.returns-clause-ok
 returns-clause-ok c =
     let version = c.args.version in
-    let classes = c.args.classes.now.table in
-    let width = c.args.classes.now.width in
+    let width = c.args.width in
     let patterns = c.args.patterns.now in
-    let rows = c.args.rows.now in
+    let table = c.args.rows.now in
+    let rows = rows_of table in
+    let classes = classes_of table in
     let starts = c.args.starts.now in
     let ends = c.args.ends.now in
     let old = c.args.array.now in
@@ -25,27 +28,31 @@ returns-clause-ok c =
     let lengths = map (λ (bytes : List ℕ). length bytes) all in
     let many = length-map patterns (λ (p : Vec ℕ). p.items) in
     let each : length lengths ≡ length patterns = length-map all (λ (bytes : List ℕ). length bytes) ∙ many in
-    let put = subst (λ (numbers : List ℕ). Puts 262 numbers c.put_numbers-2.new.array c.put_lengths.new.array)
+    let put = subst (λ (numbers : List ℕ). Puts 6 numbers c.put_numbers.new.array c.put_lengths.new.array)
     (sym (map-map (λ (bytes : List ℕ). length bytes) (λ (p : Vec ℕ). p.items) patterns)) c.put_lengths.ensures in
     let longest = c.longest_len-longest.result in
-    let written = puts_all version width (length patterns) (length rows) longest classes lengths rows starts ends old
-    c.requires.classes each refl
-    c.put_numbers.new.array c.put_numbers-2.new.array c.put_lengths.new.array c.put_numbers-3.new.array
-    c.put_starts.new.array c.put_numbers-4.new.array c.check_over.result
-    c.put_numbers.ensures c.put_numbers-2.ensures put c.put_numbers-3.ensures c.put_starts.ensures
-    c.put_numbers-4.ensures c.check_over.ensures in
-    let size = size_of_all version width (length patterns) (length rows) longest classes lengths rows starts ends old
-    c.requires.classes each refl
+    let places = length table - 256 in
+    let long : length table ≡ places + 256 = omega (arith, length_rows table c.requires.classes) in
+    let written = puts_all version width (length patterns) places longest lengths table starts ends old each long
+    c.put_numbers.new.array c.put_lengths.new.array c.put_numbers-2.new.array c.put_starts.new.array
+    c.put_numbers-3.new.array c.check_over.result c.put_numbers.ensures put c.put_numbers-2.ensures
+    c.put_starts.ensures c.put_numbers-3.ensures c.check_over.ensures in
+    let size = size_of_all version width (length patterns) places longest lengths table starts ends old each long in
+    let parts : table ≡ rows ++ classes = sym (take-append-drop places table) in
+    let count : places ≡ length rows = sym (rows_long table) in
+    let body = λ (n k l : ℕ) (t : List ℕ). checked version (width ∷ n ∷ k ∷ l ∷ lengths ++ t ++ starts ++ ends) in
+    let is : body (length patterns) places longest table ≡ body (length all) (length rows) (longest_of all)
+    (rows ++ classes) =
+    ap (λ n. body n places longest table) (sym many)
+    ∙ (ap (λ k. body (length all) k longest table) count
+    ∙ (ap (λ l. body (length all) (length rows) l table) c.longest_len-longest.ensures
+    ∙ ap (λ t. body (length all) (length rows) (longest_of all) t) parts))
     in (
       omega arith,
       omega arith,
-      subst (λ (n : ℕ). Puts 0
-          (checked version (width ∷ length all ∷ length rows ∷ n ∷ classes ++ lengths ++ rows ++ starts ++ ends)) old
-          (set c.put_numbers-4.new.array 1 c.check_over.result)) c.longest_len-longest.ensures
-          (subst (λ (n : ℕ). Puts 0
-          (checked version (width ∷ n ∷ length rows ∷ longest ∷ classes ++ lengths ++ rows ++ starts ++ ends)) old
-          (set c.put_numbers-4.new.array 1 c.check_over.result)) (sym many) written),
-      sym size,
+      subst (λ (numbers : List ℕ). Puts 0 numbers old (set c.put_numbers-3.new.array 1 c.check_over.result)) is
+          written,
+      sym size ∙ ap (λ (numbers : List ℕ). length numbers) is,
     )
 
 -- the patterns are short where the longest is
@@ -75,8 +82,9 @@ returns-then-array-needed-clause-error c =
       omega (arith, c.if-array-needed.true),
       omega (
         arith,
-        numbers_long c.args.version c.args.classes.now.table c.args.classes.now.width all c.args.rows.now
+        numbers_long c.args.version (classes_of c.args.rows.now) c.args.width all (rows_of c.args.rows.now)
             c.args.starts.now c.args.ends.now c.requires.classes,
+        length_rows c.args.rows.now c.requires.classes,
         length-map patterns (λ (p : Vec ℕ). p.items),
       ),
     )

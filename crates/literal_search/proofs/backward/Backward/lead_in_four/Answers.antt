@@ -16,7 +16,7 @@ loop-step-init c =
     let parts = c.requires.parts in
     let inside = parts.inside in
     let far = parts.far in
-    let row : 0 < c.args.limit = omega (arith, c.requires.limit, c.requires.safe.row) in
+    let row = c.requires.limit.some in
     let tables = λ (search : SearchValue). back_tables_by search c.args.self.now in
     let begins : (search : SearchValue) → AreBackFor search c.args.self.now → (end from at : ℕ) → at ≡ from
     → from ≤ c.args.span.end → end + c.args.self.now.table.longest ≤ from + 1

@@ -7,7 +7,7 @@ invariant-loop-at l = record {
   after : l.fn.start ≤ l.at;
   inside : l.at ≤ l.fn.begun.at;
   long : length l.marks ≡ length l.fn.marks;
-  row : l.place + l.fn.self.table.width < length l.fn.self.table.rows.now;
+  row : l.place + 256 < length l.fn.self.table.rows.now;
   stands : ForBackward l.fn.self (λ tables. IsBegun tables l.fn.haystack l.fn.span.end l.fn.begun
       → StandsFar tables l.fn.haystack l.fn.span.end l.at l.place);
   marks : ForBackward l.fn.self (λ tables. IsBegun tables l.fn.haystack l.fn.span.end l.fn.begun

@@ -11,9 +11,8 @@ pub returns-then-len-eq0-clause-leftmost : goal.returns-then-len-eq0-clause-left
 returns-then-len-eq0-clause-leftmost c = λ search is mark.
     let b = c.args.self.now in
     let tables = back_tables_by search b in
-    let longest_is = got_is b.table.rows.now _ c.get.result c.in_ok-longest.field-0 c.get.ensures.lookup
-    c.in_ok-longest.ensures.ok_part in
-    let pattern_is = got_is b.best.now _ c.get-2.result c.in_ok-pattern.field-0 c.get-2.ensures.lookup
+    let longest_is = c.in_ok-longest.ensures (mark.row c.requires.ends) in
+    let pattern_is = got_is b.best.now _ c.get.result c.in_ok-pattern.field-0 c.get.ensures.lookup
     c.in_ok-pattern.ensures.ok_part ∙ ap (λ k. get_or b.best.now k 0) longest_is in
     let len_is = c.in_ok-len.ensures.1 ∙ ap (λ k. get_or (lens_of b.lens) k 0) pattern_is in
     let inside = mark_inside b search is c.args.haystack.now c.args.span.end c.args.at c.args.code c.requires.ends mark
@@ -28,9 +27,8 @@ returns-then-len-eq0-clause-leftmost c = λ search is mark.
 pub returns-clause-leftmost : goal.returns-clause-leftmost
 returns-clause-leftmost c = λ search is mark.
     let b = c.args.self.now in
-    let longest_is = got_is b.table.rows.now _ c.get.result c.in_ok-longest.field-0 c.get.ensures.lookup
-    c.in_ok-longest.ensures.ok_part in
-    let pattern_is = got_is b.best.now _ c.get-2.result c.in_ok-pattern.field-0 c.get-2.ensures.lookup
+    let longest_is = c.in_ok-longest.ensures (mark.row c.requires.ends) in
+    let pattern_is = got_is b.best.now _ c.get.result c.in_ok-pattern.field-0 c.get.ensures.lookup
     c.in_ok-pattern.ensures.ok_part ∙ ap (λ k. get_or b.best.now k 0) longest_is in
     subst (λ (m : MatchValue). IsLeftmostMatch search.query search.ignore_case c.args.haystack.now
     (between c.args.at c.args.span.end) m) (sym c.must.ensures)

@@ -17,7 +17,7 @@ loop-at-init c =
     record {
       after = omega arith;
       inside = omega arith;
-      row = omega (arith, c.requires.limit, c.requires.safe.row);
+      row = c.requires.limit.some;
       lane = λ search is.
           lane_begins (back_tables_by search c.args.self.now) is.tables c.args.haystack.now
           (λ i. omega (arith, c.type_inv.haystack i)) c.args.span c.args.end from from refl

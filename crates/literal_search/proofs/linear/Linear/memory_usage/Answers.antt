@@ -7,12 +7,12 @@ use Rattle.literal_search.proofs.linear.Linear.memory_usage.Goals as goal
 
 pub returns : goal.returns
 returns c =
-    let bytes = (length c.as_slice.result.now + c.len.result) * 4 + c.total_bytes.result in
+    let bytes = (length c.without_classes.result.now + c.len.result) * 4 + c.total_bytes.result in
     subst (λ (v : SearchValue). TakesLinearBytes v bytes) c.self.view_is
     (takes_linear_bytes c.self.inside.parts c.self.invariant bytes (omega (
       arith,
       c.len.ensures,
       c.total_bytes.ensures.total,
       ap (λ (l : List (Vec ℕ)). sum_by length (map (λ pattern. pattern.items) l)) c.deref.ensures.value,
-      ap (λ (l : List ℕ). length l) c.as_slice.ensures,
+      ap (λ (l : List ℕ). length l) c.without_classes.ensures,
     )))

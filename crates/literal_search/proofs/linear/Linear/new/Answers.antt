@@ -11,7 +11,6 @@ use Rattle.literal_search.specs.Inside.Linear.{AreParts}
 use Rattle.literal_search.specs.Linear.{NeedTooManyReversed, reversed}
 use Rattle.literal_search.specs.States.{HasTooManyStates, IsRowsLength}
 use Rattle.literal_search.specs.Table.{Recognises}
-use Rattle.literal_search.specs.declared.classes.ClassNumbers.{ClassNumbers}
 use Rattle.literal_search.specs.declared.linear.Parts.{Parts}
 use Rattle.literal_search.proofs.lemmas.Backward.{count_lent, some_back, some_lent, texts_lent}
 use Rattle.literal_search.proofs.lemmas.Built.{holds_in, refused_lists, refused_rows}
@@ -86,8 +85,8 @@ best_suffixes-requires g c =
     record {
       classes = c.classes_for-classes.ensures.classes;
       recognises = subst (λ (rows : List ℕ). Recognises Standard (texts lent) classes.width rows)
-          (sym c.as_slice.ensures)
-          (subst (λ (p : List (Vec ℕ Global)). Recognises Standard (texts p) classes.width c.in_ok-rows.rows)
+          (sym c.without_classes.ensures)
+          (subst (λ (p : List (Vec ℕ Global)). Recognises Standard (texts p) classes.width c.in_ok-rows.rows.rows)
           (c.deref-3.ensures.value ∙ sym c.deref-4.ensures.value) c.in_ok-rows.ensures.recognises);
       some = subst (λ (t : List (List ℕ)). NoneIsEmpty t) (sym texts_are)
           (some_back (map (symbols_in classes.table) (map (λ (pattern : Vec ℕ Global). pattern.items) patterns))
@@ -121,21 +120,21 @@ invariant_of-result g c =
     let rows_are = texts_lent c.deref-3.result.now backward patterns c.deref-3.ensures.value copies classes.table in
     let best_are = texts_lent c.deref-4.result.now backward patterns c.deref-4.ensures.value copies classes.table in
     let count = count_lent c.deref-4.result.now backward patterns c.deref-4.ensures.value copies in
-    subst (λ (n : ClassNumbers). let p : Parts = record {
+    subst (λ (k : List ℕ). let p : Parts = record {
       kind = c.args.kind;
       ignore_case = c.args.ignore_case;
       patterns = c.in_ok-patterns.patterns;
-      classes = n;
-      rows = c.in_ok-rows.rows;
+      width = classes.width;
+      rows = record { rows = c.in_ok-rows.rows.rows; classes = k };
       best = c.in_ok-best.best;
       longest = c.longest_len-longest.result;
-    } in AreParts p) (sym c.to_numbers.ensures) (record {
+    } in AreParts p) (sym c.in_ok-rows.ensures.classes) (record {
       tables = record {
         classes = c.classes_for-classes.ensures.classes;
         tells = subst (λ (p : List (Vec ℕ Global)). Tells c.args.ignore_case classes.table
             (map (λ (pattern : Vec ℕ Global). pattern.items) p)) c.deref.ensures.value
             c.classes_for-classes.ensures.tells;
-        recognises = subst (λ (texts : List (List ℕ)). Recognises Standard texts classes.width c.in_ok-rows.rows)
+        recognises = subst (λ (texts : List (List ℕ)). Recognises Standard texts classes.width c.in_ok-rows.rows.rows)
             rows_are c.in_ok-rows.ensures.recognises;
         best = subst (AreBest c.args.kind (reversed (map (symbols_in classes.table) bytes)) c.in_ok-best.best.items)
             count
@@ -147,7 +146,8 @@ invariant_of-result g c =
       };
       width = c.classes_for-classes.ensures.width ∙ ap (λ (p : List (Vec ℕ Global)). width_for c.args.ignore_case
           (map (λ (pattern : Vec ℕ Global). pattern.items) p)) c.deref.ensures.value;
-      rows = subst (λ (texts : List (List ℕ)). IsRowsLength Standard texts classes.width (length c.in_ok-rows.rows))
+      rows = subst (λ (texts : List (List ℕ)). IsRowsLength Standard texts classes.width
+          (length c.in_ok-rows.rows.rows))
           rows_are c.in_ok-rows.ensures.states;
     })
 

@@ -10,9 +10,9 @@ pub returns-clause-is_for : goal.returns-clause-is_for
 returns-clause-is_for c =
     let p = c.args.self.now in
     record {
-      tables = subst (λ (t : BackTables). AreBackTables t) (same_tables (linear_value p) p.classes.table _
-          p.classes.width _ p.rows c.as_slice.result.now p.best.items c.deref.result.now p.longest _ refl refl
-          (sym c.as_slice.ensures) (sym c.deref.ensures.value) refl) c.requires.tables;
+      tables = subst (λ (t : BackTables). AreBackTables t) (same_tables (linear_value p) p.rows.classes _
+          p.width _ p.rows.rows _ p.best.items c.deref.result.now p.longest _ (sym c.classes.ensures) refl
+          (sym c.as_slice.ensures.rows) (sym c.deref.ensures.value) refl) c.requires.tables;
       lens = ap (λ (l : List (Vec ℕ)). map (λ (v : Vec ℕ). length v.items) l) c.deref-2.ensures.value
           ∙ sym (map-map (λ (bytes : List ℕ). length bytes) (λ (v : Vec ℕ). v.items) p.patterns.items);
     }

@@ -8,7 +8,7 @@ use Rattle.literal_search.proofs.overlapping.Overlapping.memory_usage.Goals as g
 
 pub returns : goal.returns
 returns c =
-    let bytes = (length c.as_slice.result.now + c.len.result) * 4 + length c.starts.result.now * 8
+    let bytes = (length c.without_classes.result.now + c.len.result) * 4 + length c.starts.result.now * 8
     + c.total_bytes.result in
     subst (λ (v : OverlappingValue). TakesListedBytes v bytes) c.self.view_is
     (takes_listed_bytes (tables_of c.self.inside.parts) c.self.invariant.0 c.self.invariant.1 bytes (omega (
@@ -16,6 +16,6 @@ returns c =
       c.len.ensures,
       c.total_bytes.ensures.total,
       ap (λ (l : List (Vec ℕ)). sum_by length (map (λ pattern. pattern.items) l)) c.deref.ensures.value,
-      ap (λ (l : List ℕ). length l) c.as_slice.ensures,
+      ap (λ (l : List ℕ). length l) c.without_classes.ensures,
       ap (λ (l : List ℕ). length l) c.starts.ensures,
     )))

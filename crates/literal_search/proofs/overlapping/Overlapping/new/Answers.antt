@@ -11,7 +11,6 @@ use Rattle.literal_search.specs.States.{HasTooManyStates, IsRowsLength}
 use Rattle.literal_search.specs.Inside.Standing.{tables_of}
 use Rattle.literal_search.specs.PreparedOverlapping.{AreSized, AreTables}
 use Rattle.literal_search.specs.Table.{Recognises}
-use Rattle.literal_search.specs.declared.classes.ClassNumbers.{ClassNumbers}
 use Rattle.literal_search.specs.declared.overlapping.Parts.{Parts}
 use Rattle.literal_search.proofs.lemmas.Built.{holds_in, refused_lists, refused_rows, same_texts}
 use Rattle.literal_search.proofs.lemmas.Found.{some_symbols}
@@ -64,8 +63,8 @@ lists-requires g c =
     record {
       classes = c.classes_for-classes.ensures.classes;
       recognises = subst (λ (rows : List ℕ). Recognises Standard (texts lent) classes.width rows)
-          (sym c.as_slice.ensures)
-          (subst (λ (p : List (Vec ℕ Global)). Recognises Standard (texts p) classes.width c.in_ok-rows.rows)
+          (sym c.without_classes.ensures)
+          (subst (λ (p : List (Vec ℕ Global)). Recognises Standard (texts p) classes.width c.in_ok-rows.rows.rows)
           (c.deref-2.ensures.value ∙ sym c.deref-3.ensures.value) c.in_ok-rows.ensures.recognises);
       some = subst (λ (t : List (List ℕ)). NoneIsEmpty t)
           (sym (same_texts classes.table lent patterns c.deref-3.ensures.value))
@@ -90,20 +89,20 @@ invariant_of-result g c =
     let classes = c.classes_for-classes.result in
     let patterns = c.in_ok-patterns.patterns.items in
     let texts_are = same_texts classes.table c.deref-2.result.now patterns c.deref-2.ensures.value in
-    subst (λ (n : ClassNumbers). let p : Parts = record {
+    subst (λ (k : List ℕ). let p : Parts = record {
       ignore_case = c.args.ignore_case;
       patterns = c.in_ok-patterns.patterns;
-      classes = n;
-      rows = c.in_ok-rows.rows;
+      width = classes.width;
+      rows = record { rows = c.in_ok-rows.rows.rows; classes = k };
       lists = c.in_ok-lists.lists;
-    } in AreTables (tables_of p) × AreSized (tables_of p)) (sym c.to_numbers.ensures) (
+    } in AreTables (tables_of p) × AreSized (tables_of p)) (sym c.in_ok-rows.ensures.classes) (
       record {
         classes = c.classes_for-classes.ensures.classes;
         tells = subst (λ (patterns : List (Vec ℕ Global)). Tells c.args.ignore_case classes.table
             (map (λ (pattern : Vec ℕ Global). pattern.items) patterns)) c.deref.ensures.value
             c.classes_for-classes.ensures.tells;
         recognises = subst (λ (texts : List (List ℕ)). Recognises Standard texts classes.width
-            c.in_ok-rows.rows) texts_are c.in_ok-rows.ensures.recognises;
+            c.in_ok-rows.rows.rows) texts_are c.in_ok-rows.ensures.recognises;
         lists = subst (λ (count : ℕ). AreLists
             (map (symbols_in classes.table) (map (λ (pattern : Vec ℕ Global). pattern.items) patterns))
             c.in_ok-lists.lists.ends.items (starts_of c.in_ok-lists.lists.starts.items) count)
@@ -120,7 +119,7 @@ invariant_of-result g c =
             ∙ ap (λ (patterns : List (Vec ℕ Global)). width_for c.args.ignore_case
             (map (λ (pattern : Vec ℕ Global). pattern.items) patterns)) c.deref.ensures.value;
         rows = subst (λ (texts : List (List ℕ)). IsRowsLength Standard texts classes.width
-            (length c.in_ok-rows.rows)) texts_are c.in_ok-rows.ensures.states;
+            (length c.in_ok-rows.rows.rows)) texts_are c.in_ok-rows.ensures.states;
       },
     )
 

@@ -2,7 +2,7 @@ use Rattle.std.proofs.Common.{◌≡◌, ◌+◌, ◌-◌, ◌<◌, ◌≤◌, �
 use Rattle.std.specs.List.{slice_range}
 use Rattle.literal_fingerprints.specs.FingerprintsValue.{FingerprintsValue}
 use Rattle.literal_search.specs.Inside.Prepared.{IsHeader}
-use Rattle.literal_search.specs.Prepared.{HasAllParts, HasParts, fingerprints_by, fingerprints_part, rows_end}
+use Rattle.literal_search.specs.Prepared.{HasAllParts, HasParts, fingerprints_by, fingerprints_part, classes_end}
 use Rattle.literal_search.specs.Prepared.{shortest_by}
 use Rattle.literal_search.specs.declared.prepared.Header.{Header}
 use Rattle.literal_search.specs.declared.prepared.TheConstants.{PREPARED_VERSION}
@@ -10,14 +10,14 @@ use Rattle.literal_search.proofs.lemmas.LentTables.{parts_end}
 use Rattle.literal_search.proofs.prepared.Prepared.new.Goals as goal
 use Rattle.literal_search.proofs.prepared.Prepared.new.Goals.{then-shortest-gt0, else-shortest-gt0}
 
--- where the rows end, by the parts
+-- where the classes end, by the parts
 abbrev end : Header → ℕ
-end f = 262 + length f.lengths.now + length f.rows.now
+end f = 6 + length f.lengths.now + length f.rows.now
 
 module _ (f : Header) (numbers : List ℕ) (same : f.numbers.now ≡ numbers) (header : IsHeader PREPARED_VERSION f)
     (parts : HasParts PREPARED_VERSION numbers)
   where
-    end_is : end f ≡ rows_end numbers
+    end_is : end f ≡ classes_end numbers
     end_is = (parts_end f numbers same header).0
 
     has_all : 129 ≤ length numbers - end f → HasAllParts numbers
@@ -28,7 +28,7 @@ module _ (f : Header) (numbers : List ℕ) (same : f.numbers.now ≡ numbers) (h
     prints_are : slice_range numbers (end f) (end f + 129) ≡ fingerprints_part f.numbers.now
     prints_are =
         ap (λ from. slice_range numbers from (end f + 129)) end_is
-        ∙ (ap (λ from. slice_range numbers (rows_end numbers) (from + 129)) end_is ∙ ap fingerprints_part (sym same))
+        ∙ (ap (λ from. slice_range numbers (classes_end numbers) (from + 129)) end_is ∙ ap fingerprints_part (sym same))
 
 pub invariant_of-result : goal.invariant_of-result
 invariant_of-result c =

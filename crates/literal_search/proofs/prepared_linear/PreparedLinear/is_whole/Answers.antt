@@ -1,6 +1,6 @@
 use Rattle.std.proofs.Common.{◌≡◌, ◌+◌, ◌∙◌, List, ℕ, ap, arith, length, subst, sym}
 use Rattle.std.specs.List.{slice_range}
-use Rattle.literal_search.specs.Prepared.{check_of, rows_at, rows_end}
+use Rattle.literal_search.specs.Prepared.{check_of, rows_at, classes_end}
 use Rattle.literal_search.specs.PreparedLinear.{IsWholeLinear, linear_len}
 use Rattle.literal_search.proofs.lemmas.Prepared.{length_part}
 use Rattle.literal_search.proofs.prepared_linear.PreparedLinear.is_whole.Goals as goal
@@ -12,12 +12,12 @@ returns c =
     let lent = c.self.invariant in
     let fits = lent.parts.fits in
     let lengths = ap (λ (l : List ℕ). length l) lent.header.lengths_are
-    ∙ length_part numbers 262 (rows_at numbers) (omega arith) (omega arith) in
+    ∙ length_part numbers 6 (rows_at numbers) (omega arith) (omega arith) in
     let rows = ap (λ (l : List ℕ). length l) lent.header.rows_are
-    ∙ length_part numbers (rows_at numbers) (rows_end numbers) (omega arith) (omega arith) in
+    ∙ length_part numbers (rows_at numbers) (classes_end numbers) (omega arith) (omega arith) in
     let best = ap (λ (l : List ℕ). length l) lent.best_are
-    ∙ length_part numbers (rows_end numbers) (linear_len numbers) (omega arith) (omega arith) in
-    let end_is : 262 + length p.header.lengths.now + length p.header.rows.now + length p.best.now ≡ linear_len numbers =
+    ∙ length_part numbers (classes_end numbers) (linear_len numbers) (omega arith) (omega arith) in
+    let end_is : 6 + length p.header.lengths.now + length p.header.rows.now + length p.best.now ≡ linear_len numbers =
     omega (arith, lengths, rows, best) in
     let check_is = ap (λ end. check_of (slice_range numbers 2 end)) end_is in (
       λ same. subst IsWholeLinear c.self.view_is

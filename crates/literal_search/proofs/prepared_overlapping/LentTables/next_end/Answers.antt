@@ -4,7 +4,7 @@ use Rattle.literal_search.specs.Inside.Classes.{AreClasses}
 use Rattle.literal_search.specs.Inside.LentTables.{IsNextEnd, tables_by}
 use Rattle.literal_base.specs.declared.search.Span.{Span}
 use Rattle.literal_search.specs.Inside.Prepared.{header_table}
-use Rattle.literal_search.specs.Inside.Walk.{FindsEnd, IsRow, IsTable}
+use Rattle.literal_search.specs.Inside.Walk.{FindsEnd, IsRow, IsTable, rows_by}
 use Rattle.literal_search.specs.declared.standing.Standing.{Standing}
 use Rattle.literal_search.specs.declared.walk.Stop.{Stop}
 use Rattle.literal_search.specs.declared.walk.Table.{Table}
@@ -16,8 +16,8 @@ use Rattle.literal_search.proofs.prepared_overlapping.LentTables.next_end.Goals 
 -- what a walk finds by numbers that are those of an automaton
 abbrev FindsBy : Table → ℕ → List ℕ → Span → Option Stop → Type 0
 FindsBy t place haystack span answer =
-    AreClasses t.classes.now t.width → IsTable t.width t.rows.now → IsRow t.width t.rows.now place
-    → FindsEnd t.width t.rows.now place t.classes.now haystack span answer
+    AreClasses t.classes.now t.width → IsTable t.width (rows_by t) → IsRow t.width (rows_by t) place
+    → FindsEnd t.width (rows_by t) place t.classes.now haystack span answer
 
 pub returns-then-standing-span-clause-prepared : goal.returns-then-standing-span-clause-prepared
 returns-then-standing-span-clause-prepared c = λ search are standing.
@@ -34,8 +34,8 @@ returns-in_err-stop-clause-prepared c = λ search are standing.
     let more : c.args.standing.at < c.args.span.end = omega (arith, c.if-standing-span.false) in
     absurd (walk_is_whole are c.args.haystack.now (λ k. omega (arith, c.type_inv.haystack k)) c.args.span
     c.requires.valid c.args.standing standing c.if-standing.false more
-    (subst (λ (t : Table). AreClasses t.classes.now t.width → IsTable t.width t.rows.now
-    → IsRow t.width t.rows.now c.args.standing.place → ⊥) c.table-table.ensures c.in_err-stop.ensures.first))
+    (subst (λ (t : Table). AreClasses t.classes.now t.width → IsTable t.width (rows_by t)
+    → IsRow t.width (rows_by t) c.args.standing.place → ⊥) c.table-table.ensures c.in_err-stop.ensures.first))
 
 pub returns-in_default-clause-prepared : goal.returns-in_default-clause-prepared
 returns-in_default-clause-prepared c = λ search are standing.

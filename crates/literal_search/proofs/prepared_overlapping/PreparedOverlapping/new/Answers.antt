@@ -1,6 +1,6 @@
 use Rattle.std.proofs.Common.{◌≡◌, ◌+◌, ◌∙◌, ap, arith, get_or, length, subst, sym}
 use Rattle.std.specs.List.{slice_range}
-use Rattle.literal_search.specs.Prepared.{rows_end}
+use Rattle.literal_search.specs.Prepared.{classes_end}
 use Rattle.literal_search.specs.PreparedOverlapping.{HasLists, ends_at, ends_in, listed_len, starts_in}
 use Rattle.literal_search.proofs.lemmas.LentTables.{parts_end}
 use Rattle.literal_search.proofs.prepared_overlapping.PreparedOverlapping.new.Goals as goal
@@ -11,8 +11,8 @@ returns-then-numbers-ends_at c = λ lists.
     let f = c.in_ok-header.header in
     let known = parts_end f numbers c.in_ok-header.ensures.0 c.in_ok-header.ensures.2 in
     let fits = lists.fits in
-    let last : 262 + length f.lengths.now + length f.rows.now + length f.lengths.now
-    ≡ rows_end numbers + get_or numbers 3 0 = omega (arith, known.0, known.1) in
+    let last : 6 + length f.lengths.now + length f.rows.now + length f.lengths.now
+    ≡ classes_end numbers + get_or numbers 3 0 = omega (arith, known.0, known.1) in
     omega (arith, known.0, known.1, fits, ap (λ k. get_or numbers k 0) last, c.if-numbers-ends_at.true)
 
 pub invariant_of-result : goal.invariant_of-result
@@ -21,12 +21,12 @@ invariant_of-result c =
     let f = c.in_ok-header.header in
     let same = c.in_ok-header.ensures.0 in
     let known = parts_end f numbers same c.in_ok-header.ensures.2 in
-    let last : 262 + length f.lengths.now + length f.rows.now + length f.lengths.now
-    ≡ rows_end numbers + get_or numbers 3 0 = omega (arith, known.0, known.1) in
-    let ends : 262 + length f.lengths.now + length f.rows.now + length f.lengths.now + 1 ≡ ends_at numbers =
+    let last : 6 + length f.lengths.now + length f.rows.now + length f.lengths.now
+    ≡ classes_end numbers + get_or numbers 3 0 = omega (arith, known.0, known.1) in
+    let ends : 6 + length f.lengths.now + length f.rows.now + length f.lengths.now + 1 ≡ ends_at numbers =
     omega (arith, last) in
-    let listed : 262 + length f.lengths.now + length f.rows.now + length f.lengths.now + 1
-    + get_or numbers (262 + length f.lengths.now + length f.rows.now + length f.lengths.now) 0 ≡ listed_len numbers =
+    let listed : 6 + length f.lengths.now + length f.rows.now + length f.lengths.now + 1
+    + get_or numbers (6 + length f.lengths.now + length f.rows.now + length f.lengths.now) 0 ≡ listed_len numbers =
     omega (arith, ends, ap (λ k. get_or numbers k 0) last) in
     record {
       header = c.in_ok-header.ensures.2;
@@ -35,11 +35,11 @@ invariant_of-result c =
         fits = omega (arith, listed, c.if-numbers-ends_at.false, c.if-numbers-last.false);
       });
       starts_are = ap (λ from. slice_range numbers from
-          (262 + length f.lengths.now + length f.rows.now + length f.lengths.now + 1)) known.0
-          ∙ (ap (slice_range numbers (rows_end numbers)) ends ∙ ap starts_in (sym same));
+          (6 + length f.lengths.now + length f.rows.now + length f.lengths.now + 1)) known.0
+          ∙ (ap (slice_range numbers (classes_end numbers)) ends ∙ ap starts_in (sym same));
       ends_are = ap (λ from. slice_range numbers from
-          (262 + length f.lengths.now + length f.rows.now + length f.lengths.now + 1
-          + get_or numbers (262 + length f.lengths.now + length f.rows.now + length f.lengths.now) 0)) ends
+          (6 + length f.lengths.now + length f.rows.now + length f.lengths.now + 1
+          + get_or numbers (6 + length f.lengths.now + length f.rows.now + length f.lengths.now) 0)) ends
           ∙ (ap (slice_range numbers (ends_at numbers)) listed ∙ ap ends_in (sym same));
     }
 
@@ -48,8 +48,8 @@ returns c =
     let numbers = c.args.numbers.now in
     let f = c.in_ok-header.header in
     let known = parts_end f numbers c.in_ok-header.ensures.0 c.in_ok-header.ensures.2 in
-    let last : 262 + length f.lengths.now + length f.rows.now + length f.lengths.now
-    ≡ rows_end numbers + get_or numbers 3 0 = omega (arith, known.0, known.1) in (
+    let last : 6 + length f.lengths.now + length f.rows.now + length f.lengths.now
+    ≡ classes_end numbers + get_or numbers 3 0 = omega (arith, known.0, known.1) in (
       c.in_ok-header.ensures.0,
       record {
         parts = c.in_ok-header.ensures.1;

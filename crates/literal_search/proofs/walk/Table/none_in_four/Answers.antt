@@ -3,7 +3,7 @@ use Rattle.std.proofs.Common.{zero}
 use Rattle.literal_base.specs.Counts.{Counts}
 use Rattle.literal_base.specs.Occurs.{between}
 use Rattle.literal_search.specs.Inside.Classes.{AreClasses}
-use Rattle.literal_search.specs.Inside.Walk.{FindsIn, IsTable, HasRead, text_of}
+use Rattle.literal_search.specs.Inside.Walk.{FindsIn, IsTable, HasRead, rows_by, text_of}
 use Rattle.literal_search.proofs.lemmas.Walk.{finds_all, step_on}
 use Rattle.literal_search.proofs.walk.Table.none_in_four.Goals as goal
 
@@ -33,7 +33,7 @@ loop-step-preserved c =
     let at = c.args.at in
     let block = c.args.block in
     let step = c.loop-step.step in
-    let more = lane t.classes.now t.rows.now haystack t.width in
+    let more = lane t.classes.now (rows_by t) haystack t.width in
     let so_far = c.loop-step.invariant in
     let byte : (k : ℕ) → get_or haystack k 0 < 256 = λ k. omega (arith, c.type_inv.haystack k) in
     let sum : c.args.tally.now.scanned + 4 * step + 1 + 1 + 1 + 1 ≡ c.args.tally.now.scanned + 4 * (step + 1) =
@@ -44,19 +44,20 @@ loop-step-preserved c =
       third_within = omega (arith, c.if-third-limit.false);
       fourth_within = omega (arith, c.if-fourth-limit.false);
       first = λ are table. more are table at step (at + step) (omega arith) (omega arith) (byte (at + step))
-          c.loop-step.first c.next_at-first.result (so_far.first are table) c.next_at-first.ensures.number
+          c.loop-step.first c.next_at-first.result (so_far.first are table)
+          (c.next_at-first.ensures.number are (omega (arith, (so_far.first are table).row.fits)))
           (omega (arith, c.if-first-limit.false, c.requires.limit));
       second = λ are table. more are table (at + block) step (at + step + block) (omega arith) (omega arith)
           (byte (at + step + block)) c.loop-step.second c.next_at-second.result (so_far.second are table)
-          c.next_at-second.ensures.number
+          (c.next_at-second.ensures.number are (omega (arith, (so_far.second are table).row.fits)))
           (omega (arith, c.if-second-limit.false, c.requires.limit));
       third = λ are table. more are table (at + 2 * block) step (at + step + 2 * block) (omega arith) (omega arith)
           (byte (at + step + 2 * block)) c.loop-step.third c.next_at-third.result (so_far.third are table)
-          c.next_at-third.ensures.number
+          (c.next_at-third.ensures.number are (omega (arith, (so_far.third are table).row.fits)))
           (omega (arith, c.if-third-limit.false, c.requires.limit));
       fourth = λ are table. more are table (at + 3 * block) step (at + step + 3 * block) (omega arith) (omega arith)
           (byte (at + step + 3 * block)) c.loop-step.fourth c.next_at-fourth.result (so_far.fourth are table)
-          c.next_at-fourth.ensures.number
+          (c.next_at-fourth.ensures.number are (omega (arith, (so_far.fourth are table).row.fits)))
           (omega (arith, c.if-fourth-limit.false, c.requires.limit));
       counted = c.next_at-fourth.ensures.ticks
           ∙ (one_more _ _ (c.next_at-third.ensures.ticks
@@ -81,9 +82,9 @@ returns-clause-none c = λ _ are table k below.
     let at = c.args.at in
     let block = c.args.block in
     let so_far = c.loop-step.invariant in
-    let all = whole t.classes.now t.rows.now c.args.haystack.now t.width table in
+    let all = whole t.classes.now (rows_by t) c.args.haystack.now t.width table in
     let end : c.loop-step.step ≡ block + t.longest = omega (arith, c.loop-step-test.false, c.loop-step.auto.step-end) in
-    by_lane (λ n. FindsIn t.width t.rows.now (at + n * block) (text_of t.classes.now c.args.haystack.now
+    by_lane (λ n. FindsIn t.width (rows_by t) (at + n * block) (text_of t.classes.now c.args.haystack.now
     (between (at + n * block) (at + n * block + (block + t.longest)))) None) k below
     (all at (at + 0 * block) c.loop-step.step _ c.loop-step.first (omega arith) end
     (so_far.first are table))

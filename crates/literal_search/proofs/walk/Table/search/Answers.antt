@@ -45,13 +45,13 @@ returns-in-Known-clause-found c = λ query ignore_case is.
 
 -- how far it goes in the rest
 walks_in_rest : (c : goal.In-Known) → ForTable c.args.self.now (λ query ignore_case. WalksTo query.patterns
-    (between c.loop-nearest.start c.args.span.end) (c.walk_apart.new.tally.scanned - c.loop-nearest.tally.scanned)
+    (between c.loop-nearest.start c.args.span.end) (c.walk.new.tally.scanned - c.loop-nearest.tally.scanned)
     c.in-Known.answer)
 walks_in_rest c = λ query ignore_case is.
     let t = c.args.self.now in
     let rest = between c.loop-nearest.start c.args.span.end in
     let told = c.in_ok-answer.ensures in
-    let steps = c.walk_apart.new.tally.scanned - c.loop-nearest.tally.scanned in
+    let steps = c.walk.new.tally.scanned - c.loop-nearest.tally.scanned in
     walks_to t query ignore_case is c.args.haystack.now (λ k. omega (arith, c.type_inv.haystack k)) rest
     (record { ordered = c.loop-nearest.invariant.inside; in_haystack = c.requires.valid.in_haystack })
     c.args.is_earliest steps c.in-Known.answer
@@ -67,7 +67,7 @@ returns-in-Known-clause-near c = λ leftmost query ignore_case is.
     let so_far = c.loop-nearest.invariant in
     let near = c.nearest-nearest.ensures in
     let now = c.loop-nearest.tally.scanned in
-    let new = c.walk_apart.new.tally.scanned in
+    let new = c.walk.new.tally.scanned in
     searches_to t query ignore_case is haystack c.args.span start so_far.after c.args.tally.now.scanned now new
     (c.nearest-nearest.result.later - c.nearest-nearest.result.first) (omega (arith, near.first, near.less))
     (omega (arith, so_far.counted)) so_far.least so_far.inside c.in_ok-answer.ensures.grows c.in-Known.answer
@@ -84,7 +84,7 @@ returns-in-Known-clause-first c = λ earliest query ignore_case is.
     let so_far = c.loop-nearest.invariant in
     let near = c.nearest-nearest.ensures in
     let now = c.loop-nearest.tally.scanned in
-    let new = c.walk_apart.new.tally.scanned in
+    let new = c.walk.new.tally.scanned in
     steps_to_end c.args.self.now query ignore_case is haystack c.args.span start so_far.after
     c.args.tally.now.scanned now new (c.nearest-nearest.result.later - c.nearest-nearest.result.first)
     (omega (arith, near.first, near.less)) (omega (arith, so_far.counted)) so_far.least so_far.inside told.grows
@@ -117,7 +117,7 @@ loop-nearest-preserved c =
     let at = c.in-Anew.at in
     let lies = subst (LiesWithin rest (start + near)) c.in-Anew.is told.inside in
     let passed = c.in_ok-start-in-Anew.ensures in
-    let far = subst (WalksFar rest c.args.is_earliest (c.walk_apart.new.tally.scanned - c.loop-nearest.tally.scanned))
+    let far = subst (WalksFar rest c.args.is_earliest (c.walk.new.tally.scanned - c.loop-nearest.tally.scanned))
     c.in-Anew.is
     told.counted in
     let new = c.in_ok-start-in-Anew.start in
@@ -135,7 +135,7 @@ loop-nearest-preserved c =
           (record { ordered = so_far.inside; in_haystack = all }) at (omega (arith, lies.0)) lies.1
           (subst (Walks t haystack rest c.args.is_earliest) c.in-Anew.is
           (told.found is.classes (is_table t query ignore_case is)))) new (passed.none query ignore_case is));
-      others = others_on c.args.tally.now c.loop-nearest.tally c.walk_apart.new.tally c.pass_over.new.tally
+      others = others_on c.args.tally.now c.loop-nearest.tally c.walk.new.tally c.pass_over.new.tally
           so_far.others told.others passed.others;
       least = omega (arith, so_far.least, far, lies.0, passed.least, told.grows);
       counted = omega (

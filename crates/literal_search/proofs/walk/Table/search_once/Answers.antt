@@ -27,8 +27,8 @@ pub returns-in-Known-clause-near : goal.returns-in-Known-clause-near
 returns-in-Known-clause-near c = λ query ignore_case is.
     let t = c.args.self.now in
     walks_to t query ignore_case is c.args.haystack.now (λ k. omega (arith, c.type_inv.haystack k)) c.args.span
-    c.requires.valid c.args.is_earliest (c.walk_apart.new.tally.scanned - c.args.tally.now.scanned) c.in-Known.answer
-    (subst (StopsBy t c.args.span (c.walk_apart.new.tally.scanned - c.args.tally.now.scanned)) c.in-Known.is
+    c.requires.valid c.args.is_earliest (c.walk.new.tally.scanned - c.args.tally.now.scanned) c.in-Known.answer
+    (subst (StopsBy t c.args.span (c.walk.new.tally.scanned - c.args.tally.now.scanned)) c.in-Known.is
     (c.in_ok-answer.ensures.near is.classes (is_table t query ignore_case is)))
-    (subst (WalksFar c.args.span c.args.is_earliest (c.walk_apart.new.tally.scanned - c.args.tally.now.scanned))
+    (subst (WalksFar c.args.span c.args.is_earliest (c.walk.new.tally.scanned - c.args.tally.now.scanned))
     c.in-Known.is c.in_ok-answer.ensures.counted)
