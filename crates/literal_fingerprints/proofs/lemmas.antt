@@ -1,3 +1,4 @@
+pub mod Buckets
 pub mod Lanes
 pub mod Passing
 pub mod Scan

@@ -1,4 +1,5 @@
 -- What models and private functions alone cite.
+pub mod Buckets
 pub mod Lanes
 pub mod Nibbles
 pub mod Scan

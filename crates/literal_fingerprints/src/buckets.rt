@@ -1,5 +1,8 @@
-//! Patterns dealt out to buckets. Nothing is proved of how, since the tables that come of it are tried afterwards.
-ghost use Rattle.std.specs.Prelude.{◌<◌};
+//! Patterns dealt out to buckets. Each is held by one. Nothing is proved of which one: that makes a scan faster or
+//! slower, and no more.
+ghost use Rattle.std.specs.Prelude.{◌≡◌, ℕ, ◌^◌, ◌<◌, ◌≤◌, ◌↔◌, IsTrue, List, map};
+ghost use Rattle.std.specs.List.{All};
+ghost use Rattle.literal_fingerprints.specs.Inside.Buckets.{AreTooFull, HasByte, Holds, IsHeld, bytes_of, texts_of};
 
 use crate::nibbles::{Nibbles, other_case};
 
@@ -24,7 +27,10 @@ struct Halves {
 
 impl Halves {
     /// The same with those of a byte more.
-    fn with(self, byte: u8) -> Halves {
+    fn with(self, byte: u8) -> Halves
+        ensures has { HasByte result byte }
+        ensures keeps { (other : ℕ) → HasByte self other → HasByte result other }
+    {
         Halves {
             low: self.low | 1u16 << (byte % 16),
             high: self.high | 1u16 << (byte / 16),
@@ -32,8 +38,10 @@ impl Halves {
     }
 
     /// How many bytes have such halves.
-    fn bytes(self) -> u64 {
-        (self.low.count_ones() as u64).wrapping_mul(self.high.count_ones() as u64)
+    fn bytes(self) -> u64
+        ensures { result ≡ bytes_of self }
+    {
+        (self.low.count_ones() * self.high.count_ones()) as u64
     }
 }
 
@@ -57,7 +65,10 @@ impl Bucket {
     }
 
     /// The same with a pattern more, in both cases where case is ignored.
-    fn with(self, ignore_case: bool, pattern: &[u8]) -> Bucket {
+    fn with(self, ignore_case: bool, pattern: &[u8]) -> Bucket
+        ensures holds { Holds result ignore_case pattern.now }
+        ensures keeps { (other : List ℕ) → Holds self ignore_case other → Holds result ignore_case other }
+    {
         let mut places = self.places;
         for place in 0..LOOKED_AT.min(pattern.len()) {
             let byte = pattern[place];
@@ -67,21 +78,26 @@ impl Bucket {
     }
 
     /// How many texts of four bytes pass, of bytes of so many kinds.
-    fn texts(&self, kinds: u64) -> u64 {
-        let mut texts: u64 = 1;
-        for halves in self.places {
-            texts = texts.wrapping_mul(halves.bytes().min(kinds));
-        }
-        texts
+    fn texts(&self, kinds: u64) -> u64
+        requires { kinds ≤ 256 }
+        ensures texts { result ≡ texts_of kinds self.now }
+        ensures bound { result ≤ 2 ^ 32 }
+    {
+        let [first, second, third, fourth] = self.places;
+        let start = first.bytes().min(kinds) * second.bytes().min(kinds);
+        let end = third.bytes().min(kinds) * fourth.bytes().min(kinds);
+        start * end
     }
 
     /// How many kinds of bytes a text of such patterns may have: all with one of their upper halves.
-    fn kinds(&self) -> u64 {
+    fn kinds(&self) -> u64
+        ensures { result ≤ 256 }
+    {
         let mut high: u16 = 0;
         for halves in self.places {
             high |= halves.high;
         }
-        (high.count_ones() as u64).wrapping_mul(16)
+        high.count_ones() as u64 * 16
     }
 }
 
@@ -97,7 +113,11 @@ pub struct Buckets {
 
 impl Buckets {
     /// Each pattern in the bucket by which the fewest texts more pass.
-    pub fn of(ignore_case: bool, patterns: &[Vec<u8>]) -> Buckets {
+    pub fn of(ignore_case: bool, patterns: &[Vec<u8>]) -> Buckets
+        ensures kinds { result.kinds ≤ 256 }
+        ensures held { All (λ (pattern : List ℕ). IsHeld result.buckets ignore_case pattern)
+            (map (λ pattern. pattern.items) patterns.now) }
+    {
         let none = Bucket::behind(shortest_len(patterns));
         let kinds = together(ignore_case, patterns).kinds();
         let mut buckets = [none; BUCKETS];
@@ -115,12 +135,16 @@ impl Buckets {
     }
 
     /// Whether so many texts pass, or so many with which no pattern begins, that a scan is no faster than a search.
-    pub fn are_too_full(&self) -> bool {
+    pub fn are_too_full(&self) -> bool
+        requires { self.now.kinds ≤ 256 }
+        ensures { IsTrue result ↔ AreTooFull self.now }
+    {
         let mut texts: u64 = 0;
         for bucket in &self.buckets {
-            texts = texts.wrapping_add(bucket.texts(self.kinds));
+            texts += bucket.texts(self.kinds);
         }
-        let all = Bucket::behind(0).texts(self.kinds);
+        let pairs = self.kinds * self.kinds;
+        let all = pairs * pairs;
         texts > all / PASSING || texts.saturating_sub(self.wanted) > all / NEEDLESS
     }
 
@@ -165,6 +189,7 @@ fn together(ignore_case: bool, patterns: &[Vec<u8>]) -> Bucket {
 
 /// The bucket by which the fewest texts more pass once it has the pattern too.
 fn best_for(buckets: &[Bucket; BUCKETS], kinds: u64, ignore_case: bool, pattern: &[u8]) -> usize
+    requires { kinds ≤ 256 }
     ensures { result < BUCKETS }
 {
     let mut best = 0;

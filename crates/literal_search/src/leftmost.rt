@@ -9,7 +9,7 @@ ghost use Rattle.literal_base.specs.declared.search.Span.{Span};
 ghost use Rattle.literal_search.specs.At.{IsMatchAt};
 ghost use Rattle.literal_search.specs.Inside.Backward.{AreMarked, AreMarks, ForBackward, IsMatchBy, IsPlaced};
 ghost use Rattle.literal_search.specs.Inside.Backward.{IsSafe, NoneFrom, StopsMarking};
-ghost use Rattle.literal_search.specs.Inside.Leftmost.{AreLanes, HaveRows, IsFirstBegun, IsFourParts, IsLane, IsLed};
+ghost use Rattle.literal_search.specs.Inside.Leftmost.{AreLanes, HasBytes, HaveRows, IsFirstBegun, IsFourParts, IsLane, IsLed};
 ghost use Rattle.literal_search.specs.Inside.Leftmost.{IsLimit, IsPart, IsStep, LiesInPart, ReadsFor};
 ghost use Rattle.literal_search.specs.Linear.{LooksFor, ScansThrice, looked_by};
 ghost use Rattle.literal_search.specs.declared.backward.TheConstants.{LEAST};
@@ -65,6 +65,7 @@ impl<'t> Backward<'t> {
     #[inline(always)]
     fn step(
         &self,
+        classes: &[u8; 256],
         place: usize,
         haystack: &[u8],
         at: usize,
@@ -72,6 +73,7 @@ impl<'t> Backward<'t> {
         tally: &mut Tally,
     ) -> Result<u32, Damaged>
         requires safe { IsSafe self.now }
+        requires same { HasBytes self.now classes.now }
         requires limit { IsLimit self.now limit }
         requires row { place < limit }
         requires inside { at < length haystack.now }
@@ -81,7 +83,7 @@ impl<'t> Backward<'t> {
         ensures leads { IfOk result (λ code. code % 2 ^ 31 < limit) }
         ensures ticks { tally.new ≡ record tally.old { scanned = tally.old.scanned + 1 } }
     {
-        let code = self.table.code_at(place, haystack, at, tally);
+        let code = self.table.code_by(classes, place, haystack, at, tally);
         if (code % ENDS) as usize >= limit {
             return Err(Damaged);
         }
@@ -91,6 +93,7 @@ impl<'t> Backward<'t> {
     /// Where a walk stands at an end, that began so far behind the end that it tells all that begins before it.
     fn walk_back(
         &self,
+        classes: &[u8; 256],
         haystack: &[u8],
         span: Span,
         end: usize,
@@ -98,6 +101,7 @@ impl<'t> Backward<'t> {
         tally: &mut Tally,
     ) -> Result<usize, Damaged>
         requires safe { IsSafe self.now }
+        requires same { HasBytes self.now classes.now }
         requires limit { IsLimit self.now limit }
         requires valid { IsValidSpan haystack.now span }
         requires inside { end ≤ span.end }
@@ -109,15 +113,11 @@ impl<'t> Backward<'t> {
         ensures all { IfOk result (λ _. tally.new.scanned + end
             ≡ tally.old.scanned + min (end + (self.now.table.longest - 1)) span.end) }
     {
-        let ahead = self
-            .table
-            .longest
-            .saturating_sub(1)
-            .min(span.end - end);
+        let ahead = self.table.longest.saturating_sub(1).min(span.end - end);
         let from = end + ahead;
         let mut place = 0;
         for at in (end..from).rev() {
-            let code = self.step(place, haystack, at, limit, tally)?;
+            let code = self.step(classes, place, haystack, at, limit, tally)?;
             place = (code % ENDS) as usize;
         }
         Ok(place)
@@ -127,6 +127,7 @@ impl<'t> Backward<'t> {
     #[inline(always)]
     fn first_in(
         &self,
+        classes: &[u8; 256],
         haystack: &[u8],
         span: Span,
         part: Span,
@@ -135,6 +136,7 @@ impl<'t> Backward<'t> {
         tally: &mut Tally,
     ) -> Result<Option<Begun>, Damaged>
         requires safe { IsSafe self.now }
+        requires same { HasBytes self.now classes.now }
         requires limit { IsLimit self.now limit }
         requires valid { IsValidSpan haystack.now span }
         requires part { IsPart span part }
@@ -149,7 +151,7 @@ impl<'t> Backward<'t> {
         let mut place = from;
         let mut first = None;
         for at in (part.start..part.end).rev() {
-            let code = self.step(place, haystack, at, limit, tally)?;
+            let code = self.step(classes, place, haystack, at, limit, tally)?;
             place = (code % ENDS) as usize;
             first = nearer(at, code, first);
         }
@@ -160,6 +162,7 @@ impl<'t> Backward<'t> {
     /// look-up waits for those of the others.
     fn lead_in_four(
         &self,
+        classes: &[u8; 256],
         haystack: &[u8],
         span: Span,
         at: usize,
@@ -168,6 +171,7 @@ impl<'t> Backward<'t> {
         tally: &mut Tally,
     ) -> Result<Led, Damaged>
         requires safe { IsSafe self.now }
+        requires same { HasBytes self.now classes.now }
         requires limit { IsLimit self.now limit }
         requires valid { IsValidSpan haystack.now span }
         requires parts { IsFourParts self.now.table.longest span at block }
@@ -184,13 +188,13 @@ impl<'t> Backward<'t> {
         let mut behind = None;
         for step in (0..block.lead).rev() {
             let here = at + part + step;
-            let one = self.step(first, haystack, here, limit, tally)?;
+            let one = self.step(classes, first, haystack, here, limit, tally)?;
             first = (one % ENDS) as usize;
-            let two = self.step(second, haystack, here + part, limit, tally)?;
+            let two = self.step(classes, second, haystack, here + part, limit, tally)?;
             second = (two % ENDS) as usize;
-            let three = self.step(third, haystack, here + 2 * part, limit, tally)?;
+            let three = self.step(classes, third, haystack, here + 2 * part, limit, tally)?;
             third = (three % ENDS) as usize;
-            let four = self.step(fourth, haystack, here + 3 * part, limit, tally)?;
+            let four = self.step(classes, fourth, haystack, here + 3 * part, limit, tally)?;
             fourth = (four % ENDS) as usize;
             behind = nearer(here + 3 * part, four, behind);
         }
@@ -208,6 +212,7 @@ impl<'t> Backward<'t> {
     #[inline(never)]
     fn pass_in_four(
         &self,
+        classes: &[u8; 256],
         haystack: &[u8],
         span: Span,
         at: usize,
@@ -217,6 +222,7 @@ impl<'t> Backward<'t> {
         tally: &mut Tally,
     ) -> bool
         requires safe { IsSafe self.now }
+        requires same { HasBytes self.now classes.now }
         requires limit { IsLimit self.now limit }
         requires rows { HaveRows limit lanes }
         requires valid { IsValidSpan haystack.now span }
@@ -236,19 +242,25 @@ impl<'t> Backward<'t> {
         let (mut third, mut fourth) = (lanes.third, lanes.fourth);
         for step in 0..part {
             let here = at + (part - 1 - step);
-            first = self.table.next_at(first, haystack, here, tally);
+            first = self.table.next_at(classes, first, haystack, here, tally);
             if first >= limit {
                 return false;
             }
-            second = self.table.next_at(second, haystack, here + part, tally);
+            second = self
+                .table
+                .next_at(classes, second, haystack, here + part, tally);
             if second >= limit {
                 return false;
             }
-            third = self.table.next_at(third, haystack, here + 2 * part, tally);
+            third = self
+                .table
+                .next_at(classes, third, haystack, here + 2 * part, tally);
             if third >= limit {
                 return false;
             }
-            fourth = self.table.next_at(fourth, haystack, here + 3 * part, tally);
+            fourth = self
+                .table
+                .next_at(classes, fourth, haystack, here + 3 * part, tally);
             if fourth >= limit {
                 return false;
             }
@@ -260,6 +272,7 @@ impl<'t> Backward<'t> {
     /// which each is followed alone, from the left, up to the one that finds something.
     fn first_of_lanes(
         &self,
+        classes: &[u8; 256],
         haystack: &[u8],
         span: Span,
         at: usize,
@@ -269,6 +282,7 @@ impl<'t> Backward<'t> {
         tally: &mut Tally,
     ) -> Result<Option<Begun>, Damaged>
         requires safe { IsSafe self.now }
+        requires same { HasBytes self.now classes.now }
         requires limit { IsLimit self.now limit }
         requires rows { HaveRows limit lanes }
         requires valid { IsValidSpan haystack.now span }
@@ -284,35 +298,63 @@ impl<'t> Backward<'t> {
     {
         let (one, two) = (at + part, at + 2 * part);
         let (three, four) = (at + 3 * part, at + 4 * part);
-        let part = Span { start: at, end: one };
-        if let Some(begun) = self.first_in(haystack, span, part, lanes.first, limit, tally)? {
+        let part = Span {
+            start: at,
+            end: one,
+        };
+        if let Some(begun) = self.first_in(
+            classes,
+            haystack,
+            span,
+            part,
+            lanes.first,
+            limit,
+            tally,
+        )? {
             return Ok(Some(begun));
         }
         let part = Span {
             start: one,
             end: two,
         };
-        if let Some(begun) = self.first_in(haystack, span, part, lanes.second, limit, tally)? {
+        if let Some(begun) = self.first_in(
+            classes,
+            haystack,
+            span,
+            part,
+            lanes.second,
+            limit,
+            tally,
+        )? {
             return Ok(Some(begun));
         }
         let part = Span {
             start: two,
             end: three,
         };
-        if let Some(begun) = self.first_in(haystack, span, part, lanes.third, limit, tally)? {
+        if let Some(begun) = self.first_in(
+            classes,
+            haystack,
+            span,
+            part,
+            lanes.third,
+            limit,
+            tally,
+        )? {
             return Ok(Some(begun));
         }
         let part = Span {
             start: three,
             end: four,
         };
-        self.first_in(haystack, span, part, lanes.fourth, limit, tally)
+        self.first_in(classes, haystack, span, part, lanes.fourth, limit, tally)
     }
 
     /// The first place of a block at which a pattern begins, by four walks at once, and where these find something by
     /// one after another.
     fn first_in_four(
         &self,
+        classes: &[u8; 256],
         haystack: &[u8],
         span: Span,
         at: usize,
@@ -321,6 +363,7 @@ impl<'t> Backward<'t> {
         tally: &mut Tally,
     ) -> Result<Option<Begun>, Damaged>
         requires safe { IsSafe self.now }
+        requires same { HasBytes self.now classes.now }
         requires limit { IsLimit self.now limit }
         requires valid { IsValidSpan haystack.now span }
         requires after { span.start ≤ at }
@@ -336,9 +379,11 @@ impl<'t> Backward<'t> {
             ≤ tally.new.scanned + at)) }
     {
         let part = block.part;
-        let led = self.lead_in_four(haystack, span, at, block, limit, tally)?;
-        if !self.pass_in_four(haystack, span, at, part, led.lanes, limit, tally) {
-            return match self.first_of_lanes(haystack, span, at, part, led.lanes, limit, tally)? {
+        let led = self.lead_in_four(classes, haystack, span, at, block, limit, tally)?;
+        if !self.pass_in_four(classes, haystack, span, at, part, led.lanes, limit, tally) {
+            return match self.first_of_lanes(
+                classes, haystack, span, at, part, led.lanes, limit, tally,
+            )? {
                 Some(begun) => Ok(Some(begun)),
                 None => Err(Damaged),
             };
@@ -354,6 +399,7 @@ impl<'t> Backward<'t> {
     #[inline(never)]
     fn mark_in_four(
         &self,
+        classes: &[u8; 256],
         haystack: &[u8],
         span: Span,
         at: usize,
@@ -364,6 +410,7 @@ impl<'t> Backward<'t> {
         tally: &mut Tally,
     ) -> Result<(), Damaged>
         requires safe { IsSafe self.now }
+        requires same { HasBytes self.now classes.now }
         requires limit { IsLimit self.now limit }
         requires rows { HaveRows limit lanes }
         requires valid { IsValidSpan haystack.now span }
@@ -380,16 +427,16 @@ impl<'t> Backward<'t> {
         let search = *self; // (a copy: what is written to the marks does not change it)
         for step in (0..part).rev() {
             let here = at + step;
-            let one = search.step(first, haystack, here, limit, tally)?;
+            let one = search.step(classes, first, haystack, here, limit, tally)?;
             marks[step] = one;
             first = (one % ENDS) as usize;
-            let two = search.step(second, haystack, here + part, limit, tally)?;
+            let two = search.step(classes, second, haystack, here + part, limit, tally)?;
             marks[step + part] = two;
             second = (two % ENDS) as usize;
-            let three = search.step(third, haystack, here + 2 * part, limit, tally)?;
+            let three = search.step(classes, third, haystack, here + 2 * part, limit, tally)?;
             marks[step + 2 * part] = three;
             third = (three % ENDS) as usize;
-            let four = search.step(fourth, haystack, here + 3 * part, limit, tally)?;
+            let four = search.step(classes, fourth, haystack, here + 3 * part, limit, tally)?;
             marks[step + 3 * part] = four;
             fourth = (four % ENDS) as usize;
         }
@@ -432,11 +479,30 @@ impl<'t> Backward<'t> {
         marks.first = from;
         marks.upto = from;
         marks.known = end;
-        let limit = self.table.limit()?;
-        let led = self.lead_in_four(haystack, span, from, Block { part, lead, end }, limit, tally)?;
-        if !self.pass_in_four(haystack, span, from, part, led.lanes, limit, tally) {
+        let (limit, bytes) = (self.table.limit()?, self.table.class_bytes());
+        let classes = &bytes;
+        let led = self.lead_in_four(
+            classes,
+            haystack,
+            span,
+            from,
+            Block { part, lead, end },
+            limit,
+            tally,
+        )?;
+        if !self.pass_in_four(classes, haystack, span, from, part, led.lanes, limit, tally) {
             self.make_room(&mut marks.numbers, span.end - from)?;
-            self.mark_in_four(haystack, span, from, part, led.lanes, limit, &mut marks.numbers, tally)?;
+            self.mark_in_four(
+                classes,
+                haystack,
+                span,
+                from,
+                part,
+                led.lanes,
+                limit,
+                &mut marks.numbers,
+                tally,
+            )?;
             marks.upto = end;
         }
         Ok(())
@@ -501,11 +567,14 @@ impl<'t> Backward<'t> {
         ensures counted { IfOk result
             (ReadsFor self.now.table.longest span tally.old.scanned tally.new.scanned) }
     {
-        let limit = self.table.limit()?;
+        let (limit, bytes) = (self.table.limit()?, self.table.class_bytes());
+        let classes = &bytes;
         let mut at = span.start;
         let mut part = FIRST.max(self.table.longest / 2);
         while let Some(block) = self.four_parts_at(span, at, part) {
-            if let Some(begun) = self.first_in_four(haystack, span, at, block, limit, tally)? {
+            if let Some(begun) = self.first_in_four(
+                classes, haystack, span, at, block, limit, tally,
+            )? {
                 return Ok(Some(begun));
             }
             at = block.end;
@@ -515,7 +584,7 @@ impl<'t> Backward<'t> {
             start: at,
             end: span.end,
         };
-        self.first_in(haystack, span, rest, 0, limit, tally)
+        self.first_in(classes, haystack, span, rest, 0, limit, tally)
     }
 
     /// The leftmost match of a span.
@@ -559,7 +628,8 @@ impl<'t> Backward<'t> {
         ensures least { IfOk result (λ answer. MatchOption answer (tally.old.scanned ≤ tally.new.scanned)
             (λ found. tally.old.scanned + found.end ≤ tally.new.scanned + at)) }
     {
-        let limit = self.table.limit()?;
+        let (limit, bytes) = (self.table.limit()?, self.table.class_bytes());
+        let classes = &bytes;
         let end = haystack.len();
         if at == end || self.table.longest == 0 {
             return Ok(None);
@@ -569,8 +639,8 @@ impl<'t> Backward<'t> {
             start: at,
             end: at + 1,
         };
-        let place = self.walk_back(haystack, span, part.end, limit, tally)?;
-        if let Some(begun) = self.first_in(haystack, span, part, place, limit, tally)? {
+        let place = self.walk_back(classes, haystack, span, part.end, limit, tally)?;
+        if let Some(begun) = self.first_in(classes, haystack, span, part, place, limit, tally)? {
             let found = self.match_at(haystack, span, begun.at, begun.code)?;
             return Ok(Some(found));
         }

@@ -1,7 +1,6 @@
 //! How far the reading of a text has come.
-ghost use Rattle.std.specs.Prelude.{◌≡◌, ◌<◌, ◌≤◌, ◌↔◌, IsTrue, None, IfErr, IfOk, Some, false, length, take};
-ghost use Rattle.std.specs.Io.{ReadsAtMost};
-ghost use Rattle.std.specs.Io.KnownBytes.{Consumes, IsAtEnd, ReadConsumes};
+ghost use Rattle.std.specs.Prelude.{◌≡◌, ◌==◌, ◌<◌, ◌≤◌, ◌↔◌, IsTrue, MatchResult, None, Some, false, length, take};
+ghost use Rattle.std.specs.Io.KnownBytes.{Consumes};
 ghost use Rattle.std.specs.IoError.{error_kind};
 ghost use Rattle.std.specs.Option.{option_map};
 ghost use Rattle.literal_search.specs.Inside.Stream.{IsOpen, IsSoundReading};
@@ -43,17 +42,41 @@ impl Reading {
         !self.is_whole && self.error.is_none()
     }
 
-    /// Reads some bytes of the text, and none where it is over or reading fails. With no room for any, a `usize` counts
-    /// no more of the text, which is an error too.
+    /// Reads some bytes of the text, and none where it is over or reading fails. There has to be room for one.
     pub(crate) fn read<R: Read>(&mut self, reader: &mut R, bytes: &mut [u8]) -> usize
         requires open { IsOpen self.old }
         requires no_failure { self.old.failure ≡ None }
+        requires room { 0 < length bytes.old }
         ensures bound { result ≤ length bytes.new }
         ensures bytes { Consumes (R.remaining reader.old) (R.remaining reader.new) (take result bytes.new) }
         ensures sound { IsSoundReading self.new (R.remaining reader.new) }
         ensures some { IsOpen self.new → 0 < result }
     {
-        match read_into(reader, bytes) {
+        let answer = reader.read(bytes);
+        self.take_in(answer)
+    }
+
+    /// A `usize` counts no more of the text than these bytes, so reading fails.
+    pub(crate) fn stop(&mut self, counted: usize)
+        requires open { IsOpen self.old }
+        requires all { counted ≡ usize.MAX }
+        ensures kind { self.new.failure ≡ Some ErrorKind.FileTooLarge }
+        ensures failure { self.new.failure ≡ option_map error_kind self.new.error }
+        ensures in_part { self.new.is_whole ≡ false }
+    {
+        self.take_in(Err(io::Error::from(ErrorKind::FileTooLarge)));
+    }
+
+    /// How many bytes a read gave that answered so: none is the end, and an error is kept until it is given.
+    fn take_in(&mut self, answer: io::Result<usize>) -> usize
+        ensures { MatchResult answer
+            (λ count. (result ≡ count) × (self.new ≡ record self.old { is_whole = count == 0 }))
+            (λ error. (result ≡ 0) × (self.new ≡ record self.old {
+              failure = Some (error_kind error);
+              error = Some error;
+            })) }
+    {
+        match answer {
             Ok(count) => {
                 self.is_whole = count == 0;
                 count
@@ -74,16 +97,4 @@ impl Reading {
     {
         self.error.take()
     }
-}
-
-/// Reads some bytes, or none at the end of the text. There has to be room for one.
-fn read_into<R: Read>(reader: &mut R, bytes: &mut [u8]) -> io::Result<usize>
-    ensures bound { ReadsAtMost result bytes.new }
-    ensures bytes { ReadConsumes (R.remaining reader.old) (R.remaining reader.new) result bytes.new }
-    ensures end { IfOk result (λ count. count ≡ 0 → IsAtEnd (R.remaining reader.new)) }
-{
-    if bytes.is_empty() {
-        return Err(io::Error::from(ErrorKind::FileTooLarge));
-    }
-    reader.read(bytes)
 }

@@ -1,20 +1,20 @@
 //! Every match in a text that is read piece by piece replaced, and the text written as far as it is known.
-ghost use Rattle.std.specs.Prelude.{◌≡◌, ◌+◌, ◌-◌, ◌*◌, ◌<◌, ◌≤◌, ◌++◌, [], ℕ, List, None, false, true};
-ghost use Rattle.std.specs.Prelude.{IfErr, IfOk, OnOk, drop, length, map};
-ghost use Rattle.std.specs.Io.KnownBytes.{Appends, Consumes};
+ghost use Rattle.std.specs.Prelude.{◌≡◌, ◌≤◌, [], IfErr, IfOk, None, OnOk, length, map};
+ghost use Rattle.std.specs.Io.KnownBytes.{Appends};
 ghost use Rattle.literal_search.specs.Replaced.{RewritesAll, StopsRewriting};
 ghost use Rattle.literal_search.specs.SearchValue.{longest_of};
-ghost use Rattle.literal_search.specs.Stream.{AnswersSoFar};
-ghost use Rattle.literal_search.specs.Inside.Rewriting.{IsFirstKnown, IsOfWriting, WritesOn, kept_back};
-ghost use Rattle.literal_search.specs.Inside.Stream.{HasRoom, IsOpen, IsSoundReading, IsWindow, held};
+ghost use Rattle.literal_search.specs.Stream.{MayBeKnown, told_to};
+ghost use Rattle.literal_search.specs.Inside.Rewriting.{IsOfFailure, known_part};
+ghost use Rattle.literal_search.specs.Inside.Stream.{IsSoundStream, IsWindow, held};
 
 use crate::reading::Reading;
+use crate::stream::next_known;
 use crate::window::Window;
 use crate::{Search, SoFar};
 use std::alloc::{AllocError, Global};
 use std::error::Error;
 use std::fmt;
-use std::io::{self, Read, Write};
+use std::io::{self, ErrorKind, Read, Write};
 
 /// Why a text was not read to its end and written with its matches replaced.
 #[derive(Debug, Drop)]
@@ -98,20 +98,32 @@ impl Search {
         }
         let longest = self.max_pattern_len();
         let mut window = Window::new(alloc, longest.saturating_mul(2))?;
-        rewrite(self, &mut window, reader, writer, replacements)
+        let (reading, failure) = (&mut Reading::new(), &mut None);
+        rewrite(
+            self,
+            &mut window,
+            reader,
+            reading,
+            writer,
+            failure,
+            replacements,
+        )
     }
 }
 
-/// Reads a text through an empty window, and writes it with its matches replaced.
+/// Reads a text through an empty window, and writes it with its matches replaced. It also tells of what kind the error
+/// is with which writing failed.
 fn rewrite<R: Read, W: Write>(
     search: &Search,
     window: &mut Window,
     reader: &mut R,
+    reading: &mut Reading,
     writer: &mut W,
+    failure: &mut Option<ErrorKind>,
     replacements: &[&[u8]],
 ) -> Result<(), ReplaceStreamError>
-    requires window { IsWindow window.old }
-    requires room { HasRoom window.old (2 * longest_of search.now.query.patterns) }
+    requires sound { IsSoundStream (longest_of search.now.query.patterns) window.old reading.old
+        (R.remaining reader.old) }
     requires empty { held window.old ≡ [] }
     requires first { window.old.offset ≡ 0 }
     requires one_for_each { length replacements.now ≡ length search.now.query.patterns }
@@ -119,15 +131,14 @@ fn rewrite<R: Read, W: Write>(
         (R.remaining reader.old) (R.remaining reader.new) (W.contents writer.old) (W.contents writer.new)) }
     ensures error { IfErr result (StopsRewriting search.now (map (λ r. r.now) replacements.now)
         (R.remaining reader.old) (R.remaining reader.new) (W.contents writer.old) (W.contents writer.new)) }
+    ensures cause { IfErr result (IsOfFailure reading.new.failure failure.new) }
 {
-    let _ = search.patterns_len(); // (its contract says that no pattern is empty)
-    let mut reading = Reading::new();
-    let enough = (2 * search.max_pattern_len()).max(1);
     let mut is_over = false;
     while !is_over {
-        fill(window, reader, &mut reading, enough);
-        let is_found = write_next(search, window, reading.is_whole(), replacements, writer)?;
-        is_over = !is_found && !reading.is_open();
+        let known = next_known(search, window, reader, reading);
+        let to = write_known(window, &known, replacements, writer, failure)?;
+        window.pass(to);
+        is_over = to == 0;
     }
     match reading.take_error() {
         Some(error) => Err(ReplaceStreamError::ReadFailed(error)),
@@ -135,89 +146,49 @@ fn rewrite<R: Read, W: Write>(
     }
 }
 
-/// Reads until so many bytes are held, or as many as there are.
-fn fill<R: Read>(window: &mut Window, reader: &mut R, reading: &mut Reading, enough: usize)
-    requires window { IsWindow window.old }
-    requires room { enough ≤ length window.old.bytes.items }
-    requires sound { IsSoundReading reading.old (R.remaining reader.old) }
-    ensures window { IsWindow window.new }
-    ensures room { length window.new.bytes.items ≡ length window.old.bytes.items }
-    ensures offset { window.new.offset ≡ window.old.offset }
-    ensures read { (piece : List ℕ) × Consumes (R.remaining reader.old) (R.remaining reader.new) piece
-        × (held window.new ≡ held window.old ++ piece) × (reading.old.is_whole ≡ true → piece ≡ []) }
-    ensures sound { IsSoundReading reading.new (R.remaining reader.new) }
-    ensures whole { reading.old.is_whole ≡ true → reading.new.is_whole ≡ true }
-    ensures enough { IsOpen reading.new → enough ≤ length (held window.new) }
-{
-    while reading.is_open() {
-        if window.held().len() >= enough {
-            return;
-        }
-        window.read_more(reader, reading);
-    }
-}
-
-/// Writes the next match, replaced, and what stands before it, and goes on behind it. Where no match is known it writes
-/// what comes before any that may follow, and answers `false`.
-fn write_next<W: Write>(
-    search: &Search,
-    window: &mut Window,
-    is_whole: bool,
+/// Writes what is held up to where this is known of it, a match by its replacement, and answers how many bytes that is.
+fn write_known<W: Write>(
+    window: &Window,
+    known: &SoFar,
     replacements: &[&[u8]],
     writer: &mut W,
-) -> Result<bool, ReplaceStreamError>
-    requires window { IsWindow window.old }
-    requires one_for_each { length replacements.now ≡ length search.now.query.patterns }
-    ensures window { IsWindow window.new }
-    ensures room { length window.new.bytes.items ≡ length window.old.bytes.items }
-    ensures held { held window.new ≡ drop (window.new.offset - window.old.offset) (held window.old) }
-    ensures written { OnOk result ((out : List ℕ) × Appends (W.contents writer.old) (W.contents writer.new) out
-        × WritesOn search.now (map (λ r. r.now) replacements.now) is_whole window.old.offset window.new.offset
-        (held window.old) out) }
-    ensures some { IfOk result (λ is_found. is_found ≡ true → window.old.offset < window.new.offset) }
-    ensures last { IfOk result (λ is_found. is_found ≡ false
-        → length (held window.new) ≤ kept_back search.now.query.patterns is_whole) }
-    ensures further { IfOk result (λ is_found. is_found ≡ false → window.new.offset
-        ≡ window.old.offset + (length (held window.old) - kept_back search.now.query.patterns is_whole)) }
-    ensures error { IfErr result IsOfWriting }
+    failure: &mut Option<ErrorKind>,
+) -> Result<usize, ReplaceStreamError>
+    requires window { IsWindow window.now }
+    requires within { told_to known.now ≤ length (held window.now) }
+    requires one_for_each { MayBeKnown (length replacements.now) 0 known.now }
+    ensures to { IfOk result (λ to. to ≡ told_to known.now) }
+    ensures written { OnOk result (Appends (W.contents writer.old) (W.contents writer.new)
+        (known_part (map (λ r. r.now) replacements.now) (held window.now) known.now)) }
+    ensures error { IfErr result (IsOfFailure None failure.new) }
 {
-    match first_known(search, window.held(), is_whole) {
+    match known {
         SoFar::Found(found) => {
-            put(writer, &window.held()[..found.start()])?;
-            put(writer, replacements[found.pattern().as_usize()])?;
-            window.pass(found.end());
-            Ok(true)
+            put(&window.held()[..found.start()], writer, failure)?;
+            put(replacements[found.pattern().as_usize()], writer, failure)?;
+            Ok(found.end())
         }
         SoFar::NoneBefore(place) => {
-            put(writer, &window.held()[..place])?;
-            window.pass(place);
-            Ok(false)
+            put(&window.held()[..*place], writer, failure)?;
+            Ok(*place)
         }
-    }
-}
-
-/// What is known of the leftmost match in the last bytes of a text, or, where that goes on, in bytes of it.
-fn first_known(search: &Search, haystack: &[u8], is_whole: bool) -> SoFar
-    ensures answers { (more : List ℕ) → (is_whole ≡ true → more ≡ [])
-        → AnswersSoFar search.now.query search.now.ignore_case (haystack.now ++ more) 0 result }
-    ensures known { IsFirstKnown search.now.query.patterns is_whole (length haystack.now) result }
-{
-    if !is_whole {
-        return search.find_so_far(haystack, 0);
-    }
-    match search.find(haystack) {
-        Some(found) => SoFar::Found(found),
-        None => SoFar::NoneBefore(haystack.len()),
     }
 }
 
 /// Writes bytes.
-fn put<W: Write>(writer: &mut W, bytes: &[u8]) -> Result<(), ReplaceStreamError>
+fn put<W: Write>(
+    bytes: &[u8],
+    writer: &mut W,
+    failure: &mut Option<ErrorKind>,
+) -> Result<(), ReplaceStreamError>
     ensures written { OnOk result (Appends (W.contents writer.old) (W.contents writer.new) bytes.now) }
-    ensures error { IfErr result IsOfWriting }
+    ensures error { IfErr result (IsOfFailure None failure.new) }
 {
     match writer.write_all(bytes) {
         Ok(()) => Ok(()),
-        Err(error) => Err(ReplaceStreamError::WriteFailed(error)),
+        Err(error) => {
+            *failure = Some(error.kind());
+            Err(ReplaceStreamError::WriteFailed(error))
+        }
     }
 }

@@ -4,6 +4,7 @@ ghost use Rattle.std.specs.Prelude.{◌≡◌, ◌⊎◌, ◌+◌, ◌-◌, ◌*
 ghost use Rattle.std.specs.Prelude.{IfOk, IfSome, None, false, length, true};
 ghost use Rattle.std.specs.Result.{IsOkAnd};
 ghost use Rattle.literal_base.specs.Occurs.{IsValidSpan, between};
+ghost use Rattle.literal_search.specs.Inside.Classes.{AreClasses};
 ghost use Rattle.literal_search.specs.Inside.Scan.{Answers, AreNear, ForTable};
 ghost use Rattle.literal_search.specs.Inside.Scan.{NoneBefore, SearchesTo, StepsToEnd};
 ghost use Rattle.literal_search.specs.Inside.Scan.{WalksTo};
@@ -213,9 +214,11 @@ impl<'t> Table<'t> {
         ensures grows { tally.old.scanned ≤ tally.new.scanned }
         ensures least { IfOk result (λ at. tally.old.scanned + at ≤ tally.new.scanned + span.start) }
     {
-        let limit = self.limit()?;
+        let (limit, classes) = (self.limit()?, self.class_bytes());
         let (mut at, mut block) = (span.start, near / BLOCKS_NEAR);
-        while 5 * block <= span.end - at && self.none_begins(haystack, at, block, limit, tally) {
+        while 5 * block <= span.end - at
+            && self.none_begins(&classes, haystack, at, block, limit, tally)
+        {
             at += 4 * block;
             block = if block < LAST_BLOCK { 2 * block } else { block };
         }
@@ -226,13 +229,14 @@ impl<'t> Table<'t> {
     #[inline(always)]
     fn none_begins(
         &self,
+        classes: &[u8; 256],
         haystack: &[u8],
         at: usize,
         block: usize,
         limit: usize,
         tally: &mut Tally,
     ) -> bool
-        requires classes { length self.now.classes.now ≡ 256 }
+        requires same { AreClasses self.now.classes.now self.now.width → classes.now ≡ self.now.classes.now }
         requires some { 0 < limit }
         requires limit { limit ≤ 2 ^ 31 }
         requires within { limit + CLASSES_LEN ≤ length self.now.rows.now }
@@ -244,6 +248,6 @@ impl<'t> Table<'t> {
         ensures most { tally.new.scanned ≤ tally.old.scanned + 4 * (block + self.now.longest) }
         ensures all { result ≡ true → tally.new.scanned ≡ tally.old.scanned + 4 * (block + self.now.longest) }
     {
-        self.none_in_four(haystack, at, block, limit, tally)
+        self.none_in_four(classes, haystack, at, block, limit, tally)
     }
 }

@@ -1,15 +1,16 @@
 //! Searches in texts of which more may follow, and in texts that are read piece by piece.
-ghost use Rattle.std.specs.Prelude.{◌≡◌, ◌+◌, ◌-◌, ◌<◌, ◌≤◌, ◌++◌, ℕ, Bool, List, drop, length, false, true};
+ghost use Rattle.std.specs.Prelude.{◌≡◌, ◌+◌, ◌<◌, ◌≤◌, ◌++◌, [], ℕ, Bool, List, drop, length, false, true};
 ghost use Rattle.std.specs.Prelude.{IfOk, IfSome, MatchOption, MatchResult};
+ghost use Rattle.std.specs.Io.KnownBytes.{Consumes};
 ghost use Rattle.literal_base.specs.Leftmost.{IsLeftmost};
-ghost use Rattle.literal_base.specs.Occurs.{between, whole_of};
+ghost use Rattle.literal_base.specs.Occurs.{NoneIsEmpty, between};
 ghost use Rattle.literal_base.specs.Query.{Query};
 ghost use Rattle.literal_search.specs.Prepared.{LiesIn};
 ghost use Rattle.literal_search.specs.SearchValue.{longest_of};
 ghost use Rattle.literal_search.specs.Stream.{AnswersSoFar, EndsFailed, EndsWhole, GoesBehind, IsKnownBy, IsKnownSoFar};
-ghost use Rattle.literal_search.specs.Stream.{ScansSoFar, stream_of};
-ghost use Rattle.literal_search.specs.declared.stream.SoFar.TheVariants.{Found, NoneBefore};
-ghost use Rattle.literal_search.specs.Inside.Stream.{IsSoundStream, IsWindow, TellsOf, held, shifted, stream_value};
+ghost use Rattle.literal_search.specs.Stream.{ScansSoFar, stream_of, told_to};
+ghost use Rattle.literal_search.specs.Inside.Stream.{HasReadOn, IsFirstKnown, IsOpen, IsSoundStream, IsWindow, TellsOf};
+ghost use Rattle.literal_search.specs.Inside.Stream.{held, shifted, stream_value};
 
 use crate::Search;
 use crate::reading::Reading;
@@ -199,43 +200,57 @@ fn next_match<R: Read>(
         (λ error. EndsFailed (stream_value search.now window.old reading.old (R.remaining reader.old) false) error
         (stream_value search.now window.new reading.new (R.remaining reader.new) true)) }
 {
-    let enough = 2 * search.max_pattern_len();
-    while reading.is_open() {
-        if window.held().len() >= enough {
-            match search.find_so_far(window.held(), 0) {
-                SoFar::Found(found) => return Ok(Some(take(window, found))),
-                SoFar::NoneBefore(place) => window.pass(place),
+    loop {
+        match next_known(search, window, reader, reading) {
+            SoFar::Found(found) => return Ok(Some(take(window, found))),
+            SoFar::NoneBefore(place) if reading.is_open() => window.pass(place),
+            SoFar::NoneBefore(_) => {
+                window.pass(window.held().len());
+                return match reading.take_error() {
+                    Some(error) => Err(error),
+                    None => Ok(None),
+                };
             }
         }
-        window.read_more(reader, reading);
-    }
-    if let Some(found) = last_in(search, window.held(), reading.is_whole()) {
-        return Ok(Some(take(window, found)));
-    }
-    window.pass(window.held().len());
-    match reading.take_error() {
-        Some(error) => Err(error),
-        None => Ok(None),
     }
 }
 
-/// The leftmost match in the last bytes of a text, and where more may follow, if it is known from them.
-fn last_in(search: &Search, haystack: &[u8], is_whole: bool) -> Option<Match>
-    ensures whole { is_whole ≡ true → IsLeftmost search.now.query search.now.ignore_case haystack.now
-        (whole_of haystack.now) result }
-    ensures known { is_whole ≡ false → MatchOption result
-        ((more : List ℕ) → AnswersSoFar search.now.query search.now.ignore_case (haystack.now ++ more) 0
-        (NoneBefore (length haystack.now - (longest_of search.now.query.patterns - 1))))
-        (λ found. (more : List ℕ) → AnswersSoFar search.now.query search.now.ignore_case (haystack.now ++ more) 0
-        (Found found)) }
-    ensures inside { IfSome result (λ found. (found.start < found.end) × (found.end ≤ length haystack.now)) }
+/// What is known of the leftmost match ahead, once enough of the text is held for a search, or all that could be read.
+pub(crate) fn next_known<R: Read>(
+    search: &Search,
+    window: &mut Window,
+    reader: &mut R,
+    reading: &mut Reading,
+) -> SoFar
+    requires { IsSoundStream (longest_of search.now.query.patterns) window.old reading.old (R.remaining reader.old) }
+    ensures sound { IsSoundStream (longest_of search.now.query.patterns) window.new reading.new
+        (R.remaining reader.new) }
+    ensures offset { window.new.offset ≡ window.old.offset }
+    ensures read { (piece : List ℕ) × Consumes (R.remaining reader.old) (R.remaining reader.new) piece
+        × (held window.new ≡ held window.old ++ piece) × HasReadOn reading.old piece reading.new }
+    ensures answers { (more : List ℕ) → (reading.new.is_whole ≡ true → more ≡ [])
+        → AnswersSoFar search.now.query search.now.ignore_case (held window.new ++ more) 0 result }
+    ensures known { IsFirstKnown search.now.query.patterns reading.new.is_whole (length (held window.new)) result }
+    ensures further { IsOpen reading.new → 0 < told_to result }
+    ensures not_empty { NoneIsEmpty search.now.query.patterns }
 {
-    if is_whole {
-        return search.find(haystack);
+    let _ = search.patterns_len(); // (its contract says that no pattern is empty)
+    window.fill(reader, reading, (2 * search.max_pattern_len()).max(1));
+    first_known(search, window.held(), reading.is_whole())
+}
+
+/// What is known of the leftmost match in the last bytes of a text, or, where that goes on, in bytes of it.
+fn first_known(search: &Search, haystack: &[u8], is_whole: bool) -> SoFar
+    ensures answers { (more : List ℕ) → (is_whole ≡ true → more ≡ [])
+        → AnswersSoFar search.now.query search.now.ignore_case (haystack.now ++ more) 0 result }
+    ensures known { IsFirstKnown search.now.query.patterns is_whole (length haystack.now) result }
+{
+    if !is_whole {
+        return search.find_so_far(haystack, 0);
     }
-    match search.find_so_far(haystack, 0) {
-        SoFar::Found(found) => Some(found),
-        SoFar::NoneBefore(_) => None,
+    match search.find(haystack) {
+        Some(found) => SoFar::Found(found),
+        None => SoFar::NoneBefore(haystack.len()),
     }
 }
 

@@ -201,13 +201,14 @@ impl<'t> Table<'t> {
     #[inline(never)]
     pub fn none_in_four(
         &self,
+        classes: &[u8; 256],
         haystack: &[u8],
         at: usize,
         block: usize,
         limit: usize,
         tally: &mut Tally,
     ) -> bool
-        requires classes { length self.now.classes.now ≡ 256 }
+        requires same { AreClasses self.now.classes.now self.now.width → classes.now ≡ self.now.classes.now }
         requires some { 0 < limit }
         requires limit { limit ≤ 2 ^ 31 }
         requires within { limit + CLASSES_LEN ≤ length self.now.rows.now }
@@ -223,19 +224,19 @@ impl<'t> Table<'t> {
         let (mut first, mut second, mut third, mut fourth) = (0, 0, 0, 0);
         for step in 0..block + self.longest {
             let here = at + step;
-            first = self.next_at(first, haystack, here, tally);
+            first = self.next_at(classes, first, haystack, here, tally);
             if first >= limit {
                 return false;
             }
-            second = self.next_at(second, haystack, here + block, tally);
+            second = self.next_at(classes, second, haystack, here + block, tally);
             if second >= limit {
                 return false;
             }
-            third = self.next_at(third, haystack, here + 2 * block, tally);
+            third = self.next_at(classes, third, haystack, here + 2 * block, tally);
             if third >= limit {
                 return false;
             }
-            fourth = self.next_at(fourth, haystack, here + 3 * block, tally);
+            fourth = self.next_at(classes, fourth, haystack, here + 3 * block, tally);
             if fourth >= limit {
                 return false;
             }
@@ -243,16 +244,30 @@ impl<'t> Table<'t> {
         true
     }
 
-    /// As [`Table::code_at`], to be compared with a place.
+    /// The class of each byte as a byte. Four walks at once take longer by any step more, and none over these.
+    #[inline(always)]
+    pub fn class_bytes(&self) -> [u8; 256]
+        requires { length self.now.classes.now ≡ 256 }
+        ensures { AreClasses self.now.classes.now self.now.width → result ≡ self.now.classes.now }
+    {
+        let mut bytes = [0; 256];
+        for at in 0usize..256 {
+            bytes[at] = (self.classes[at] % 256) as u8;
+        }
+        bytes
+    }
+
+    /// As [`Table::code_by`], to be compared with a place.
     #[inline(always)]
     pub(crate) fn next_at(
         &self,
+        classes: &[u8; 256],
         place: usize,
         haystack: &[u8],
         at: usize,
         tally: &mut Tally,
     ) -> usize
-        requires classes { length self.now.classes.now ≡ 256 }
+        requires same { AreClasses self.now.classes.now self.now.width → classes.now ≡ self.now.classes.now }
         requires inside { at < length haystack.now }
         requires within { place + CLASSES_LEN ≤ length self.now.rows.now }
         ensures number { AreClasses self.now.classes.now self.now.width
@@ -260,7 +275,30 @@ impl<'t> Table<'t> {
             (place + slice_index self.now.classes.now (slice_index haystack.now at)) }
         ensures ticks { tally.new ≡ record tally.old { scanned = tally.old.scanned + 1 } }
     {
-        self.code_at(place, haystack, at, tally) as usize
+        self.code_by(classes, place, haystack, at, tally) as usize
+    }
+
+    /// As [`Table::code_at`], by the classes as bytes.
+    #[inline(always)]
+    pub(crate) fn code_by(
+        &self,
+        classes: &[u8; 256],
+        place: usize,
+        haystack: &[u8],
+        at: usize,
+        tally: &mut Tally,
+    ) -> u32
+        requires same { AreClasses self.now.classes.now self.now.width → classes.now ≡ self.now.classes.now }
+        requires inside { at < length haystack.now }
+        requires within { place + CLASSES_LEN ≤ length self.now.rows.now }
+        ensures number { AreClasses self.now.classes.now self.now.width
+            → place + self.now.width < length (rows_by self.now) → result ≡ slice_index (rows_by self.now)
+            (place + slice_index self.now.classes.now (slice_index haystack.now at)) }
+        ensures ticks { tally.new ≡ record tally.old { scanned = tally.old.scanned + 1 } }
+    {
+        tally.tick_scanned();
+        let class = classes[haystack[at] as usize] as usize;
+        self.rows[class..][place]
     }
 }
 

@@ -1,7 +1,7 @@
 //! What is known of a text that is read piece by piece.
 ghost use Rattle.std.specs.Prelude.{◌≡◌, ◌+◌, ◌<◌, ◌≤◌, ◌++◌, [], ℕ, List, None, drop, length, IfOk};
 ghost use Rattle.std.specs.Io.KnownBytes.{Consumes};
-ghost use Rattle.literal_search.specs.Inside.Stream.{HasRoom, IsOpen, IsSoundReading, IsWindow, held};
+ghost use Rattle.literal_search.specs.Inside.Stream.{HasReadOn, HasRoom, IsOpen, IsSoundReading, IsWindow, held};
 
 use crate::reading::Reading;
 use std::alloc::{AllocError, Global};
@@ -73,11 +73,35 @@ impl Window {
         ensures sound { IsSoundReading reading.new (R.remaining reader.new) }
         ensures more { IsOpen reading.new → length (held self.old) < length (held self.new) }
     {
+        let known = self.offset + (self.end - self.start);
+        if known == usize::MAX {
+            return reading.stop(known);
+        }
         self.make_room();
-        let countable = usize::MAX - self.offset - (self.end - self.start);
-        let room = (self.bytes.len() - self.end).min(countable);
+        let room = (self.bytes.len() - self.end).min(usize::MAX - known);
         let count = reading.read(reader, &mut self.bytes[self.end..self.end + room]);
         self.end += count;
+    }
+
+    /// Reads until so many bytes are held, or as many as there are.
+    pub(crate) fn fill<R: Read>(&mut self, reader: &mut R, reading: &mut Reading, enough: usize)
+        requires window { IsWindow self.old }
+        requires room { enough ≤ length self.old.bytes.items }
+        requires sound { IsSoundReading reading.old (R.remaining reader.old) }
+        ensures window { IsWindow self.new }
+        ensures room { length self.new.bytes.items ≡ length self.old.bytes.items }
+        ensures offset { self.new.offset ≡ self.old.offset }
+        ensures read { (piece : List ℕ) × Consumes (R.remaining reader.old) (R.remaining reader.new) piece
+            × (held self.new ≡ held self.old ++ piece) × HasReadOn reading.old piece reading.new }
+        ensures sound { IsSoundReading reading.new (R.remaining reader.new) }
+        ensures enough { IsOpen reading.new → enough ≤ length (held self.new) }
+    {
+        while reading.is_open() {
+            if self.held().len() >= enough {
+                return;
+            }
+            self.read_more(reader, reading);
+        }
     }
 
     /// Moves them to the front where they reach to the end of the room.

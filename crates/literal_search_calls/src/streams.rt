@@ -17,7 +17,7 @@ struct Pieces<'t> {
 impl Read for Pieces<'_> {
     fn read(&mut self, buf: &mut [u8]) -> io::Result<usize> {
         if self.failing == Some(self.rest.len()) {
-            return Err(io::Error::from(ErrorKind::Other));
+            return Err(io::Error::from(ErrorKind::TimedOut));
         }
         let count = self.rest.len().min(self.step).min(buf.len());
         let (first, behind) = self.rest.split_at(count);
@@ -96,7 +96,7 @@ fn known_matches_come_before_an_error(rt: HostRuntime) -> Result<(), Fail> {
     let mut matches = search.find_stream(rt.alloc(), pieces)?;
     let first = Match::must(0, Span { start: 1, end: 5 });
     assert!(rt; matches.next().ok_or("nothing is found")?? == first);
-    assert!(rt; is_error_of_kind(matches.next(), ErrorKind::Other));
+    assert!(rt; is_error_of_kind(matches.next(), ErrorKind::TimedOut));
     assert!(rt; matches.next().is_none() && matches.next().is_none());
     Ok(())
 }
@@ -184,7 +184,10 @@ fn what_is_known_is_written_before_an_error(rt: HostRuntime) -> Result<(), Fail>
     };
     let mut written = Vec::new(alloc);
     let failed = search.replace_stream(alloc, &mut pieces, &mut written, &[b"12", b"3"]);
-    assert!(rt; matches!(failed, Err(ReplaceStreamError::ReadFailed(_))));
+    let Err(ReplaceStreamError::ReadFailed(error)) = failed else {
+        return Err(Fail::from("no such error"));
+    };
+    assert!(rt; error.kind() == ErrorKind::TimedOut);
     assert!(rt; written.as_slice() == b"x12".as_slice());
     Ok(())
 }
@@ -194,6 +197,9 @@ fn a_failed_write_ends_it(rt: HostRuntime) -> Result<(), Fail> {
     let (alloc, search) = (rt.alloc(), first_of(rt.alloc(), &[b"abcd", b"bc"])?);
     let (mut text, mut narrow) = (b"xabcd".as_slice(), Narrow { room: 2 });
     let full = search.replace_stream(alloc, &mut text, &mut narrow, &[b"12", b"3"]);
-    assert!(rt; matches!(full, Err(ReplaceStreamError::WriteFailed(_))));
+    let Err(ReplaceStreamError::WriteFailed(error)) = full else {
+        return Err(Fail::from("no such error"));
+    };
+    assert!(rt; error.kind() == ErrorKind::WriteZero);
     Ok(())
 }

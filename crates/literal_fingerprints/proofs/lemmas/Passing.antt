@@ -1,15 +1,15 @@
 -- Where a pattern that passes begins, four bytes share a bucket.
 use Rattle.std.proofs.Common.{◌≡◌, ℕ, ◌+◌, ◌-◌, ◌<◌, ◌≤◌, ◌∙◌, Bool, true, false, List, length, get_or, drop}
-use Rattle.std.proofs.Common.{sym, subst, ap, arith, inl, inr, []}
+use Rattle.std.proofs.Common.{sym, subst, ap, arith, inl, inr, [], ◌∷◌, map}
 use Rattle.std.proofs.lemmas.Bool.{cases_lt, eq-eqb}
 use Rattle.std.proofs.lemmas.List.{get_or-drop, get_or-map, get_or-take, get_or_default, length-drop, length-map}
 use Rattle.std.proofs.lemmas.List.{length-take}
 use Rattle.std.specs.Char.{to_ascii_lowercase}
 use Rattle.std.specs.Global.{Vec}
-use Rattle.std.specs.List.{slice_range}
+use Rattle.std.specs.List.{All, slice_range}
 use Rattle.literal_base.specs.declared.search.Span.{Span}
 use Rattle.literal_base.specs.Occurs.{AreEqualBytes, IsValidSpan, Occurs, pattern_at, same_byte}
-use Rattle.literal_fingerprints.specs.FingerprintsValue.{FingerprintsValue, LetsPass, NoneBegins, shared_buckets}
+use Rattle.literal_fingerprints.specs.FingerprintsValue.{FingerprintsValue, NoneBegins, shared_buckets}
 
 same_at : (c : Bool) (a b : List ℕ) → AreEqualBytes c a b → (k : ℕ) → k < length a
     → same_byte c (get_or a k 0) (get_or b k 0) ≡ true
@@ -44,15 +44,27 @@ none_begins f haystack span valid place none patterns ignore_case all i at befor
     (all i [] occurs.is_pattern).each (λ k. get_or haystack (at + k) 0)
     (bytes_at patterns ignore_case haystack span valid i at occurs) (none at occurs.after_start before)
 
--- one pattern more that passes
-pub more_pass : (f : FingerprintsValue) (ignore_case : Bool) (patterns : List (Vec ℕ)) (n : ℕ) (here : Vec ℕ)
-    → ((k : ℕ) (d : Vec ℕ) → k < n → LetsPass f ignore_case (get_or patterns k d).items) → n < length patterns
-    → here ≡ get_or patterns n here → LetsPass f ignore_case here.items
-    → (k : ℕ) (d : Vec ℕ) → k < n + 1 → LetsPass f ignore_case (get_or patterns k d).items
-more_pass f ignore_case patterns n here before below is passes k d within = elim (cases_lt k n) [
-  | inl earlier ↦ before k d earlier
-  | inr not ↦
-      let same : n ≡ k = omega arith in
-      subst (λ j. LetsPass f ignore_case (get_or patterns j d).items) same
-      (subst (λ (v : Vec ℕ). LetsPass f ignore_case v.items) (is ∙ get_or_default patterns n here d below) passes)
-]
+module _ (P : List ℕ → Type 0) (patterns : List (Vec ℕ)) where
+  -- what holds of the first patterns holds of one more
+  pub one_more : (n : ℕ) (here : Vec ℕ) → ((k : ℕ) (d : Vec ℕ) → k < n → P (get_or patterns k d).items)
+      → n < length patterns → here ≡ get_or patterns n here → P here.items
+      → (k : ℕ) (d : Vec ℕ) → k < n + 1 → P (get_or patterns k d).items
+  one_more n here before below is holds k d within = elim (cases_lt k n) [
+    | inl earlier ↦ before k d earlier
+    | inr not ↦
+        let same : n ≡ k = omega arith in
+        subst (λ j. P (get_or patterns j d).items) same
+        (subst (λ (v : Vec ℕ). P v.items) (is ∙ get_or_default patterns n here d below) holds)
+  ]
+
+  -- and of all in the end
+  pub of_all : ((k : ℕ) (d : Vec ℕ) → k < length patterns → P (get_or patterns k d).items)
+      → All P (map (λ (p : Vec ℕ). p.items) patterns)
+  of_all each k d below =
+      let inside : k < length patterns = omega (arith, length-map patterns (λ (p : Vec ℕ). p.items)) in
+      subst P (sym (get_or-map (λ (p : Vec ℕ). p.items) patterns k (element patterns k inside) d inside))
+      (each k (element patterns k inside) inside)
+    where
+      element : (vs : List (Vec ℕ)) (k : ℕ) → k < length vs → Vec ℕ
+      element [] k below = absurd (omega arith)
+      element (v ∷ rest) k below = v

@@ -1,12 +1,16 @@
 -- A text that is read piece by piece, and written with its matches replaced.
 use Rattle.std.proofs.Common.{◌≡◌, ℕ, ◌+◌, ◌-◌, ◌≤◌, ◌++◌, [], ◌∷◌, Bool, List, None, Some, false, true, drop, length}
-use Rattle.std.proofs.Common.{◌∙◌, Err, IfErr, IsTrue, Ok, Option, Result, not}
+use Rattle.std.proofs.Common.{◌∙◌, Err, IfErr, Ok, Option, Result}
 use Rattle.std.proofs.Common.{ap, append-nil, append_assoc, arith, length-append, refl, slice_range, subst, sym, take}
+use Rattle.std.proofs.KnownBytes.{Appends-nil, Appends-trans, Consumes-nil, Consumes-trans}
 use Rattle.std.proofs.Math.Seq.{drop-append_seam}
 use Rattle.std.proofs.lemmas.List.{drop-append-le, drop-drop, length-drop, length-take-le, take-append-drop}
 use Rattle.std.proofs.lemmas.List.{take-append-le}
-use Rattle.std.specs.Io.KnownBytes.{Consumes}
+use Rattle.std.specs.Io.KnownBytes.{Appends, Consumes}
+use Rattle.std.proofs.lemmas.Option.{none-some}
+use Rattle.std.specs.IoError.{error_kind}
 use Rattle.std.specs.Result.{IsErrAnd}
+use Rattle.std.specs.declared.io.ErrorKind.{ErrorKind}
 use Rattle.literal_base.specs.Greedy.{IsGreedy}
 use Rattle.literal_base.specs.Leftmost.{IsLeftmostMatch}
 use Rattle.literal_base.specs.MatchValue.{MatchValue}
@@ -14,11 +18,17 @@ use Rattle.literal_base.specs.Occurs.{NoneIsEmpty, NothingOccurs, Occurs, patter
 use Rattle.literal_base.specs.Query.{Query}
 use Rattle.literal_search.specs.Replaced.{IsReplaced, IsReplacedUpTo, StopsRewriting, replaced}
 use Rattle.literal_search.specs.SearchValue.{SearchValue}
-use Rattle.literal_search.specs.Inside.Rewriting.{IsOfWriting, IsReplacedFrom, WritesOn}
+use Rattle.literal_search.specs.Stream.{AnswersSoFar, MayBeKnown, told_to}
+use Rattle.literal_search.specs.Inside.Rewriting.{HasWritten, IsOfFailure, IsReplacedFrom, WritesOn, known_part}
+use Rattle.literal_search.specs.Inside.Stream.{HasReadOn, IsFirstKnown, held, kept_back}
+use Rattle.literal_search.specs.declared.reading.Reading.{Reading}
+use Rattle.literal_search.specs.declared.window.Window.{Window}
 use Rattle.literal_search.specs.Inside.Stream.{shifted}
 use Rattle.literal_search.specs.declared.replace_stream.ReplaceStreamError.{ReplaceStreamError}
 use Rattle.literal_search.specs.declared.replace_stream.ReplaceStreamError.TheVariants.{NotOneForEach, OutOfMemory}
 use Rattle.literal_search.specs.declared.replace_stream.ReplaceStreamError.TheVariants.{ReadFailed, WriteFailed}
+use Rattle.literal_search.specs.declared.stream.SoFar.{SoFar}
+use Rattle.literal_search.specs.declared.stream.SoFar.TheVariants.{Found, NoneBefore}
 use Rattle.literal_search.proofs.lemmas.Walk.{slice_halves}
 use Rattle.literal_search.proofs.lemmas.Windows.{leftmost_behind, leftmost_from, none_ahead}
 
@@ -61,7 +71,7 @@ module _ (search : SearchValue) (replacements : List (List ℕ)) (is_whole : Boo
   }
 
   -- what stands before a match, and its replacement
-  pub writes_match : (at : ℕ) (ahead : List ℕ) (found : MatchValue) → found.end ≤ length ahead
+  writes_match : (at : ℕ) (ahead : List ℕ) (found : MatchValue) → found.end ≤ length ahead
       → ((more : List ℕ) → (is_whole ≡ true → more ≡ [])
       → IsLeftmostMatch search.query search.ignore_case (ahead ++ more) (rest_from (ahead ++ more) 0) found)
       → WritesOn search replacements is_whole at (at + found.end) ahead
@@ -95,7 +105,7 @@ module _ (search : SearchValue) (replacements : List (List ℕ)) (is_whole : Boo
   }
 
   -- what no match begins in
-  pub writes_place : (at : ℕ) (ahead : List ℕ) (place : ℕ) → place ≤ length ahead
+  writes_place : (at : ℕ) (ahead : List ℕ) (place : ℕ) → place ≤ length ahead
       → ((more : List ℕ) → (is_whole ≡ true → more ≡ []) → (i p : ℕ)
       → Occurs search.query.patterns search.ignore_case (ahead ++ more) (rest_from (ahead ++ more) 0) i p → place ≤ p)
       → WritesOn search replacements is_whole at (at + place) ahead (take place ahead)
@@ -122,6 +132,14 @@ module _ (search : SearchValue) (replacements : List (List ℕ)) (is_whole : Boo
               (omega arith) long is.are_greedy));
         };
   }
+
+  -- and so of what is known of them
+  pub writes_known : (at : ℕ) (ahead : List ℕ) (known : SoFar) → told_to known ≤ length ahead
+      → ((more : List ℕ) → (is_whole ≡ true → more ≡ [])
+      → AnswersSoFar search.query search.ignore_case (ahead ++ more) 0 known)
+      → WritesOn search replacements is_whole at (at + told_to known) ahead (known_part replacements ahead known)
+  writes_known at ahead (Found found) within answers = writes_match at ahead found within answers
+  writes_known at ahead (NoneBefore place) within answers = writes_place at ahead place within answers
 
   -- first the one, and then the other
   pub writes_more : (from at to : ℕ) (ahead out next : List ℕ)
@@ -170,28 +188,80 @@ writes_behind search replacements was is from to ahead piece out over one = reco
       (subst (λ text. IsReplacedFrom search text replacements to rest) (sym same) is_replaced));
 }
 
--- a piece is read, and some of what is held is written
-module _ (text piece hold holds : List ℕ) (at to : ℕ) (within : at ≤ length text) (hold_is : hold ≡ drop at text)
-    (holds_is : holds ≡ hold ++ piece) where
-  -- what is held then is the text read so far, from where the search then stands
-  held_here : holds ≡ drop at (text ++ piece)
-  held_here = holds_is ∙ (ap (λ l. l ++ piece) hold_is ∙ sym (drop-append-le at text piece within))
+-- at first nothing is read or written
+pub none_written : (search : SearchValue) (replacements : List (List ℕ)) (is_whole : Bool) (at : ℕ) (ahead : List ℕ)
+    (unread held : Option (List ℕ)) → at ≡ 0 → ahead ≡ []
+    → HasWritten search replacements is_whole at ahead unread unread held held
+none_written search replacements is_whole at ahead unread held first empty = record {
+  text = [];
+  out = [];
+  reads = Consumes-nil unread;
+  ahead_is = empty ∙ sym (ap (λ n. drop n []) first);
+  writes = Appends-nil held;
+  so_far = subst (λ to. WritesOn search replacements is_whole 0 to [] []) (sym first)
+      (writes_nothing search replacements is_whole 0 []);
+}
 
-  pub held_behind : at ≤ to → drop (to - at) holds ≡ drop to (text ++ piece)
-  held_behind later =
-      let sum : at + (to - at) ≡ to = omega (arith, later) in
-      ap (drop (to - at)) held_here ∙ (drop-drop (to - at) at (text ++ piece) ∙ ap (λ k. drop k (text ++ piece)) sum)
+-- a piece is read, and what is known of what is held then is written
+pub written_on : (search : SearchValue) (replacements : List (List ℕ)) (w v : Window) (r s : Reading)
+    (unread now left contents before written : Option (List ℕ)) (told : SoFar) (to : ℕ) (ahead : List ℕ)
+    → v.offset ≡ w.offset
+    → (piece : List ℕ) × Consumes now left piece × (held v ≡ held w ++ piece) × HasReadOn r piece s
+    → ((more : List ℕ) → (s.is_whole ≡ true → more ≡ [])
+    → AnswersSoFar search.query search.ignore_case (held v ++ more) 0 told)
+    → told_to told ≤ length (held v) → Appends before written (known_part replacements (held v) told)
+    → to ≡ v.offset + told_to told → ahead ≡ drop (told_to told) (held v)
+    → HasWritten search replacements r.is_whole w.offset (held w) unread now contents before
+    → HasWritten search replacements s.is_whole to ahead unread left contents written
+written_on search replacements w v r s unread now left contents before written told to ahead offset read answers within
+    writes to_is ahead_is old =
+    let at = w.offset in
+    let piece = read.0 in
+    let next = known_part replacements (held v) told in
+    let inside : at ≤ length old.text = omega (arith, old.so_far.within) in
+    let here : held v ≡ drop at (old.text ++ piece) =
+    read.2 ∙ (ap (λ l. l ++ piece) old.ahead_is ∙ sym (drop-append-le at old.text piece inside)) in
+    let whole : at - 0 ≡ at = omega arith in
+    let place : to ≡ at + told_to told = to_is ∙ ap (λ n. n + told_to told) offset in
+    let still : r.is_whole ≡ true → (s.is_whole ≡ true) × (piece ≡ []) = λ was.
+    let same = read.3 (λ opened. let is_not = opened.0 in cc) in
+    (ap (λ (v : Reading). v.is_whole) same.1 ∙ was, same.0) in
+    record {
+      text = old.text ++ piece;
+      out = old.out ++ next;
+      reads = Consumes-trans unread now left old.text piece old.reads read.1;
+      ahead_is = ahead_is ∙ (ap (drop (told_to told)) here ∙ (drop-drop (told_to told) at (old.text ++ piece)
+          ∙ ap (λ n. drop n (old.text ++ piece)) (sym place)));
+      writes = Appends-trans contents before written old.out next old.writes writes;
+      so_far = subst (λ n. WritesOn search replacements s.is_whole 0 n (old.text ++ piece) (old.out ++ next))
+          (sym place)
+          (writes_more search replacements s.is_whole 0 at (at + told_to told) (old.text ++ piece) old.out next
+          (writes_behind search replacements r.is_whole s.is_whole 0 at old.text piece old.out still old.so_far)
+          (subst (λ l. WritesOn search replacements s.is_whole at (at + told_to told) l next)
+          (here ∙ ap (λ n. drop n (old.text ++ piece)) (sym whole))
+          (writes_known search replacements s.is_whole at (held v) told within answers)));
+    }
 
-  pub writes_next : (searched : SearchValue) (replacements : List (List ℕ)) (was is : Bool) (out next : List ℕ)
-      → (was ≡ true → (is ≡ true) × (piece ≡ []))
-      → WritesOn searched replacements was 0 at text out → WritesOn searched replacements is at to holds next
-      → WritesOn searched replacements is 0 to (text ++ piece) (out ++ next)
-  writes_next searched replacements was is out next over before one =
-      let whole : at - 0 ≡ at = omega arith in
-      writes_more searched replacements is 0 at to (text ++ piece) out next
-      (writes_behind searched replacements was is 0 at text piece out over before)
-      (subst (λ ahead. WritesOn searched replacements is at to ahead next)
-      (held_here ∙ ap (λ k. drop k (text ++ piece)) (sym whole)) one)
+-- what is known lies in what is held
+pub known_within : (patterns : List (List ℕ)) (is_whole : Bool) (len : ℕ) (told : SoFar)
+    → IsFirstKnown patterns is_whole len told → told_to told ≤ len
+known_within patterns is_whole len (Found found) known = known.1
+known_within patterns is_whole len (NoneBefore place) known = omega (arith, known)
+
+-- where it is known of no byte, few are held
+pub few_left : (patterns : List (List ℕ)) (is_whole : Bool) (len : ℕ) (told : SoFar)
+    → IsFirstKnown patterns is_whole len told → told_to told ≡ 0 → len ≤ kept_back patterns is_whole
+few_left patterns is_whole len (Found found) known none = absurd (omega (arith, known.0, none))
+few_left patterns is_whole len (NoneBefore place) known none = omega (arith, known, none)
+
+-- and a match has a replacement
+pub has_replacement : (search : SearchValue) (is_whole : Bool) (ahead : List ℕ) (replacements : ℕ) (told : SoFar)
+    → replacements ≡ length search.query.patterns
+    → ((more : List ℕ) → (is_whole ≡ true → more ≡ [])
+    → AnswersSoFar search.query search.ignore_case (ahead ++ more) 0 told) → MayBeKnown replacements 0 told
+has_replacement search is_whole ahead replacements (Found found) one_for_each answers =
+    (omega arith, omega (arith, (answers [] (λ is. refl)).occurs.is_pattern, one_for_each))
+has_replacement search is_whole ahead replacements (NoneBefore place) one_for_each answers = omega arith
 
 -- once a text is over, and all of it is written
 pub rewritten : (search : SearchValue) (replacements : List (List ℕ)) (to : ℕ) (text out : List ℕ)
@@ -235,21 +305,18 @@ rewritten_upto search replacements to text out one = record {
 
 -- a write that fails ends it
 pub stops_writing : {A : Type 0} (search : SearchValue) (replacements : List (List ℕ))
-    (unread left held written : Option (List ℕ)) (text : List ℕ) (result : Result A ReplaceStreamError)
-    (error : ReplaceStreamError) → length replacements ≡ length search.query.patterns → Consumes unread left text
-    → IsOfWriting error → IsErrAnd result (λ e. e ≡ error)
+    (unread left held written : Option (List ℕ)) (text : List ℕ) (failure : Option ErrorKind)
+    (result : Result A ReplaceStreamError) (error : ReplaceStreamError)
+    → length replacements ≡ length search.query.patterns → Consumes unread left text
+    → IsOfFailure None failure error → IsErrAnd result (λ e. e ≡ error)
     → IfErr result (StopsRewriting search replacements unread left held written)
-stops_writing search replacements unread left held written text (Ok done) error one_for_each reads is same = tt
-stops_writing search replacements unread left held written text (Err e) NotOneForEach one_for_each reads is same =
-    absurd is
-stops_writing search replacements unread left held written text (Err e) OutOfMemory one_for_each reads is same =
-    absurd is
-stops_writing search replacements unread left held written text (Err e) (ReadFailed error) one_for_each reads is same =
-    absurd is
-stops_writing search replacements unread left held written text (Err e) (WriteFailed error) one_for_each reads is same =
+stops_writing search replacements unread left held written text failure (Ok done) error one_for_each reads is same = tt
+stops_writing search replacements unread left held written text failure (Err e) NotOneForEach one_for_each reads is
+    same = absurd is
+stops_writing search replacements unread left held written text failure (Err e) OutOfMemory one_for_each reads is
+    same = absurd is
+stops_writing search replacements unread left held written text failure (Err e) (ReadFailed error) one_for_each reads is
+    same = absurd (none-some (error_kind error) is)
+stops_writing search replacements unread left held written text failure (Err e) (WriteFailed error) one_for_each reads
+    is same =
     subst (StopsRewriting search replacements unread left held written) (sym same) (one_for_each, (text, reads))
-
--- what is over is not open
-pub closed : (is_open : Bool) → not is_open ≡ true → ¬ IsTrue is_open
-closed true over is = absurd (cc)
-closed false over is = absurd (cc)

@@ -17,11 +17,13 @@ use Rattle.std.specs.declared.io.ErrorKind.{ErrorKind}
 use Rattle.literal_base.specs.Greedy.{IsGreedy}
 use Rattle.literal_base.specs.Leftmost.{IsLeftmost, IsLeftmostMatch}
 use Rattle.literal_base.specs.MatchValue.{MatchValue}
-use Rattle.literal_base.specs.Occurs.{NothingOccurs, Occurs, rest_from}
+use Rattle.literal_base.specs.Occurs.{NoneIsEmpty, NothingOccurs, Occurs, rest_from}
 use Rattle.literal_search.specs.SearchValue.{SearchValue, longest_of}
 use Rattle.literal_search.specs.Stream.{EndsFailed, EndsWhole, GivesStreamed, GoesBehind, IsLeftmostAhead, PassesOver}
 use Rattle.literal_search.specs.Stream.{StreamValue, known}
-use Rattle.literal_search.specs.Inside.Stream.{HasGoneOn, HasPassed, IsWindow, GoesThrough, held, shifted}
+use Rattle.literal_search.specs.Inside.Stream.{GoesThrough, HasGoneOn, HasPassed, HasReadOn, IsSoundReading}
+use Rattle.literal_search.specs.Inside.Stream.{IsWindow, held, shifted, stream_value}
+use Rattle.literal_search.specs.declared.reading.Reading.{Reading}
 use Rattle.literal_search.specs.declared.window.Window.{Window}
 use Rattle.literal_search.proofs.lemmas.Windows.{leftmost_behind, leftmost_from, none_ahead, nothing_ahead}
 
@@ -206,11 +208,22 @@ nothing_read : (failure : Option ErrorKind) (piece : List ℕ) → piece ≡ []
 nothing_read None piece is = tt
 nothing_read (Some kind) piece is = (is, refl)
 
--- what has not failed now had not failed before
-never_failed : (old now new : Option ErrorKind) (piece more : List ℕ) → now ≡ None
-    → IfSome old (λ kind. (piece ≡ []) × (now ≡ Some kind)) → IfSome old (λ kind. (more ≡ []) × (new ≡ Some kind))
-never_failed None now new piece more sound failed = tt
-never_failed (Some kind) now new piece more sound failed = absurd (none-some kind (sym sound ∙ failed.1))
+-- and where reading had failed it stays so
+pub failed_still : (failure : Option ErrorKind) (r s : Reading) (piece : List ℕ) → r.failure ≡ failure
+    → r.failure ≡ option_map error_kind r.error → HasReadOn r piece s
+    → IfSome failure (λ kind. (piece ≡ []) × (s.failure ≡ Some kind))
+failed_still None r s piece is sound on = tt
+failed_still (Some kind) r s piece is sound on =
+    let still = on (λ opened. none-some kind (sym (ap (option_map error_kind) opened.1) ∙ (sym sound ∙ is))) in
+    (still.0, ap (λ (v : Reading). v.failure) still.1 ∙ is)
+
+failed_before : (old now new : Option ErrorKind) (piece more : List ℕ)
+    → IfSome now (λ kind. (more ≡ []) × (new ≡ Some kind)) → IfSome old (λ kind. (piece ≡ []) × (now ≡ Some kind))
+    → IfSome old (λ kind. (piece ++ more ≡ []) × (new ≡ Some kind))
+failed_before None now new piece more here before = tt
+failed_before (Some kind) now new piece more here before =
+    let still = subst (λ n. IfSome n (λ k. (more ≡ []) × (new ≡ Some k))) before.1 here in
+    (ap (λ l. l ++ more) before.0 ∙ still.0, still.1)
 
 -- a search that has not read anything yet
 pub gone_nowhere : (m : StreamValue) → HasGoneOn m m
@@ -236,24 +249,29 @@ gone_past old now new n within none is gone = subst (HasGoneOn old) (sym is) (re
   passed = passed_more old.search old.offset now.offset n (old.held ++ gone.piece) now.held within none gone.passed;
 })
 
--- it reads on, where reading has not failed
-pub gone_on : (old now new : StreamValue) (piece : List ℕ) → now.failure ≡ None → Consumes now.unread new.unread piece
-    → new.search ≡ now.search → new.is_over ≡ now.is_over → new.held ≡ now.held ++ piece → new.offset ≡ now.offset
-    → HasGoneOn old now → HasGoneOn old new
-gone_on old now new piece sound taken search_is is_over held_is offset gone = record {
-  piece = gone.piece ++ piece;
-  search_is = search_is ∙ gone.search_is;
-  is_over = is_over ∙ gone.is_over;
-  reads = record {
-    consumed = Consumes-trans old.unread now.unread new.unread gone.piece piece gone.reads.consumed taken;
-    failed = never_failed old.failure now.failure new.failure gone.piece (gone.piece ++ piece) sound gone.reads.failed;
-  };
-  passed = subst (HasPassed old.search old.offset new.offset (old.held ++ (gone.piece ++ piece))) (sym held_is)
-      (subst (λ to. HasPassed old.search old.offset to (old.held ++ (gone.piece ++ piece))
-      (now.held ++ piece)) (sym offset) (subst (λ (seen : List ℕ). HasPassed old.search old.offset now.offset seen
-      (now.held ++ piece)) (append_assoc old.held gone.piece piece)
-      (read_behind old.search old.offset now.offset (old.held ++ gone.piece) now.held piece gone.passed)));
-}
+-- it reads on
+pub gone_on : (old : StreamValue) (search : SearchValue) (w v : Window) (r s : Reading) (unread left : Option (List ℕ))
+    → IsSoundReading r unread → v.offset ≡ w.offset
+    → (piece : List ℕ) × Consumes unread left piece × (held v ≡ held w ++ piece) × HasReadOn r piece s
+    → HasGoneOn old (stream_value search w r unread false) → HasGoneOn old (stream_value search v s left false)
+gone_on old search w v r s unread left sound offset read gone =
+    let piece = read.0 in
+    let seen = old.held ++ (gone.piece ++ piece) in
+    record {
+      piece = gone.piece ++ piece;
+      search_is = gone.search_is;
+      is_over = gone.is_over;
+      reads = record {
+        consumed = Consumes-trans old.unread unread left gone.piece piece gone.reads.consumed read.1;
+        failed = failed_before old.failure r.failure s.failure gone.piece piece
+            (failed_still r.failure r s piece refl sound.failure read.3) gone.reads.failed;
+      };
+      passed = subst (HasPassed old.search old.offset v.offset seen) (sym read.2)
+          (subst (λ to. HasPassed old.search old.offset to seen (held w ++ piece)) (sym offset)
+          (subst (λ (l : List ℕ). HasPassed old.search old.offset w.offset l (held w ++ piece))
+          (append_assoc old.held gone.piece piece)
+          (read_behind old.search old.offset w.offset (old.held ++ gone.piece) (held w) piece gone.passed)));
+    }
 
 -- how much is read then
 gone_len : (old now : StreamValue) (gone : HasGoneOn old now)
@@ -264,26 +282,18 @@ gone_len old now gone =
     omega (arith, len, length-drop (now.offset - old.offset) seen, gone.passed.later, gone.passed.within)
 
 -- nothing is known to follow where nothing is left to be read
-pub leftmost_last : (search : SearchValue) (rest : List ℕ) (unread : Option (List ℕ)) (found : MatchValue)
-    → IsAtEnd unread → IsLeftmostMatch search.query search.ignore_case rest (rest_from rest 0) found
-    → IsLeftmostMatch search.query search.ignore_case (rest ++ known unread) (rest_from (rest ++ known unread) 0) found
-leftmost_last search rest None found over leftmost =
-    subst (λ (l : List ℕ). IsLeftmostMatch search.query search.ignore_case l (rest_from l 0) found)
-    (sym (append-nil rest)) leftmost
-leftmost_last search rest (Some bytes) found over leftmost =
-    subst (λ (l : List ℕ). IsLeftmostMatch search.query search.ignore_case l (rest_from l 0) found)
-    (sym (ap (λ (l : List ℕ). rest ++ l) over ∙ append-nil rest)) leftmost
+pub known_end : (unread : Option (List ℕ)) → IsAtEnd unread → known unread ≡ []
+known_end None over = refl
+known_end (Some bytes) over = over
 
--- the match in the last bytes, if all was read, or else one that stands whatever follows
-pub leftmost_either : (search : SearchValue) (rest : List ℕ) (unread : Option (List ℕ)) (found : MatchValue)
-    (is_whole : Bool) → (is_whole ≡ true → IsAtEnd unread)
-    → (is_whole ≡ true → IsLeftmostMatch search.query search.ignore_case rest (rest_from rest 0) found)
-    → (is_whole ≡ false → (more : List ℕ)
-    → IsLeftmostMatch search.query search.ignore_case (rest ++ more) (rest_from (rest ++ more) 0) found)
-    → IsLeftmostMatch search.query search.ignore_case (rest ++ known unread) (rest_from (rest ++ known unread) 0) found
-leftmost_either search rest unread found true over last stands =
-    leftmost_last search rest unread found (over refl) (last refl)
-leftmost_either search rest unread found false over last stands = stands refl (known unread)
+-- where nothing begins before the end of the last bytes, nothing occurs in them
+pub nothing_last : (patterns : List (List ℕ)) (ignore_case : Bool) (rest : List ℕ) → NoneIsEmpty patterns
+    → ((i p : ℕ) → Occurs patterns ignore_case (rest ++ []) (rest_from (rest ++ []) 0) i p → length rest ≤ p)
+    → NothingOccurs patterns ignore_case rest (rest_from rest 0)
+nothing_last patterns ignore_case rest not_empty none = λ i p occurs.
+    let there = subst (λ (l : List ℕ). Occurs patterns ignore_case l (rest_from l 0) i p) (sym (append-nil rest))
+    occurs in
+    omega (arith, not_empty i [] occurs.is_pattern, occurs.before_end, none i p there)
 
 -- what it gives where it goes on behind a match
 pub goes_behind : (old now new : StreamValue) (found answer : MatchValue)

@@ -5,6 +5,7 @@ use Rattle.literal_base.specs.Occurs.{between}
 use Rattle.literal_base.specs.declared.search.Span.{Span}
 use Rattle.literal_search.specs.Linear.{first_part}
 use Rattle.literal_search.specs.Inside.Backward.{AreMarks, IsMark, NoneFrom, StandsDown}
+use Rattle.literal_search.specs.Inside.Classes.{AreClasses}
 use Rattle.literal_search.specs.Inside.Walk.{rows_by}
 use Rattle.literal_search.specs.PreparedLinear.{BackTables}
 use Rattle.literal_search.specs.declared.backward.Backward.{Backward}
@@ -47,6 +48,10 @@ pub record IsLimit (b : Backward) (limit : ℕ) : Type 0 where
   pub some : 0 < limit
   pub is : limit ≡ min (length (rows_by b.table)) (2 ^ 31)
   pub fits : limit + 256 ≤ length b.table.rows.now
+
+-- these are the classes of the bytes, if they are classes
+abbrev pub HasBytes : Backward → List ℕ → Type 0
+HasBytes b classes = AreClasses b.table.classes.now b.table.width → classes ≡ b.table.classes.now
 
 -- four walks stand at rows
 pub record HaveRows (limit : ℕ) (l : Lanes) : Type 0 where

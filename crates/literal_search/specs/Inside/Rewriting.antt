@@ -1,23 +1,23 @@
 -- A text that is read piece by piece, and written with its matches replaced.
-use Rattle.std.specs.Prelude.{◌≡◌, ℕ, ◌+◌, ◌-◌, ◌<◌, ◌≤◌, ◌++◌, [], Bool, true, List, length, if◌then◌else◌}
+use Rattle.std.specs.Prelude.{◌≡◌, ℕ, ◌+◌, ◌≤◌, ◌++◌, [], Bool, true, List, Option, Some, drop, length, take}
+use Rattle.std.specs.Io.KnownBytes.{Appends, Consumes}
+use Rattle.std.specs.IoError.{error_kind}
+use Rattle.std.specs.declared.io.ErrorKind.{ErrorKind}
 use Rattle.literal_base.specs.Greedy.{IsGreedy}
 use Rattle.literal_base.specs.MatchValue.{MatchValue}
+use Rattle.literal_base.specs.Occurs.{pattern_at}
 use Rattle.literal_search.specs.Replaced.{replaced}
-use Rattle.literal_search.specs.SearchValue.{SearchValue, longest_of}
+use Rattle.literal_search.specs.SearchValue.{SearchValue}
 use Rattle.literal_search.specs.declared.replace_stream.ReplaceStreamError.{ReplaceStreamError}
 use Rattle.literal_search.specs.declared.replace_stream.ReplaceStreamError.TheVariants.{NotOneForEach, OutOfMemory}
 use Rattle.literal_search.specs.declared.replace_stream.ReplaceStreamError.TheVariants.{ReadFailed, WriteFailed}
 use Rattle.literal_search.specs.declared.stream.SoFar.{SoFar}
 use Rattle.literal_search.specs.declared.stream.SoFar.TheVariants.{Found, NoneBefore}
 
--- how many bytes may still matter behind what is known not to begin a match: none where the text is over
-abbrev pub kept_back : List (List ℕ) → Bool → ℕ
-kept_back patterns is_whole = if is_whole then 0 else longest_of patterns - 1
-
--- a match lies in so many bytes and is not empty; a place is behind all of them but those that may still matter
-abbrev pub IsFirstKnown : List (List ℕ) → Bool → ℕ → SoFar → Type 0
-IsFirstKnown patterns is_whole len (Found found) = (found.start < found.end) × (found.end ≤ len)
-IsFirstKnown patterns is_whole len (NoneBefore place) = place ≡ len - kept_back patterns is_whole
+-- what is written of the bytes ahead up to where this is known of them: a match by its replacement
+abbrev pub known_part : List (List ℕ) → List ℕ → SoFar → List ℕ
+known_part replacements ahead (Found found) = take found.start ahead ++ pattern_at replacements found.pattern
+known_part replacements ahead (NoneBefore place) = take place ahead
 
 -- a text from an offset on, with its matches replaced
 pub record IsReplacedFrom (search : SearchValue) (text : List ℕ) (replacements : List (List ℕ)) (at : ℕ)
@@ -36,9 +36,19 @@ pub record WritesOn (search : SearchValue) (replacements : List (List ℕ)) (is_
       → IsReplacedFrom search (before ++ (ahead ++ more)) replacements to rest
       → IsReplacedFrom search (before ++ (ahead ++ more)) replacements from (out ++ rest)
 
--- it is that of a write
-abbrev pub IsOfWriting : ReplaceStreamError → Type 0
-IsOfWriting NotOneForEach = ⊥
-IsOfWriting OutOfMemory = ⊥
-IsOfWriting (ReadFailed error) = ⊥
-IsOfWriting (WriteFailed error) = Unit {0}
+-- of a text that was read, what comes before an offset is written with its matches replaced, and the rest is held
+pub record HasWritten (search : SearchValue) (replacements : List (List ℕ)) (is_whole : Bool) (at : ℕ)
+    (ahead : List ℕ) (unread left held written : Option (List ℕ)) : Type 0 where
+  pub text : List ℕ
+  pub out : List ℕ
+  pub reads : Consumes unread left text
+  pub ahead_is : ahead ≡ drop at text
+  pub writes : Appends held written out
+  pub so_far : WritesOn search replacements is_whole 0 at text out
+
+-- it is the error with which reading or writing failed, by its kind
+abbrev pub IsOfFailure : Option ErrorKind → Option ErrorKind → ReplaceStreamError → Type 0
+IsOfFailure reading writing NotOneForEach = ⊥
+IsOfFailure reading writing OutOfMemory = ⊥
+IsOfFailure reading writing (ReadFailed error) = reading ≡ Some (error_kind error)
+IsOfFailure reading writing (WriteFailed error) = writing ≡ Some (error_kind error)

@@ -1,13 +1,13 @@
 -- What is known of a text that is read piece by piece, and what a search finds in it.
 use Rattle.std.specs.Prelude.{◌≡◌, ℕ, ◌+◌, ◌-◌, ◌*◌, ◌<◌, ◌≤◌, ◌^◌, ◌++◌, Bool, false, List, None, Option, Some, drop}
-use Rattle.std.specs.Prelude.{IfSome, length, true}
+use Rattle.std.specs.Prelude.{[], IfSome, if◌then◌else◌, length, true}
 use Rattle.std.specs.Io.KnownBytes.{IsAtEnd}
 use Rattle.std.specs.IoError.{error_kind}
 use Rattle.std.specs.List.{slice_range}
 use Rattle.std.specs.Option.{option_map}
 use Rattle.std.specs.declared.io.Error.{Error}
 use Rattle.literal_base.specs.MatchValue.{MatchValue}
-use Rattle.literal_search.specs.SearchValue.{SearchValue}
+use Rattle.literal_search.specs.SearchValue.{SearchValue, longest_of}
 use Rattle.literal_search.specs.Stream.{PassesOver, ReadsPiece, StreamValue}
 use Rattle.literal_search.specs.declared.reading.Reading.{Reading}
 use Rattle.literal_search.specs.declared.stream.SoFar.{SoFar}
@@ -37,6 +37,10 @@ HasRoom w len = len < length w.bytes.items
 abbrev pub IsOpen : Reading → Type 0
 IsOpen r = (r.is_whole ≡ false) × (r.error ≡ None)
 
+-- a piece is read, and none once all was read or reading failed: then it stays so
+abbrev pub HasReadOn : Reading → List ℕ → Reading → Type 0
+HasReadOn old piece new = ¬ IsOpen old → (piece ≡ []) × (new ≡ old)
+
 -- and so it may be read once more than there are bytes
 abbrev pub turns_left : Bool → Option Error → ℕ
 turns_left true error = 0
@@ -54,6 +58,15 @@ pub record IsSoundStream (longest : ℕ) (w : Window) (r : Reading) (unread : Op
   pub window : IsWindow w
   pub room : HasRoom w (2 * longest)
   pub reading : IsSoundReading r unread
+
+-- how many bytes may still matter behind what is known not to begin a match: none where the text is over
+abbrev pub kept_back : List (List ℕ) → Bool → ℕ
+kept_back patterns is_whole = if is_whole then 0 else longest_of patterns - 1
+
+-- a match lies in so many bytes and is not empty; a place is behind all of them but those that may still matter
+abbrev pub IsFirstKnown : List (List ℕ) → Bool → ℕ → SoFar → Type 0
+IsFirstKnown patterns is_whole len (Found found) = (found.start < found.end) × (found.end ≤ len)
+IsFirstKnown patterns is_whole len (NoneBefore place) = place ≡ len - kept_back patterns is_whole
 
 -- such a search as contracts see it
 abbrev pub stream_value : SearchValue → Window → Reading → Option (List ℕ) → Bool → StreamValue

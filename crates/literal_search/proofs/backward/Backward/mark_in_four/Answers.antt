@@ -145,4 +145,3 @@ loop-step-preserved c =
           ∙ one_more _ _ (c.in_ok-one.ensures.ticks ∙ one_more _ _ so_far.counted)))
           ∙ ap (λ (n : ℕ). let n' : Counts = record c.args.tally.now { scanned = n } in n') sum);
     }
-

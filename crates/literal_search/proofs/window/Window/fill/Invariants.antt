@@ -1,0 +1,20 @@
+use Rattle.std.proofs.Common.{◌≡◌, ◌+◌, ◌-◌, ◌++◌, ◌^◌, List, ℕ, length}
+use Rattle.std.specs.Io.KnownBytes.{Consumes}
+use Rattle.literal_search.specs.Inside.Stream.{HasReadOn, IsSoundReading, IsWindow, held, turns_left}
+use Rattle.literal_search.proofs.window.Window.fill.Given as goal
+
+abbrev pub invariant-loop-self : goal.invariant-loop-self
+invariant-loop-self g l = record {
+  window : IsWindow l.self;
+  room : length l.self.bytes.items ≡ length l.fn.self.bytes.items;
+  offset : l.self.offset ≡ l.fn.self.offset;
+  piece : List ℕ;
+  reads : Consumes (g.R.Read.remaining l.fn.reader) (g.R.Read.remaining l.reader) piece;
+  held_is : held l.self ≡ held l.fn.self ++ piece;
+  read_on : HasReadOn l.fn.reading piece l.reading;
+  sound : IsSoundReading l.reading (g.R.Read.remaining l.reader);
+}
+
+abbrev pub decreases-loop-self : goal.decreases-loop-self
+decreases-loop-self g l =
+    (2 ^ 64 - (l.self.offset + (l.self.end - l.self.start))) + turns_left l.reading.is_whole l.reading.error
