@@ -160,6 +160,7 @@ impl<'t> Backward<'t> {
 
     /// Four walks at once, each through as many bytes behind one of four neighbouring parts of a span, so that no
     /// look-up waits for those of the others.
+    #[inline(never)]
     fn lead_in_four(
         &self,
         classes: &[u8; 256],
@@ -270,6 +271,7 @@ impl<'t> Backward<'t> {
 
     /// The first place of four neighbouring parts at which a pattern begins, by four walks that stand at their ends, of
     /// which each is followed alone, from the left, up to the one that finds something.
+    #[inline(never)]
     fn first_of_lanes(
         &self,
         classes: &[u8; 256],
