@@ -14,7 +14,7 @@ ghost use Rattle.literal_base.specs.Greedy.{IsGreedy};
 ghost use Rattle.literal_base.specs.Leftmost.{IsLeftmost};
 ghost use Rattle.literal_base.specs.Occurs.{IsValidSpan, whole_of};
 ghost use Rattle.literal_search.specs.Earliest.{IsEarliestEnd};
-ghost use Rattle.literal_search.specs.Linear.{ScansTwice};
+ghost use Rattle.literal_search.specs.Linear.{ScansThrice};
 ghost use Rattle.literal_search.specs.Overlapping.{IsOverlapping};
 ghost use Rattle.literal_search.specs.Prepared.{RefusesToPrepare};
 ghost use Rattle.literal_search.specs.SearchValue.{CanBeKept, ScansWithin, ScansListAtMost};
@@ -96,7 +96,7 @@ pub fn search_any_list(
     ensures overlapping { IfOk result (λ any. IsOverlapping (searched_for asked.now).query.patterns
         asked.now.ignore_case haystack.now span any.occurring.all.items) }
     ensures same_list { IfOk result (λ any. any.linear.items ≡ any.searched.all.items) }
-    ensures twice { IfOk result (λ _. ScansTwice (whole_of haystack.now) listed.old listed.new) }
+    ensures twice { IfOk result (λ _. ScansThrice (whole_of haystack.now) listed.old listed.new) }
     ensures by_array { IfOk result (λ any. MatchResult any.by_array
         (IsLeftmost (searched_for asked.now).query asked.now.ignore_case haystack.now span)
         (RefusesToPrepare (searched_for asked.now).query asked.now.ignore_case array.old)) }
@@ -254,7 +254,7 @@ fn list(
     ensures refused { IfErr result (RefusesAnyList asked.now) }
     ensures greedy { IfOk result (λ all. IsGreedy (searched_for asked.now).query asked.now.ignore_case haystack.now
         0 all.items) }
-    ensures twice { IfOk result (λ _. ScansTwice (whole_of haystack.now) listed.old listed.new) }
+    ensures twice { IfOk result (λ _. ScansThrice (whole_of haystack.now) listed.old listed.new) }
     ensures once { IfOk result (λ _. listed.old.scanned + length haystack.now ≤ listed.new.scanned) }
 {
     let patterns = asked.patterns.iter().copied();

@@ -17,6 +17,7 @@ pub mod Found
 pub mod GreedyIn
 pub mod Growing
 pub mod Grown
+pub mod Leftmost
 pub mod Live
 pub mod Iterations
 pub mod IterationsIn

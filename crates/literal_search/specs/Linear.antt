@@ -1,15 +1,17 @@
--- All leftmost matches of a span, and what a search for them scans that looks at no byte more often than twice.
-use Rattle.std.specs.Prelude.{◌≡◌, ℕ, ◌+◌, ◌-◌, ◌*◌, ◌≤◌, Bool, List, map, min, reverse}
+-- All leftmost matches of a span, and what a search for them scans.
+use Rattle.std.specs.Prelude.{◌≡◌, ℕ, ◌+◌, ◌-◌, ◌*◌, ◌≤◌, ◌/◌, Bool, List, None, Option, Some, map, max, min, reverse}
 use Rattle.literal_base.specs.Counts.{Counts}
+use Rattle.literal_base.specs.MatchValue.{MatchValue}
 use Rattle.literal_base.specs.declared.search.MatchKind.TheVariants.{Standard}
 use Rattle.literal_base.specs.declared.search.Span.{Span}
 use Rattle.literal_search.specs.SearchValue.{HoldsInClasses, longest_of}
 use Rattle.literal_search.specs.States.{HasTooManyStates}
+use Rattle.literal_search.specs.declared.leftmost.TheConstants.{FIRST}
 
--- at most twice as many bytes are scanned as the span has
-pub record ScansTwice (span : Span) (old new : Counts) : Type 0 where
+-- at most three times as many bytes are scanned as the span has
+pub record ScansThrice (span : Span) (old new : Counts) : Type 0 where
   pub others : new ≡ record old { scanned = new.scanned }
-  pub most : new.scanned ≤ old.scanned + 2 * (span.end - span.start)
+  pub most : new.scanned ≤ old.scanned + 3 * (span.end - span.start)
 
 -- up to where the bytes of a span are looked up once it is known what begins before a place: behind that place one
 -- fewer than the longest pattern has, but no more than stand before it in the span, and none behind the span
@@ -33,3 +35,22 @@ NeedTooManyReversed ignore_case patterns =
 abbrev pub NeedFewReversed : Bool → List (List ℕ) → Type 0
 NeedFewReversed ignore_case patterns =
     HoldsInClasses (λ texts width. ¬ HasTooManyStates Standard (reversed texts) width) ignore_case patterns
+
+-- how long each of the first four parts is through which a search goes
+abbrev pub first_part : ℕ → ℕ
+first_part longest = max FIRST (longest / 2)
+
+-- how many bytes a search for the leftmost match looks up: at least those of the span where there is none, and else at
+-- least those up to its end, and at most eleven times those before it, and a number of first parts
+abbrev pub LooksFor : ℕ → Span → Option MatchValue → ℕ → ℕ → Type 0
+LooksFor longest span None old new = old + (span.end - span.start) ≤ new
+LooksFor longest span (Some found) old new =
+    (old + found.end ≤ new + span.start)
+    × (new + 11 * span.start ≤ old + 11 * found.start + 36 * first_part longest)
+
+-- the same of a tally: at most three times the bytes of the span are scanned
+pub record ScansBack (patterns : List (List ℕ)) (span : Span) (answer : Option MatchValue) (old new : Counts)
+    : Type 0 where
+  pub others : new ≡ record old { scanned = new.scanned }
+  pub most : new.scanned ≤ old.scanned + 3 * (span.end - span.start)
+  pub counted : LooksFor (longest_of patterns) span answer old.scanned new.scanned

@@ -5,7 +5,7 @@ ghost use Rattle.std.specs.Prelude.{ℕ, IfErr, IfOk, IfSome, MatchOption, Match
 ghost use Rattle.std.specs.Result.{IsOkAnd};
 ghost use Rattle.literal_base.specs.Leftmost.{IsLeftmost, IsLeftmostMatch};
 ghost use Rattle.literal_base.specs.Occurs.{IsValidSpan, between};
-ghost use Rattle.literal_search.specs.Linear.{ScansTwice, looked_by};
+ghost use Rattle.literal_search.specs.Linear.{ScansThrice, looked_by};
 ghost use Rattle.literal_search.specs.LinearMatchesValue.{place_behind};
 ghost use Rattle.literal_search.specs.Inside.Backward.{AreMarked, AreMarks, ForBackward, IsBegun, IsBlock};
 ghost use Rattle.literal_search.specs.Inside.Backward.{IsLastBegun, IsMark, IsMatchBy, IsPlaced, IsRead, StopsMarking};
@@ -19,7 +19,7 @@ use literal_base::{Match, Span};
 use std::alloc::{AllocError, Global};
 
 /// How long a block is at least, if the span is.
-const LEAST: usize = 1024;
+pub(crate) const LEAST: usize = 1024;
 
 /// What a search from the right reads.
 #[derive(Clone, Copy)]
@@ -272,7 +272,7 @@ impl<'t> Backward<'t> {
         ensures placed { IfOk result
             (λ answer. IsPlaced self.now.table.longest span (place_behind span answer) marks.new) }
         ensures further { (marks.old.known ≤ marks.new.known) × (marks.new.known ≤ span.end) }
-        ensures bounded { ScansTwice (between marks.old.known marks.new.known) tally.old tally.new }
+        ensures bounded { ScansThrice (between marks.old.known marks.new.known) tally.old tally.new }
         ensures least { IfOk result (λ _. tally.old.scanned + looked_by self.now.table.longest span marks.new.known
             ≤ tally.new.scanned + looked_by self.now.table.longest span marks.old.known) }
         ensures more { length marks.old.numbers.items ≤ length marks.new.numbers.items }
@@ -292,7 +292,9 @@ impl<'t> Backward<'t> {
         Ok(None)
     }
 
-    /// Marks the block that begins at a place, unless it is known what begins there.
+    /// Marks the block that begins at a place, unless it is known what begins there. It is called, and not put in its
+    /// place, so that the next match in a marked block costs little.
+    #[inline(never)]
     fn mark_from(
         &self,
         haystack: &[u8],
@@ -312,7 +314,7 @@ impl<'t> Backward<'t> {
         ensures placed { IfOk result (λ _. IsPlaced self.now.table.longest span from marks.new) }
         ensures known { IfOk result (λ _. from < marks.new.known) }
         ensures further { (marks.old.known ≤ marks.new.known) × (marks.new.known ≤ span.end) }
-        ensures bounded { ScansTwice (between marks.old.known marks.new.known) tally.old tally.new }
+        ensures bounded { ScansThrice (between marks.old.known marks.new.known) tally.old tally.new }
         ensures least { IfOk result (λ _. tally.old.scanned + looked_by self.now.table.longest span marks.new.known
             ≤ tally.new.scanned + looked_by self.now.table.longest span marks.old.known) }
         ensures more { length marks.old.numbers.items ≤ length marks.new.numbers.items }
@@ -321,6 +323,9 @@ impl<'t> Backward<'t> {
     {
         if from < marks.known {
             return Ok(());
+        }
+        if let Some(part) = self.part_for_marks(span.end - from) {
+            return self.mark_four_parts(haystack, span, from, part, marks, tally);
         }
         let block = self.block_at(span, from);
         marks.first = from;
@@ -362,7 +367,13 @@ impl<'t> Backward<'t> {
     }
 
     /// The match that begins at a place with a mark.
-    fn match_at(&self, haystack: &[u8], span: Span, at: usize, code: u32) -> Result<Match, Damaged>
+    pub(crate) fn match_at(
+        &self,
+        haystack: &[u8],
+        span: Span,
+        at: usize,
+        code: u32,
+    ) -> Result<Match, Damaged>
         requires safe { IsSafe self.now }
         requires valid { IsValidSpan haystack.now span }
         requires inside { at < span.end }

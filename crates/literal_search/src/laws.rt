@@ -12,7 +12,7 @@ ghost use Rattle.literal_base.specs.MatchValue.{MatchValue};
 ghost use Rattle.literal_base.specs.Occurs.{NoneIsEmpty, Occurs, between, pattern_at, rest_from};
 ghost use Rattle.literal_base.specs.Query.{Query};
 ghost use Rattle.literal_base.specs.Greedy.{IsGreedyIn};
-ghost use Rattle.literal_search.specs.Linear.{ScansTwice, looked_upto};
+ghost use Rattle.literal_search.specs.Linear.{ScansThrice, looked_upto};
 ghost use Rattle.literal_search.specs.LinearMatchesValue.{GivesInSpan, GivesInSpanCounted, LinearMatchesValue};
 ghost use Rattle.literal_search.specs.MatchesValue.{GivesCounted, GivesMatch, MatchesValue};
 ghost use Rattle.literal_search.specs.Overlapping.{IsOverlapping, OverlappingValue};
@@ -70,7 +70,7 @@ pub fn iterations_in_spans_are_greedy()
         all }
     ensures bounded { (first last ended : LinearMatchesValue × Counts) (all : List MatchValue)
         → Yields GivesInSpanCounted first all last → GivesInSpanCounted last None ended
-        → ScansTwice (between first.0.known first.0.span.end) first.1 ended.1 }
+        → ScansThrice (between first.0.known first.0.span.end) first.1 ended.1 }
     ensures each { (first last ended : LinearMatchesValue × Counts) (all : List MatchValue)
         → Yields GivesInSpanCounted first all last → GivesInSpanCounted last None ended
         → first.1.scanned + first.0.span.end

@@ -32,6 +32,7 @@ mod copied;
 mod ends;
 mod grow;
 pub mod laws;
+mod leftmost;
 mod linear;
 mod overlapping;
 mod prepared;

@@ -5,10 +5,11 @@ ghost use Rattle.literal_base.specs.Greedy.{IsGreedy};
 ghost use Rattle.literal_base.specs.Leftmost.{IsLeftmost};
 ghost use Rattle.literal_base.specs.Occurs.{IsValidSpan, NothingOccurs, between, whole_of};
 ghost use Rattle.literal_base.specs.Given.{CanBeTaken};
+ghost use Rattle.literal_search.specs.At.{IsMatchAt, ScansAt};
 ghost use Rattle.literal_search.specs.SearchValue.{BuildsSearch, CanBeKept, RefusesSearch};
 ghost use Rattle.literal_base.specs.Greedy.{IsGreedyIn};
-ghost use Rattle.literal_search.specs.Linear.{NeedFewReversed, NeedTooManyReversed, ScansTwice};
-ghost use Rattle.literal_search.specs.Linear.{looked_upto, reversed};
+ghost use Rattle.literal_search.specs.Linear.{NeedFewReversed, NeedTooManyReversed, ScansThrice};
+ghost use Rattle.literal_search.specs.Linear.{ScansBack, looked_upto, reversed};
 ghost use Rattle.literal_search.specs.LinearMatchesValue.{GivesInSpan, most_in_span, place_behind};
 ghost use Rattle.literal_search.specs.Memory.{TakesLinearBytes};
 ghost use Rattle.literal_search.specs.Inside.Backward.{AreBackFor, AreMarked, IsPlaced, IsSafe, back_tables_by};
@@ -154,7 +155,7 @@ impl Linear {
         requires { IsValidSpan haystack.now span }
         ensures greedy { IfOk result
             (λ all. IsGreedyIn self.now.query self.now.ignore_case haystack.now span all.items) }
-        ensures bounded { ScansTwice span tally.old tally.new }
+        ensures bounded { ScansThrice span tally.old tally.new }
         ensures least { IfOk result (λ _. tally.old.scanned + (span.end - span.start) ≤ tally.new.scanned) }
         ensures no_memory { OnErr result
             (¬ NothingOccurs self.now.query.patterns self.now.ignore_case haystack.now span) }
@@ -171,6 +172,40 @@ impl Linear {
             all.push(found)?;
         }
         Ok(all)
+    }
+
+    /// The leftmost match in a span of the haystack. No memory is asked for. The span has to be valid.
+    pub fn find_in(&self, haystack: &[u8], span: Span) -> Option<Match>
+        requires { IsValidSpan haystack.now span }
+        ensures leftmost { IsLeftmost self.now.query self.now.ignore_case haystack.now span result }
+        ensures not_empty { IfSome result (λ found. found.start < found.end) }
+    {
+        self.find_in_counted(haystack, span, &mut Tally::new())
+    }
+
+    /// Answers as [`Linear::find_in`], and adds each byte that it looks up to a tally, as scanned: at most three times
+    /// those of the span, all where nothing is found, and else at least those up to the match's end, and at most six
+    /// times those before it, and a number that the longest pattern's length tells.
+    pub fn find_in_counted(&self, haystack: &[u8], span: Span, tally: &mut Tally) -> Option<Match>
+        requires { IsValidSpan haystack.now span }
+        ensures leftmost { IsLeftmost self.now.query self.now.ignore_case haystack.now span result }
+        ensures not_empty { IfSome result (λ found. found.start < found.end) }
+        ensures bounded { ScansBack self.now.query.patterns span result tally.old tally.new }
+    {
+        let answer = self.parts.backward().find_in(haystack, span, tally);
+        answer.unwrap_or(None)
+    }
+
+    /// The match that begins at a place, which has to be at most the haystack's length. It adds each byte that it looks
+    /// up to a tally, as scanned: at most as many as the longest pattern has, and at least those of the match.
+    pub fn match_at_counted(&self, haystack: &[u8], at: usize, tally: &mut Tally) -> Option<Match>
+        requires { at ≤ length haystack.now }
+        ensures at { IsMatchAt self.now.query self.now.ignore_case haystack.now at result }
+        ensures not_empty { IfSome result (λ found. found.start < found.end) }
+        ensures bounded { ScansAt self.now.query.patterns at result tally.old tally.new }
+    {
+        let answer = self.parts.backward().find_at(haystack, at, tally);
+        answer.unwrap_or(None)
     }
 
     /// The matches that [`Linear::find_all_in`] lists, one after another. Memory is asked for once, and for no empty
@@ -298,7 +333,7 @@ impl Parts {
         ensures marked { IfOk result
             (λ answer. AreMarked (tables_of self.now) haystack.now span (place_behind span answer) marks.new) }
         ensures further { (marks.old.known ≤ marks.new.known) × (marks.new.known ≤ span.end) }
-        ensures bounded { ScansTwice (between marks.old.known marks.new.known) tally.old tally.new }
+        ensures bounded { ScansThrice (between marks.old.known marks.new.known) tally.old tally.new }
         ensures least { IfOk result (λ _. tally.old.scanned + looked_upto (patterns_of self.now) span marks.new.known
             ≤ tally.new.scanned + looked_upto (patterns_of self.now) span marks.old.known) }
         ensures more { IfOk result (λ _. length marks.old.numbers.items ≤ length marks.new.numbers.items) }
@@ -399,7 +434,7 @@ impl<'s, 'h> LinearMatches<'s, 'h> {
     /// pattern may reach. A whole iteration so looks up at least the bytes of the span, and at most twice as many.
     pub fn next_counted(&mut self, tally: &mut Tally) -> Option<Match>
         ensures gives { GivesInSpan self.old result self.new }
-        ensures bounded { ScansTwice (between self.old.known self.new.known) tally.old tally.new }
+        ensures bounded { ScansThrice (between self.old.known self.new.known) tally.old tally.new }
         ensures least { tally.old.scanned + looked_upto self.old.search.query.patterns self.old.span self.new.known
             ≤ tally.new.scanned + looked_upto self.old.search.query.patterns self.old.span self.old.known }
     {

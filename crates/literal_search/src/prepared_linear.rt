@@ -4,7 +4,8 @@ ghost use Rattle.std.specs.Prelude.{◌≡◌, ◌+◌, ◌-◌, ◌*◌, ◌<�
 ghost use Rattle.std.specs.Prelude.{IfOk, IfSome, IsTrue, MatchOption, MatchResult, None, OnErr, ⊤};
 ghost use Rattle.std.specs.Result.{IsOkAnd};
 ghost use Rattle.literal_base.specs.Occurs.{IsValidSpan, between};
-ghost use Rattle.literal_search.specs.Linear.{ScansTwice, looked_by};
+ghost use Rattle.literal_search.specs.Linear.{LooksFor, ScansThrice, looked_by};
+ghost use Rattle.literal_base.specs.Leftmost.{IsLeftmost};
 ghost use Rattle.literal_search.specs.LinearMatchesValue.{GivesInSpan, place_behind};
 ghost use Rattle.literal_search.specs.Prepared.{LiesIn, longest_in};
 ghost use Rattle.literal_search.specs.PreparedLinear.{ForLinear, HasLinearParts, IsWholeLinear, linear_matches_for};
@@ -100,6 +101,30 @@ impl<'p> PreparedLinear<'p> {
         })
     }
 
+    /// The leftmost match in a span of the haystack, as [`Linear::find_in`](crate::Linear::find_in) finds it. With
+    /// numbers that were changed the answer may be another, or [`Damaged`]; but a match lies in the span, is not empty,
+    /// and names one of the patterns. It adds each byte that it looks up to a tally, as scanned: at most three times
+    /// those of the span, whatever the numbers are.
+    pub fn find_in_counted(
+        &self,
+        haystack: &[u8],
+        span: Span,
+        tally: &mut Tally,
+    ) -> Result<Option<Match>, Damaged>
+        requires { IsValidSpan haystack.now span }
+        ensures prepared { ForLinear self.now (λ search. IsOkAnd result
+            (IsLeftmost search.query search.ignore_case haystack.now span)) }
+        ensures inside { IfOk result (λ answer. IfSome answer (LiesIn span)) }
+        ensures pattern { IfOk result (λ answer. IfSome answer
+            (λ found. found.pattern < slice_index self.now 3)) }
+        ensures others { tally.new ≡ record tally.old { scanned = tally.new.scanned } }
+        ensures most { tally.new.scanned ≤ tally.old.scanned + 3 * (span.end - span.start) }
+        ensures counted { IfOk result
+            (λ answer. LooksFor (longest_in self.now) span answer tally.old.scanned tally.new.scanned) }
+    {
+        self.backward().find_in(haystack, span, tally)
+    }
+
     /// What a search from the right reads.
     fn backward(&self) -> Backward<'_>
         ensures safe { IsSafe result }
@@ -178,7 +203,7 @@ impl<'s, 'p, 'h> PreparedLinearMatches<'s, 'p, 'h> {
         ensures ended { self.old.at ≡ self.old.span.end → IsOkAnd result (λ answer. answer ≡ None) }
         ensures same { self.new ≡ record self.old { at = self.new.at; known = self.new.known } }
         ensures further { (self.old.known ≤ self.new.known) × (self.new.known ≤ self.old.span.end) }
-        ensures bounded { ScansTwice (between self.old.known self.new.known) tally.old tally.new }
+        ensures bounded { ScansThrice (between self.old.known self.new.known) tally.old tally.new }
         ensures least { IfOk result (λ _. tally.old.scanned
             + looked_by (longest_in self.old.numbers) self.old.span self.new.known
             ≤ tally.new.scanned + looked_by (longest_in self.old.numbers) self.old.span self.old.known) }

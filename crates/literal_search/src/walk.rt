@@ -267,9 +267,9 @@ impl<'t> Table<'t> {
         bytes
     }
 
-    /// As [`Table::code_at`], to be compared with a place.
+    /// As [`Table::code_by`], to be compared with a place.
     #[inline(always)]
-    fn next_at(
+    pub(crate) fn next_at(
         &self,
         classes: &[u8; 256],
         place: usize,
@@ -285,9 +285,30 @@ impl<'t> Table<'t> {
             (place + slice_index self.now.classes.now (slice_index haystack.now at)) }
         ensures ticks { tally.new ≡ record tally.old { scanned = tally.old.scanned + 1 } }
     {
+        self.code_by(classes, place, haystack, at, tally) as usize
+    }
+
+    /// As [`Table::code_at`], by the classes as bytes.
+    #[inline(always)]
+    pub(crate) fn code_by(
+        &self,
+        classes: &[u8; 256],
+        place: usize,
+        haystack: &[u8],
+        at: usize,
+        tally: &mut Tally,
+    ) -> u32
+        requires same { AreClasses self.now.classes.now self.now.width → classes.now ≡ self.now.classes.now }
+        requires inside { at < length haystack.now }
+        requires within { place + CLASSES_LEN ≤ length self.now.rows.now }
+        ensures number { AreClasses self.now.classes.now self.now.width
+            → place + self.now.width < length (rows_by self.now) → result ≡ slice_index (rows_by self.now)
+            (place + slice_index self.now.classes.now (slice_index haystack.now at)) }
+        ensures ticks { tally.new ≡ record tally.old { scanned = tally.old.scanned + 1 } }
+    {
         tally.tick_scanned();
         let class = classes[haystack[at] as usize] as usize;
-        self.rows[class..][place] as usize
+        self.rows[class..][place]
     }
 }
 

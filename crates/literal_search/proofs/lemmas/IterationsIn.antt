@@ -4,24 +4,24 @@ use Rattle.std.specs.Iterator.{Yields}
 use Rattle.literal_base.specs.Counts.{Counts}
 use Rattle.literal_base.specs.MatchValue.{MatchValue}
 use Rattle.literal_base.specs.Occurs.{between}
-use Rattle.literal_search.specs.Linear.{ScansTwice, looked_upto}
+use Rattle.literal_search.specs.Linear.{ScansThrice, looked_upto}
 use Rattle.literal_search.specs.LinearMatchesValue.{GivesInSpanCounted, LinearMatchesValue}
 use Rattle.literal_search.proofs.lemmas.Iterations.{scanned_on}
 
 -- at most twice what it had not looked at, up to its end
 pub scans_twice_from_yields : (m : LinearMatchesValue × Counts) (all : List MatchValue)
     (n o : LinearMatchesValue × Counts) → Yields GivesInSpanCounted m all n → GivesInSpanCounted n None o
-    → ScansTwice (between m.0.known m.0.span.end) m.1 o.1
+    → ScansThrice (between m.0.known m.0.span.end) m.1 o.1
 scans_twice_from_yields m [] n o stays last =
-    subst (λ (it : LinearMatchesValue × Counts). ScansTwice (between it.0.known it.0.span.end) it.1 o.1) (sym stays)
+    subst (λ (it : LinearMatchesValue × Counts). ScansThrice (between it.0.known it.0.span.end) it.1 o.1) (sym stays)
     (record {
       others = last.bounded.others;
       most = omega (arith, last.bounded.most, last.gives.further, last.gives.inside);
     })
 scans_twice_from_yields m (found ∷ more) n o run last =
     let step = run.1 in
-    let rest : ScansTwice (between run.0.0.known m.0.span.end) run.0.1 o.1 =
-    subst (λ (it : LinearMatchesValue). ScansTwice (between run.0.0.known it.span.end) run.0.1 o.1) step.gives.goes_on
+    let rest : ScansThrice (between run.0.0.known m.0.span.end) run.0.1 o.1 =
+    subst (λ (it : LinearMatchesValue). ScansThrice (between run.0.0.known it.span.end) run.0.1 o.1) step.gives.goes_on
     (scans_twice_from_yields run.0 more n o run.2 last) in
     record {
       others = scanned_on m.1 run.0.1 o.1 step.bounded.others rest.others;

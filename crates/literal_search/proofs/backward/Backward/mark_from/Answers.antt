@@ -6,7 +6,7 @@ use Rattle.literal_search.proofs.backward.Backward.mark_from.Goals as goal
 pub returns-in_ok-mark-clause-marked : goal.returns-in_ok-mark-clause-marked
 returns-in_ok-mark-clause-marked c = λ search is before.
     let tables = back_tables_by search c.args.self.now in
-    let last = subst (IsLastBegun tables c.args.haystack.now c.args.span.end c.block_at-block.result) c.in-Some.is
+    let last = subst (IsLastBegun tables c.args.haystack.now c.args.span.end c.block_at-block.result) c.in-Some-2.is
     (c.in_ok-begun.ensures.last search is) in
     let numbers = c.make_room.new.marks in
     let marks = c.mark.new.marks in
@@ -15,6 +15,6 @@ returns-in_ok-mark-clause-marked c = λ search is before.
     let same = with_items_is numbers marks (long ∙ sym numbers.ok.0) in
     record {
       marks = subst (λ (l : List ℕ). AreMarks tables c.args.haystack.now c.args.span.end l c.args.from c.args.from
-          (c.in-Some.begun.at + 1)) (sym same) (c.in_ok-mark.ensures.marks search is last.0);
+          (c.in-Some-2.begun.at + 1)) (sym same) (c.in_ok-mark.ensures.marks search is last.0);
       none = λ k after from upto. last.1 k from upto;
     }

@@ -1,7 +1,7 @@
 use Rattle.std.proofs.Common.{◌+◌, ◌≤◌, ◌-◌, length}
 use Rattle.literal_base.specs.Occurs.{between}
 use Rattle.literal_search.specs.Inside.Backward.{AreMarked, ForBackward, IsPlaced, NoneFrom}
-use Rattle.literal_search.specs.Linear.{ScansTwice, looked_by}
+use Rattle.literal_search.specs.Linear.{ScansThrice, looked_by}
 use Rattle.literal_search.proofs.backward.Backward.next_match.Given as goal
 
 abbrev pub invariant-loop-from : goal.invariant-loop-from
@@ -13,7 +13,7 @@ invariant-loop-from l = record {
   none : ForBackward l.fn.self (λ tables. AreMarked tables l.fn.haystack l.fn.span l.fn.at l.fn.marks
       → NoneFrom tables l.fn.haystack l.fn.span.end l.fn.at l.from);
   further : l.fn.marks.known ≤ l.marks.known;
-  scanned : ScansTwice (between l.fn.marks.known l.marks.known) l.fn.tally l.tally;
+  scanned : ScansThrice (between l.fn.marks.known l.marks.known) l.fn.tally l.tally;
   least : l.fn.tally.scanned + looked_by l.fn.self.table.longest l.fn.span l.marks.known
       ≤ l.tally.scanned + looked_by l.fn.self.table.longest l.fn.span l.fn.marks.known;
   more : length l.fn.marks.numbers.items ≤ length l.marks.numbers.items;

@@ -1,0 +1,19 @@
+use Rattle.std.proofs.Common.{◌≡◌, ◌+◌, ◌<◌, ◌≤◌}
+use Rattle.literal_base.specs.Occurs.{between}
+use Rattle.literal_search.specs.Inside.Backward.{ForBackward}
+use Rattle.literal_search.specs.Inside.Leftmost.{IsFirstBegun, IsLane, LiesInPart}
+use Rattle.literal_search.proofs.backward.Backward.first_in.Given as goal
+
+abbrev pub invariant-loop-at : goal.invariant-loop-at
+invariant-loop-at l = record {
+  after : l.fn.part.start ≤ l.at;
+  inside : l.at ≤ l.fn.part.end;
+  row : l.place < l.fn.limit;
+  lane : ForBackward l.fn.self (λ tables. IsLane tables l.fn.haystack l.fn.span l.fn.part.end l.fn.part.end l.fn.from
+      → IsLane tables l.fn.haystack l.fn.span l.fn.part.end l.at l.place);
+  first : ForBackward l.fn.self (λ tables. IsLane tables l.fn.haystack l.fn.span l.fn.part.end l.fn.part.end l.fn.from
+      → IsFirstBegun tables l.fn.haystack l.fn.span.end (between l.at l.fn.part.end) l.first);
+  begun : LiesInPart l.at l.fn.part.end l.first;
+  others : l.tally ≡ record l.fn.tally { scanned = l.tally.scanned };
+  scanned : l.tally.scanned + l.at ≡ l.fn.tally.scanned + l.fn.part.end;
+}

@@ -1,0 +1,234 @@
+-- What walks through parts of a span tell of the places of the parts.
+use Rattle.std.proofs.Common.{◌≡◌, ℕ, ◌+◌, ◌-◌, ◌*◌, ◌<◌, ◌≤◌, ◌⊎◌, ◌^◌, ◌%◌, List, Option, Some, None, arith}
+use Rattle.std.proofs.Common.{◌∙◌, ◌≢◌, Err, Ok, Result, ap, get_or, inl, inr, length, set, subst, sym}
+use Rattle.std.proofs.lemmas.Bool.{cases_lt}
+use Rattle.std.proofs.lemmas.List.{get_or-set_other, get_or-set_same}
+use Rattle.std.specs.Result.{IsOkAnd}
+use Rattle.literal_base.specs.Counts.{Counts}
+use Rattle.literal_base.specs.Leftmost.{IsLeftmostMatch}
+use Rattle.literal_base.specs.MatchValue.{MatchValue}
+use Rattle.literal_base.specs.Occurs.{between}
+use Rattle.literal_base.specs.declared.search.Span.{Span}
+use Rattle.literal_search.specs.Inside.Backward.{AreBackFor, AreMarks, IsMark, NoneBeginsAt, NoneFrom, StandsDown}
+use Rattle.literal_search.specs.Inside.Backward.{back_tables_by, best_by}
+use Rattle.literal_search.specs.Inside.Leftmost.{IsFirstBegun, IsLane, IsLimit, IsStep, LiesInPart, NoneBehind}
+use Rattle.literal_search.specs.PreparedLinear.{AreBackTables, BackTables}
+use Rattle.literal_search.specs.SearchValue.{SearchValue}
+use Rattle.literal_search.specs.declared.backward.Backward.{Backward}
+use Rattle.literal_search.specs.declared.backward.Begun.{Begun}
+use Rattle.literal_search.specs.declared.prepared.Damaged.{Damaged}
+use Rattle.literal_search.proofs.lemmas.Backward.{mark_in, read_one, stands_nowhere}
+
+-- a walk that has read nothing
+pub lane_begins : (p : BackTables) → AreBackTables p → (haystack : List ℕ) → ((i : ℕ) → get_or haystack i 0 < 256)
+    → (span : Span) (end from at : ℕ) → at ≡ from → from ≤ span.end → (from ≡ span.end) ⊎ (end + p.longest ≤ from + 1)
+    → IsLane p haystack span end at 0
+lane_begins p are haystack bytes span end from at same inside far = record {
+  from = from;
+  after = omega (arith, same);
+  inside = inside;
+  far = far;
+  stands = subst (λ n. StandsDown p haystack from n 0) (sym same) (stands_nowhere p are haystack bytes from);
+}
+
+-- a walk reads one byte more
+pub lane_step : (p : BackTables) → AreBackTables p → (haystack : List ℕ) → ((i : ℕ) → get_or haystack i 0 < 256)
+    → (span : Span) → span.end ≤ length haystack → (end next at to place code : ℕ) → next ≡ at + 1 → to ≡ at
+    → IsLane p haystack span end next place
+    → code ≡ get_or p.rows (place + get_or p.classes (get_or haystack at 0) 0) 0 → IsStep p haystack span end to code
+lane_step p are haystack bytes span valid end next at to place code next_is to_is lane is =
+    let after = lane.after in
+    let inside = lane.inside in
+    let one = read_one p are haystack bytes lane.from at place code (omega (arith, after, next_is))
+    (omega (arith, inside, valid))
+    (subst (λ n. StandsDown p haystack lane.from n place) next_is lane.stands) is in
+    let far : at < end → (lane.from ≡ span.end) ⊎ (at + p.longest ≤ lane.from) = λ before. elim lane.far [
+      | inl all ↦ inl all
+      | inr near ↦ inr (omega (arith, near, before))
+    ] in
+    subst (λ n. IsStep p haystack span end n code) (sym to_is) (record {
+      lane = record {
+        from = lane.from;
+        after = omega (arith, after, next_is);
+        inside = inside;
+        far = lane.far;
+        stands = one.stands;
+      };
+      mark = λ before. mark_in p are haystack span.end at lane.from inside (far before) code one.mark;
+    })
+
+-- the same place, written in another way
+pub lane_there : (p : BackTables) (haystack : List ℕ) (span : Span) (end at to place : ℕ) → at ≡ to
+    → IsLane p haystack span end at place → IsLane p haystack span end to place
+lane_there p haystack span end at to place same lane = subst (λ n. IsLane p haystack span end n place) same lane
+
+-- a number below 2^31 leads to itself
+pub lane_small : (p : BackTables) (haystack : List ℕ) (span : Span) (end at code : ℕ) → code < 2 ^ 31
+    → IsStep p haystack span end at code → IsLane p haystack span end at code
+lane_small p haystack span end at code small step =
+    let same : code % 2 ^ 31 ≡ code = omega (arith, small) in
+    subst (IsLane p haystack span end at) same step.lane
+
+-- where the number is not below the limit of the rows, a pattern begins
+pub begins_if_not : (b : Backward) (search : SearchValue) → AreBackFor search b → (haystack : List ℕ) (span : Span)
+    (end at code limit : ℕ) → IsLimit b limit → at < end → limit ≤ code
+    → IsStep (back_tables_by search b) haystack span end at code
+    → ¬ NoneBeginsAt (back_tables_by search b) haystack span.end at
+begins_if_not b search is haystack span end at code limit limit_is before over step none = elim (cases_lt code (2 ^ 31)) [
+  | inl small ↦
+      let row = (lane_small (back_tables_by search b) haystack span end at code small step).stands.row in
+      absurd (omega (arith, row, limit_is.is, over, small))
+  | inr large ↦
+      let best = (step.mark before).best large in
+      none (best_by (back_tables_by search b) code) best.occurs
+]
+
+module _ (p : BackTables) (haystack : List ℕ) (span : Span) (end at code : ℕ) (before : at < end)
+    (step : IsStep p haystack span end at code)
+  where
+    -- none does
+    pub none_more : (upto next : ℕ) → next ≡ at + 1 → code < 2 ^ 31 → NoneFrom p haystack span.end next upto
+        → NoneFrom p haystack span.end at upto
+    none_more upto next next_is small none = λ k after less. elim (cases_lt at k) [
+      | inl later ↦ none k (omega (arith, later, next_is)) less
+      | inr not ↦
+          let same : at ≡ k = omega (arith, after, not) in
+          subst (NoneBeginsAt p haystack span.end) same ((step.mark before).none small)
+    ]
+
+    none_here : (upto next : ℕ) → next ≡ at + 1 → code < 2 ^ 31 → (first : Option Begun)
+        → IsFirstBegun p haystack span.end (between next upto) first
+        → IsFirstBegun p haystack span.end (between at upto) first
+    none_here upto next next_is small None none = none_more upto next next_is small none
+    none_here upto next next_is small (Some begun) first =
+        (first.0, none_more begun.at next next_is small first.1)
+
+    -- what is then the first place at which one begins
+    pub first_on : (upto next : ℕ) → next ≡ at + 1 → (first result : Option Begun)
+        → (2 ^ 31 ≤ code → result ≡ Some (record { at = at; code = code })) → (code < 2 ^ 31 → result ≡ first)
+        → IsFirstBegun p haystack span.end (between next upto) first
+        → IsFirstBegun p haystack span.end (between at upto) result
+    first_on upto next next_is first result begins none behind = elim (cases_lt code (2 ^ 31)) [
+      | inl small ↦
+          subst (IsFirstBegun p haystack span.end (between at upto)) (sym (none small))
+          (none_here upto next next_is small first behind)
+      | inr large ↦
+          subst (IsFirstBegun p haystack span.end (between at upto)) (sym (begins large))
+          (step.mark before, λ k after less. absurd (omega (arith, after, less)))
+    ]
+
+lies_earlier : (first : Option Begun) (next at end : ℕ) → at ≤ next → LiesInPart next end first → LiesInPart at end first
+lies_earlier None next at end less is = tt
+lies_earlier (Some begun) next at end less is = (omega (arith, is.0, less), is.1, is.2)
+
+-- where that lies
+pub lies_on : (at end code next : ℕ) → next ≡ at + 1 → at < end → (first result : Option Begun)
+    → (2 ^ 31 ≤ code → result ≡ Some (record { at = at; code = code })) → (code < 2 ^ 31 → result ≡ first)
+    → LiesInPart next end first → LiesInPart at end result
+lies_on at end code next next_is inside first result begins none behind = elim (cases_lt code (2 ^ 31)) [
+  | inl small ↦
+      subst (LiesInPart at end) (sym (none small)) (lies_earlier first next at end (omega (arith, next_is)) behind)
+  | inr large ↦ subst (LiesInPart at end) (sym (begins large)) (omega arith, inside, large)
+]
+
+-- where nothing begins before a place, the match that begins there is the leftmost
+pub leftmost_from : (p : BackTables) (haystack : List ℕ) (span : Span) (at : ℕ) (found : MatchValue)
+    → span.start ≤ at → NoneFrom p haystack span.end span.start at → found.start ≡ at
+    → IsLeftmostMatch p.search.query p.search.ignore_case haystack (between at span.end) found
+    → IsLeftmostMatch p.search.query p.search.ignore_case haystack span found
+leftmost_from p haystack span at found after none here leftmost = record {
+  occurs = record {
+    is_pattern = leftmost.occurs.is_pattern;
+    after_start = omega (arith, here, after);
+    before_end = leftmost.occurs.before_end;
+    same = leftmost.occurs.same;
+  };
+  whole = leftmost.whole;
+  earliest = λ i place before occurs.
+      let begins = occurs.after_start in
+      none place begins (omega (arith, here, before)) i (record {
+        is_pattern = occurs.is_pattern;
+        after_start = omega arith;
+        before_end = occurs.before_end;
+        same = occurs.same;
+      });
+  best = λ i better occurs. leftmost.best i better (record {
+    is_pattern = occurs.is_pattern;
+    after_start = omega (arith, here);
+    before_end = occurs.before_end;
+    same = occurs.same;
+  });
+}
+
+-- and what is known of two parts, one behind the other, is known of both
+pub none_on : (p : BackTables) (haystack : List ℕ) (end from at upto : ℕ) → NoneFrom p haystack end from at
+    → NoneFrom p haystack end at upto → NoneFrom p haystack end from upto
+none_on p haystack end from at upto before behind = λ k after less. elim (cases_lt k at) [
+  | inl early ↦ before k after early
+  | inr late ↦ behind k late less
+]
+
+-- what is the first place of a part is that of a longer one, where nothing begins before the part
+pub part_on : (p : BackTables) (haystack : List ℕ) (end from start upto : ℕ) → NoneFrom p haystack end from start
+    → (first : Option Begun) → IsFirstBegun p haystack end (between start upto) first
+    → IsFirstBegun p haystack end (between from upto) first
+part_on p haystack end from start upto before None none = none_on p haystack end from start upto before none
+part_on p haystack end from start upto before (Some begun) first =
+    (first.0, none_on p haystack end from start begun.at before first.1)
+
+pub ok_part_on : (p : BackTables) (haystack : List ℕ) (end from start upto : ℕ) → NoneFrom p haystack end from start
+    → (result : Result (Option Begun) Damaged)
+    → IsOkAnd result (IsFirstBegun p haystack end (between start upto))
+    → IsOkAnd result (IsFirstBegun p haystack end (between from upto))
+ok_part_on p haystack end from start upto before (Ok first) is = part_on p haystack end from start upto before first is
+ok_part_on p haystack end from start upto before (Err damaged) is = is
+
+-- one step more
+pub one_more : (a b : Counts) → a ≡ b
+    → (let t : Counts = record a { scanned = a.scanned + 1 } in t)
+    ≡ (let t : Counts = record b { scanned = b.scanned + 1 } in t)
+one_more a b same = ap (λ (n : Counts). let n' : Counts = record n { scanned = n.scanned + 1 } in n') same
+
+-- where nothing is left of the parts nothing begins in them
+pub none_left : (p : BackTables) (haystack : List ℕ) (end at part left : ℕ) → left ≡ 0
+    → NoneBehind p haystack end at part left → NoneFrom p haystack end at (at + 4 * part)
+none_left p haystack end at part left zero none = λ k after before. elim (cases_lt k (at + part)) [
+  | inl first ↦ none.first k (omega (arith, zero, after)) first
+  | inr past ↦ elim (cases_lt k (at + 2 * part)) [
+    | inl second ↦ none.second k (omega (arith, zero, past)) second
+    | inr past' ↦ elim (cases_lt k (at + 3 * part)) [
+      | inl third ↦ none.third k (omega (arith, zero, past')) third
+      | inr past'' ↦ none.fourth k (omega (arith, zero, past'')) before
+    ]
+  ]
+]
+
+-- a mark in another place stays
+pub marks_kept : (p : BackTables) (haystack : List ℕ) (end : ℕ) (marks : List ℕ) (at from upto slot code : ℕ) → at ≤ from
+    → (at + slot < from) ⊎ (upto ≤ at + slot) → AreMarks p haystack end marks at from upto
+    → AreMarks p haystack end (set marks slot code) at from upto
+marks_kept p haystack end marks at from upto slot code after apart are k behind before =
+    let other : k - at ≢ slot = λ same. elim apart [
+      | inl less ↦ omega (arith, same, less, behind, after)
+      | inr more ↦ omega (arith, same, more, before, behind, after)
+    ] in
+    let read = get_or-set_other marks slot (k - at) code 0 other in
+    subst (IsMark p haystack end k) (sym read) (are k behind before)
+
+-- and one more is written
+pub marks_on : (p : BackTables) (haystack : List ℕ) (end : ℕ) (marks : List ℕ) (at to next upto slot code : ℕ)
+    → at ≤ to → next ≡ to + 1 → at + slot ≡ to → slot < length marks → IsMark p haystack end to code
+    → AreMarks p haystack end marks at next upto → AreMarks p haystack end (set marks slot code) at to upto
+marks_on p haystack end marks at to next upto slot code after next_is slot_is inside mark are k behind before =
+    elim (cases_lt to k) [
+      | inl later ↦
+          let read = get_or-set_other marks slot (k - at) code 0 (λ same. omega (arith, same, later, slot_is, after)) in
+          subst (IsMark p haystack end k) (sym read) (are k (omega (arith, later, next_is)) before)
+      | inr not ↦
+          let same : to ≡ k = omega (arith, behind, not) in
+          let slot_there : slot ≡ k - at = omega (arith, slot_is, same) in
+          let read = get_or-set_same marks slot code 0 inside in
+          subst (λ n. IsMark p haystack end n (get_or (set marks slot code) (n - at) 0)) same
+          (subst (λ n. IsMark p haystack end to (get_or (set marks slot code) n 0))
+          (slot_there ∙ ap (λ n. n - at) (sym same)) (subst (IsMark p haystack end to) (sym read) mark))
+    ]
