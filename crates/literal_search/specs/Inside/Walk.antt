@@ -4,6 +4,7 @@ use Rattle.std.specs.Prelude.{⊤, Option, None, Result, Some}
 use Rattle.std.specs.Prelude.{MatchOption, IfSome, IsSome, length}
 use Rattle.std.specs.Prelude.{if◌then◌else◌, nat_eq, nat_lt, slice_index, slice_range}
 use Rattle.std.specs.List.{starts_with}
+use Rattle.std.specs.Result.{IsOkAnd}
 use Rattle.literal_base.specs.declared.packed.MatchKind.{MatchKind}
 use Rattle.literal_base.specs.declared.search.MatchKind as search
 use Rattle.literal_base.specs.declared.search.MatchKind.TheVariants.{Standard}
@@ -15,6 +16,7 @@ use Rattle.literal_search.specs.Inside.Classes.{symbols_in}
 use Rattle.literal_search.specs.Inside.Rows.{rows_of}
 use Rattle.literal_search.specs.Table.{Recognises, nothing, stride_of}
 use Rattle.literal_search.specs.Words.{ending, live_suffix, one_stands, word_of}
+use Rattle.literal_search.specs.declared.prepared.Damaged.{Damaged}
 use Rattle.literal_search.specs.declared.walk.Ended.{Ended}
 use Rattle.literal_search.specs.declared.walk.Reached.{Reached}
 use Rattle.literal_search.specs.declared.walk.Reached.TheVariants.{Back, Ends, Nowhere}

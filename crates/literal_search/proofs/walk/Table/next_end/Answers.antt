@@ -80,7 +80,7 @@ loop-nearest-preserved c =
     let told = c.in_ok-stop.ensures in
     let at = c.in-Back.at in
     let lies = subst (ReachesWithin rest (c.loop-nearest.start + c.loop-nearest.near)) c.in-Back.is told.inside in
-    let far = subst (ReadsTo rest (c.reach_apart.new.tally.scanned - c.loop-nearest.tally.scanned)) c.in-Back.is
+    let far = subst (ReadsTo rest (c.reach.new.tally.scanned - c.loop-nearest.tally.scanned)) c.in-Back.is
     told.counted in
     let passed = c.in_ok-start-in-Back.ensures in
     let new = c.in_ok-start-in-Back.start in
@@ -107,7 +107,7 @@ loop-nearest-preserved c =
             later_new t patterns ignore_case is haystack bytes whole valid here so_far.inside come.0 c.args.span.start
                 come.1 at new (omega (arith, lies.0)) passed.inside.0 passed.inside.1 back none,
           );
-      others = others_on c.args.tally.now c.loop-nearest.tally c.reach_apart.new.tally c.pass_over.new.tally
+      others = others_on c.args.tally.now c.loop-nearest.tally c.reach.new.tally c.pass_over.new.tally
           so_far.others told.others passed.others;
       least = omega (arith, so_far.least, far, lies.0, passed.least, told.grows);
       most = omega (arith, so_far.most, so_far.far, far, lies.0, lies.2, passed.counted, passed.inside.0, told.grows);
