@@ -1,6 +1,7 @@
 //! How far the reading of a text has come.
-ghost use Rattle.std.specs.Prelude.{◌≡◌, ◌==◌, ◌<◌, ◌≤◌, ◌↔◌, IsTrue, MatchResult, None, Some, false, length, take};
-ghost use Rattle.std.specs.Io.KnownBytes.{Consumes};
+ghost use Rattle.std.specs.Prelude.{◌≡◌, ◌==◌, ◌<◌, ◌≤◌, ◌↔◌, IsTrue, List, MatchResult, None, Ok, Option, Some, ℕ};
+ghost use Rattle.std.specs.Prelude.{false, length, take};
+ghost use Rattle.std.specs.Io.KnownBytes.{Consumes, IsAtEnd};
 ghost use Rattle.std.specs.IoError.{error_kind};
 ghost use Rattle.std.specs.Option.{option_map};
 ghost use Rattle.literal_search.specs.Inside.Stream.{IsOpen, IsSoundReading};
@@ -59,6 +60,7 @@ impl Reading {
     /// A `usize` counts no more of the text than these bytes, so reading fails.
     pub(crate) fn stop(&mut self, counted: usize)
         requires open { IsOpen self.old }
+        requires no_failure { self.old.failure ≡ None }
         requires all { counted ≡ usize.MAX }
         ensures kind { self.new.failure ≡ Some ErrorKind.FileTooLarge }
         ensures failure { self.new.failure ≡ option_map error_kind self.new.error }
@@ -69,12 +71,15 @@ impl Reading {
 
     /// How many bytes a read gave that answered so: none is the end, and an error is kept until it is given.
     fn take_in(&mut self, answer: io::Result<usize>) -> usize
-        ensures { MatchResult answer
+        requires open { IsOpen self.old }
+        requires no_failure { self.old.failure ≡ None }
+        ensures told { MatchResult answer
             (λ count. (result ≡ count) × (self.new ≡ record self.old { is_whole = count == 0 }))
             (λ error. (result ≡ 0) × (self.new ≡ record self.old {
               failure = Some (error_kind error);
               error = Some error;
             })) }
+        ensures sound { (unread : Option (List ℕ)) → (answer ≡ Ok 0 → IsAtEnd unread) → IsSoundReading self.new unread }
     {
         match answer {
             Ok(count) => {

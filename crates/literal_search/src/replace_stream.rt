@@ -1,9 +1,10 @@
 //! Every match in a text that is read piece by piece replaced, and the text written as far as it is known.
-ghost use Rattle.std.specs.Prelude.{◌≡◌, ◌≤◌, [], IfErr, IfOk, None, OnOk, length, map};
+ghost use Rattle.std.specs.Prelude.{◌≡◌, ◌≤◌, [], Err, IfErr, IfOk, MatchResult, None, Ok, OnOk, length, map};
 ghost use Rattle.std.specs.Io.KnownBytes.{Appends};
 ghost use Rattle.literal_search.specs.Replaced.{RewritesAll, StopsRewriting};
 ghost use Rattle.literal_search.specs.SearchValue.{longest_of};
 ghost use Rattle.literal_search.specs.Stream.{MayBeKnown, told_to};
+ghost use Rattle.literal_search.specs.declared.replace_stream.ReplaceStreamError.TheVariants.{WriteFailed};
 ghost use Rattle.literal_search.specs.Inside.Rewriting.{IsOfFailure, known_part};
 ghost use Rattle.literal_search.specs.Inside.Stream.{IsSoundStream, IsWindow, held};
 
@@ -184,7 +185,19 @@ fn put<W: Write>(
     ensures written { OnOk result (Appends (W.contents writer.old) (W.contents writer.new) bytes.now) }
     ensures error { IfErr result (IsOfFailure None failure.new) }
 {
-    match writer.write_all(bytes) {
+    let answer = writer.write_all(bytes);
+    after_write(answer, failure)
+}
+
+/// What a write answers that ended so.
+fn after_write(
+    answer: io::Result<()>,
+    failure: &mut Option<ErrorKind>,
+) -> Result<(), ReplaceStreamError>
+    ensures told { MatchResult answer (λ done. result ≡ Ok done) (λ error. result ≡ Err (WriteFailed error)) }
+    ensures error { IfErr result (IsOfFailure None failure.new) }
+{
+    match answer {
         Ok(()) => Ok(()),
         Err(error) => {
             *failure = Some(error.kind());
