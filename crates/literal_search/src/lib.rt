@@ -243,8 +243,8 @@ impl Search {
     }
 
     /// Answers as [`Search::find_in`] by one walk through the span. It adds each byte that it looks up to a tally, as
-    /// scanned: no more than the span has, all where nothing is found, and else at least those up to the match's end, and
-    /// none that is further behind its start than the longest pattern is long.
+    /// scanned: no more than the span has, all where nothing is found, and else at least those up to the match's end,
+    /// and none that is further behind its start than the longest pattern is long.
     fn find_in_once(&self, haystack: &[u8], span: Span, tally: &mut Tally) -> Option<Match>
         requires { IsValidSpan haystack.now span }
         ensures leftmost { IsLeftmost self.now.query self.now.ignore_case haystack.now span result }

@@ -1,5 +1,6 @@
 //! A search for everything that occurs.
-ghost use Rattle.std.specs.Prelude.{◌≡◌, ◌+◌, ◌<◌, ◌≤◌, ◌^◌, length, IfErr, IfOk, IfSome, MatchOption, None, OnErr, Some};
+ghost use Rattle.std.specs.Prelude.{◌≡◌, ◌+◌, ◌<◌, ◌≤◌, ◌^◌, length};
+ghost use Rattle.std.specs.Prelude.{IfErr, IfOk, IfSome, MatchOption, None, OnErr, Some};
 ghost use Rattle.std.specs.Option.{option_map};
 ghost use Rattle.literal_base.specs.MatchValue.{MatchValue};
 ghost use Rattle.literal_base.specs.Occurs.{IsValidSpan, between, whole_of};
@@ -38,8 +39,8 @@ use std::marker::Model;
 /// Searches for every occurrence of any number of patterns: those that overlap others, and those that stand within
 /// others, too. Contracts see the patterns, and whether ASCII case is ignored.
 ///
-/// An iteration looks up at most three times as many bytes as there are ([`OverlappingMatches::next_counted`]). The search has the states of
-/// an automaton, and for each pattern the list of those that are a suffix of it.
+/// An iteration looks up at most three times as many bytes as there are ([`OverlappingMatches::next_counted`]). The
+/// search has the states of an automaton, and for each pattern the list of those that are a suffix of it.
 ///
 /// ```rust
 /// let search = Overlapping::new(alloc, false, [b"append".as_slice(), b"app", b"end"])?;
@@ -456,9 +457,9 @@ impl<'s, 'h> Model for OverlappingMatches<'s, 'h> {
 }
 
 impl<'s, 'h> OverlappingMatches<'s, 'h> {
-    /// Answers as `next`, and adds each byte that it looks up to a tally, as scanned: at least as many as there are from
-    /// the end where it stood up to that of the match, or up to that of the span, and at most three times as many. An
-    /// iteration so looks up at most three times as many bytes as the span has.
+    /// Answers as `next`, and adds each byte that it looks up to a tally, as scanned: at least as many as there are
+    /// from the end where it stood up to that of the match, or up to that of the span, and at most three times as many.
+    /// An iteration so looks up at most three times as many bytes as the span has.
     pub fn next_counted(&mut self, tally: &mut Tally) -> Option<Match>
         ensures gives { GivesOverlapping self.old result self.new }
         ensures bounded { ScansToEndWithin (between self.old.end self.old.span.end)

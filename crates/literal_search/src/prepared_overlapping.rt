@@ -91,8 +91,8 @@ impl<'p> PreparedOverlapping<'p> {
     }
 
     /// The earliest end of an occurrence in a span of the haystack, for which the same holds as for
-    /// [`Overlapping::earliest_end`](crate::Overlapping::earliest_end). With numbers that were changed it may be another
-    /// place of the span, or [`Damaged`].
+    /// [`Overlapping::earliest_end`](crate::Overlapping::earliest_end). With numbers that were changed it may be
+    /// another place of the span, or [`Damaged`].
     pub fn earliest_end(&self, haystack: &[u8], span: Span) -> Result<Option<usize>, Damaged>
         requires { IsValidSpan haystack.now span }
         ensures prepared { ForOverlapping self.now (λ search. IsOkAnd result
@@ -103,8 +103,8 @@ impl<'p> PreparedOverlapping<'p> {
     }
 
     /// Answers as [`PreparedOverlapping::earliest_end`], and adds each byte that it looks up to a tally, as scanned:
-    /// whatever the numbers are, at least as many as there are up to that end, or in the span where it answers none, and
-    /// at most three times as many; and at most three times the bytes of the span before [`Damaged`].
+    /// whatever the numbers are, at least as many as there are up to that end, or in the span where it answers none,
+    /// and at most three times as many; and at most three times the bytes of the span before [`Damaged`].
     pub fn earliest_end_counted(
         &self,
         haystack: &[u8],
@@ -374,9 +374,9 @@ impl<'s, 'p, 'h> PreparedOverlappingMatches<'s, 'p, 'h> {
         self.next_counted(&mut Tally::new())
     }
 
-    /// Answers as `next_match`, and adds each byte that it looks up to a tally, as scanned: at most three times as many as
-    /// there are from the end where it stood up to that where it stands, in the span. An iteration so looks up at most
-    /// three times as many bytes as the span has, whatever the numbers are.
+    /// Answers as `next_match`, and adds each byte that it looks up to a tally, as scanned: at most three times as many
+    /// as there are from the end where it stood up to that where it stands, in the span. An iteration so looks up at
+    /// most three times as many bytes as the span has, whatever the numbers are.
     #[tactic(auto, using(crate::proofs::lemmas::LentTables::are_for))]
     pub fn next_counted(&mut self, tally: &mut Tally) -> Result<Option<Match>, Damaged>
         ensures prepared { ForOverlapping self.old.numbers (λ search. IsOkAnd result (λ answer.

@@ -84,7 +84,12 @@ module _ (ignore_case : Bool) (classes : List ℕ) (patterns : List (List ℕ)) 
         let long = text_long ignore_case classes patterns tells haystack bytes here valid_here in
         let size = symbols_length classes patterns i in
         let same : drop (place - from) text ≡ word =
-        whole_if_long (drop (place - from) text) word stands (omega (arith, length-drop (place - from) text, long, size))
+        whole_if_long (drop (place - from) text) word stands (omega (
+          arith,
+          length-drop (place - from) text,
+          long,
+          size,
+        ))
         in
         record {
           is_pattern = omega (arith, known, o.is_pattern);

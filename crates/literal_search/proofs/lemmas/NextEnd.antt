@@ -77,7 +77,8 @@ module _ (t : Table) (patterns : List (List ℕ)) (ignore_case : Bool) (is : IsT
           | inr within ↦ absurd (none_ends texts (some_symbols t.classes.now patterns is.some)
               (text_of t.classes.now haystack (between stands.from end))
               (ap (ending Standard texts) (sym (reads_to end (omega arith))) ∙ none end further within) i
-              (occurrence_ends ignore_case t.classes.now patterns is.tells is.some haystack bytes span valid stands.from i
+              (occurrence_ends ignore_case t.classes.now patterns is.tells is.some haystack bytes span valid
+              stands.from i
               place end (stands.begins i place o further) refl o))
         ]
 

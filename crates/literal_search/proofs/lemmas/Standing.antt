@@ -1,6 +1,6 @@
 -- Where a search for everything that occurs stands, and what is to come there.
 use Rattle.std.proofs.Common.{◌≡◌, ℕ, ◌+◌, ◌-◌, ◌<◌, ◌≤◌, List, length, get_or}
-use Rattle.std.proofs.Common.{Option, Some, None, IsSome, inl, inr, refl, sym, ap, subst, ◌∙◌, arith}
+use Rattle.std.proofs.Common.{Option, Some, None, IsSome, inl, inr, refl, sym, ap, subst, arith}
 use Rattle.std.proofs.Common.{◌*◌, mul-le-mul_right}
 use Rattle.std.proofs.lemmas.Bool.{cases_lt}
 use Rattle.std.proofs.lemmas.List.{length-map}

@@ -28,7 +28,6 @@ use Rattle.literal_search.specs.Inside.Walk.{StopsNear, from_match, place_of, re
 use Rattle.literal_search.specs.Table.{LeadsTo, Leads, Recognises, code_of, nothing, stride_of}
 use Rattle.literal_search.specs.Words.{begins_one, ending, first_equal, live_suffix, word_of}
 use Rattle.literal_search.specs.declared.walk.Ended.{Ended}
-use Rattle.literal_search.specs.declared.walk.Stop.{Stop}
 use Rattle.literal_search.specs.declared.walk.Table.{Table}
 use Rattle.literal_search.specs.declared.walk.Walked.TheVariants.{Known}
 use Rattle.literal_search.proofs.lemmas.Behind.{ending_by_live}
@@ -644,7 +643,8 @@ module _ (width : ℕ) (rows : List ℕ) (from : ℕ) (classes haystack : List �
           reaches_end large alive =
               let stood = walks Standard patterns recognises text begins in
               let code_is = number Standard patterns recognises text stood.0 in
-              let on = at_with_end Standard patterns width rows recognises (read_to text classes haystack start at) place
+              let on = at_with_end Standard patterns width rows recognises (read_to text classes haystack start at)
+              place
               stood.0 _ below code code_is large alive in
               let more = sym (read_push text at after inside) in
               let last : at ≡ at + 1 - 1 = omega arith in

@@ -40,6 +40,7 @@ ForPatterns t P = (kind : search.MatchKind) (patterns : List (List ℕ)) (ignore
 abbrev pub IsTableOf : Table → Query → Bool → Type 0
 IsTableOf t query ignore_case = IsTableFor t (root_kind_of query.kind) query.patterns ignore_case
 
+-- what holds for all patterns and kinds of which they are those
 abbrev pub ForTable : Table → (Query → Bool → Type 0) → Type 0
 ForTable t P = (query : Query) (ignore_case : Bool) → IsTableOf t query ignore_case → P query ignore_case
 

@@ -145,8 +145,8 @@ Reaches width rows from classes haystack span result =
     → IsAt Standard patterns width rows recognises text from
     → IsOkAnd result (HasReached patterns width rows recognises text classes haystack span)
 
--- a walk that stood at a row stands at another, and no pattern has ended since, for all patterns that the rows recognise,
--- from all texts whose state has the first of these rows
+-- a walk that stood at a row stands at another, and no pattern has ended since, for all patterns that the rows
+-- recognise, from all texts whose state has the first of these rows
 abbrev pub WalksOn : ℕ → List ℕ → ℕ → List ℕ → List ℕ → ℕ → ℕ → ℕ → Type 0
 WalksOn width rows from classes haystack start at place =
     (kind : search.MatchKind) (patterns : List (List ℕ)) (recognises : Recognises kind patterns width rows)

@@ -1,9 +1,9 @@
-use Rattle.std.proofs.Common.{◌≡◌, ◌-◌, ◌+◌, ◌<◌, ◌≤◌, ◌^◌, IfSome, List, None, Option, Some, ℕ}
+use Rattle.std.proofs.Common.{◌≡◌, ◌<◌, ◌≤◌, ◌^◌, IfSome, List, Option, ℕ}
 use Rattle.std.proofs.Common.{arith, get_or, subst, sym}
 use Rattle.std.specs.Option.{option_map}
 use Rattle.literal_base.specs.Occurs.{IsValidSpan}
 use Rattle.literal_base.specs.declared.search.Span.{Span}
-use Rattle.literal_search.specs.Earliest.{IsEarliestEnd, ScansToEndWithin}
+use Rattle.literal_search.specs.Earliest.{IsEarliestEnd}
 use Rattle.literal_search.specs.Inside.NextEnd.{IsNextStop}
 use Rattle.literal_search.specs.Inside.Standing.{overlapping_value, tables_of}
 use Rattle.literal_search.specs.Overlapping.{OverlappingValue}

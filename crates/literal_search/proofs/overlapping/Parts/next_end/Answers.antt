@@ -35,7 +35,8 @@ standing_at-requires-clause-row c =
     let p = tables_of c.args.self.now in
     let s = c.args.standing in
     let told = c.in_ok-stop.ensures in
-    row_inside p c.requires.parts c.args.haystack.now (λ k. omega (arith, c.type_inv.haystack k)) c.args.span c.requires.valid s
+    row_inside p c.requires.parts c.args.haystack.now (λ k. omega (arith, c.type_inv.haystack k)) c.args.span
+    c.requires.valid s
     c.requires.standing c.in_ok-stop.stop told.next told.inside.0 told.inside.1
 
 pub standing_at-requires-clause-listed : goal.standing_at-requires-clause-listed
@@ -43,7 +44,8 @@ standing_at-requires-clause-listed c =
     let p = tables_of c.args.self.now in
     let s = c.args.standing in
     let told = c.in_ok-stop.ensures in
-    let below = longest_below p c.requires.parts c.args.haystack.now (λ k. omega (arith, c.type_inv.haystack k)) c.args.span c.requires.valid s
+    let below = longest_below p c.requires.parts c.args.haystack.now (λ k. omega (arith, c.type_inv.haystack k))
+    c.args.span c.requires.valid s
     c.requires.standing c.in_ok-stop.stop told.next told.inside.0 told.inside.1 in
     omega (arith, below, c.requires.parts.lists.long)
 
@@ -53,7 +55,8 @@ returns-clause-stands c =
     let s = c.args.standing in
     let told = c.in_ok-stop.ensures in
     subst (IsStanding p c.args.haystack.now c.args.span) (sym c.standing_at.ensures)
-    (stands_there p c.requires.parts c.args.haystack.now (λ k. omega (arith, c.type_inv.haystack k)) c.args.span c.requires.valid s
+    (stands_there p c.requires.parts c.args.haystack.now (λ k. omega (arith, c.type_inv.haystack k)) c.args.span
+    c.requires.valid s
     c.requires.standing c.in_ok-stop.stop told.next told.inside.0 told.inside.1)
 
 pub returns-clause-more : goal.returns-clause-more
@@ -62,7 +65,8 @@ returns-clause-more c =
     let s = c.args.standing in
     let told = c.in_ok-stop.ensures in
     subst (λ (here : Standing). here.next < here.end) (sym c.standing_at.ensures)
-    (some_left p c.requires.parts c.args.haystack.now (λ k. omega (arith, c.type_inv.haystack k)) c.args.span c.requires.valid s
+    (some_left p c.requires.parts c.args.haystack.now (λ k. omega (arith, c.type_inv.haystack k)) c.args.span
+    c.requires.valid s
     c.requires.standing c.in_ok-stop.stop told.next told.inside.0 told.inside.1)
 
 pub returns-clause-to_come : goal.returns-clause-to_come
@@ -72,5 +76,6 @@ returns-clause-to_come c =
     let told = c.in_ok-stop.ensures in
     subst (λ (here : Standing). HaveSameToCome (standing_value p c.args.haystack.now c.args.span s)
     (standing_value p c.args.haystack.now c.args.span here)) (sym c.standing_at.ensures)
-    (same_to_come p c.requires.parts c.args.haystack.now (λ k. omega (arith, c.type_inv.haystack k)) c.args.span c.requires.valid s
+    (same_to_come p c.requires.parts c.args.haystack.now (λ k. omega (arith, c.type_inv.haystack k)) c.args.span
+    c.requires.valid s
     c.requires.standing c.in_ok-stop.stop told.next told.inside.0 told.inside.1 c.if-standing.false)

@@ -1,6 +1,6 @@
-use Rattle.std.proofs.Common.{◌-◌, ◌<◌, ◌≤◌, ◌^◌, ℕ, IfSome, List, Option, Result, Some, None, arith, get_or, subst}
+use Rattle.std.proofs.Common.{◌-◌, ◌<◌, ◌≤◌, ◌^◌, ℕ, IfSome, List, Option, subst}
 use Rattle.std.specs.Result.{IsOkAnd}
-use Rattle.literal_base.specs.Occurs.{IsValidSpan, between}
+use Rattle.literal_base.specs.Occurs.{between}
 use Rattle.literal_search.specs.Inside.NextEnd.{IsNextStop, Stands, StepsToStop}
 use Rattle.literal_search.specs.Inside.Standing.{tables_of}
 use Rattle.literal_search.specs.Inside.Walk.{rows_by}

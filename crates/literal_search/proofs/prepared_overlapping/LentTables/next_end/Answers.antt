@@ -89,7 +89,8 @@ returns-in_err-standing_at-clause-prepared c = λ search are standing.
     let ends = subst (λ (answer : Option Stop). IfSome answer
     (λ stop. (s.at < stop.end) × (stop.end ≤ span.end) × (stop.place < 2 ^ 32))) c.in-Some.is
     c.in_ok-stop.ensures.inside in
-    let row = row_there are haystack byte span c.requires.valid s standing c.if-standing.false stop next ends.0 ends.1 in
+    let row = row_there are haystack byte span c.requires.valid s standing c.if-standing.false stop next ends.0 ends.1
+    in
     let list = list_there are haystack byte span c.requires.valid s standing c.if-standing.false stop next ends.0 ends.1
     in
     absurd (c.in_err-standing_at.ensures.prepared search row list)
@@ -112,7 +113,8 @@ returns-clause-prepared c = λ search are standing.
     let ends = subst (λ (answer : Option Stop). IfSome answer
     (λ stop. (s.at < stop.end) × (stop.end ≤ span.end) × (stop.place < 2 ^ 32))) c.in-Some.is
     c.in_ok-stop.ensures.inside in
-    let row = row_there are haystack byte span c.requires.valid s standing c.if-standing.false stop next ends.0 ends.1 in
+    let row = row_there are haystack byte span c.requires.valid s standing c.if-standing.false stop next ends.0 ends.1
+    in
     let list = list_there are haystack byte span c.requires.valid s standing c.if-standing.false stop next ends.0 ends.1
     in
     subst (λ (s' : Standing). IsNextEnd (tables_by search p) haystack span s (Some s'))

@@ -1,4 +1,5 @@
-use Rattle.std.proofs.Common.{◌≡◌, ◌<◌, ◌≤◌, ◌^◌, IfOk, IfSome, List, Option, Result, ℕ, arith, get_or, length, subst, sym}
+use Rattle.std.proofs.Common.{◌≡◌, ◌<◌, ◌≤◌, ◌^◌, IfOk, IfSome, List, Option, Result}
+use Rattle.std.proofs.Common.{ℕ, arith, get_or, length, subst, sym}
 use Rattle.std.specs.Option.{option_map}
 use Rattle.std.specs.Result.{IsOkAnd}
 use Rattle.literal_base.specs.Occurs.{IsValidSpan}
@@ -28,7 +29,8 @@ next_end-requires-clause-classes c =
 earliest : (p : LentTables) → AreLent p → (numbers : List ℕ) → p.header.numbers.now ≡ numbers
     → (search : OverlappingValue) → IsPreparedOverlapping search numbers → (t : Table) → t ≡ header_table p.header
     → (haystack : List ℕ) → ((i : ℕ) → get_or haystack i 0 < 256) → (span : Span) → IsValidSpan haystack span
-    → (result : Result (Option Stop) Damaged) → FindsNext t haystack 0 span result → IfOk result (λ answer. IfSome answer
+    → (result : Result (Option Stop) Damaged) → FindsNext t haystack 0 span result → IfOk result (λ answer. IfSome
+    answer
     (λ stop. (span.start < stop.end) × (stop.end ≤ span.end) × (stop.place < 2 ^ 32)))
     → IsOkAnd result (λ answer. IsEarliestEnd search.patterns search.ignore_case haystack span
     (option_map (λ stop. stop.end) answer))
@@ -42,7 +44,8 @@ pub returns-in_err-stop-clause-prepared : goal.returns-in_err-stop-clause-prepar
 returns-in_err-stop-clause-prepared c = λ search prepared.
     let told = c.next_end.ensures in
     absurd (subst (λ (r : Result (Option Stop) Damaged). IsOkAnd r (λ answer. IsEarliestEnd search.patterns
-    search.ignore_case c.args.haystack.now c.args.span (option_map (λ (stop : Stop). stop.end) answer))) c.in_err-stop.was
+    search.ignore_case c.args.haystack.now c.args.span (option_map (λ (stop : Stop). stop.end) answer)))
+    c.in_err-stop.was
     (earliest c.self.inside.lent c.self.invariant c.args.self.now c.self.view_is search prepared c.table-table.result
     c.table-table.ensures c.args.haystack.now (λ k. omega (arith, c.type_inv.haystack k)) c.args.span c.requires
     c.next_end.result told.next told.inside))

@@ -1,4 +1,5 @@
-use Rattle.std.proofs.Common.{◌≡◌, ◌⊎◌, ◌+◌, ◌-◌, ◌<◌, ◌≤◌, ◌^◌, ◌∙◌, ℕ, ap, arith, get_or, inl, inr, length, min, subst, sym}
+use Rattle.std.proofs.Common.{◌≡◌, ◌⊎◌, ◌+◌, ◌-◌, ◌<◌, ◌≤◌, ◌^◌, ◌∙◌, ℕ, ap, arith}
+use Rattle.std.proofs.Common.{get_or, inl, inr, length, min, subst, sym}
 use Rattle.std.proofs.lemmas.Bool.{cond-false, cond-true, le-ltb, lt-ltb}
 use Rattle.literal_base.specs.Counts.{Counts}
 use Rattle.literal_base.specs.declared.search.MatchKind.TheVariants.{Standard}

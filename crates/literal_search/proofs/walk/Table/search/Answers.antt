@@ -130,12 +130,14 @@ loop-nearest-preserved c =
       inside = passed.inside.1;
       short = next.short so_far.short nearest.short;
       none = λ query ignore_case is.
-          none_later query.patterns ignore_case haystack c.args.span start so_far.after (so_far.none query ignore_case is) new
+          none_later query.patterns ignore_case haystack c.args.span start so_far.after (so_far.none query ignore_case
+          is) new
           (none_later query.patterns ignore_case haystack rest at (omega (arith, lies.0))
           (none_before t query ignore_case is haystack (λ k. omega (arith, c.type_inv.haystack k)) rest
           (record { ordered = so_far.inside; in_haystack = all }) at (omega (arith, lies.0)) lies.1
           (subst (Walks t haystack rest c.args.is_earliest) c.in-Anew.is
-          (told.found is.classes (is_table t query ignore_case is)))) new (passed.none (root_kind_of query.kind) query.patterns ignore_case is));
+          (told.found is.classes (is_table t query ignore_case is)))) new (passed.none (root_kind_of query.kind)
+          query.patterns ignore_case is));
       others = others_on c.args.tally.now c.loop-nearest.tally c.walk.new.tally c.pass_over.new.tally
           so_far.others told.others passed.others;
       least = omega (arith, so_far.least, far, lies.0, passed.least, told.grows);
