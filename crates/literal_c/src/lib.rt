@@ -698,12 +698,12 @@ pub extern "C" fn literal_find_overlapping_in(
     }
 }
 
-/// Answers as [`literal_find_all_in`], by a search that [`literal_prepare_linear`] wrote. A call looks at no byte more
-/// often than twice, whatever the patterns are. Behind its matches it looks for one more, and beyond that at most twice
-/// as far as the longest pattern is long, or some thousand bytes; the next page begins anew where that one begins. So
-/// pages with room for as many matches as that pattern has bytes take time in proportion to the haystack. Memory for
-/// marks of as many bytes as that pattern has, or 1,024, is asked for once: [`LITERAL_OUT_OF_MEMORY`] comes only where
-/// there is a byte to search, and what was lent is then as it was.
+/// Answers as [`literal_find_all_in`], by a search that [`literal_prepare_linear`] wrote. A call looks in sum at three
+/// bytes at most for each that it searches, whatever the patterns are. Behind its matches it looks for one more, and
+/// beyond that at most twice as far as the longest pattern is long, or some thousand bytes; the next page begins anew
+/// where that one begins. So pages with room for as many matches as that pattern has bytes take time in proportion to
+/// the haystack. Memory for marks of as many bytes as that pattern has, or 1,024, is asked for once:
+/// [`LITERAL_OUT_OF_MEMORY`] comes only where there is a byte to search, and what was lent is then as it was.
 #[unsafe(no_mangle)]
 pub extern "C" fn literal_find_all_linear_in(
     alloc: Global,
@@ -744,8 +744,8 @@ pub extern "C" fn literal_find_all_linear_in(
 }
 
 /// How many matches [`literal_find_all_linear_in`] finds, on one page after another: at most as many as there are bytes
-/// to search. The statuses are the same, and after any but [`LITERAL_OK`] the count is as it was. It looks at no byte
-/// more often than twice.
+/// to search. The statuses are the same, and after any but [`LITERAL_OK`] the count is as it was. It looks in sum
+/// at three bytes at most for each that it searches.
 #[unsafe(no_mangle)]
 pub extern "C" fn literal_count_linear_in(
     alloc: Global,

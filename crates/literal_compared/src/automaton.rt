@@ -53,7 +53,7 @@ fn plainly(
 /// Compares in some spans of a haystack.
 fn compare_in(
     rt: &impl Abort,
-    search: &Search,
+    (search, linear): (&Search, &Linear),
     (list, kind, ignore_case): (&[&[u8]], MatchKind, bool),
     haystack: &[u8; 5],
 ) {
@@ -63,6 +63,9 @@ fn compare_in(
         let wanted = plainly(list, kind, ignore_case, haystack, span);
         let found = search.find_in(haystack, span).map(place);
         let note = format_args!("{list:?}: {haystack:?} in {span:?}");
+        assert_same(rt, found, wanted, note);
+        let found = linear.find_in(haystack, span).map(place);
+        let note = format_args!("from the right, {list:?}: {haystack:?} in {span:?}");
         assert_same(rt, found, wanted, note);
     }
 }
@@ -102,7 +105,7 @@ fn compare(
     let mut haystacks: u32 = 0;
     for number in 0..625 {
         let haystack = bytes_of(digits, number);
-        compare_in(rt, search, of, &haystack);
+        compare_in(rt, (search, linear), of, &haystack);
         let all = search.find_all(&haystack)?;
         compare_all(rt, of, &haystack, all.as_slice());
         let all = linear.find_all(&haystack)?;

@@ -5,7 +5,7 @@
 //! `find_iter` is the greedy list of these, and `Overlapping` gives each occurrence once; a search looks up
 //! at most three times the bytes of its span, and a whole iteration at most three times those of the
 //! haystack and for each match those of the longest pattern; `Linear` lists the same matches, looking up at
-//! most twice the bytes of the haystack; and a search by an array into which the `Search` is written answers
+//! most three times the bytes of the haystack; and a search by an array into which the `Search` is written answers
 //! as it does.
 //!
 //! The contract of [`search_any_list`] says all of this.
@@ -96,7 +96,7 @@ pub fn search_any_list(
     ensures overlapping { IfOk result (λ any. IsOverlapping (searched_for asked.now).query.patterns
         asked.now.ignore_case haystack.now span any.occurring.all.items) }
     ensures same_list { IfOk result (λ any. any.linear.items ≡ any.searched.all.items) }
-    ensures twice { IfOk result (λ _. ScansThrice (whole_of haystack.now) listed.old listed.new) }
+    ensures thrice { IfOk result (λ _. ScansThrice (whole_of haystack.now) listed.old listed.new) }
     ensures by_array { IfOk result (λ any. MatchResult any.by_array
         (IsLeftmost (searched_for asked.now).query asked.now.ignore_case haystack.now span)
         (RefusesToPrepare (searched_for asked.now).query asked.now.ignore_case array.old)) }
@@ -254,7 +254,7 @@ fn list(
     ensures refused { IfErr result (RefusesAnyList asked.now) }
     ensures greedy { IfOk result (λ all. IsGreedy (searched_for asked.now).query asked.now.ignore_case haystack.now
         0 all.items) }
-    ensures twice { IfOk result (λ _. ScansThrice (whole_of haystack.now) listed.old listed.new) }
+    ensures thrice { IfOk result (λ _. ScansThrice (whole_of haystack.now) listed.old listed.new) }
     ensures once { IfOk result (λ _. listed.old.scanned + length haystack.now ≤ listed.new.scanned) }
 {
     let patterns = asked.patterns.iter().copied();

@@ -206,6 +206,7 @@ impl<'t> Backward<'t> {
     pub(crate) fn make_room(&self, marks: &mut Vec<u32>, left: usize) -> Result<(), AllocError>
         ensures ok { IfOk result (λ _. min (max self.now.table.longest LEAST) left ≤ length marks.new.items) }
         ensures more { length marks.old.items ≤ length marks.new.items }
+        ensures most { length marks.new.items ≤ max (length marks.old.items) (max self.now.table.longest LEAST) }
         ensures no_memory { OnErr result (length marks.old.items < min (max self.now.table.longest LEAST) left) }
     {
         let len = self.table.longest.max(LEAST).min(left);

@@ -60,7 +60,7 @@ pub fn iterations_scan_at_most()
 {}
 
 /// What an iteration over all leftmost matches of a span gives up to its first `None` is the greedy list from where it
-/// stood. One that counts scans at most twice the bytes up to which it had not looked (`bounded`), whatever the
+/// stood. One that counts scans at most three times the bytes up to which it had not looked (`bounded`), whatever the
 /// patterns and however many matches; and each of those that it had not looked up (`each`), which as it begins are
 /// those of the span. One match more leads it on (`more`).
 pub fn iterations_in_spans_are_greedy()

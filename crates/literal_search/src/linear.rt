@@ -33,7 +33,7 @@ use std::alloc::{AllocError, Global};
 use std::fmt;
 use std::marker::Model;
 
-/// Searches for all leftmost matches of any number of patterns, and looks up at most twice as many bytes as there are,
+/// Searches for leftmost matches of any number of patterns, and looks up at most three times as many bytes as there are,
 /// whatever the patterns are, and however many matches there are. Contracts see the kind of match, the patterns, and
 /// whether ASCII case is ignored.
 ///
@@ -145,7 +145,7 @@ impl Linear {
     }
 
     /// Answers as [`Linear::find_all_in`], and adds each byte that it looks up to a tally, as scanned: at least those
-    /// of the span, and at most twice these.
+    /// of the span, and at most three times these.
     pub fn find_all_in_counted(
         &self,
         haystack: &[u8],
@@ -174,7 +174,10 @@ impl Linear {
         Ok(all)
     }
 
-    /// The leftmost match in a span of the haystack. No memory is asked for. The span has to be valid.
+    /// The leftmost match in a span of the haystack: of the occurrences of patterns that lie whole in the span the one
+    /// that begins first, and of those that begin there the one that the match kind prefers. Offsets, in the answer
+    /// too, are in bytes of the whole haystack. The span has to be valid: its `start` at most its `end`, and that at
+    /// most the haystack's length. No memory is asked for.
     pub fn find_in(&self, haystack: &[u8], span: Span) -> Option<Match>
         requires { IsValidSpan haystack.now span }
         ensures leftmost { IsLeftmost self.now.query self.now.ignore_case haystack.now span result }
@@ -184,8 +187,8 @@ impl Linear {
     }
 
     /// Answers as [`Linear::find_in`], and adds each byte that it looks up to a tally, as scanned: at most three times
-    /// those of the span, all where nothing is found, and else at least those up to the match's end, and at most six
-    /// times those before it, and a number that the longest pattern's length tells.
+    /// the bytes of the span. It looks up at least those of the span, or with a match those up to its end; and then at
+    /// most eleven times those before the match, and a number that the longest pattern's length tells.
     pub fn find_in_counted(&self, haystack: &[u8], span: Span, tally: &mut Tally) -> Option<Match>
         requires { IsValidSpan haystack.now span }
         ensures leftmost { IsLeftmost self.now.query self.now.ignore_case haystack.now span result }
@@ -196,8 +199,18 @@ impl Linear {
         answer.unwrap_or(None)
     }
 
-    /// The match that begins at a place, which has to be at most the haystack's length. It adds each byte that it looks
-    /// up to a tally, as scanned: at most as many as the longest pattern has, and at least those of the match.
+    /// The match that begins at a place: of the patterns that stand there the one that the match kind prefers, and
+    /// `None` where none does. The place has to be at most the haystack's length.
+    pub fn match_at(&self, haystack: &[u8], at: usize) -> Option<Match>
+        requires { at ≤ length haystack.now }
+        ensures at { IsMatchAt self.now.query self.now.ignore_case haystack.now at result }
+        ensures not_empty { IfSome result (λ found. found.start < found.end) }
+    {
+        self.match_at_counted(haystack, at, &mut Tally::new())
+    }
+
+    /// Answers as [`Linear::match_at`], and adds each byte that it looks up to a tally, as scanned: at most as many as
+    /// the longest pattern has, and at least those of the match.
     pub fn match_at_counted(&self, haystack: &[u8], at: usize, tally: &mut Tally) -> Option<Match>
         requires { at ≤ length haystack.now }
         ensures at { IsMatchAt self.now.query self.now.ignore_case haystack.now at result }
@@ -429,9 +442,9 @@ impl<'s, 'h> Model for LinearMatches<'s, 'h> {
 }
 
 impl<'s, 'h> LinearMatches<'s, 'h> {
-    /// Answers as `next`, and adds each byte that it looks up to a tally, as scanned: at most twice as many as those up
+    /// Answers as `next`, and adds each byte that it looks up to a tally, as scanned: at most three times as many as those up
     /// to which it looks further than before, and at least those by which it reads further, which is as far ahead as a
-    /// pattern may reach. A whole iteration so looks up at least the bytes of the span, and at most twice as many.
+    /// pattern may reach. A whole iteration so looks up at least the bytes of the span, and at most three times as many.
     pub fn next_counted(&mut self, tally: &mut Tally) -> Option<Match>
         ensures gives { GivesInSpan self.old result self.new }
         ensures bounded { ScansThrice (between self.old.known self.new.known) tally.old tally.new }

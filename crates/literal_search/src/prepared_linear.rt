@@ -101,10 +101,23 @@ impl<'p> PreparedLinear<'p> {
         })
     }
 
-    /// The leftmost match in a span of the haystack, as [`Linear::find_in`](crate::Linear::find_in) finds it. With
-    /// numbers that were changed the answer may be another, or [`Damaged`]; but a match lies in the span, is not empty,
-    /// and names one of the patterns. It adds each byte that it looks up to a tally, as scanned: at most three times
-    /// those of the span, whatever the numbers are.
+    /// The leftmost match in a span of the haystack, for which the same holds as for
+    /// [`Linear::find_in`](crate::Linear::find_in). With numbers that were changed it may be another, or [`Damaged`];
+    /// but it lies in the span, is not empty, and names one of the patterns.
+    pub fn find_in(&self, haystack: &[u8], span: Span) -> Result<Option<Match>, Damaged>
+        requires { IsValidSpan haystack.now span }
+        ensures prepared { ForLinear self.now (λ search. IsOkAnd result
+            (IsLeftmost search.query search.ignore_case haystack.now span)) }
+        ensures inside { IfOk result (λ answer. IfSome answer (LiesIn span)) }
+        ensures pattern { IfOk result (λ answer. IfSome answer
+            (λ found. found.pattern < slice_index self.now 3)) }
+    {
+        self.find_in_counted(haystack, span, &mut Tally::new())
+    }
+
+    /// Answers as [`PreparedLinear::find_in`], and adds each byte that it looks up to a tally, as scanned: at most three
+    /// times the bytes of the span, whatever the numbers are, and the rest as
+    /// [`Linear::find_in_counted`](crate::Linear::find_in_counted).
     pub fn find_in_counted(
         &self,
         haystack: &[u8],
@@ -191,7 +204,7 @@ impl<'s, 'p, 'h> PreparedLinearMatches<'s, 'p, 'h> {
 
     /// Answers as `next_match`, and adds each byte that it looks up to a tally, as
     /// [`LinearMatches::next_counted`](crate::LinearMatches::next_counted) does: a whole iteration looks up at most
-    /// twice the bytes of the span, whatever the numbers are.
+    /// three times the bytes of the span, whatever the numbers are.
     pub fn next_counted(&mut self, tally: &mut Tally) -> Result<Option<Match>, Damaged>
         ensures prepared { ForLinear self.old.numbers (λ search. IsOkAnd result (λ answer.
             GivesInSpan (linear_matches_for search self.old) answer (linear_matches_for search self.new))) }

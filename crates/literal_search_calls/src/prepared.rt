@@ -86,6 +86,14 @@ fn found_by_linear(alloc: Global, array: &[u32]) -> Result<Option<Match>, Fail> 
     Ok(matches.next_counted(&mut Tally::new())?)
 }
 
+/// The same without an iteration, by both calls.
+fn found_once_by_linear(array: &[u32]) -> Result<[Option<Match>; 2], Fail> {
+    let (span, tally) = (Span { start: 3, end: 18 }, &mut Tally::new());
+    let prepared = PreparedLinear::new(array)?;
+    let found = prepared.find_in(HAYSTACK, span)?;
+    Ok([found, prepared.find_in_counted(HAYSTACK, span, tally)?])
+}
+
 /// The array that an `Overlapping` fills, of as many places as it takes.
 fn filled_by_overlapping(alloc: Global) -> Result<Vec<u32>, Fail> {
     let search = Overlapping::new(alloc, true, WORDS)?;
@@ -116,6 +124,7 @@ fn earliest_ends(array: &[u32]) -> Result<[Option<usize>; 2], Fail> {
 fn counts_by_other_arrays(rt: HostRuntime) -> Result<(), Fail> {
     let array = filled_by_linear(rt.alloc())?;
     assert!(rt; found_by_linear(rt.alloc(), &array)? == second());
+    assert!(rt; found_once_by_linear(&array)? == [second(); 2]);
     let array = filled_by_overlapping(rt.alloc())?;
     assert!(rt; found_by_overlapping(&array)? == second());
     assert!(rt; earliest_ends(&array)? == [Some(18); 2]);

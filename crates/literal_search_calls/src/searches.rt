@@ -138,6 +138,19 @@ fn earliest_ends(all: &Overlapping) -> [Option<usize>; 2] {
 }
 
 #[test]
+fn linear_finds_the_first_match_and_that_at_a_place(rt: HostRuntime) -> Result<(), Fail> {
+    let words = [b"password".as_slice(), b"secret"];
+    let linear = Linear::new(rt.alloc(), MatchKind::LeftmostFirst, true, words)?;
+    let (span, tally) = (Span { start: 3, end: 18 }, &mut Tally::new());
+    let second = Some(Match::must(1, Span { start: 12, end: 18 }));
+    assert!(rt; linear.find_in(HAYSTACK, span) == second);
+    assert!(rt; linear.find_in_counted(HAYSTACK, span, tally) == second);
+    assert!(rt; linear.match_at(HAYSTACK, 12) == second);
+    assert!(rt; linear.match_at_counted(HAYSTACK, 11, tally) == None);
+    Ok(())
+}
+
+#[test]
 fn others_count_what_they_look_up(rt: HostRuntime) -> Result<(), Fail> {
     let words = [b"password".as_slice(), b"secret"];
     let linear = Linear::new(rt.alloc(), MatchKind::LeftmostFirst, true, words)?;

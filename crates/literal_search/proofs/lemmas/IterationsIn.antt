@@ -8,7 +8,7 @@ use Rattle.literal_search.specs.Linear.{ScansThrice, looked_upto}
 use Rattle.literal_search.specs.LinearMatchesValue.{GivesInSpanCounted, LinearMatchesValue}
 use Rattle.literal_search.proofs.lemmas.Iterations.{scanned_on}
 
--- at most twice what it had not looked at, up to its end
+-- at most three times what it had not looked at, up to its end
 pub scans_twice_from_yields : (m : LinearMatchesValue × Counts) (all : List MatchValue)
     (n o : LinearMatchesValue × Counts) → Yields GivesInSpanCounted m all n → GivesInSpanCounted n None o
     → ScansThrice (between m.0.known m.0.span.end) m.1 o.1
