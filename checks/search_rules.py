@@ -35,7 +35,8 @@ MAKERS = (
     "Search::find_in", "Search::match_at", "Search::find_all", "MatchesIterator::next",
     "Overlapping::earliest_end", "OverlappingMatchesIterator::next", "Prepared::find_in",
     "PreparedOverlapping::earliest_end", "PreparedOverlappingMatches::next_match",
-    "Linear::find_all_in", "LinearMatchesIterator::next", "PreparedLinearMatches::next_match",
+    "Linear::find_all_in", "Linear::find_in", "Linear::match_at", "LinearMatchesIterator::next",
+    "PreparedLinear::find_in", "PreparedLinearMatches::next_match",
 )
 
 # Where each step ticks, once in each function, and a sum of the words of its body as it was reviewed, if it was. The
@@ -48,7 +49,7 @@ TICKS = {
     "crates/literal_prefilters/src/prefilter/byte_table.rt": {"ByteTable::find": ("tick_scanned", "9327f693401c")},
     CONFIRMING: {"confirming::confirm": ("tick_tried", ""), "confirming::confirm_by_table": ("tick_tried", "")},
     "crates/literal_search/src/walk.rt": {
-        "Table::code_at": ("tick_scanned", "8270437f8d2d"), "Table::next_at": ("tick_scanned", "7b9f9c73fdb5"),
+        "Table::code_at": ("tick_scanned", "8270437f8d2d"), "Table::code_by": ("tick_scanned", "e935c45fa3c8"),
     },
 }
 READS = ("tick_compared", "tick_scanned")

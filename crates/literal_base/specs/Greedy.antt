@@ -8,8 +8,8 @@ use Rattle.literal_base.specs.Occurs.{NothingOccurs, between, rest_from}
 use Rattle.literal_base.specs.declared.search.Span.{Span}
 use Rattle.literal_base.specs.Leftmost.{IsLeftmostMatch}
 
--- all matches of a span, from the left: its leftmost match, followed by those of the rest of the span behind that match.
--- It is empty exactly if no pattern occurs in the span
+-- all matches of a span, from the left: its leftmost match, followed by those of the rest of the span behind that
+-- match. It is empty exactly if no pattern occurs in the span
 abbrev pub IsGreedyIn : Query → Bool → List ℕ → Span → List MatchValue → Type 0
 IsGreedyIn query ignore_case haystack span [] = NothingOccurs query.patterns ignore_case haystack span
 IsGreedyIn query ignore_case haystack span (found ∷ more) =

@@ -35,8 +35,8 @@ pub record GivesInSpan (old : LinearMatchesValue) (answer : Option MatchValue) (
   pub inside : new.known ≤ old.span.end
   pub looked : new.at ≤ looked_upto old.search.query.patterns old.span new.known
 
--- a step of an iteration that counts: what `next` gives; it scans at most three times as many bytes as those up to which
--- it looks further than before, and at least those that it had not looked up and now has
+-- a step of an iteration that counts: what `next` gives; it scans at most three times as many bytes as those up to
+-- which it looks further than before, and at least those that it had not looked up and now has
 pub record GivesInSpanCounted (old : LinearMatchesValue × Counts) (answer : Option MatchValue)
     (new : LinearMatchesValue × Counts) : Type 0 where
   pub gives : GivesInSpan old.0 answer new.0

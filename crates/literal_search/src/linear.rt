@@ -33,9 +33,9 @@ use std::alloc::{AllocError, Global};
 use std::fmt;
 use std::marker::Model;
 
-/// Searches for leftmost matches of any number of patterns, and looks up at most three times as many bytes as there are,
-/// whatever the patterns are, and however many matches there are. Contracts see the kind of match, the patterns, and
-/// whether ASCII case is ignored.
+/// Searches for leftmost matches of any number of patterns, and looks up at most three times as many bytes as there
+/// are, whatever the patterns are, and however many matches there are. Contracts see the kind of match, the patterns,
+/// and whether ASCII case is ignored.
 ///
 /// It walks through a block of the haystack from its end, by an automaton of the reversed patterns, and marks for each
 /// place what begins there. Then it takes the matches from the left.
@@ -442,9 +442,10 @@ impl<'s, 'h> Model for LinearMatches<'s, 'h> {
 }
 
 impl<'s, 'h> LinearMatches<'s, 'h> {
-    /// Answers as `next`, and adds each byte that it looks up to a tally, as scanned: at most three times as many as those up
-    /// to which it looks further than before, and at least those by which it reads further, which is as far ahead as a
-    /// pattern may reach. A whole iteration so looks up at least the bytes of the span, and at most three times as many.
+    /// Answers as `next`, and adds each byte that it looks up to a tally, as scanned: at most three times as many as
+    /// those up to which it looks further than before, and at least those by which it reads further, which is as far
+    /// ahead as a pattern may reach. A whole iteration so looks up at least the bytes of the span, and at most three
+    /// times as many.
     pub fn next_counted(&mut self, tally: &mut Tally) -> Option<Match>
         ensures gives { GivesInSpan self.old result self.new }
         ensures bounded { ScansThrice (between self.old.known self.new.known) tally.old tally.new }

@@ -115,8 +115,8 @@ impl<'p> PreparedLinear<'p> {
         self.find_in_counted(haystack, span, &mut Tally::new())
     }
 
-    /// Answers as [`PreparedLinear::find_in`], and adds each byte that it looks up to a tally, as scanned: at most three
-    /// times the bytes of the span, whatever the numbers are, and the rest as
+    /// Answers as [`PreparedLinear::find_in`], and adds each byte that it looks up to a tally, as scanned: at most
+    /// three times the bytes of the span, whatever the numbers are, and the rest as
     /// [`Linear::find_in_counted`](crate::Linear::find_in_counted).
     pub fn find_in_counted(
         &self,

@@ -74,7 +74,8 @@ pub begins_if_not : (b : Backward) (search : SearchValue) → AreBackFor search 
     (end at code limit : ℕ) → IsLimit b limit → at < end → limit ≤ code
     → IsStep (back_tables_by search b) haystack span end at code
     → ¬ NoneBeginsAt (back_tables_by search b) haystack span.end at
-begins_if_not b search is haystack span end at code limit limit_is before over step none = elim (cases_lt code (2 ^ 31)) [
+begins_if_not b search is haystack span end at code limit limit_is before over step none =
+    elim (cases_lt code (2 ^ 31)) [
   | inl small ↦
       let row = (lane_small (back_tables_by search b) haystack span end at code small step).stands.row in
       absurd (omega (arith, row, limit_is.is, over, small))
@@ -117,7 +118,8 @@ module _ (p : BackTables) (haystack : List ℕ) (span : Span) (end at code : ℕ
           (step.mark before, λ k after less. absurd (omega (arith, after, less)))
     ]
 
-lies_earlier : (first : Option Begun) (next at end : ℕ) → at ≤ next → LiesInPart next end first → LiesInPart at end first
+lies_earlier : (first : Option Begun) (next at end : ℕ) → at ≤ next → LiesInPart next end first → LiesInPart at end
+    first
 lies_earlier None next at end less is = tt
 lies_earlier (Some begun) next at end less is = (omega (arith, is.0, less), is.1, is.2)
 
@@ -204,7 +206,8 @@ none_left p haystack end at part left zero none = λ k after before. elim (cases
 ]
 
 -- a mark in another place stays
-pub marks_kept : (p : BackTables) (haystack : List ℕ) (end : ℕ) (marks : List ℕ) (at from upto slot code : ℕ) → at ≤ from
+pub marks_kept : (p : BackTables) (haystack : List ℕ) (end : ℕ) (marks : List ℕ) (at from upto slot code : ℕ) 
+    → at ≤ from
     → (at + slot < from) ⊎ (upto ≤ at + slot) → AreMarks p haystack end marks at from upto
     → AreMarks p haystack end (set marks slot code) at from upto
 marks_kept p haystack end marks at from upto slot code after apart are k behind before =

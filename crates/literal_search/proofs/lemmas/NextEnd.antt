@@ -199,7 +199,8 @@ pub finds_earliest : (t : Table) (patterns : List (List ℕ)) (ignore_case : Boo
     (λ stop. (span.start < stop.end) × (stop.end ≤ span.end) × (stop.place < 2 ^ 32)))
     → IsOkAnd result (λ answer. IsEarliestEnd patterns ignore_case haystack span (option_map (λ stop. stop.end) answer))
 finds_earliest t patterns ignore_case is haystack bytes span valid result finds inside =
-    also_ok result _ _ _ (λ answer next lies. earliest_is patterns ignore_case t.classes.now t.width (rows_by t) is.tells
+    also_ok result _ _ _ (λ answer next lies. earliest_is patterns ignore_case t.classes.now t.width (rows_by t)
+    is.tells
     is.some haystack bytes span valid answer next lies)
     (finds patterns ignore_case is span.start
     (stands_first patterns ignore_case t.classes.now t.width (rows_by t) haystack span)) inside

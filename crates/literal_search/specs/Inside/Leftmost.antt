@@ -90,8 +90,8 @@ pub record AreMarksBehind (p : BackTables) (haystack : List ℕ) (end : ℕ) (ma
   pub third : AreMarks p haystack end marks at (at + 2 * part + left) (at + 3 * part)
   pub fourth : AreMarks p haystack end marks at (at + 3 * part + left) (at + 4 * part)
 
--- a block of four parts from a place on, and behind them as many bytes as a walk has to read first. Where these reach to
--- the end of the span, they belong to the block
+-- a block of four parts from a place on, and behind them as many bytes as a walk has to read first. Where these reach
+-- to the end of the span, they belong to the block
 pub record IsFourParts (longest : ℕ) (span : Span) (at : ℕ) (b : Block) : Type 0 where
   pub some : 2 ≤ b.part
   pub inside : at + 4 * b.part + b.lead ≤ span.end
@@ -100,8 +100,8 @@ pub record IsFourParts (longest : ℕ) (span : Span) (at : ℕ) (b : Block) : Ty
   pub cheap : 3 * at + 4 * b.part + 4 * b.lead ≤ 3 * b.end
   pub short : b.lead ≤ 2 * b.part + 4
 
--- how many bytes are looked up for the first place of a span at which a pattern begins: all that a pattern may reach that
--- begins there, and those of the span where none does; and not many times those before it
+-- how many bytes are looked up for the first place of a span at which a pattern begins: all that a pattern may reach
+-- that begins there, and those of the span where none does; and not many times those before it
 abbrev pub ReadsFor : ℕ → Span → ℕ → ℕ → Option Begun → Type 0
 ReadsFor longest span old new None = old + span.end ≤ new + span.start
 ReadsFor longest span old new (Some begun) =

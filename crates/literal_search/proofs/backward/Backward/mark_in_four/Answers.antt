@@ -1,4 +1,5 @@
-use Rattle.std.proofs.Common.{◌≡◌, ◌+◌, ◌-◌, ◌*◌, ◌≤◌, ◌<◌, ◌⊎◌, ◌∙◌, ◌^◌, ◌%◌, List, ℕ, ap, arith, inl, inr, length, refl, set, subst}
+use Rattle.std.proofs.Common.{◌≡◌, ◌+◌, ◌-◌, ◌*◌, ◌≤◌, ◌<◌, ◌⊎◌, ◌∙◌, ◌^◌, ◌%◌, List, ℕ, ap, arith, inl, inr, length}
+use Rattle.std.proofs.Common.{refl, set, subst}
 use Rattle.std.proofs.lemmas.List.{length-set}
 use Rattle.literal_base.specs.Counts.{Counts}
 use Rattle.literal_search.specs.Inside.Backward.{AreBackFor, AreMarks, back_tables_by}
@@ -66,7 +67,8 @@ loop-step-preserved c =
     (omega arith) (so_far.lanes search is lanes).first in
     let two : (search : SearchValue) → AreBackFor search c.args.self.now → Start search
     → IsStep (tables search) haystack span (at + 2 * part) (at + part + step) c.in_ok-two.two =
-    λ search is lanes. c.in_ok-two.ensures.step search is span (at + 2 * part) (at + part + next) (at + part + step) valid
+    λ search is lanes. c.in_ok-two.ensures.step search is span (at + 2 * part) (at + part + next) (at + part + step)
+    valid
     (omega arith) (omega arith) (so_far.lanes search is lanes).second in
     let three : (search : SearchValue) → AreBackFor search c.args.self.now → Start search
     → IsStep (tables search) haystack span (at + 3 * part) (at + 2 * part + step) c.in_ok-three.three =
@@ -104,7 +106,8 @@ loop-step-preserved c =
                 (omega arith) (inr (omega arith))
                 (marks_kept p haystack end marks1 at (at + step) (at + part) (step + part) c.in_ok-two.two (omega arith)
                 (inr (omega arith))
-                (marks_on p haystack end marks0 at (at + step) (at + next) (at + part) step c.in_ok-one.one (omega arith)
+                (marks_on p haystack end marks0 at (at + step) (at + next) (at + part) step c.in_ok-one.one (omega
+                arith)
                 (omega arith) (omega arith) (omega (arith, room, before))
                 ((one search is lanes).mark (omega (arith, before))) are.first)));
             second =
@@ -116,7 +119,8 @@ loop-step-preserved c =
                 (marks_on p haystack end marks1 at (at + part + step) (at + part + next) (at + 2 * part) (step + part)
                 c.in_ok-two.two (omega arith) (omega arith) (omega arith) (omega (arith, room, before, long1))
                 ((two search is lanes).mark (omega (arith, before)))
-                (marks_kept p haystack end marks0 at (at + part + next) (at + 2 * part) step c.in_ok-one.one (omega arith)
+                (marks_kept p haystack end marks0 at (at + part + next) (at + 2 * part) step c.in_ok-one.one (omega
+                arith)
                 (inl (omega (arith, before))) are.second)));
             third =
                 marks_kept p haystack end marks3 at (at + 2 * part + step) (at + 3 * part) (step + 3 * part)

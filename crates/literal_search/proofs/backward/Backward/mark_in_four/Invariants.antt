@@ -13,14 +13,16 @@ invariant-loop-step l = record {
     third = l.third;
     fourth = l.fourth;
   });
-  lanes : ForBackward l.fn.self (λ tables. AreLanes tables l.fn.haystack l.fn.span l.fn.at l.fn.part l.fn.part l.fn.lanes
+  lanes : ForBackward l.fn.self (λ tables. AreLanes tables l.fn.haystack l.fn.span l.fn.at l.fn.part l.fn.part
+      l.fn.lanes
       → AreLanes tables l.fn.haystack l.fn.span l.fn.at l.fn.part l.step (record {
         first = l.first;
         second = l.second;
         third = l.third;
         fourth = l.fourth;
       }));
-  marks : ForBackward l.fn.self (λ tables. AreLanes tables l.fn.haystack l.fn.span l.fn.at l.fn.part l.fn.part l.fn.lanes
+  marks : ForBackward l.fn.self (λ tables. AreLanes tables l.fn.haystack l.fn.span l.fn.at l.fn.part l.fn.part
+      l.fn.lanes
       → AreMarksBehind tables l.fn.haystack l.fn.span.end l.marks l.fn.at l.fn.part l.step);
   counted : l.tally ≡ record l.fn.tally { scanned = l.fn.tally.scanned + 4 * (l.fn.part - l.step) };
 }

@@ -81,7 +81,8 @@ loop-step-preserved c =
     let so_far = c.loop-step.invariant in
     let limit = c.requires.limit in
     let tables = λ (search : SearchValue). back_tables_by search c.args.self.now in
-    let on : (search : SearchValue) → AreBackFor search c.args.self.now → (end next at to place code : ℕ) → next ≡ at + 1
+    let on : (search : SearchValue) → AreBackFor search c.args.self.now → (end next at to place code : ℕ) → next ≡ at
+    + 1
     → to ≡ at → IsLane (tables search) haystack span end next place
     → code ≡ get_or (rows_by c.args.self.now.table)
     (place + get_or c.args.self.now.table.classes.now (get_or haystack at 0) 0) 0
@@ -94,7 +95,8 @@ loop-step-preserved c =
     let fourth : c.next_at-fourth.result < 2 ^ 31 = omega (arith, c.if-fourth-limit.false, limit.is) in
     let one = λ (search : SearchValue) (is : AreBackFor search c.args.self.now)
     (lanes : AreLanes (tables search) haystack span at part part c.args.lanes).
-    on search is (at + part) (at + (part - step)) here (at + left) c.loop-step.first c.next_at-first.result (omega arith)
+    on search is (at + part) (at + (part - step)) here (at + left) c.loop-step.first c.next_at-first.result (omega
+    arith)
     (omega arith) (so_far.lanes search is lanes).first
     (c.next_at-first.ensures.number is.tables.classes (so_far.lanes search is lanes).first.stands.row) in
     let two = λ (search : SearchValue) (is : AreBackFor search c.args.self.now)

@@ -11,7 +11,8 @@ invariant-loop-step l = record {
     third = l.third;
     fourth = l.fourth;
   });
-  lanes : ForBackward l.fn.self (λ tables. AreLanes tables l.fn.haystack l.fn.span l.fn.at l.fn.part l.fn.part l.fn.lanes
+  lanes : ForBackward l.fn.self (λ tables. AreLanes tables l.fn.haystack l.fn.span l.fn.at l.fn.part l.fn.part
+      l.fn.lanes
       → AreLanes tables l.fn.haystack l.fn.span l.fn.at l.fn.part (l.fn.part - l.step) (record {
         first = l.first;
         second = l.second;

@@ -21,7 +21,8 @@ returns-clause-bounded c =
     let at = c.args.at in
     let old = c.args.tally.now.scanned in
     let new = c.find_at-answer.new.tally.scanned in
-    let reaches : Option MatchValue → Type 0 = λ answer. MatchOption answer (old ≤ new) (λ found. old + found.end ≤ new + at)
+    let reaches : Option MatchValue → Type 0 = λ answer. MatchOption answer (old ≤ new) (λ found. old + found.end ≤
+    new + at)
     in
     subst (λ (v : SearchValue). ScansAt v.query.patterns at c.unwrap_or.result c.args.tally.now
     c.find_at-answer.new.tally) c.self.view_is

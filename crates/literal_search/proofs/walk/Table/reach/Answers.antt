@@ -31,7 +31,8 @@ loop-at-preserved c =
       within = c.if-code-limit.false;
       walks = λ are. walks_further t.width (rows_by t) c.args.from t.classes.now haystack start at c.loop-at.place
           (c.loop-at.invariant.walks are) after inside
-          (are.below (get_or haystack at 0) (omega (arith, c.type_inv.haystack at))) c.code_at-code.result (c.code_at-code.ensures.number are)
+          (are.below (get_or haystack at 0) (omega (arith, c.type_inv.haystack at))) c.code_at-code.result
+          (c.code_at-code.ensures.number are)
           (omega (arith, c.if-code-limit.false, c.in_ok-limit.ensures.1));
       counted = c.code_at-code.ensures.ticks
           ∙ (ap (λ (t : Counts). let t' : Counts = record t { scanned = t.scanned + 1 } in t')
@@ -50,7 +51,8 @@ returns-then-code-eq0-clause-reaches c = λ are patterns recognises text begins.
     c.if-code-eq0.true
     (walks_further t.width (rows_by t) c.args.from t.classes.now haystack start at c.loop-at.place
     (c.loop-at.invariant.walks are) c.loop-at.auto.at inside
-    (are.below (get_or haystack at 0) (omega (arith, c.type_inv.haystack at))) c.code_at-code.result (c.code_at-code.ensures.number are)
+    (are.below (get_or haystack at 0) (omega (arith, c.type_inv.haystack at))) c.code_at-code.result
+    (c.code_at-code.ensures.number are)
     (omega (arith, c.if-code-eq0.true))) Standard patterns recognises text begins
 
 -- a number that leads to a row is below the limit, or 2^31 above what is
@@ -69,7 +71,8 @@ returns-in_err-place-clause-reaches c = λ are patterns recognises text begins.
     let inside : at < length haystack = omega (arith, c.loop-at-test.true, c.requires.valid.in_haystack) in
     let row = number_leads t.width (rows_by t) c.args.from t.classes.now haystack c.args.span.start at c.loop-at.place
     (c.loop-at.invariant.walks are) c.loop-at.auto.at inside
-    (are.below (get_or haystack at 0) (omega (arith, c.type_inv.haystack at))) c.code_at-code.result (c.code_at-code.ensures.number are)
+    (are.below (get_or haystack at 0) (omega (arith, c.type_inv.haystack at))) c.code_at-code.result
+    (c.code_at-code.ensures.number are)
     patterns recognises text begins in
     absurd (no_row c.code_at-code.result c.in_ok-limit.limit t.width (length (rows_by t)) c.in_ok-limit.ensures.2
     row.fits recognises.few c.if-code-limit.true c.in_err-place.ensures)
@@ -86,7 +89,8 @@ returns-then-code-limit-clause-reaches c = λ are patterns recognises text begin
     (record { place = place; end = at + 1 })) (sym c.in_ok-place.ensures.1)
     (reaches_end t.width (rows_by t) c.args.from t.classes.now haystack start at c.loop-at.place
     (c.loop-at.invariant.walks are) c.loop-at.auto.at inside
-    (are.below (get_or haystack at 0) (omega (arith, c.type_inv.haystack at))) c.code_at-code.result (c.code_at-code.ensures.number are)
+    (are.below (get_or haystack at 0) (omega (arith, c.type_inv.haystack at))) c.code_at-code.result
+    (c.code_at-code.ensures.number are)
     patterns recognises text begins c.in_ok-place.ensures.0
     (λ is. omega (arith, is, c.in_ok-place.ensures.1, c.in_ok-place.ensures.2, c.in_ok-limit.ensures.2)))
 
