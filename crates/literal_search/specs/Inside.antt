@@ -6,6 +6,7 @@ pub mod Search
 pub mod Suffixes
 pub mod Growing
 pub mod Grown
+pub mod Kept
 pub mod LentTables
 pub mod Linear
 pub mod Lists
