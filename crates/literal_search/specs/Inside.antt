@@ -7,6 +7,7 @@ pub mod Suffixes
 pub mod Growing
 pub mod Grown
 pub mod Leftmost
+pub mod Kept
 pub mod LentTables
 pub mod Linear
 pub mod Lists

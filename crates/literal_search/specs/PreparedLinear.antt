@@ -7,12 +7,14 @@ use Rattle.literal_search.specs.Inside.Best.{AreBest}
 use Rattle.literal_search.specs.Inside.Classes.{AreClasses, Tells, symbols_in}
 use Rattle.literal_search.specs.Linear.{reversed}
 use Rattle.literal_search.specs.LinearMatchesValue.{LinearMatchesValue}
-use Rattle.literal_search.specs.Prepared.{HasParts, RefusesNumbers, WritesNumbers, check_of, classes_end}
+use Rattle.literal_search.specs.Prepared.{HasParts, WritesNumbers, check_of, classes_end}
 use Rattle.literal_search.specs.Prepared.{classes_in, lengths_in, longest_in, rows_in, width_in}
 use Rattle.literal_search.specs.States.{IsRowsLength}
 use Rattle.literal_search.specs.Table.{Recognises}
 use Rattle.literal_search.specs.declared.classes.TheConstants.{CLASSES_LEN}
 use Rattle.literal_search.specs.declared.prepared.PrepareError.{PrepareError}
+use Rattle.literal_search.specs.declared.prepared.PrepareError.TheVariants.{ArrayTooShort, ListsTooLong}
+use Rattle.literal_search.specs.declared.prepared.PrepareError.TheVariants.{PatternTooLong}
 use Rattle.literal_search.specs.declared.prepared.TheConstants.{LENGTHS_AT, LINEAR_VERSION}
 
 -- what a search from the right reads: classes of bytes, rows, for each pattern the best of those that are prefixes of
@@ -90,10 +92,14 @@ TakesLinearPlaces search needed =
 abbrev pub WritesLinear : SearchValue → List ℕ → List ℕ → ℕ → Type 0
 WritesLinear search = WritesNumbers (IsPreparedLinear search) (TakesLinearPlaces search)
 
--- why it is not
+-- why it is not: the array has fewer places than it takes, which would be enough; no pattern is too long, since each
+-- byte of the longest has a state, and there are no lists
 abbrev pub RefusesLinear : SearchValue → List ℕ → PrepareError → Type 0
-RefusesLinear search =
-    RefusesNumbers search.query.patterns ⊥ (IsPreparedLinear search) (TakesLinearPlaces search)
+RefusesLinear search array PatternTooLong = ⊥
+RefusesLinear search array ListsTooLong = ⊥
+RefusesLinear search array (ArrayTooShort needed) =
+    (length array < needed) × TakesLinearPlaces search needed
+    × ((numbers : List ℕ) × IsPreparedLinear search numbers × (length numbers ≡ needed))
 
 -- a `PreparedLinearMatches` as contracts see it: by which array, where, from which place it goes on, and up to which
 -- place it has looked

@@ -9,7 +9,7 @@ ghost use Rattle.literal_search.specs.Linear.{ScansThrice, looked_by};
 ghost use Rattle.literal_search.specs.LinearMatchesValue.{place_behind};
 ghost use Rattle.literal_search.specs.Inside.Backward.{AreMarked, AreMarks, ForBackward, IsBegun, IsBlock};
 ghost use Rattle.literal_search.specs.Inside.Backward.{IsLastBegun, IsMark, IsMatchBy, IsPlaced, IsRead, StopsMarking};
-ghost use Rattle.literal_search.specs.Inside.Backward.{IsSafe, LeadsOn, NoneFrom, StandsDown, lens_of};
+ghost use Rattle.literal_search.specs.Inside.Backward.{IsSafe, LeadsOn, NoneFrom, StandsDown};
 
 use crate::classes::CLASSES_LEN;
 use crate::prepared::Damaged;
@@ -28,14 +28,8 @@ pub struct Backward<'t> {
     pub table: Table<'t>,
     /// For each pattern the best of those that are prefixes of it.
     pub best: &'t [u32],
-    pub lens: Lens<'t>,
-}
-
-/// How long each pattern is.
-#[derive(Clone, Copy)]
-pub enum Lens<'t> {
-    Patterns(&'t [Vec<u8>]),
-    Numbers(&'t [u32]),
+    /// How long each pattern is.
+    pub lens: &'t [u32],
 }
 
 /// A place at which a pattern begins, and the number with which a walk came there.
@@ -95,26 +89,6 @@ impl Marks {
         self.first = end;
         self.upto = end;
         self.known = end;
-    }
-}
-
-impl<'t> Lens<'t> {
-    /// How long the pattern of a number is, where there is one.
-    fn len_of(&self, pattern: usize) -> Result<usize, Damaged>
-        ensures { MatchResult result
-            (λ len. (pattern < length (lens_of self.now)) × (len ≡ slice_index (lens_of self.now) pattern))
-            (λ _. length (lens_of self.now) ≤ pattern) }
-    {
-        match self {
-            Lens::Patterns(patterns) => {
-                let bytes = patterns.get(pattern).ok_or(Damaged)?;
-                Ok(bytes.len())
-            }
-            Lens::Numbers(numbers) => {
-                let len = numbers.get(pattern).ok_or(Damaged)?;
-                Ok(*len as usize)
-            }
-        }
     }
 }
 
@@ -388,7 +362,7 @@ impl<'t> Backward<'t> {
         prove!(span.end <= haystack.len());
         let longest = self.table.ending_at((code - ENDS) as usize)?;
         let pattern = *self.best.get(longest as usize).ok_or(Damaged)? as usize;
-        let len = self.lens.len_of(pattern)?;
+        let len = *self.lens.get(pattern).ok_or(Damaged)? as usize;
         if len == 0 || len > self.table.longest || len > span.end - at {
             return Err(Damaged);
         }

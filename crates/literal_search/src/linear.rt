@@ -14,18 +14,19 @@ ghost use Rattle.literal_search.specs.LinearMatchesValue.{GivesInSpan, most_in_s
 ghost use Rattle.literal_search.specs.Memory.{TakesLinearBytes};
 ghost use Rattle.literal_search.specs.Inside.Backward.{AreBackFor, AreMarked, IsPlaced, IsSafe, back_tables_by};
 ghost use Rattle.literal_search.specs.Inside.Linear.{AreParts, linear_value, patterns_of, tables_of};
-ghost use Rattle.literal_search.specs.Prepared.{AreShort};
+ghost use Rattle.literal_search.specs.Inside.Prepared.{numbers_for};
+ghost use Rattle.literal_search.specs.Inside.Rows.{rows_value};
+ghost use Rattle.literal_search.specs.Prepared.{AreShort, longest_in};
 ghost use Rattle.literal_search.specs.PreparedLinear.{RefusesLinear, TakesLinearPlaces, WritesLinear};
 ghost use Rattle.literal_search.specs.declared.backward.TheConstants.{LEAST};
-ghost use Rattle.literal_search.specs.declared.prepared.PrepareError.TheVariants.{PatternTooLong};
 
-use crate::backward::{Backward, Lens, Marks, no_marks};
-use crate::classes::classes_for;
-use crate::prepared::{self, PrepareError};
+use crate::backward::{Backward, Marks, no_marks};
+use crate::classes::{CLASSES_LEN, classes_for};
+use crate::prepared::{LENGTHS_AT, LINEAR_VERSION, NO_PATTERN, PrepareError, put_numbers, write};
+use crate::prepared_linear::backward_in;
 use crate::rows::{Rows, rows_for};
 use crate::suffixes::Recognised;
-use crate::walk::Table;
-use crate::{BuildError, copies, longest_len, total_bytes};
+use crate::{BuildError, copies, total_bytes};
 use literal_base::count::Tally;
 use literal_base::packed::MatchKind;
 use literal_base::{Match, Span, search};
@@ -57,13 +58,23 @@ struct Parts {
     kind: MatchKind,
     ignore_case: bool,
     patterns: Vec<Vec<u8>>,
-    /// How many classes of bytes there are.
-    width: usize,
-    /// Those of an automaton for all that occurs of the reversed patterns.
-    rows: Rows,
-    /// For each pattern the best of those that are prefixes of it.
-    best: Vec<u32>,
-    longest: usize,
+    numbers: Numbers,
+}
+
+/// The numbers of a search, as [`Linear::prepare`] writes them. Contracts see them.
+#[derive(Drop)]
+struct Numbers {
+    /// Empty where there is no pattern.
+    kept: Vec<u32>,
+}
+
+impl Model for Numbers {
+    ghost use Rattle.std.specs.Prelude.{List, ℕ};
+    ghost use Rattle.literal_search.specs.Inside.Kept.{numbers_kept};
+
+    ghost Value = { List ℕ };
+
+    ghost view = { λ n. numbers_kept n.kept.items };
 }
 
 impl Model for Linear {
@@ -105,15 +116,12 @@ impl Linear {
             patterns: &backward,
         };
         let best = recognised.best_suffixes(alloc, kind)?;
-        let longest = longest_len(&patterns);
+        let numbers = numbers_for(alloc, classes.width, &patterns, &rows, &best)?;
         let parts = Parts {
             kind,
             ignore_case,
             patterns,
-            width: classes.width,
-            rows,
-            best,
-            longest,
+            numbers,
         };
         Ok(Linear { parts })
     }
@@ -261,31 +269,20 @@ impl Linear {
         ensures error { IfErr result (RefusesLinear self.now array.old) }
         ensures as_before { OnErr result (array.new ≡ array.old) }
     {
-        let parts = &self.parts;
-        prepared::write(
-            prepared::LINEAR_VERSION,
-            parts.width,
-            &parts.patterns,
-            parts.rows.as_slice(),
-            &[],
-            &parts.best,
-            array,
-        )
+        let numbers = self.parts.numbers.as_slice();
+        let needed = numbers.len();
+        if array.len() < needed {
+            return Err(PrepareError::ArrayTooShort(needed));
+        }
+        put_numbers(array, 0, numbers);
+        Ok(needed)
     }
 
-    /// How many places [`Linear::prepare`] writes: an array of as many, or more, is long enough for it. For a search
-    /// that it refuses whatever the array, since a pattern has 2^32 bytes or more, the error is the same.
-    pub fn prepared_len(&self) -> Result<usize, PrepareError>
-        ensures ok { IfOk result (λ needed. AreShort self.now.query.patterns × TakesLinearPlaces self.now needed) }
-        ensures error { IfErr result
-            (λ error. (error ≡ PatternTooLong) × ¬ AreShort self.now.query.patterns) }
+    /// How many places [`Linear::prepare`] writes: an array of as many, or more, is long enough for it.
+    pub fn prepared_len(&self) -> usize
+        ensures { TakesLinearPlaces self.now result }
     {
-        let parts = &self.parts;
-        if parts.longest > u32::MAX as usize {
-            return Err(PrepareError::PatternTooLong);
-        }
-        let rows = parts.rows.as_slice();
-        Ok(prepared::LENGTHS_AT + parts.patterns.len() + rows.len() + parts.best.len())
+        self.parts.numbers.as_slice().len()
     }
 
     /// How many bytes its table and its patterns take: 4 for each number in the rows of all states and for each
@@ -295,12 +292,11 @@ impl Linear {
     {
         let Parts {
             patterns,
-            rows,
-            best,
+            numbers,
             ..
         } = &self.parts;
-        let numbers = rows.without_classes().len() as u128 + best.len() as u128;
-        numbers * 4 + total_bytes(patterns)
+        let before = LENGTHS_AT + patterns.len() + CLASSES_LEN;
+        (numbers.as_slice().len() - before) as u128 * 4 + total_bytes(patterns)
     }
 
     /// How many patterns there are, none of them empty.
@@ -337,12 +333,13 @@ impl Parts {
     ) -> Result<Option<Match>, AllocError>
         requires parts { AreParts self.now }
         requires valid { IsValidSpan haystack.now span }
-        requires placed { IsPlaced self.now.longest span at marks.old }
+        requires placed { IsPlaced (longest_in self.now.numbers) span at marks.old }
         requires marked { AreMarked (tables_of self.now) haystack.now span at marks.old }
         ensures leftmost { IfOk result (IsLeftmost (linear_value self.now).query self.now.ignore_case haystack.now
             (between at span.end)) }
         ensures not_empty { IfOk result (λ answer. IfSome answer (λ found. found.start < found.end)) }
-        ensures placed { IfOk result (λ answer. IsPlaced self.now.longest span (place_behind span answer) marks.new) }
+        ensures placed { IfOk result (λ answer. IsPlaced (longest_in self.now.numbers) span (place_behind span answer)
+            marks.new) }
         ensures marked { IfOk result
             (λ answer. AreMarked (tables_of self.now) haystack.now span (place_behind span answer) marks.new) }
         ensures further { (marks.old.known ≤ marks.new.known) × (marks.new.known ≤ span.end) }
@@ -351,7 +348,7 @@ impl Parts {
             ≤ tally.new.scanned + looked_upto (patterns_of self.now) span marks.old.known) }
         ensures more { IfOk result (λ _. length marks.old.numbers.items ≤ length marks.new.numbers.items) }
         ensures no_room { OnErr result
-            (length marks.old.numbers.items < min (max self.now.longest LEAST) (span.end - at)) }
+            (length marks.old.numbers.items < min (max (longest_in self.now.numbers) LEAST) (span.end - at)) }
         ensures no_memory { OnErr result (¬ NothingOccurs (patterns_of self.now) self.now.ignore_case haystack.now
             (between at span.end)) }
     {
@@ -367,21 +364,57 @@ impl Parts {
         ensures safe { IsSafe result }
         ensures is_for { AreBackFor (linear_value self.now) result }
         ensures tables { back_tables_by (linear_value self.now) result ≡ tables_of self.now }
-        ensures longest { result.table.longest ≡ self.now.longest }
+        ensures longest { result.table.longest ≡ longest_in self.now.numbers }
     {
-        let table = Table {
-            classes: self.rows.classes(),
-            width: self.width,
-            rows: self.rows.as_slice(),
-            longest: self.longest,
-            shortest: 0,
-            fingerprints: None,
-        };
-        Backward {
-            table,
-            best: &self.best,
-            lens: Lens::Patterns(&self.patterns),
+        match backward_in(self.numbers.as_slice()) {
+            Ok(backward) => backward,
+            Err(_) => unreachable!(),
         }
+    }
+}
+
+impl Numbers {
+    /// The numbers.
+    fn as_slice(&self) -> &[u32]
+        ensures { result.now ≡ self.now }
+    {
+        if self.kept.is_empty() {
+            return &NO_PATTERN;
+        }
+        &self.kept
+    }
+}
+
+/// The numbers for patterns, by their rows. Memory is asked for only where there is a pattern.
+fn numbers_for(
+    alloc: Global,
+    width: usize,
+    patterns: &[Vec<u8>],
+    rows: &Rows,
+    best: &[u32],
+) -> Result<Numbers, AllocError>
+    requires classes { length rows.now.classes ≡ 256 }
+    requires width { width ≤ 256 }
+    requires patterns { length patterns.now ≤ 2 ^ 31 - 1 }
+    requires short { AreShort (map (λ pattern. pattern.items) patterns.now) }
+    requires rows { length rows.now.rows ≤ 2 ^ 31 - 1 }
+    requires best { length best.now ≡ length patterns.now }
+    requires none { patterns.now ≡ [] → (width ≡ 1) × (rows.now ≡ rows_value []) }
+    ensures numbers { IfOk result (λ numbers. numbers ≡ numbers_for LINEAR_VERSION rows.now.classes width
+        (map (λ pattern. pattern.items) patterns.now) rows.now.rows [] best.now) }
+    ensures no_memory { OnErr result (0 < length patterns.now) }
+{
+    if patterns.is_empty() {
+        return Ok(Numbers {
+            kept: Vec::new(alloc),
+        });
+    }
+    let rows = rows.as_slice();
+    let needed = LENGTHS_AT + patterns.len() + rows.len() + best.len();
+    let mut kept = vec![in alloc; 0u32; needed]?;
+    match write(LINEAR_VERSION, width, patterns, rows, &[], best, &mut kept) {
+        Ok(_) => Ok(Numbers { kept }),
+        Err(_) => unreachable!(),
     }
 }
 
@@ -423,6 +456,7 @@ impl<'s, 'h> Model for LinearMatches<'s, 'h> {
     ghost use Rattle.literal_search.specs.LinearMatchesValue.{LinearMatchesValue};
     ghost use Rattle.literal_search.specs.Inside.Backward.{AreMarked, HasRoomForMarks, IsPlaced};
     ghost use Rattle.literal_search.specs.Inside.Linear.{AreParts, linear_value, tables_of};
+    ghost use Rattle.literal_search.specs.Prepared.{longest_in};
     ghost use Rattle.literal_base.specs.Occurs.{IsValidSpan};
 
     ghost Value = { LinearMatchesValue };
@@ -436,9 +470,9 @@ impl<'s, 'h> Model for LinearMatches<'s, 'h> {
     } };
 
     ghost invariant = { λ m. AreParts m.parts.now × IsValidSpan m.haystack.now m.span
-        × IsPlaced m.parts.now.longest m.span m.at m.marks
+        × IsPlaced (longest_in m.parts.now.numbers) m.span m.at m.marks
         × AreMarked (tables_of m.parts.now) m.haystack.now m.span m.at m.marks
-        × HasRoomForMarks m.parts.now.longest m.span m.marks };
+        × HasRoomForMarks (longest_in m.parts.now.numbers) m.span m.marks };
 }
 
 impl<'s, 'h> LinearMatches<'s, 'h> {

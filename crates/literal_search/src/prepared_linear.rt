@@ -9,13 +9,12 @@ ghost use Rattle.literal_base.specs.Leftmost.{IsLeftmost};
 ghost use Rattle.literal_search.specs.LinearMatchesValue.{GivesInSpan, place_behind};
 ghost use Rattle.literal_search.specs.Prepared.{LiesIn, longest_in};
 ghost use Rattle.literal_search.specs.PreparedLinear.{ForLinear, HasLinearParts, IsWholeLinear, linear_matches_for};
-ghost use Rattle.literal_search.specs.PreparedLinear.{back_tables_in};
-ghost use Rattle.literal_search.specs.SearchValue.{SearchValue};
-ghost use Rattle.literal_search.specs.Inside.Backward.{AreBackFor, IsSafe, back_tables_by, lens_of};
+ghost use Rattle.literal_search.specs.Inside.PreparedLinear.{IsBackIn};
 
-use crate::backward::{Backward, Lens, Marks, no_marks, place_after};
+use crate::backward::{Backward, Marks, no_marks, place_after};
 use crate::classes::CLASSES_LEN;
-use crate::prepared::{Damaged, Header, LENGTHS_AT, LINEAR_VERSION, is_checked, split};
+use crate::prepared::{Damaged, LENGTHS_AT, LINEAR_VERSION, is_checked, split};
+use crate::walk::Table;
 use literal_base::count::Tally;
 use literal_base::{Match, Span};
 use std::alloc::{AllocError, Global};
@@ -25,20 +24,19 @@ use std::marker::Model;
 /// which may be longer. Contracts see the array.
 #[derive(Drop)]
 pub struct PreparedLinear<'p> {
-    header: Header<'p>,
-    /// For each pattern the best of those that are prefixes of it.
-    best: &'p [u32],
+    numbers: &'p [u32],
+    backward: Backward<'p>,
 }
 
 impl<'p> Model for PreparedLinear<'p> {
     ghost use Rattle.std.specs.Prelude.{List, ℕ};
-    ghost use Rattle.literal_search.specs.Inside.PreparedLinear.{AreLinearLent};
+    ghost use Rattle.literal_search.specs.Inside.PreparedLinear.{IsBackIn};
 
     ghost Value = { List ℕ };
 
-    ghost view = { λ p. p.header.numbers.now };
+    ghost view = { λ p. p.numbers.now };
 
-    ghost invariant = { λ p. AreLinearLent p.header p.best };
+    ghost invariant = { λ p. IsBackIn p.numbers.now p.backward };
 }
 
 impl<'p> PreparedLinear<'p> {
@@ -48,14 +46,8 @@ impl<'p> PreparedLinear<'p> {
         ensures { MatchResult result (λ prepared. (prepared ≡ numbers.now) × HasLinearParts numbers.now)
             (λ _. ¬ HasLinearParts numbers.now) }
     {
-        let header = split(numbers, LINEAR_VERSION)?;
-        let end = LENGTHS_AT + header.lengths.len() + header.rows.len();
-        let is_short = numbers.len() - end < header.lengths.len();
-        if is_short || header.rows.len() == CLASSES_LEN {
-            return Err(Damaged);
-        }
-        let best = &numbers[end..end + header.lengths.len()];
-        Ok(PreparedLinear { header, best })
+        let backward = backward_in(numbers)?;
+        Ok(PreparedLinear { numbers, backward })
     }
 
     /// Whether the check over all numbers of the search is right, as [`Prepared::is_whole`](crate::Prepared::is_whole)
@@ -63,9 +55,9 @@ impl<'p> PreparedLinear<'p> {
     pub fn is_whole(&self) -> bool
         ensures { IsTrue result ↔ IsWholeLinear self.now }
     {
-        let header = &self.header;
-        let end = LENGTHS_AT + header.lengths.len() + header.rows.len() + self.best.len();
-        is_checked(header.numbers, end)
+        let Backward { table, best, lens } = &self.backward;
+        let end = LENGTHS_AT + lens.len() + table.rows.len() + best.len();
+        is_checked(self.numbers, end)
     }
 
     /// All matches in a span of the haystack, one after another, for which the same holds as for
@@ -140,18 +132,36 @@ impl<'p> PreparedLinear<'p> {
 
     /// What a search from the right reads.
     fn backward(&self) -> Backward<'_>
-        ensures safe { IsSafe result }
-        ensures is_for { ForLinear self.now (λ search. AreBackFor search result) }
-        ensures tables { (search : SearchValue) → back_tables_by search result ≡ back_tables_in search self.now }
-        ensures longest { result.table.longest ≡ longest_in self.now }
-        ensures patterns { length (lens_of result.lens) ≡ slice_index self.now 3 }
+        ensures { IsBackIn self.now result }
     {
-        Backward {
-            table: self.header.table(0, None),
-            best: self.best,
-            lens: Lens::Numbers(self.header.lengths),
-        }
+        self.backward
     }
+}
+
+/// What a search from the right reads of an array, where its first numbers say that it is one, and it is as long as
+/// they say.
+pub(crate) fn backward_in(numbers: &[u32]) -> Result<Backward<'_>, Damaged>
+    ensures { MatchResult result (IsBackIn numbers.now) (λ _. ¬ HasLinearParts numbers.now) }
+{
+    let header = split(numbers, LINEAR_VERSION)?;
+    let end = LENGTHS_AT + header.lengths.len() + header.rows.len();
+    let is_short = numbers.len() - end < header.lengths.len();
+    if is_short || header.rows.len() == CLASSES_LEN {
+        return Err(Damaged);
+    }
+    let table = Table {
+        classes: header.classes,
+        width: header.width,
+        rows: header.rows,
+        longest: header.longest,
+        shortest: 0,
+        fingerprints: None,
+    };
+    Ok(Backward {
+        table,
+        best: &numbers[end..end + header.lengths.len()],
+        lens: header.lengths,
+    })
 }
 
 /// What [`PreparedLinear::find_iter_in`] goes over. Contracts see the array, the haystack, the span, the place from

@@ -8,24 +8,10 @@ ghost use Rattle.literal_search.specs.States.{HasTooManyStates, IsRowsLength};
 
 use crate::classes::{CLASSES_LEN, Classes};
 use crate::grow::{GrowError, grow};
-use crate::walk::NOTHING;
+use crate::prepared::{LENGTHS_AT, NO_PATTERN};
 use literal_base::search::MatchKind;
 use std::alloc::{AllocError, Global};
 use std::marker::Model;
-
-/// The row of the one state where there is no pattern: its one class leads to itself, and nothing ends there. Behind it
-/// each byte has this class.
-const NO_PATTERN: [u32; 258] = [
-    0, NOTHING, 0, 0, 0, 0, 0, 0, 0, 0, 0, 0, 0, 0, 0, 0, 0, 0, 0, 0, 0, 0, 0, 0, 0, 0, 0, 0, 0, 0,
-    0, 0, 0, 0, 0, 0, 0, 0, 0, 0, 0, 0, 0, 0, 0, 0, 0, 0, 0, 0, 0, 0, 0, 0, 0, 0, 0, 0, 0, 0, 0, 0,
-    0, 0, 0, 0, 0, 0, 0, 0, 0, 0, 0, 0, 0, 0, 0, 0, 0, 0, 0, 0, 0, 0, 0, 0, 0, 0, 0, 0, 0, 0, 0, 0,
-    0, 0, 0, 0, 0, 0, 0, 0, 0, 0, 0, 0, 0, 0, 0, 0, 0, 0, 0, 0, 0, 0, 0, 0, 0, 0, 0, 0, 0, 0, 0, 0,
-    0, 0, 0, 0, 0, 0, 0, 0, 0, 0, 0, 0, 0, 0, 0, 0, 0, 0, 0, 0, 0, 0, 0, 0, 0, 0, 0, 0, 0, 0, 0, 0,
-    0, 0, 0, 0, 0, 0, 0, 0, 0, 0, 0, 0, 0, 0, 0, 0, 0, 0, 0, 0, 0, 0, 0, 0, 0, 0, 0, 0, 0, 0, 0, 0,
-    0, 0, 0, 0, 0, 0, 0, 0, 0, 0, 0, 0, 0, 0, 0, 0, 0, 0, 0, 0, 0, 0, 0, 0, 0, 0, 0, 0, 0, 0, 0, 0,
-    0, 0, 0, 0, 0, 0, 0, 0, 0, 0, 0, 0, 0, 0, 0, 0, 0, 0, 0, 0, 0, 0, 0, 0, 0, 0, 0, 0, 0, 0, 0, 0,
-    0, 0, 0, 0,
-];
 
 /// The rows of an automaton, with the class of each byte behind them. Contracts see both.
 #[derive(Drop)]
@@ -49,7 +35,7 @@ impl Rows {
         ensures classes { classes_of result.now ≡ self.now.classes }
     {
         if self.numbers.is_empty() {
-            return &NO_PATTERN;
+            return &NO_PATTERN[LENGTHS_AT..];
         }
         &self.numbers
     }
@@ -95,6 +81,7 @@ pub fn rows_for(
         (map (λ pattern. symbols_in classes.now.table pattern.items) patterns.now) classes.now.width → ⊥) }
     ensures too_many { IfErr result (λ error. error ≡ GrowError.TooManyStates → HasTooManyStates kind
         (map (λ pattern. symbols_in classes.now.table pattern.items) patterns.now) classes.now.width) }
+    ensures none { patterns.now ≡ [] → IfOk result (λ rows. rows ≡ rows_value []) }
     ensures not_empty { OnErr result (0 < length patterns.now) }
 {
     if patterns.is_empty() {

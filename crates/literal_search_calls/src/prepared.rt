@@ -74,7 +74,7 @@ fn damaged_arrays_are_not_whole(rt: HostRuntime) -> Result<(), Fail> {
 /// The array that a `Linear` fills.
 fn filled_by_linear(alloc: Global) -> Result<Vec<u32>, Fail> {
     let search = Linear::new(alloc, MatchKind::LeftmostFirst, true, WORDS)?;
-    let mut array = vec![in alloc; 0; search.prepared_len()?]?;
+    let mut array = vec![in alloc; 0; search.prepared_len()]?;
     search.prepare(&mut array)?;
     Ok(array)
 }

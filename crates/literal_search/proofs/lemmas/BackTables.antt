@@ -1,21 +1,30 @@
 -- The tables of a search from the right, in a `Linear` and in an array that is lent.
-use Rattle.std.proofs.Common.{◌≡◌, ◌∙◌, ◌+◌, ◌<◌, ◌≤◌, ◌^◌, ℕ, List, [], ap, arith, length, refl, subst, sym}
-use Rattle.std.proofs.Common.{Err, IfErr, IfOk, Ok, Result}
+use Rattle.std.proofs.Common.{◌≡◌, ◌∙◌, ◌+◌, ◌≤◌, ◌^◌, ℕ, List, [], ap, arith, length, refl, subst, sym}
 use Rattle.std.specs.List.{slice_range}
 use Rattle.literal_base.specs.declared.search.MatchKind.TheVariants.{Standard}
 use Rattle.literal_search.specs.Inside.Classes.{AreClasses}
-use Rattle.literal_search.specs.Inside.Linear.{AreParts, linear_value, patterns_of, tables_of}
-use Rattle.literal_search.specs.Inside.Prepared.{Puts, RefusesArray, numbers_for}
-use Rattle.literal_search.specs.Prepared.{classes_end}
-use Rattle.literal_search.specs.PreparedLinear.{AreBackTables, BackTables, IsPreparedLinear, RefusesLinear}
-use Rattle.literal_search.specs.PreparedLinear.{TakesLinearPlaces, WritesLinear, best_in, linear_len, texts_back}
+use Rattle.std.proofs.lemmas.Bool.{cases_lt}
+use Rattle.std.proofs.lemmas.List.{get_or_default, length-map}
+use Rattle.std.proofs.Common.{◌*◌, get_or, inl, inr, map}
+use Rattle.literal_base.specs.Occurs.{pattern_at}
+use Rattle.literal_search.specs.Inside.Classes.{symbols_in}
+use Rattle.literal_search.specs.Inside.Linear.{AreKept}
+use Rattle.literal_search.specs.Inside.Prepared.{numbers_for}
+use Rattle.literal_search.specs.Linear.{reversed}
+use Rattle.literal_search.specs.Prepared.{AreShort, classes_end, classes_in, rows_at, rows_end, rows_in}
+use Rattle.literal_search.specs.SearchValue.{width_for}
+use Rattle.literal_search.specs.Table.{stride_of}
+use Rattle.literal_search.specs.PreparedLinear.{AreBackTables, BackTables, IsPreparedLinear, back_tables_in}
+use Rattle.literal_search.specs.PreparedLinear.{TakesLinearPlaces, best_in, linear_len, texts_back}
 use Rattle.literal_search.specs.SearchValue.{SearchValue}
-use Rattle.literal_search.specs.States.{IsRowsLength}
-use Rattle.literal_search.specs.declared.linear.Parts.{Parts}
-use Rattle.literal_search.specs.declared.prepared.PrepareError.{PrepareError}
+use Rattle.literal_search.specs.States.{HasTooManyStates, IsRowsLength}
 use Rattle.literal_search.specs.declared.prepared.TheConstants.{LINEAR_VERSION}
 use Rattle.literal_search.proofs.lemmas.Numbers.{check_written, classes_written, ends_written, lengths_written}
-use Rattle.literal_search.proofs.lemmas.Numbers.{numbers_long, numbers_refused, numbers_written, rows_written}
+use Rattle.literal_search.proofs.lemmas.Numbers.{numbers_long, rows_written}
+use Rattle.literal_search.proofs.lemmas.Backward.{back_count, back_long}
+use Rattle.literal_search.proofs.lemmas.Found.{symbols_length}
+use Rattle.literal_search.proofs.lemmas.Prepared.{length_part}
+use Rattle.literal_search.proofs.lemmas.States.{too_many_prefixes}
 use Rattle.literal_search.proofs.lemmas.Walk.{rows_are_table}
 
 -- tables whose parts are equal
@@ -90,42 +99,63 @@ module _ (t : BackTables) (are : AreBackTables t) where
             are.classes.each;
       }
 
--- so many places are those in front, two for each pattern, and the rows
-pub takes_places : (p : Parts) → AreParts p → (needed : ℕ)
-    → needed ≡ 6 + length (patterns_of p) + length p.rows.rows + 256 + length p.best.items
-    → TakesLinearPlaces (linear_value p) needed
-unfolding TakesLinearPlaces
-takes_places p parts needed is = (
-  p.rows.classes,
-  subst (AreClasses p.rows.classes) parts.width parts.tables.classes,
-  parts.tables.tells,
-  (
-    length p.rows.rows,
-    subst (λ width. IsRowsLength Standard (texts_back (tables_of p)) width (length p.rows.rows)) parts.width parts.rows,
-    omega (arith, is, parts.tables.best.long),
-  ),
-)
+  -- they are what a `Linear` keeps
+  pub kept_all : t.width ≡ width_for t.search.ignore_case t.search.query.patterns
+      → IsRowsLength Standard (texts_back t) t.width (length t.rows) → AreKept t.search all_of
+  kept_all width rows =
+      let classes = classes_written LINEAR_VERSION t.classes t.width t.search.query.patterns t.rows [] t.best
+      are.classes.each in
+      let rows_are = rows_written LINEAR_VERSION t.classes t.width t.search.query.patterns t.rows [] t.best
+      are.classes.each in
+      record {
+        prepared = prepared_all;
+        long = omega (arith, size, are.best.long);
+        width = width;
+        rows = subst (λ (c : List ℕ). IsRowsLength Standard (reversed (map (symbols_in c) t.search.query.patterns))
+            t.width (length (rows_in all_of))) (sym classes)
+            (subst (λ (r : List ℕ). IsRowsLength Standard (texts_back t) t.width (length r)) (sym rows_are) rows);
+      }
 
--- what `write` answers for the parts of a `Linear`
-module _ (p : Parts) (parts : AreParts p) (old new : List ℕ) where
-  takes : TakesLinearPlaces (linear_value p) (length (all_of (tables_of p) parts.tables))
-  takes = takes_places p parts (length (all_of (tables_of p) parts.tables))
-      (omega (arith, size (tables_of p) parts.tables))
+module _ {search : SearchValue} {numbers : List ℕ} (kept : AreKept search numbers) where
+  -- so many numbers these are
+  pub kept_long : length numbers ≡ 6 + length search.query.patterns + length (rows_in numbers) + 256
+      + length search.query.patterns
+  kept_long =
+      let fits = kept.prepared.whole.parts.fits in
+      let places = length_part numbers (rows_at numbers) (rows_end numbers) (omega arith) (omega arith) in
+      let lengths = length_part numbers 6 (rows_at numbers) (omega arith) (omega arith) in
+      let many = ap (λ (l : List ℕ). length l) kept.prepared.lengths
+      ∙ length-map search.query.patterns (λ (bytes : List ℕ). length bytes) in
+      omega (arith, kept.long, places, lengths, many)
 
-  pub prepare_ok : (result : Result ℕ PrepareError)
-      → IfOk result (λ needed. (needed ≤ length old) × (length p.best.items < 2 ^ 32)
-      × Puts 0 (all_of (tables_of p) parts.tables) old new × (needed ≡ length (all_of (tables_of p) parts.tables)))
-      → IfOk result (WritesLinear (linear_value p) old new)
-  prepare_ok (Err error) ok = tt
-  prepare_ok (Ok needed) ok =
-      numbers_written (IsPreparedLinear (linear_value p)) (TakesLinearPlaces (linear_value p))
-      (all_of (tables_of p) parts.tables) old new needed (prepared_all (tables_of p) parts.tables) takes ok.0 ok.2 ok.3
+  -- and so many places are enough for them
+  pub takes_kept : TakesLinearPlaces search (length numbers)
+  unfolding TakesLinearPlaces
+  takes_kept = (
+    classes_in numbers,
+    subst (AreClasses (classes_in numbers)) kept.width kept.prepared.tables.classes,
+    kept.prepared.tables.tells,
+    (
+      length (rows_in numbers),
+      subst (λ width. IsRowsLength Standard (texts_back (back_tables_in search numbers)) width
+          (length (rows_in numbers))) kept.width kept.rows,
+      kept_long,
+    ),
+  )
 
-  pub prepare_refused : (result : Result ℕ PrepareError)
-      → IfErr result (RefusesArray (patterns_of p) p.best.items (all_of (tables_of p) parts.tables) old)
-      → IfErr result (RefusesLinear (linear_value p) old)
-  prepare_refused (Ok needed) refused = tt
-  prepare_refused (Err error) refused =
-      numbers_refused (patterns_of p) ⊥ (IsPreparedLinear (linear_value p)) (TakesLinearPlaces (linear_value p))
-      p.best.items (all_of (tables_of p) parts.tables) old (prepared_all (tables_of p) parts.tables) takes
-      (λ long. omega (arith, long, parts.tables.best.long, parts.tables.kept.few)) error refused
+-- patterns whose texts have few states are short
+pub short_by : (classes : List ℕ) (width : ℕ) (patterns : List (List ℕ))
+    → ¬ HasTooManyStates Standard (reversed (map (symbols_in classes) patterns)) width → AreShort patterns
+short_by classes width patterns few i d below =
+    let texts = reversed (map (symbols_in classes) patterns) in
+    let count = back_count (map (symbols_in classes) patterns) ∙ length-map patterns (symbols_in classes) in
+    let long = back_long (map (symbols_in classes) patterns) i ∙ symbols_length classes patterns i in
+    let read = ap (λ (l : List ℕ). length l) (get_or_default patterns i d [] below) in
+    elim (cases_lt (length (get_or patterns i [])) (2 ^ 32)) [
+      | inl small ↦ omega (arith, small, read)
+      | inr large ↦
+          let n = length (pattern_at texts i) + 1 in
+          let most : n ≤ n * stride_of width = grind arith in
+          absurd (few (too_many_prefixes Standard texts i (omega (arith, count, below))
+          (λ is. let never : ⊥ = cc in absurd never) width (omega (arith, large, long, most))))
+    ]

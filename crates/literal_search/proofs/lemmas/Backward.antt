@@ -19,7 +19,7 @@ use Rattle.literal_base.specs.declared.search.MatchKind.TheVariants.{Standard}
 use Rattle.literal_search.specs.Inside.Classes.{symbols_in}
 use Rattle.literal_search.specs.Inside.Suffixes.{IsSuffix}
 use Rattle.literal_search.specs.Inside.Backward.{AreBackFor, BeginsBest, IsMark, IsRead, StandsDown, back_tables_by}
-use Rattle.literal_search.specs.Inside.Backward.{best_by, lens_of, named_by}
+use Rattle.literal_search.specs.Inside.Backward.{best_by, named_by}
 use Rattle.literal_search.specs.Inside.Walk.{IsAt, text_of}
 use Rattle.literal_search.specs.Linear.{reversed}
 use Rattle.literal_search.specs.PreparedLinear.{AreBackTables, BackTables, texts_back}
@@ -367,14 +367,14 @@ module _ (b : Backward) (search : SearchValue) (is : AreBackFor search b) (hayst
     begins : BeginsBest (back_tables_by search b) haystack end at best
     begins = mark.best ends
 
-    length_is : get_or (lens_of b.lens) best 0 ≡ length (pattern_at search.query.patterns best)
+    length_is : get_or b.lens.now best 0 ≡ length (pattern_at search.query.patterns best)
     length_is =
         ap (λ (l : List ℕ). get_or l best 0) is.lens
         ∙ get_or-map (λ (bytes : List ℕ). length bytes) search.query.patterns best [] 0 begins.occurs.is_pattern
 
     -- it is not empty, no longer than the longest pattern, and lies before the end
-    pub mark_inside : (0 < get_or (lens_of b.lens) best 0) × (get_or (lens_of b.lens) best 0 ≤ b.table.longest)
-        × (at + get_or (lens_of b.lens) best 0 ≤ end)
+    pub mark_inside : (0 < get_or b.lens.now best 0) × (get_or b.lens.now best 0 ≤ b.table.longest)
+        × (at + get_or b.lens.now best 0 ≤ end)
     mark_inside =
         let some = is.tables.kept.some best [] begins.occurs.is_pattern in
         let short = longest_is search.query.patterns best in
@@ -384,12 +384,12 @@ module _ (b : Backward) (search : SearchValue) (is : AreBackFor search b) (hayst
           omega (arith, whole, length_is),
         )
 
-    pub mark_leftmost : (pattern len : ℕ) → pattern ≡ best → len ≡ get_or (lens_of b.lens) pattern 0
+    pub mark_leftmost : (pattern len : ℕ) → pattern ≡ best → len ≡ get_or b.lens.now pattern 0
         → IsLeftmostMatch search.query search.ignore_case haystack (between at end)
         (record { pattern = pattern; start = at; end = at + len })
     mark_leftmost pattern len pattern_is len_is =
         let whole : len ≡ length (pattern_at search.query.patterns best) =
-        len_is ∙ (ap (λ k. get_or (lens_of b.lens) k 0) pattern_is ∙ length_is) in
+        len_is ∙ (ap (λ k. get_or b.lens.now k 0) pattern_is ∙ length_is) in
         subst (λ i. IsLeftmostMatch search.query search.ignore_case haystack (between at end)
         (record { pattern = i; start = at; end = at + len })) (sym pattern_is)
         (record {

@@ -76,13 +76,13 @@ pub begins_if_not : (b : Backward) (search : SearchValue) → AreBackFor search 
     → ¬ NoneBeginsAt (back_tables_by search b) haystack span.end at
 begins_if_not b search is haystack span end at code limit limit_is before over step none =
     elim (cases_lt code (2 ^ 31)) [
-  | inl small ↦
-      let row = (lane_small (back_tables_by search b) haystack span end at code small step).stands.row in
-      absurd (omega (arith, row, limit_is.is, over, small))
-  | inr large ↦
-      let best = (step.mark before).best large in
-      none (best_by (back_tables_by search b) code) best.occurs
-]
+      | inl small ↦
+          let row = (lane_small (back_tables_by search b) haystack span end at code small step).stands.row in
+          absurd (omega (arith, row, limit_is.is, over, small))
+      | inr large ↦
+          let best = (step.mark before).best large in
+          none (best_by (back_tables_by search b) code) best.occurs
+    ]
 
 module _ (p : BackTables) (haystack : List ℕ) (span : Span) (end at code : ℕ) (before : at < end)
     (step : IsStep p haystack span end at code)
@@ -206,7 +206,7 @@ none_left p haystack end at part left zero none = λ k after before. elim (cases
 ]
 
 -- a mark in another place stays
-pub marks_kept : (p : BackTables) (haystack : List ℕ) (end : ℕ) (marks : List ℕ) (at from upto slot code : ℕ) 
+pub marks_kept : (p : BackTables) (haystack : List ℕ) (end : ℕ) (marks : List ℕ) (at from upto slot code : ℕ)
     → at ≤ from
     → (at + slot < from) ⊎ (upto ≤ at + slot) → AreMarks p haystack end marks at from upto
     → AreMarks p haystack end (set marks slot code) at from upto

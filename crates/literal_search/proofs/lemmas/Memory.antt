@@ -1,17 +1,19 @@
 -- How many bytes a search takes.
-use Rattle.std.proofs.Common.{◌≡◌, ℕ, ◌+◌, ◌*◌, arith, length, map, subst, sum_by}
+use Rattle.std.proofs.Common.{◌≡◌, ℕ, List, ◌+◌, ◌-◌, ◌*◌, arith, length, map, subst, sum_by}
 use Rattle.literal_base.specs.Kinds.{root_kind_of}
 use Rattle.literal_base.specs.declared.search.MatchKind.TheVariants.{Standard}
 use Rattle.literal_search.specs.Inside.Classes.{AreClasses, symbols_in}
-use Rattle.literal_search.specs.Inside.Linear.{AreParts, linear_value, patterns_of, tables_of}
+use Rattle.literal_search.specs.Inside.Linear.{AreKept}
 use Rattle.literal_search.specs.Inside.Search.{IsSound, patterns_in, search_value}
 use Rattle.literal_search.specs.Inside.Standing.{overlapping_value}
 use Rattle.literal_search.specs.Memory.{TakesBytes, TakesLinearBytes, TakesListedBytes}
-use Rattle.literal_search.specs.PreparedLinear.{texts_back}
+use Rattle.literal_search.specs.Prepared.{classes_in, rows_in}
+use Rattle.literal_search.specs.PreparedLinear.{back_tables_in, texts_back}
+use Rattle.literal_search.specs.SearchValue.{SearchValue}
 use Rattle.literal_search.specs.PreparedOverlapping.{AreSized, AreTables, Tables}
 use Rattle.literal_search.specs.States.{IsRowsLength}
 use Rattle.literal_search.specs.declared.Search.TheInside.{Inside}
-use Rattle.literal_search.specs.declared.linear.Parts.{Parts}
+use Rattle.literal_search.proofs.lemmas.BackTables.{kept_long}
 use Rattle.literal_search.proofs.lemmas.LentTables.{have_tables}
 
 -- so many bytes are those of the rows, and of the patterns
@@ -32,18 +34,19 @@ takes_bytes a sound bytes is = (
 )
 
 -- and of the numbers for patterns, in a `Linear`
-pub takes_linear_bytes : (p : Parts) → AreParts p → (bytes : ℕ)
-    → bytes ≡ 4 * (length p.rows.rows + length p.best.items) + sum_by length (patterns_of p)
-    → TakesLinearBytes (linear_value p) bytes
+pub takes_linear_bytes : (search : SearchValue) (numbers : List ℕ) → AreKept search numbers → (bytes : ℕ)
+    → bytes ≡ (length numbers - (6 + length search.query.patterns + 256)) * 4 + sum_by length search.query.patterns
+    → TakesLinearBytes search bytes
 unfolding TakesLinearBytes
-takes_linear_bytes p parts bytes is = (
-  p.rows.classes,
-  subst (AreClasses p.rows.classes) parts.width parts.tables.classes,
-  parts.tables.tells,
+takes_linear_bytes search numbers kept bytes is = (
+  classes_in numbers,
+  subst (AreClasses (classes_in numbers)) kept.width kept.prepared.tables.classes,
+  kept.prepared.tables.tells,
   (
-    length p.rows.rows,
-    subst (λ width. IsRowsLength Standard (texts_back (tables_of p)) width (length p.rows.rows)) parts.width parts.rows,
-    omega (arith, is, parts.tables.best.long),
+    length (rows_in numbers),
+    subst (λ width. IsRowsLength Standard (texts_back (back_tables_in search numbers)) width
+        (length (rows_in numbers))) kept.width kept.rows,
+    omega (arith, is, kept_long kept),
   ),
 )
 

@@ -14,23 +14,16 @@ use Rattle.literal_search.specs.PreparedLinear.{AreBackTables, BackTables, texts
 use Rattle.literal_search.specs.Table.{Recognises}
 use Rattle.literal_search.specs.declared.backward.Backward.{Backward}
 use Rattle.literal_search.specs.declared.backward.Begun.{Begun}
-use Rattle.literal_search.specs.declared.backward.Lens.{Lens}
-use Rattle.literal_search.specs.declared.backward.Lens.TheVariants.{Numbers, Patterns}
 use Rattle.literal_search.specs.declared.backward.Marks.{Marks}
 use Rattle.literal_search.specs.declared.backward.Stopped.{Stopped}
 use Rattle.literal_search.specs.declared.backward.Stopped.TheVariants.{OutOfMemory}
 use Rattle.literal_search.specs.declared.backward.TheConstants.{LEAST}
 
--- the lengths of the patterns
-abbrev pub lens_of : Lens → List ℕ
-lens_of (Patterns patterns) = map (λ pattern. length pattern.items) patterns.now
-lens_of (Numbers numbers) = numbers.now
-
 -- each byte has a class, there is a row, and there are identifiers for the patterns
 pub record IsSafe (b : Backward) : Type 0 where
   pub each : length b.table.classes.now ≡ 256
   pub row : 256 < length b.table.rows.now
-  pub few : length (lens_of b.lens) ≤ PatternID.LIMIT
+  pub few : length b.lens.now ≤ PatternID.LIMIT
 
 -- the tables that they would be of a search
 abbrev pub back_tables_by : SearchValue → Backward → BackTables
@@ -46,7 +39,7 @@ back_tables_by search b = record {
 -- they are those of a search, with the length of each pattern
 pub record AreBackFor (search : SearchValue) (b : Backward) : Type 0 where
   pub tables : AreBackTables (back_tables_by search b)
-  pub lens : lens_of b.lens ≡ map (λ bytes. length bytes) search.query.patterns
+  pub lens : b.lens.now ≡ map (λ bytes. length bytes) search.query.patterns
 
 -- what holds of whatever search they are the tables of
 abbrev pub ForBackward : Backward → (BackTables → Type 0) → Type 0
@@ -159,7 +152,7 @@ pub record IsMatchBy (b : Backward) (span : Span) (at : ℕ) (found : MatchValue
   pub some : found.start < found.end
   pub inside : found.end ≤ span.end
   pub short : found.end ≤ found.start + b.table.longest
-  pub pattern : found.pattern < length (lens_of b.lens)
+  pub pattern : found.pattern < length b.lens.now
 
 -- why a search that has the tables stops: it found no room for marks, and something occurs
 pub record StopsMarking (p : BackTables) (haystack : List ℕ) (from end : ℕ) (error : Stopped) : Type 0 where

@@ -6,7 +6,8 @@ use Rattle.literal_base.specs.declared.search.MatchKind.TheVariants.{Standard}
 use Rattle.literal_base.specs.declared.search.Span.{Span}
 use Rattle.literal_search.specs.SearchValue.{SearchValue, search_by, width_for}
 use Rattle.literal_base.specs.Greedy.{IsGreedyIn}
-use Rattle.literal_search.specs.PreparedLinear.{AreBackTables, BackTables, texts_back}
+use Rattle.literal_search.specs.Prepared.{rows_in, width_in}
+use Rattle.literal_search.specs.PreparedLinear.{BackTables, IsPreparedLinear, back_tables_in, linear_len, texts_back}
 use Rattle.literal_search.specs.States.{IsRowsLength}
 use Rattle.literal_search.specs.declared.linear.Parts.{Parts}
 
@@ -20,20 +21,19 @@ linear_value p = search_by p.kind p.ignore_case (patterns_of p)
 
 -- what a search from the right reads of them
 abbrev pub tables_of : Parts → BackTables
-tables_of p = record {
-  search = linear_value p;
-  classes = p.rows.classes;
-  width = p.width;
-  rows = p.rows.rows;
-  best = p.best.items;
-  longest = p.longest;
-}
+tables_of p = back_tables_in (linear_value p) p.numbers
 
--- what the fields keep: these tables, of as many classes and rows as the patterns need
-pub record AreParts (p : Parts) : Type 0 where
-  pub tables : AreBackTables (tables_of p)
-  pub width : p.width ≡ width_for p.ignore_case (patterns_of p)
-  pub rows : IsRowsLength Standard (texts_back (tables_of p)) p.width (length p.rows.rows)
+-- numbers are prepared for a search, and no more; there are as many classes and rows as its patterns need
+pub record AreKept (search : SearchValue) (numbers : List ℕ) : Type 0 where
+  pub prepared : IsPreparedLinear search numbers
+  pub long : length numbers ≡ linear_len numbers
+  pub width : width_in numbers ≡ width_for search.ignore_case search.query.patterns
+  pub rows : IsRowsLength Standard (texts_back (back_tables_in search numbers)) (width_in numbers)
+      (length (rows_in numbers))
+
+-- what the fields keep: numbers for the search
+abbrev pub AreParts : Parts → Type 0
+AreParts p = AreKept (linear_value p) p.numbers
 
 -- the matches so far, before a place: whatever is the list of the rest goes on from them
 pub record IsGreedyUpTo (search : SearchValue) (haystack : List ℕ) (span : Span) (done : List MatchValue) (at : ℕ)

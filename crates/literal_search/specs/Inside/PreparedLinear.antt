@@ -1,20 +1,24 @@
 -- The fields of a `PreparedLinear` and of what goes over its matches.
-use Rattle.std.specs.Prelude.{◌≡◌, ℕ, List}
-use Rattle.std.specs.Borrow.{Bor}
+use Rattle.std.specs.Prelude.{◌≡◌, ◌+◌, ℕ, List, length, slice_index}
 use Rattle.literal_base.specs.declared.search.Span.{Span}
-use Rattle.literal_search.specs.Inside.Backward.{AreMarked, HasRoomForMarks, IsPlaced}
-use Rattle.literal_search.specs.Inside.Prepared.{IsHeader}
+use Rattle.literal_search.specs.Inside.Backward.{AreBackFor, AreMarked, HasRoomForMarks, IsPlaced, IsSafe}
+use Rattle.literal_search.specs.Inside.Backward.{back_tables_by}
 use Rattle.literal_search.specs.Prepared.{longest_in}
-use Rattle.literal_search.specs.PreparedLinear.{ForLinear, HasLinearParts, back_tables_in, best_in}
+use Rattle.literal_search.specs.PreparedLinear.{ForLinear, HasLinearParts, back_tables_in, linear_len}
+use Rattle.literal_search.specs.SearchValue.{SearchValue}
+use Rattle.literal_search.specs.declared.backward.Backward.{Backward}
 use Rattle.literal_search.specs.declared.backward.Marks.{Marks}
-use Rattle.literal_search.specs.declared.prepared.Header.{Header}
-use Rattle.literal_search.specs.declared.prepared.TheConstants.{LINEAR_VERSION}
+use Rattle.literal_search.specs.declared.prepared.TheConstants.{LENGTHS_AT}
 
--- the parts of an array that begins as a prepared search for all leftmost matches
-pub record AreLinearLent (f : Header) (best : Bor (List ℕ)) : Type 0 where
-  pub header : IsHeader LINEAR_VERSION f
-  pub parts : HasLinearParts f.numbers.now
-  pub best_are : best.now ≡ best_in f.numbers.now
+-- what a search from the right reads of an array, whatever that is prepared for
+pub record IsBackIn (numbers : List ℕ) (b : Backward) : Type 0 where
+  pub parts : HasLinearParts numbers
+  pub safe : IsSafe b
+  pub is_for : ForLinear numbers (λ search. AreBackFor search b)
+  pub tables : (search : SearchValue) → back_tables_by search b ≡ back_tables_in search numbers
+  pub longest : b.table.longest ≡ longest_in numbers
+  pub patterns : length b.lens.now ≡ slice_index numbers 3
+  pub end : LENGTHS_AT + length b.lens.now + length b.table.rows.now + length b.best.now ≡ linear_len numbers
 
 -- where the list goes on there are marks, for whatever the array is prepared for, and there is room for those of any
 -- block or nothing is left

@@ -2,7 +2,7 @@ use Rattle.std.proofs.Common.{◌∙◌, ap, arith, get_or, subst, sym}
 use Rattle.literal_base.specs.Leftmost.{IsLeftmostMatch}
 use Rattle.literal_base.specs.MatchValue.{MatchValue}
 use Rattle.literal_base.specs.Occurs.{between}
-use Rattle.literal_search.specs.Inside.Backward.{back_tables_by, lens_of}
+use Rattle.literal_search.specs.Inside.Backward.{back_tables_by}
 use Rattle.literal_search.proofs.lemmas.Backward.{mark_inside, mark_leftmost}
 use Rattle.literal_search.proofs.lemmas.Walk.{got_is}
 use Rattle.literal_search.proofs.backward.Backward.match_at.Goals as goal
@@ -14,7 +14,8 @@ returns-then-len-eq0-clause-leftmost c = λ search is mark.
     let longest_is = c.in_ok-longest.ensures (mark.row c.requires.ends) in
     let pattern_is = got_is b.best.now _ c.get.result c.in_ok-pattern.field-0 c.get.ensures.lookup
     c.in_ok-pattern.ensures.ok_part ∙ ap (λ k. get_or b.best.now k 0) longest_is in
-    let len_is = c.in_ok-len.ensures.1 ∙ ap (λ k. get_or (lens_of b.lens) k 0) pattern_is in
+    let len_is = got_is b.lens.now _ c.get-2.result c.in_ok-len.field-0 c.get-2.ensures.lookup
+    c.in_ok-len.ensures.ok_part ∙ ap (λ k. get_or b.lens.now k 0) pattern_is in
     let inside = mark_inside b search is c.args.haystack.now c.args.span.end c.args.at c.args.code c.requires.ends mark
     in
     elim c.then-len-eq0.branch [
@@ -33,4 +34,5 @@ returns-clause-leftmost c = λ search is mark.
     subst (λ (m : MatchValue). IsLeftmostMatch search.query search.ignore_case c.args.haystack.now
     (between c.args.at c.args.span.end) m) (sym c.must.ensures)
     (mark_leftmost b search is c.args.haystack.now c.args.span.end c.args.at c.args.code c.requires.ends mark
-    c.in_ok-pattern.field-0.now c.in_ok-len.len pattern_is c.in_ok-len.ensures.1)
+    c.in_ok-pattern.field-0.now _ pattern_is (got_is b.lens.now _ c.get-2.result c.in_ok-len.field-0
+    c.get-2.ensures.lookup c.in_ok-len.ensures.ok_part))

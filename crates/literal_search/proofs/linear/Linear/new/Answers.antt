@@ -1,17 +1,21 @@
-use Rattle.std.proofs.Common.{◌≡◌, ◌∙◌, [], ℕ, List, arith, ap, length, map, subst, sym}
+use Rattle.std.proofs.Common.{◌≡◌, ◌∙◌, [], ℕ, List, arith, ap, length, map, refl, subst, sym}
 use Rattle.std.proofs.lemmas.List.{length-map, nil_from_length}
 use Rattle.std.specs.Global.{Global}
 use Rattle.std.specs.declared.vec.Vec.{Vec}
 use Rattle.literal_base.specs.Occurs.{NoneIsEmpty}
 use Rattle.literal_base.specs.declared.search.MatchKind.TheVariants.{Standard}
-use Rattle.literal_search.specs.SearchValue.{longest_of, width_for}
+use Rattle.literal_search.specs.SearchValue.{longest_of, search_by, width_for}
+use Rattle.literal_search.specs.Inside.Linear.{AreKept}
+use Rattle.literal_search.specs.Inside.Prepared.{numbers_for}
+use Rattle.literal_search.specs.Prepared.{AreShort}
+use Rattle.literal_search.specs.PreparedLinear.{AreBackTables, BackTables}
+use Rattle.literal_search.specs.declared.prepared.TheConstants.{LINEAR_VERSION}
+use Rattle.literal_search.proofs.lemmas.BackTables.{kept_all, short_by}
 use Rattle.literal_search.specs.Inside.Best.{AreBest}
 use Rattle.literal_search.specs.Inside.Classes.{Tells, symbols_in}
-use Rattle.literal_search.specs.Inside.Linear.{AreParts}
 use Rattle.literal_search.specs.Linear.{NeedTooManyReversed, reversed}
 use Rattle.literal_search.specs.States.{HasTooManyStates, IsRowsLength}
 use Rattle.literal_search.specs.Table.{Recognises}
-use Rattle.literal_search.specs.declared.linear.Parts.{Parts}
 use Rattle.literal_search.proofs.lemmas.Backward.{count_lent, some_back, some_lent, texts_lent}
 use Rattle.literal_search.proofs.lemmas.Built.{holds_in, refused_lists, refused_rows}
 use Rattle.literal_search.proofs.lemmas.Found.{some_symbols}
@@ -120,36 +124,87 @@ invariant_of-result g c =
     let rows_are = texts_lent c.deref-3.result.now backward patterns c.deref-3.ensures.value copies classes.table in
     let best_are = texts_lent c.deref-4.result.now backward patterns c.deref-4.ensures.value copies classes.table in
     let count = count_lent c.deref-4.result.now backward patterns c.deref-4.ensures.value copies in
-    subst (λ (k : List ℕ). let p : Parts = record {
-      kind = c.args.kind;
-      ignore_case = c.args.ignore_case;
-      patterns = c.in_ok-patterns.patterns;
+    let t : BackTables = record {
+      search = search_by c.args.kind c.args.ignore_case bytes;
+      classes = classes.table;
       width = classes.width;
-      rows = record { rows = c.in_ok-rows.rows.rows; classes = k };
-      best = c.in_ok-best.best;
-      longest = c.longest_len-longest.result;
-    } in AreParts p) (sym c.in_ok-rows.ensures.classes) (record {
-      tables = record {
-        classes = c.classes_for-classes.ensures.classes;
-        tells = subst (λ (p : List (Vec ℕ Global)). Tells c.args.ignore_case classes.table
-            (map (λ (pattern : Vec ℕ Global). pattern.items) p)) c.deref.ensures.value
-            c.classes_for-classes.ensures.tells;
-        recognises = subst (λ (texts : List (List ℕ)). Recognises Standard texts classes.width c.in_ok-rows.rows.rows)
-            rows_are c.in_ok-rows.ensures.recognises;
-        best = subst (AreBest c.args.kind (reversed (map (symbols_in classes.table) bytes)) c.in_ok-best.best.items)
-            count
-            (subst (λ (texts : List (List ℕ)). AreBest c.args.kind texts c.in_ok-best.best.items
-            (length c.deref-4.result.now)) best_are c.in_ok-best.ensures.best);
-        longest = c.longest_len-longest.ensures ∙ ap (λ (p : List (Vec ℕ Global)). longest_of
-            (map (λ (pattern : Vec ℕ Global). pattern.items) p)) c.deref-5.ensures.value;
-        kept = c.in_ok-patterns.ensures.ok.5;
-      };
-      width = c.classes_for-classes.ensures.width ∙ ap (λ (p : List (Vec ℕ Global)). width_for c.args.ignore_case
-          (map (λ (pattern : Vec ℕ Global). pattern.items) p)) c.deref.ensures.value;
-      rows = subst (λ (texts : List (List ℕ)). IsRowsLength Standard texts classes.width
-          (length c.in_ok-rows.rows.rows))
-          rows_are c.in_ok-rows.ensures.states;
-    })
+      rows = c.in_ok-rows.rows.rows;
+      best = c.in_ok-best.best.items;
+      longest = longest_of bytes;
+    } in
+    let are : AreBackTables t = record {
+      classes = c.classes_for-classes.ensures.classes;
+      tells = subst (λ (p : List (Vec ℕ Global)). Tells c.args.ignore_case classes.table
+          (map (λ (pattern : Vec ℕ Global). pattern.items) p)) c.deref.ensures.value
+          c.classes_for-classes.ensures.tells;
+      recognises = subst (λ (texts : List (List ℕ)). Recognises Standard texts classes.width c.in_ok-rows.rows.rows)
+          rows_are c.in_ok-rows.ensures.recognises;
+      best = subst (AreBest c.args.kind (reversed (map (symbols_in classes.table) bytes)) c.in_ok-best.best.items)
+          count
+          (subst (λ (texts : List (List ℕ)). AreBest c.args.kind texts c.in_ok-best.best.items
+          (length c.deref-4.result.now)) best_are c.in_ok-best.ensures.best);
+      longest = refl;
+      kept = c.in_ok-patterns.ensures.ok.5;
+    } in
+    let All = λ (k : List ℕ) (p : List (Vec ℕ Global)) (b : List ℕ). numbers_for LINEAR_VERSION k classes.width
+    (map (λ (pattern : Vec ℕ Global). pattern.items) p) c.in_ok-rows.rows.rows [] b in
+    let lent = c.deref-5.result.now in
+    let numbers_are : c.in_ok-numbers.numbers ≡ All classes.table patterns c.in_ok-best.best.items =
+    c.in_ok-numbers.ensures.numbers
+    ∙ (ap (λ k. All k lent c.deref-6.result.now) c.in_ok-rows.ensures.classes
+    ∙ (ap (λ p. All classes.table p c.deref-6.result.now) c.deref-5.ensures.value
+    ∙ ap (λ b. All classes.table patterns b) c.deref-6.ensures.value)) in
+    subst (AreKept t.search) (sym numbers_are) (kept_all t are
+    (c.classes_for-classes.ensures.width ∙ ap (λ (p : List (Vec ℕ Global)). width_for c.args.ignore_case
+    (map (λ (pattern : Vec ℕ Global). pattern.items) p)) c.deref.ensures.value)
+    (subst (λ (texts : List (List ℕ)). IsRowsLength Standard texts classes.width (length c.in_ok-rows.rows.rows))
+    rows_are c.in_ok-rows.ensures.states))
+
+pub numbers_for-requires-clause-short : goal.numbers_for-requires-clause-short
+numbers_for-requires-clause-short g c =
+    let classes = c.classes_for-classes.result in
+    let patterns = c.in_ok-patterns.patterns.items in
+    let copies = c.in_ok-backward.ensures.copies
+    ∙ ap (λ (p : List (Vec ℕ Global)). reversed (map (λ (pattern : Vec ℕ Global). pattern.items) p))
+    c.deref-2.ensures.value in
+    let rows_are = texts_lent c.deref-3.result.now c.in_ok-backward.backward.items patterns c.deref-3.ensures.value
+    copies classes.table in
+    subst (λ (p : List (Vec ℕ Global)). AreShort (map (λ (pattern : Vec ℕ Global). pattern.items) p))
+    (sym c.deref-5.ensures.value)
+    (short_by classes.table classes.width (map (λ (pattern : Vec ℕ Global). pattern.items) patterns)
+    (subst (λ (texts : List (List ℕ)). ¬ HasTooManyStates Standard texts classes.width) rows_are
+    c.in_ok-rows.ensures.few))
+
+pub numbers_for-requires-clause-best : goal.numbers_for-requires-clause-best
+numbers_for-requires-clause-best g c =
+    let patterns = c.in_ok-patterns.patterns.items in
+    let copies = c.in_ok-backward.ensures.copies
+    ∙ ap (λ (p : List (Vec ℕ Global)). reversed (map (λ (pattern : Vec ℕ Global). pattern.items) p))
+    c.deref-2.ensures.value in
+    let count = count_lent c.deref-4.result.now c.in_ok-backward.backward.items patterns c.deref-4.ensures.value copies
+    in
+    omega (
+      arith,
+      c.in_ok-best.ensures.best.long,
+      count,
+      length-map patterns (λ (pattern : Vec ℕ Global). pattern.items),
+      ap (λ (p : List (Vec ℕ Global)). length p) c.deref-5.ensures.value,
+      ap (λ (b : List ℕ). length b) c.deref-6.ensures.value,
+    )
+
+pub returns-in_err-numbers-clause-error : goal.returns-in_err-numbers-clause-error
+returns-in_err-numbers-clause-error g c =
+    let patterns = c.in_ok-patterns.patterns.items in
+    refused_lists g.I.IntoIterator.into_iter_gives g.I.IntoIter.Iterator.next_gives c.args.patterns
+    (NeedTooManyReversed c.args.ignore_case)
+    (map (λ (pattern : Vec ℕ Global). pattern.items) patterns) c.in_ok-patterns.ensures.ok
+    (omega (
+      arith,
+      c.in_err-numbers.ensures.no_memory,
+      length-map patterns (λ (pattern : Vec ℕ Global). pattern.items),
+      ap (λ (p : List (Vec ℕ Global)). length p) c.deref-5.ensures.value,
+    ))
+    c.from_residual-in_err-numbers.result c.from_residual-in_err-numbers.ensures.1
 
 pub returns-clause-few : goal.returns-clause-few
 returns-clause-few g c =

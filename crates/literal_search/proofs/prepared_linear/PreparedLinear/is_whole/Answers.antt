@@ -1,25 +1,14 @@
-use Rattle.std.proofs.Common.{◌≡◌, ◌+◌, ◌∙◌, List, ℕ, ap, arith, length, subst, sym}
+use Rattle.std.proofs.Common.{◌∙◌, ap, subst, sym}
 use Rattle.std.specs.List.{slice_range}
-use Rattle.literal_search.specs.Prepared.{check_of, rows_at, classes_end}
-use Rattle.literal_search.specs.PreparedLinear.{IsWholeLinear, linear_len}
-use Rattle.literal_search.proofs.lemmas.Prepared.{length_part}
+use Rattle.literal_search.specs.Prepared.{check_of}
+use Rattle.literal_search.specs.PreparedLinear.{IsWholeLinear}
 use Rattle.literal_search.proofs.prepared_linear.PreparedLinear.is_whole.Goals as goal
 
 pub returns : goal.returns
 returns c =
-    let p = c.self.inside in
-    let numbers = p.header.numbers.now in
+    let numbers = c.self.inside.numbers.now in
     let lent = c.self.invariant in
-    let fits = lent.parts.fits in
-    let lengths = ap (λ (l : List ℕ). length l) lent.header.lengths_are
-    ∙ length_part numbers 6 (rows_at numbers) (omega arith) (omega arith) in
-    let rows = ap (λ (l : List ℕ). length l) lent.header.rows_are
-    ∙ length_part numbers (rows_at numbers) (classes_end numbers) (omega arith) (omega arith) in
-    let best = ap (λ (l : List ℕ). length l) lent.best_are
-    ∙ length_part numbers (classes_end numbers) (linear_len numbers) (omega arith) (omega arith) in
-    let end_is : 6 + length p.header.lengths.now + length p.header.rows.now + length p.best.now ≡ linear_len numbers =
-    omega (arith, lengths, rows, best) in
-    let check_is = ap (λ end. check_of (slice_range numbers 2 end)) end_is in (
+    let check_is = ap (λ end. check_of (slice_range numbers 2 end)) lent.end in (
       λ same. subst IsWholeLinear c.self.view_is
           (record { parts = lent.parts; check = c.is_checked.ensures.0 same ∙ check_is }),
       λ whole. c.is_checked.ensures.1 ((subst IsWholeLinear (sym c.self.view_is) whole).check ∙ sym check_is),

@@ -1,12 +1,15 @@
 use Rattle.std.proofs.Common.{◌≡◌, ◌+◌, ◌-◌, ◌<◌, ◌≤◌, ◌≢◌, ◌∙◌, ℕ, List, ap, arith, get_or, length, refl, subst, sym}
 use Rattle.std.specs.List.{slice_range}
 use Rattle.literal_search.specs.Inside.Prepared.{IsHeader}
-use Rattle.literal_search.specs.Prepared.{HasParts, classes_end}
-use Rattle.literal_search.specs.PreparedLinear.{HasLinearParts, best_in, linear_len}
+use Rattle.literal_search.specs.Prepared.{HasParts, classes_end, classes_in, lengths_in, longest_in, rows_in, width_in}
+use Rattle.literal_search.specs.SearchValue.{SearchValue}
+use Rattle.literal_search.specs.PreparedLinear.{AreBackTables, BackTables, HasLinearParts, best_in, linear_len}
 use Rattle.literal_search.specs.declared.prepared.Header.{Header}
 use Rattle.literal_search.specs.declared.prepared.TheConstants.{LINEAR_VERSION}
+use Rattle.literal_search.proofs.lemmas.BackTables.{same_tables}
 use Rattle.literal_search.proofs.lemmas.LentTables.{parts_end}
-use Rattle.literal_search.proofs.prepared_linear.PreparedLinear.new.Goals as goal
+use Rattle.literal_search.proofs.lemmas.Prepared.{classes_long, length_part, rows_are}
+use Rattle.literal_search.proofs.prepared_linear.backward_in.Goals as goal
 
 -- where the classes end, by the parts
 abbrev end : Header → ℕ
@@ -51,24 +54,40 @@ returns-then-is_short c = λ parts.
           no_row f numbers told.0 told.2 w.if-header-eq-CLASSES_LEN.true parts
     ]
 
-pub invariant_of-result : goal.invariant_of-result
-invariant_of-result c =
-    let f = c.in_ok-header.header in
-    let numbers = c.args.numbers.now in
-    let told = c.in_ok-header.ensures in
-    record {
-      header = told.2;
-      parts = has_parts f numbers told.0 told.2 told.1 c.if-is_short.false
-          c.if-header-eq-CLASSES_LEN.false;
-      best_are = best_are f numbers told.0 told.2;
-    }
-
 pub returns : goal.returns
 returns c =
     let f = c.in_ok-header.header in
     let numbers = c.args.numbers.now in
-    let told = c.in_ok-header.ensures in (
-      told.0,
-      subst HasLinearParts told.0 (has_parts f numbers told.0 told.2 told.1 c.if-is_short.false
-          c.if-header-eq-CLASSES_LEN.false),
-    )
+    let told = c.in_ok-header.ensures in
+    let header = told.2 in
+    let known = parts_end f numbers told.0 header in
+    let parts = subst HasLinearParts told.0
+    (has_parts f numbers told.0 header told.1 c.if-is_short.false c.if-header-eq-CLASSES_LEN.false) in
+    let best = best_are f numbers told.0 header in
+    let best_is = best ∙ ap best_in told.0 in
+    let tables = λ (search : SearchValue). same_tables search _ (classes_in numbers) _ (width_in numbers) _
+    (rows_in numbers) _ (best_in numbers) _ (longest_in numbers)
+    (header.classes_are ∙ ap classes_in told.0) (header.width_is ∙ ap width_in told.0)
+    (rows_are header ∙ ap rows_in told.0) best_is (header.longest_is ∙ ap longest_in told.0) in
+    record {
+      parts = parts;
+      safe = record {
+        each = classes_long header;
+        row = omega (arith, parts.row, known.0, known.1);
+        few = omega (arith, told.1.few, known.1);
+      };
+      is_for = λ search is. record {
+        tables = subst (λ (t : BackTables). AreBackTables t) (sym (tables search)) is.tables;
+        lens = header.lengths_are ∙ (ap lengths_in told.0 ∙ is.lengths);
+      };
+      tables = tables;
+      longest = header.longest_is ∙ ap longest_in told.0;
+      patterns = known.1;
+      end = omega (
+        arith,
+        known.0,
+        known.1,
+        length_part numbers (end f) (end f + length f.lengths.now) (omega arith)
+            (omega (arith, c.if-is_short.false, parts.fits, known.0, known.1)),
+      );
+    }
