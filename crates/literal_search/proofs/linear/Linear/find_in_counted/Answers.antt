@@ -36,5 +36,6 @@ returns-clause-bounded c =
           (IsLeftmost (linear_value p).query p.ignore_case c.args.haystack.now span)
           (λ answer. LooksFor c.backward.result.table.longest span answer old new) looks
           (λ answer is counted. subst (λ n. LooksFor n span answer old new) longest counted)
-          (c.find_in-answer.ensures.leftmost (linear_value p) c.backward.ensures.is_for) c.find_in-answer.ensures.counted);
+          (c.find_in-answer.ensures.leftmost (linear_value p) c.backward.ensures.is_for)
+          c.find_in-answer.ensures.counted);
     })
