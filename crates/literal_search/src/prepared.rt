@@ -42,9 +42,9 @@ pub const LENGTHS_AT: usize = 6;
 /// fingerprints, and one for four of their bytes each.
 pub const FINGERPRINTS_LEN: usize = 1 + BYTES / 4;
 
-/// The prepared search for all leftmost matches of no pattern: [`LINEAR_VERSION`], its check, one class, no pattern, two
-/// places, and no longest pattern; then the row of its one state, of which its one class leads to itself, and with which
-/// nothing ends, and this class for each byte.
+/// The prepared search for all leftmost matches of no pattern: [`LINEAR_VERSION`], its check, one class, no pattern,
+/// two places, and no longest pattern; then the row of its one state, of which its one class leads to itself, and with
+/// which nothing ends, and this class for each byte.
 pub const NO_PATTERN: [u32; 264] = [
     0x4C4C0002, 0x8F8BB309, 1, 0, 2, 0, 0, NOTHING, 0, 0, 0, 0, 0, 0, 0, 0, 0, 0, 0, 0, 0, 0, 0, 0,
     0, 0, 0, 0, 0, 0, 0, 0, 0, 0, 0, 0, 0, 0, 0, 0, 0, 0, 0, 0, 0, 0, 0, 0, 0, 0, 0, 0, 0, 0, 0, 0,

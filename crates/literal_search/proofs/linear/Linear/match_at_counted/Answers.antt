@@ -28,8 +28,12 @@ returns-clause-bounded c =
     c.find_at-answer.new.tally) c.self.view_is
     (record {
       others = c.find_at-answer.ensures.others;
-      most = omega (arith, c.find_at-answer.ensures.most, c.backward.ensures.longest,
-          c.self.invariant.prepared.tables.longest);
+      most = omega (
+        arith,
+        c.find_at-answer.ensures.most,
+        c.backward.ensures.longest,
+        c.self.invariant.prepared.tables.longest,
+      );
       least = unwrapped c.find_at-answer.result c.unwrap_or.result c.unwrap_or.ensures reaches
           (also_ok c.find_at-answer.result (IsMatchAt (linear_value p).query p.ignore_case c.args.haystack.now at)
           reaches reaches (λ answer is least. least)
