@@ -91,6 +91,48 @@ impl<'t> Backward<'t> {
         Ok(code)
     }
 
+    /// Where a walk goes on from a row by a byte of the haystack. If a pattern begins at the byte, that is noted.
+    #[inline(always)]
+    fn follow(
+        &self,
+        classes: &[u8; 256],
+        place: usize,
+        haystack: &[u8],
+        at: usize,
+        limit: usize,
+        begun: &mut Option<Begun>,
+        tally: &mut Tally,
+    ) -> Result<usize, Damaged>
+        requires safe { IsSafe self.now }
+        requires same { HasBytes self.now classes.now }
+        requires limit { IsLimit self.now limit }
+        requires row { place < limit }
+        requires inside { at < length haystack.now }
+        ensures lane { ForBackward self.now (λ tables. (span : Span) (end next to : ℕ) → span.end ≤ length haystack.now
+            → next ≡ at + 1 → to ≡ at → IsLane tables haystack.now span end next place
+            → IsOkAnd result (IsLane tables haystack.now span end to)) }
+        ensures first { ForBackward self.now (λ tables. (span : Span) (end next to upto : ℕ)
+            → span.end ≤ length haystack.now → next ≡ at + 1 → to ≡ at → at < end
+            → IsLane tables haystack.now span end next place
+            → IsFirstBegun tables haystack.now span.end (between next upto) begun.old
+            → IsFirstBegun tables haystack.now span.end (between to upto) begun.new) }
+        ensures lies { (next to upto : ℕ) → next ≡ at + 1 → to ≡ at → at < upto → LiesInPart next upto begun.old
+            → LiesInPart to upto begun.new }
+        ensures leads { IfOk result (λ on. on < limit) }
+        ensures ticks { tally.new ≡ record tally.old { scanned = tally.old.scanned + 1 } }
+    {
+        let code = self.table.code_by(classes, place, haystack, at, tally);
+        if (code as usize) < limit {
+            return Ok(code as usize);
+        }
+        let on = (code % ENDS) as usize;
+        if on >= limit {
+            return Err(Damaged);
+        }
+        *begun = Some(Begun { at, code });
+        Ok(on)
+    }
+
     /// Where a walk stands at an end, that began so far behind the end that it tells all that begins before it.
     fn walk_back(
         &self,
@@ -152,9 +194,7 @@ impl<'t> Backward<'t> {
         let mut place = from;
         let mut first = None;
         for at in (part.start..part.end).rev() {
-            let code = self.step(classes, place, haystack, at, limit, tally)?;
-            place = (code % ENDS) as usize;
-            first = nearer(at, code, first);
+            place = self.follow(classes, place, haystack, at, limit, &mut first, tally)?;
         }
         Ok(first)
     }
@@ -187,18 +227,16 @@ impl<'t> Backward<'t> {
     {
         let part = block.part;
         let (mut first, mut second, mut third, mut fourth) = (0, 0, 0, 0);
-        let mut behind = None;
+        let (mut passed, mut behind) = (None, None); // (what begins in the next part, its own walk tells)
         for step in (0..block.lead).rev() {
             let here = at + part + step;
-            let one = self.step(classes, first, haystack, here, limit, tally)?;
-            first = (one % ENDS) as usize;
-            let two = self.step(classes, second, haystack, here + part, limit, tally)?;
-            second = (two % ENDS) as usize;
-            let three = self.step(classes, third, haystack, here + 2 * part, limit, tally)?;
-            third = (three % ENDS) as usize;
-            let four = self.step(classes, fourth, haystack, here + 3 * part, limit, tally)?;
-            fourth = (four % ENDS) as usize;
-            behind = nearer(here + 3 * part, four, behind);
+            first = self.follow(classes, first, haystack, here, limit, &mut passed, tally)?;
+            let here = here + part;
+            second = self.follow(classes, second, haystack, here, limit, &mut passed, tally)?;
+            let here = here + part;
+            third = self.follow(classes, third, haystack, here, limit, &mut passed, tally)?;
+            let here = here + part;
+            fourth = self.follow(classes, fourth, haystack, here, limit, &mut behind, tally)?;
         }
         let lanes = Lanes {
             first,
@@ -305,46 +343,25 @@ impl<'t> Backward<'t> {
             start: at,
             end: one,
         };
-        if let Some(begun) = self.first_in(
-            classes,
-            haystack,
-            span,
-            part,
-            lanes.first,
-            limit,
-            tally,
-        )? {
-            return Ok(Some(begun));
+        let first = self.first_in(classes, haystack, span, part, lanes.first, limit, tally)?;
+        if first.is_some() {
+            return Ok(first);
         }
         let part = Span {
             start: one,
             end: two,
         };
-        if let Some(begun) = self.first_in(
-            classes,
-            haystack,
-            span,
-            part,
-            lanes.second,
-            limit,
-            tally,
-        )? {
-            return Ok(Some(begun));
+        let first = self.first_in(classes, haystack, span, part, lanes.second, limit, tally)?;
+        if first.is_some() {
+            return Ok(first);
         }
         let part = Span {
             start: two,
             end: three,
         };
-        if let Some(begun) = self.first_in(
-            classes,
-            haystack,
-            span,
-            part,
-            lanes.third,
-            limit,
-            tally,
-        )? {
-            return Ok(Some(begun));
+        let first = self.first_in(classes, haystack, span, part, lanes.third, limit, tally)?;
+        if first.is_some() {
+            return Ok(first);
         }
         let part = Span {
             start: three,
@@ -648,18 +665,5 @@ impl<'t> Backward<'t> {
             return Ok(Some(found));
         }
         Ok(None)
-    }
-}
-
-/// The first of the places at which a pattern begins, where the one before those so far has this number.
-#[inline(always)]
-fn nearer(at: usize, code: u32, behind: Option<Begun>) -> Option<Begun>
-    ensures begins { 2 ^ 31 ≤ code → result ≡ Some (record { at = at; code = code }) }
-    ensures none { code < 2 ^ 31 → result ≡ behind }
-{
-    if code >= ENDS {
-        Some(Begun { at, code })
-    } else {
-        behind
     }
 }

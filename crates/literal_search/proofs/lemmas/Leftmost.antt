@@ -1,7 +1,7 @@
 -- What walks through parts of a span tell of the places of the parts.
 use Rattle.std.proofs.Common.{◌≡◌, ℕ, ◌+◌, ◌-◌, ◌*◌, ◌<◌, ◌≤◌, ◌⊎◌, ◌^◌, ◌%◌, List, Option, Some, None, arith}
-use Rattle.std.proofs.Common.{◌∙◌, ◌≢◌, Err, Ok, Result, ap, get_or, inl, inr, length, set, subst, sym}
-use Rattle.std.proofs.lemmas.Bool.{cases_lt}
+use Rattle.std.proofs.Common.{◌∙◌, ◌≢◌, Err, Ok, Result, ap, false, is_some, get_or, inl, inr, length, set, subst, sym, true}
+use Rattle.std.proofs.lemmas.Bool.{cases_lt, false≢true}
 use Rattle.std.proofs.lemmas.List.{get_or-set_other, get_or-set_same}
 use Rattle.std.specs.Result.{IsOkAnd}
 use Rattle.literal_base.specs.Counts.{Counts}
@@ -177,6 +177,20 @@ pub part_on : (p : BackTables) (haystack : List ℕ) (end from start upto : ℕ)
 part_on p haystack end from start upto before None none = none_on p haystack end from start upto before none
 part_on p haystack end from start upto before (Some begun) first =
     (first.0, none_on p haystack end from start begun.at before first.1)
+
+-- nothing begins in a part that has no first such place
+pub no_first : (p : BackTables) (haystack : List ℕ) (end start upto : ℕ) (first : Option Begun)
+    → is_some first ≡ false → IsFirstBegun p haystack end (between start upto) first
+    → NoneFrom p haystack end start upto
+no_first p haystack end start upto None none is = is
+no_first p haystack end start upto (Some begun) some is = absurd (false≢true (sym some))
+
+-- and if it has one, that is the first of a part that ends elsewhere
+pub some_first : (p : BackTables) (haystack : List ℕ) (end start upto other : ℕ) (first : Option Begun)
+    → is_some first ≡ true → IsFirstBegun p haystack end (between start upto) first
+    → IsFirstBegun p haystack end (between start other) first
+some_first p haystack end start upto other None some is = absurd (false≢true some)
+some_first p haystack end start upto other (Some begun) some is = is
 
 pub ok_part_on : (p : BackTables) (haystack : List ℕ) (end from start upto : ℕ) → NoneFrom p haystack end from start
     → (result : Result (Option Begun) Damaged)

@@ -1,41 +1,41 @@
-use Rattle.std.proofs.Common.{◌+◌, ◌*◌, Some, arith, subst}
-use Rattle.literal_base.specs.Occurs.{between}
+use Rattle.std.proofs.Common.{◌∙◌, ◌+◌, ◌*◌, arith, sym}
 use Rattle.literal_search.specs.Inside.Backward.{back_tables_by}
-use Rattle.literal_search.specs.Inside.Leftmost.{IsFirstBegun}
-use Rattle.literal_search.proofs.lemmas.Leftmost.{lane_there, none_on, ok_part_on, part_on}
+use Rattle.literal_search.proofs.lemmas.Leftmost.{lane_there, no_first, none_on, ok_part_on, part_on, some_first}
 use Rattle.literal_search.proofs.backward.Backward.first_of_lanes.Goals as goal
 
-pub returns-in-Some-2-clause-first : goal.returns-in-Some-2-clause-first
-returns-in-Some-2-clause-first c = λ search is lanes.
+pub returns-then-is_some-2-clause-first : goal.returns-then-is_some-2-clause-first
+returns-then-is_some-2-clause-first c = λ search is lanes.
     let tables = back_tables_by search c.args.self.now in
     let haystack = c.args.haystack.now in
     let span = c.args.span in
     let at = c.args.at in
     let part = c.args.part in
-    let one = subst (IsFirstBegun tables haystack span.end (between at (at + part))) c.in_default.is
-    (c.in_ok-begun.ensures.first search is lanes.first) in
-    let two = subst (IsFirstBegun tables haystack span.end (between (at + part) (at + 2 * part))) c.in-Some-2.is
-    (c.in_ok-begun-2.ensures.first search is
-    (lane_there tables haystack span (at + 2 * part) _ _ _ (omega arith) lanes.second)) in
-    part_on tables haystack span.end at (at + part) (at + 2 * part) one (Some c.in-Some-2.begun) two
+    some_first tables haystack span.end at (at + 2 * part) (at + 4 * part) c.in_ok-first-2.first
+    (sym c.is_some-2.ensures ∙ c.if-is_some-2.true)
+    (part_on tables haystack span.end at (at + part) (at + 2 * part)
+    (no_first tables haystack span.end at (at + part) c.in_ok-first.first (sym c.is_some.ensures ∙ c.if-is_some.false)
+    (c.in_ok-first.ensures.first search is lanes.first)) c.in_ok-first-2.first
+    (c.in_ok-first-2.ensures.first search is
+    (lane_there tables haystack span (at + 2 * part) _ _ _ (omega arith) lanes.second)))
 
-pub returns-in-Some-3-clause-first : goal.returns-in-Some-3-clause-first
-returns-in-Some-3-clause-first c = λ search is lanes.
+pub returns-then-is_some-3-clause-first : goal.returns-then-is_some-3-clause-first
+returns-then-is_some-3-clause-first c = λ search is lanes.
     let tables = back_tables_by search c.args.self.now in
     let haystack = c.args.haystack.now in
     let span = c.args.span in
     let at = c.args.at in
     let part = c.args.part in
-    let one = subst (IsFirstBegun tables haystack span.end (between at (at + part))) c.in_default.is
-    (c.in_ok-begun.ensures.first search is lanes.first) in
-    let two = subst (IsFirstBegun tables haystack span.end (between (at + part) (at + 2 * part))) c.in_default-2.is
-    (c.in_ok-begun-2.ensures.first search is
-    (lane_there tables haystack span (at + 2 * part) _ _ _ (omega arith) lanes.second)) in
-    let three = subst (IsFirstBegun tables haystack span.end (between (at + 2 * part) (at + 3 * part))) c.in-Some-3.is
-    (c.in_ok-begun-3.ensures.first search is
-    (lane_there tables haystack span (at + 3 * part) _ _ _ (omega arith) lanes.third)) in
-    part_on tables haystack span.end at (at + 2 * part) (at + 3 * part)
-    (none_on tables haystack span.end at (at + part) (at + 2 * part) one two) (Some c.in-Some-3.begun) three
+    some_first tables haystack span.end at (at + 3 * part) (at + 4 * part) c.in_ok-first-3.first
+    (sym c.is_some-3.ensures ∙ c.if-is_some-3.true)
+    (part_on tables haystack span.end at (at + 2 * part) (at + 3 * part)
+    (none_on tables haystack span.end at (at + part) (at + 2 * part)
+    (no_first tables haystack span.end at (at + part) c.in_ok-first.first (sym c.is_some.ensures ∙ c.if-is_some.false)
+    (c.in_ok-first.ensures.first search is lanes.first))
+    (no_first tables haystack span.end (at + part) (at + 2 * part) c.in_ok-first-2.first
+    (sym c.is_some-2.ensures ∙ c.if-is_some-2.false) (c.in_ok-first-2.ensures.first search is
+    (lane_there tables haystack span (at + 2 * part) _ _ _ (omega arith) lanes.second)))) c.in_ok-first-3.first
+    (c.in_ok-first-3.ensures.first search is
+    (lane_there tables haystack span (at + 3 * part) _ _ _ (omega arith) lanes.third)))
 
 pub returns-clause-first : goal.returns-clause-first
 returns-clause-first c = λ search is lanes.
@@ -44,14 +44,13 @@ returns-clause-first c = λ search is lanes.
     let span = c.args.span in
     let at = c.args.at in
     let part = c.args.part in
-    let one = subst (IsFirstBegun tables haystack span.end (between at (at + part))) c.in_default.is
-    (c.in_ok-begun.ensures.first search is lanes.first) in
-    let two = subst (IsFirstBegun tables haystack span.end (between (at + part) (at + 2 * part))) c.in_default-2.is
-    (c.in_ok-begun-2.ensures.first search is
+    let one = no_first tables haystack span.end at (at + part) c.in_ok-first.first
+    (sym c.is_some.ensures ∙ c.if-is_some.false) (c.in_ok-first.ensures.first search is lanes.first) in
+    let two = no_first tables haystack span.end (at + part) (at + 2 * part) c.in_ok-first-2.first
+    (sym c.is_some-2.ensures ∙ c.if-is_some-2.false) (c.in_ok-first-2.ensures.first search is
     (lane_there tables haystack span (at + 2 * part) _ _ _ (omega arith) lanes.second)) in
-    let three = subst (IsFirstBegun tables haystack span.end (between (at + 2 * part) (at + 3 * part)))
-    c.in_default-3.is
-    (c.in_ok-begun-3.ensures.first search is
+    let three = no_first tables haystack span.end (at + 2 * part) (at + 3 * part) c.in_ok-first-3.first
+    (sym c.is_some-3.ensures ∙ c.if-is_some-3.false) (c.in_ok-first-3.ensures.first search is
     (lane_there tables haystack span (at + 3 * part) _ _ _ (omega arith) lanes.third)) in
     ok_part_on tables haystack span.end at (at + 3 * part) (at + 4 * part)
     (none_on tables haystack span.end at (at + 2 * part) (at + 3 * part)

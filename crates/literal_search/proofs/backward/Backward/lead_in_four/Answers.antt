@@ -1,11 +1,10 @@
-use Rattle.std.proofs.Common.{◌≡◌, ◌+◌, ◌-◌, ◌*◌, ◌<◌, ◌≤◌, ◌∙◌, ◌^◌, ℕ, Option, Some, ap, arith, inl, inr, refl, subst}
+use Rattle.std.proofs.Common.{◌≡◌, ◌+◌, ◌-◌, ◌*◌, ◌≤◌, ◌∙◌, ℕ, ap, arith, inl, inr, refl, subst}
 use Rattle.literal_base.specs.Counts.{Counts}
 use Rattle.literal_search.specs.Inside.Backward.{AreBackFor, back_tables_by}
 use Rattle.literal_base.specs.Occurs.{between}
-use Rattle.literal_search.specs.Inside.Leftmost.{IsFirstBegun, IsLane, IsStep}
+use Rattle.literal_search.specs.Inside.Leftmost.{IsFirstBegun, IsLane}
 use Rattle.literal_search.specs.SearchValue.{SearchValue}
-use Rattle.literal_search.specs.declared.backward.Begun.{Begun}
-use Rattle.literal_search.proofs.lemmas.Leftmost.{first_on, lane_begins, lane_there, lies_on, one_more}
+use Rattle.literal_search.proofs.lemmas.Leftmost.{lane_begins, lane_there, one_more}
 use Rattle.literal_search.proofs.backward.Backward.lead_in_four.Goals as goal
 
 pub loop-step-init : goal.loop-step-init
@@ -45,100 +44,84 @@ loop-step-init c =
       counted = ap (λ (n : ℕ). let t : Counts = record c.args.tally.now { scanned = n } in t) none;
     }
 
-pub returns-in_err-one-clause-led : goal.returns-in_err-one-clause-led
-returns-in_err-one-clause-led c = λ search is.
+pub returns-in_err-first-clause-led : goal.returns-in_err-first-clause-led
+returns-in_err-first-clause-led c = λ search is.
     let at = c.args.at in
     let part = c.args.block.part in
-    absurd (c.in_err-one.ensures.step search is c.args.span (at + part) (at + (part + c.loop-step.step))
+    absurd (c.in_err-first.ensures.lane search is c.args.span (at + part) (at + (part + c.loop-step.step))
     (at + part + (c.loop-step.step - 1)) c.requires.valid.in_haystack (omega arith) refl
     (c.loop-step.invariant.lanes search is).first)
 
-pub returns-in_err-two-clause-led : goal.returns-in_err-two-clause-led
-returns-in_err-two-clause-led c = λ search is.
+pub returns-in_err-second-clause-led : goal.returns-in_err-second-clause-led
+returns-in_err-second-clause-led c = λ search is.
     let at = c.args.at in
     let part = c.args.block.part in
-    absurd (c.in_err-two.ensures.step search is c.args.span (at + 2 * part) (at + part + (part + c.loop-step.step))
-    (at + part + (c.loop-step.step - 1) + part) c.requires.valid.in_haystack (omega arith) refl
-    (c.loop-step.invariant.lanes search is).second)
+    absurd (c.in_err-second.ensures.lane search is c.args.span (at + 2 * part)
+    (at + part + (part + c.loop-step.step)) (at + part + (c.loop-step.step - 1) + part)
+    c.requires.valid.in_haystack (omega arith) refl (c.loop-step.invariant.lanes search is).second)
 
-pub returns-in_err-three-clause-led : goal.returns-in_err-three-clause-led
-returns-in_err-three-clause-led c = λ search is.
+pub returns-in_err-third-clause-led : goal.returns-in_err-third-clause-led
+returns-in_err-third-clause-led c = λ search is.
     let at = c.args.at in
     let part = c.args.block.part in
-    absurd (c.in_err-three.ensures.step search is c.args.span (at + 3 * part)
-    (at + 2 * part + (part + c.loop-step.step)) (at + part + (c.loop-step.step - 1) + 2 * part)
-    c.requires.valid.in_haystack (omega arith) refl (c.loop-step.invariant.lanes search is).third)
+    absurd (c.in_err-third.ensures.lane search is c.args.span (at + 3 * part)
+    (at + 2 * part + (part + c.loop-step.step)) (at + part + (c.loop-step.step - 1) + part + part)
+    c.requires.valid.in_haystack (omega arith) (omega arith) (c.loop-step.invariant.lanes search is).third)
 
-pub returns-in_err-four-clause-led : goal.returns-in_err-four-clause-led
-returns-in_err-four-clause-led c = λ search is.
+pub returns-in_err-fourth-clause-led : goal.returns-in_err-fourth-clause-led
+returns-in_err-fourth-clause-led c = λ search is.
     let at = c.args.at in
     let part = c.args.block.part in
-    absurd (c.in_err-four.ensures.step search is c.args.span (at + 4 * part)
-    (at + 3 * part + (part + c.loop-step.step)) (at + part + (c.loop-step.step - 1) + 3 * part)
-    c.requires.valid.in_haystack (omega arith) refl (c.loop-step.invariant.lanes search is).fourth)
+    absurd (c.in_err-fourth.ensures.lane search is c.args.span (at + 4 * part)
+    (at + 3 * part + (part + c.loop-step.step)) (at + part + (c.loop-step.step - 1) + part + part + part)
+    c.requires.valid.in_haystack (omega arith) (omega arith) (c.loop-step.invariant.lanes search is).fourth)
 
 pub loop-step-preserved : goal.loop-step-preserved
 loop-step-preserved c =
     let at = c.args.at in
     let part = c.args.block.part in
     let lead = c.args.block.lead in
-    let step = c.loop-step.step - 1 in
-    let inside = c.requires.parts.inside in
+    let now = c.loop-step.step in
+    let step = now - 1 in
+    let end = c.args.span.end in
     let valid = c.requires.valid.in_haystack in
     let so_far = c.loop-step.invariant in
+    let inside = c.requires.parts.inside in
     let before = so_far.before in
-    let there : at + part + step + 3 * part ≡ at + 4 * part + step = omega arith in
-    let begins : 2 ^ 31 ≤ c.in_ok-four.four
-    → c.nearer-behind.result ≡ Some (record { at = at + 4 * part + step; code = c.in_ok-four.four }) =
-    λ large. c.nearer-behind.ensures.begins large ∙ ap (λ (n : ℕ). let o : Option Begun = Some (record {
-      at = n;
-      code = c.in_ok-four.four;
-    }) in o) there in
-    let sum : c.args.tally.now.scanned + 4 * (lead - c.loop-step.step) + 1 + 1 + 1 + 1
+    let sum : c.args.tally.now.scanned + 4 * (lead - now) + 1 + 1 + 1 + 1
     ≡ c.args.tally.now.scanned + 4 * (lead - step) = omega (arith, before) in
-    let tables = λ (search : SearchValue). back_tables_by search c.args.self.now in
-    let last : (search : SearchValue) → AreBackFor search c.args.self.now → at + 4 * part + lead ≡ c.args.span.end
-    → IsStep (tables search) c.args.haystack.now c.args.span c.args.span.end (at + 4 * part + step)
-    c.in_ok-four.four =
-    λ search is whole. c.in_ok-four.ensures.step search is c.args.span c.args.span.end
-    (at + 4 * part + c.loop-step.step) (at + 4 * part + step) valid (omega arith) (omega arith)
-    (so_far.last search is whole) in
     record {
       before = omega (arith, before);
       rows = record {
-        first = c.in_ok-one.ensures.leads;
-        second = c.in_ok-two.ensures.leads;
-        third = c.in_ok-three.ensures.leads;
-        fourth = c.in_ok-four.ensures.leads;
+        first = c.in_ok-first.ensures.leads;
+        second = c.in_ok-second.ensures.leads;
+        third = c.in_ok-third.ensures.leads;
+        fourth = c.in_ok-fourth.ensures.leads;
       };
       lanes = λ search is.
           let lanes = so_far.lanes search is in
           record {
-            first = (c.in_ok-one.ensures.step search is c.args.span (at + part) (at + (part + c.loop-step.step))
-                (at + (part + step)) valid (omega arith) (omega arith) lanes.first).lane;
-            second = (c.in_ok-two.ensures.step search is c.args.span (at + 2 * part)
-                (at + part + (part + c.loop-step.step)) (at + part + (part + step)) valid (omega arith) (omega arith)
-                lanes.second).lane;
-            third = (c.in_ok-three.ensures.step search is c.args.span (at + 3 * part)
-                (at + 2 * part + (part + c.loop-step.step)) (at + 2 * part + (part + step)) valid (omega arith)
-                (omega arith) lanes.third).lane;
-            fourth = (c.in_ok-four.ensures.step search is c.args.span (at + 4 * part)
-                (at + 3 * part + (part + c.loop-step.step)) (at + 3 * part + (part + step)) valid (omega arith)
-                (omega arith) lanes.fourth).lane;
+            first = c.in_ok-first.ensures.lane search is c.args.span (at + part) (at + (part + now))
+                (at + (part + step)) valid (omega arith) (omega arith) lanes.first;
+            second = c.in_ok-second.ensures.lane search is c.args.span (at + 2 * part) (at + part + (part + now))
+                (at + part + (part + step)) valid (omega arith) (omega arith) lanes.second;
+            third = c.in_ok-third.ensures.lane search is c.args.span (at + 3 * part) (at + 2 * part + (part + now))
+                (at + 2 * part + (part + step)) valid (omega arith) (omega arith) lanes.third;
+            fourth = c.in_ok-fourth.ensures.lane search is c.args.span (at + 4 * part)
+                (at + 3 * part + (part + now)) (at + 3 * part + (part + step)) valid (omega arith) (omega arith)
+                lanes.fourth;
           };
-      last = λ search is whole. (last search is whole).lane;
-      behind = λ search is whole.
-          first_on (tables search) c.args.haystack.now c.args.span c.args.span.end (at + 4 * part + step)
-          c.in_ok-four.four (omega (arith, whole, before)) (last search is whole) c.args.span.end
-          (at + 4 * part + c.loop-step.step) (omega arith) c.loop-step.behind c.nearer-behind.result
-          begins c.nearer-behind.ensures.none (so_far.behind search is whole);
-      lies = lies_on (at + 4 * part + step) (at + 4 * part + lead) c.in_ok-four.four (at + 4 * part + c.loop-step.step)
-          (omega arith) (omega (arith, before)) c.loop-step.behind c.nearer-behind.result begins
-          c.nearer-behind.ensures.none so_far.lies;
-      counted = c.in_ok-four.ensures.ticks
-          ∙ (one_more _ _ (c.in_ok-three.ensures.ticks
-          ∙ one_more _ _ (c.in_ok-two.ensures.ticks
-          ∙ one_more _ _ (c.in_ok-one.ensures.ticks ∙ one_more _ _ so_far.counted)))
+      last = λ search is whole. c.in_ok-fourth.ensures.lane search is c.args.span end (at + 4 * part + now)
+          (at + 4 * part + step) valid (omega arith) (omega arith) (so_far.last search is whole);
+      behind = λ search is whole. c.in_ok-fourth.ensures.first search is c.args.span end (at + 4 * part + now)
+          (at + 4 * part + step) end valid (omega arith) (omega arith) (omega (arith, before, whole))
+          (so_far.last search is whole) (so_far.behind search is whole);
+      lies = c.in_ok-fourth.ensures.lies (at + 4 * part + now) (at + 4 * part + step) (at + 4 * part + lead)
+          (omega arith) (omega arith) (omega (arith, before)) so_far.lies;
+      counted = c.in_ok-fourth.ensures.ticks
+          ∙ (one_more _ _ (c.in_ok-third.ensures.ticks
+          ∙ one_more _ _ (c.in_ok-second.ensures.ticks
+          ∙ one_more _ _ (c.in_ok-first.ensures.ticks ∙ one_more _ _ so_far.counted)))
           ∙ ap (λ (n : ℕ). let n' : Counts = record c.args.tally.now { scanned = n } in n') sum);
     }
 
