@@ -31,6 +31,7 @@ pub mod Numbers
 pub mod Overlapping
 pub mod Places
 pub mod Prepared
+pub mod PreparedLinear
 pub mod Recognised
 pub mod Relabelled
 pub mod Replaced

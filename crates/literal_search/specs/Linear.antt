@@ -36,12 +36,12 @@ abbrev pub NeedFewReversed : Bool → List (List ℕ) → Type 0
 NeedFewReversed ignore_case patterns =
     HoldsInClasses (λ texts width. ¬ HasTooManyStates Standard (reversed texts) width) ignore_case patterns
 
--- how long each of the first four parts is through which a search goes
+-- the length of each of the four parts of the first block through which a search goes
 abbrev pub first_part : ℕ → ℕ
-first_part longest = max FIRST (longest / 2)
+first_part longest = max FIRST (longest / 2 + 3)
 
 -- how many bytes a search for the leftmost match looks up: at least those of the span where there is none, and else at
--- least those up to its end, and at most eleven times those before it, and a number of first parts
+-- least those up to its end, and at most eleven times those before it and 36 times the first part
 abbrev pub LooksFor : ℕ → Span → Option MatchValue → ℕ → ℕ → Type 0
 LooksFor longest span None old new = old + (span.end - span.start) ≤ new
 LooksFor longest span (Some found) old new =

@@ -1,9 +1,8 @@
 -- How many bytes a search takes: those of its rows and lists, and those of its patterns.
 use Rattle.std.specs.Prelude.{◌≡◌, ℕ, ◌+◌, ◌*◌, length, sum_by}
 use Rattle.literal_base.specs.Kinds.{root_kind_of}
-use Rattle.literal_base.specs.declared.search.MatchKind.TheVariants.{Standard}
-use Rattle.literal_search.specs.Linear.{reversed}
 use Rattle.literal_search.specs.Overlapping.{OverlappingValue}
+use Rattle.literal_search.specs.PreparedLinear.{TakesLinearPlaces}
 use Rattle.literal_search.specs.PreparedOverlapping.{HaveTables}
 use Rattle.literal_search.specs.SearchValue.{HoldsInClasses, SearchValue}
 use Rattle.literal_search.specs.States.{IsRowsLength}
@@ -15,13 +14,10 @@ TakesBytes search bytes =
     HoldsInClasses (λ texts width. (rows : ℕ) × IsRowsLength (root_kind_of search.query.kind) texts width rows
     × (bytes ≡ 4 * rows + sum_by length search.query.patterns)) search.ignore_case search.query.patterns
 
--- how many a search for all leftmost matches takes: 4 for each number in the rows of all states, which are those of the
--- reversed patterns, 4 for each pattern, and those of its patterns
-unfoldable pub TakesLinearBytes : SearchValue → ℕ → Type 0
-TakesLinearBytes search bytes =
-    HoldsInClasses (λ texts width. (rows : ℕ) × IsRowsLength Standard (reversed texts) width rows
-    × (bytes ≡ 4 * (rows + length search.query.patterns) + sum_by length search.query.patterns))
-    search.ignore_case search.query.patterns
+-- how many a search for all leftmost matches takes: 4 for each of its numbers, and those of its patterns
+abbrev pub TakesLinearBytes : SearchValue → ℕ → Type 0
+TakesLinearBytes search bytes = (places : ℕ) × TakesLinearPlaces search places
+    × (bytes ≡ 4 * places + sum_by length search.query.patterns)
 
 -- how many a search for everything that occurs takes: 4 for each number in the rows of all states and in the lists, 8
 -- for each place where one of these begins, or the last ends, and those of its patterns

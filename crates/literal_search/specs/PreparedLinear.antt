@@ -2,20 +2,23 @@
 use Rattle.std.specs.Prelude.{◌≡◌, ◌+◌, ◌<◌, ◌≤◌, ℕ, List, length, map, slice_index, slice_range}
 use Rattle.literal_base.specs.declared.search.MatchKind.TheVariants.{Standard}
 use Rattle.literal_base.specs.declared.search.Span.{Span}
+use Rattle.literal_fingerprints.specs.FingerprintsValue.{AllPass}
 use Rattle.literal_search.specs.SearchValue.{CanBeKept, HoldsInClasses, SearchValue, longest_of}
 use Rattle.literal_search.specs.Inside.Best.{AreBest}
 use Rattle.literal_search.specs.Inside.Classes.{AreClasses, Tells, symbols_in}
 use Rattle.literal_search.specs.Linear.{reversed}
 use Rattle.literal_search.specs.LinearMatchesValue.{LinearMatchesValue}
 use Rattle.literal_search.specs.Prepared.{HasParts, WritesNumbers, check_of, classes_end}
-use Rattle.literal_search.specs.Prepared.{classes_in, lengths_in, longest_in, rows_in, width_in}
+use Rattle.literal_search.specs.Prepared.{classes_in, fingerprints_by, lengths_in, longest_in, rows_in, shortest_by}
+use Rattle.literal_search.specs.Prepared.{width_in}
 use Rattle.literal_search.specs.States.{IsRowsLength}
 use Rattle.literal_search.specs.Table.{Recognises}
 use Rattle.literal_search.specs.declared.classes.TheConstants.{CLASSES_LEN}
 use Rattle.literal_search.specs.declared.prepared.PrepareError.{PrepareError}
 use Rattle.literal_search.specs.declared.prepared.PrepareError.TheVariants.{ArrayTooShort, ListsTooLong}
 use Rattle.literal_search.specs.declared.prepared.PrepareError.TheVariants.{PatternTooLong}
-use Rattle.literal_search.specs.declared.prepared.TheConstants.{LENGTHS_AT, LINEAR_VERSION}
+use Rattle.literal_search.specs.declared.prepared.TheConstants.{FINGERPRINTS_LEN, LENGTHS_AT}
+use Rattle.literal_search.specs.declared.prepared.TheConstants.{LINEAR_VERSION}
 
 -- what a search from the right reads: classes of bytes, rows, for each pattern the best of those that are prefixes of
 -- it, and how long the longest is
@@ -41,13 +44,21 @@ pub record AreBackTables (t : BackTables) : Type 0 where
   pub longest : t.longest ≡ longest_of t.search.query.patterns
   pub kept : CanBeKept t.search.query.patterns
 
--- how many numbers are those of the search: behind its classes stands a number for each pattern
-abbrev pub linear_len : List ℕ → ℕ
-linear_len numbers = classes_end numbers + slice_index numbers 3
+-- where the numbers end that tell the best of its prefixes for each pattern, which stand behind the classes
+abbrev pub best_end : List ℕ → ℕ
+best_end numbers = classes_end numbers + slice_index numbers 3
 
 -- these numbers
 abbrev pub best_in : List ℕ → List ℕ
-best_in numbers = slice_range numbers (classes_end numbers) (linear_len numbers)
+best_in numbers = slice_range numbers (classes_end numbers) (best_end numbers)
+
+-- how many numbers are those of the search: behind these stand those of its fingerprints
+abbrev pub linear_len : List ℕ → ℕ
+linear_len numbers = best_end numbers + FINGERPRINTS_LEN
+
+-- the numbers of its fingerprints
+abbrev pub prints_in : List ℕ → List ℕ
+prints_in numbers = slice_range numbers (best_end numbers) (linear_len numbers)
 
 -- the array has the parts of a search for all leftmost matches, and is as long as these are; there is a row
 pub record HasLinearParts (numbers : List ℕ) : Type 0 where
@@ -71,22 +82,30 @@ back_tables_in search numbers = record {
   longest = longest_in numbers;
 }
 
--- the array begins with a whole search for all leftmost matches: with its tables, and the length of each pattern
+-- such numbers let all patterns pass, if they are of fingerprints
+abbrev pub ArePrints : SearchValue → List ℕ → Type 0
+ArePrints search prints =
+    0 < shortest_by prints → AllPass (fingerprints_by prints) search.ignore_case search.query.patterns
+
+-- the array begins with a whole search for all leftmost matches: with its tables, the length of each pattern, and
+-- fingerprints that let all of them pass, if any
 pub record IsPreparedLinear (search : SearchValue) (numbers : List ℕ) : Type 0 where
   pub whole : IsWholeLinear numbers
   pub tables : AreBackTables (back_tables_in search numbers)
   pub lengths : lengths_in numbers ≡ map (λ bytes. length bytes) search.query.patterns
+  pub prints : ArePrints search (prints_in numbers)
 
 -- what holds of whatever search for all leftmost matches an array is prepared for
 abbrev pub ForLinear : List ℕ → (SearchValue → Type 0) → Type 0
 ForLinear numbers P = (search : SearchValue) → IsPreparedLinear search numbers → P search
 
--- how many places a search takes: those of the header, two for each pattern, the rows of all states, and the classes
+-- how many places a search takes: those of the header, two for each pattern, the rows of all states, the classes, and
+-- the fingerprints
 unfoldable pub TakesLinearPlaces : SearchValue → ℕ → Type 0
 TakesLinearPlaces search needed =
     HoldsInClasses (λ texts width. (rows : ℕ) × IsRowsLength Standard (reversed texts) width rows
-    × (needed ≡ LENGTHS_AT + length search.query.patterns + rows + CLASSES_LEN + length search.query.patterns))
-    search.ignore_case search.query.patterns
+    × (needed ≡ LENGTHS_AT + length search.query.patterns + rows + CLASSES_LEN + length search.query.patterns
+    + FINGERPRINTS_LEN)) search.ignore_case search.query.patterns
 
 -- the search is written into the first places of an array
 abbrev pub WritesLinear : SearchValue → List ℕ → List ℕ → ℕ → Type 0

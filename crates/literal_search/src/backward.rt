@@ -30,6 +30,8 @@ pub struct Backward<'t> {
     pub best: &'t [u32],
     /// How long each pattern is.
     pub lens: &'t [u32],
+    /// The numbers of the fingerprints by which a search passes over places, if there are any.
+    pub prints: &'t [u32],
 }
 
 /// A place at which a pattern begins, and the number with which a walk came there.

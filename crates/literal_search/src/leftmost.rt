@@ -11,27 +11,39 @@ ghost use Rattle.literal_search.specs.Inside.Backward.{AreMarked, AreMarks, ForB
 ghost use Rattle.literal_search.specs.Inside.Backward.{IsSafe, NoneFrom, StopsMarking};
 ghost use Rattle.literal_search.specs.Inside.Leftmost.{AreLanes, HasBytes, HaveRows, IsFirstBegun, IsFourParts};
 ghost use Rattle.literal_search.specs.Inside.Leftmost.{IsLane, IsLed};
-ghost use Rattle.literal_search.specs.Inside.Leftmost.{IsLimit, IsPart, IsStep, LiesInPart, ReadsFor};
+ghost use Rattle.literal_search.specs.Inside.Leftmost.{IsFront, IsLimit, IsPaid, IsPart, IsStep, LiesInPart, ReadsFor};
+ghost use Rattle.literal_search.specs.Inside.Leftmost.{AreFor, owed_by};
 ghost use Rattle.literal_search.specs.Linear.{LooksFor, ScansThrice, looked_by};
 ghost use Rattle.literal_search.specs.declared.backward.TheConstants.{LEAST};
 
 use crate::backward::{Backward, Begun, LEAST, Marks, Stopped};
-use crate::prepared::Damaged;
+use crate::prepared::{Damaged, fingerprints_in};
 use crate::walk::ENDS;
 use literal_base::count::Tally;
 use literal_base::{Match, Span};
+use literal_fingerprints::Fingerprints;
 
-/// How long each of the first four parts is at least through which walks go at once.
+/// The least length of the parts of the first block through which four walks go at once.
 const FIRST: usize = 16;
 
-/// Up to which length parts become longer.
+/// The parts of each block are twice as long as those of the block before, until they have this length.
 const LAST: usize = 1024;
 
-/// How long each of the last four parts is at least.
+/// Four walks go through the last block if its parts have at least this length.
 const LEAST_PART: usize = 6;
 
-/// How long each of four parts is that are marked at once, if as much is left.
+/// The length of each of the four parts of a block that is marked, if as much is left.
 const MARKED: usize = LEAST / 4;
+
+/// For each candidate that one walk looks at, fingerprints passed over this many bytes before, or as many as the longest
+/// pattern has.
+const PRICE: usize = 48;
+
+/// The largest number of bytes that count as passed over.
+const MOST_CREDIT: usize = 2048;
+
+/// Fingerprints look up at most this many bytes more than they pass over.
+const OVERLAP: usize = 19;
 
 /// At which rows four walks stand, each in one of four neighbouring parts of a span.
 #[derive(Clone, Copy)]
@@ -59,6 +71,24 @@ pub struct Block {
     pub lead: usize,
     /// Where the block ends: behind the four parts, or at the end of the span.
     pub end: usize,
+}
+
+/// How far a search has come.
+#[derive(Clone, Copy)]
+pub struct Front {
+    /// Nothing begins before this place.
+    pub at: usize,
+    /// The number of bytes that fingerprints passed over, less what they paid for.
+    pub credit: usize,
+    /// The length of each of the four parts of the next block.
+    pub part: usize,
+}
+
+/// What a search found at its next step, or how far it has come by it.
+#[derive(Clone, Copy)]
+pub struct Looked {
+    pub first: Option<Begun>,
+    pub front: Front,
 }
 
 impl<'t> Backward<'t> {
@@ -197,6 +227,63 @@ impl<'t> Backward<'t> {
             place = self.follow(classes, place, haystack, at, limit, &mut first, tally)?;
         }
         Ok(first)
+    }
+
+    /// What begins at a place of a span, by one walk that begins so far behind it that all that begins there lies before.
+    fn begun_at(
+        &self,
+        classes: &[u8; 256],
+        haystack: &[u8],
+        span: Span,
+        at: usize,
+        limit: usize,
+        tally: &mut Tally,
+    ) -> Result<Option<Begun>, Damaged>
+        requires safe { IsSafe self.now }
+        requires same { HasBytes self.now classes.now }
+        requires limit { IsLimit self.now limit }
+        requires valid { IsValidSpan haystack.now span }
+        requires after { span.start ≤ at }
+        requires inside { at < span.end }
+        ensures first { ForBackward self.now (λ tables. IsOkAnd result
+            (IsFirstBegun tables haystack.now span.end (between at (at + 1)))) }
+        ensures inside { IfOk result (LiesInPart at (at + 1)) }
+        ensures others { tally.new ≡ record tally.old { scanned = tally.new.scanned } }
+        ensures most { tally.new.scanned ≤ tally.old.scanned + max self.now.table.longest 1 }
+        ensures all { IfOk result (λ _. tally.new.scanned + at
+            ≡ tally.old.scanned + min (at + max self.now.table.longest 1) span.end) }
+    {
+        let part = Span {
+            start: at,
+            end: at + 1,
+        };
+        let place = self.walk_back(classes, haystack, span, part.end, limit, tally)?;
+        self.first_in(classes, haystack, span, part, place, limit, tally)
+    }
+
+    /// A place of a span, or its end, before which no pattern begins, by the fingerprints, if there are any.
+    #[inline(always)]
+    fn pass_over(
+        &self,
+        fingerprints: &Option<Fingerprints>,
+        haystack: &[u8],
+        span: Span,
+        tally: &mut Tally,
+    ) -> usize
+        requires valid { IsValidSpan haystack.now span }
+        requires for_patterns { AreFor self.now fingerprints.now }
+        ensures none { ForBackward self.now (λ tables.
+            NoneFrom tables haystack.now span.end span.start result) }
+        ensures inside { (span.start ≤ result) × (result ≤ span.end) }
+        ensures others { tally.new ≡ record tally.old { scanned = tally.new.scanned } }
+        ensures most { tally.new.scanned + span.start
+            ≤ tally.old.scanned + result + min (owed_by fingerprints.now) (span.end - result) }
+        ensures least { tally.old.scanned + result ≤ tally.new.scanned + span.start }
+    {
+        match fingerprints {
+            Some(fingerprints) => fingerprints.next(haystack, span, tally),
+            None => span.start,
+        }
     }
 
     /// Four walks at once, each through as many bytes behind one of four neighbouring parts of a span, so that no
@@ -543,12 +630,14 @@ impl<'t> Backward<'t> {
     }
 
     /// A block of the rest of a span from a place on, of parts that are so long, or of the whole rest if that is not
-    /// much longer; and none where the rest is short.
-    fn four_parts_at(&self, span: Span, at: usize, part: usize) -> Option<Block>
+    /// much longer; and none where the rest is short. The bytes that are owed are paid by it.
+    fn four_parts_at(&self, span: Span, at: usize, part: usize, owed: usize) -> Option<Block>
         requires inside { at ≤ span.end }
-        requires some { 2 ≤ part }
-        requires long { self.now.table.longest ≤ 2 * part + 1 }
+        requires some { FIRST ≤ part }
+        requires long { self.now.table.longest + 5 ≤ 2 * part }
+        requires few { owed ≤ OVERLAP }
         ensures parts { IfSome result (λ block. IsFourParts self.now.table.longest span at block) }
+        ensures paid { IfSome result (IsPaid owed at) }
         ensures short { IfSome result (λ block. block.part ≤ 2 * part) }
         ensures next { IfSome result (λ block. (block.end ≡ span.end) ⊎ (block.end ≡ at + 4 * part)) }
         ensures rest { IsNone result → span.end ≤ at + 10 * part + 32 }
@@ -565,12 +654,110 @@ impl<'t> Backward<'t> {
         }
         let end = span.end;
         let lead = end - at - 4 * part;
+        if lead + owed > 4 * part {
+            return None;
+        }
         Some(Block { part, lead, end })
     }
 
-    /// The first place of a span at which a pattern begins. Walks go through blocks of the span, from the left, and
-    /// through each from its end: the first block is short, and each is twice as long as the one before it, up to a
-    /// limit.
+    /// How far a search is that passes on by fingerprints.
+    #[inline(always)]
+    fn pass_on(
+        &self,
+        fingerprints: &Option<Fingerprints>,
+        haystack: &[u8],
+        span: Span,
+        front: Front,
+        tally: &mut Tally,
+    ) -> Front
+        requires valid { IsValidSpan haystack.now span }
+        requires for_patterns { AreFor self.now fingerprints.now }
+        requires after { span.start ≤ front.at }
+        requires inside { front.at ≤ span.end }
+        ensures none { ForBackward self.now (λ tables. NoneFrom tables haystack.now span.end front.at result.at) }
+        ensures later { (front.at ≤ result.at) × (result.at ≤ span.end) }
+        ensures front { (base : ℕ) → IsFront self.now span 0 base tally.old.scanned front
+            → IsFront self.now span (owed_by fingerprints.now) base tally.new.scanned result }
+        ensures others { tally.new ≡ record tally.old { scanned = tally.new.scanned } }
+    {
+        let rest = Span {
+            start: front.at,
+            end: span.end,
+        };
+        let at = self.pass_over(fingerprints, haystack, rest, tally);
+        let credit = MOST_CREDIT.min(front.credit.saturating_add(at - front.at));
+        Front {
+            at,
+            credit,
+            part: front.part,
+        }
+    }
+
+    /// What begins where a search has come: at that place alone, by one walk, if enough was passed over before it, or
+    /// else in the block, by four walks. If nothing does, the search goes on behind it.
+    #[inline(always)]
+    fn look_on(
+        &self,
+        classes: &[u8; 256],
+        haystack: &[u8],
+        span: Span,
+        front: Front,
+        block: Block,
+        owed: usize,
+        limit: usize,
+        tally: &mut Tally,
+    ) -> Result<Looked, Damaged>
+        requires safe { IsSafe self.now }
+        requires same { HasBytes self.now classes.now }
+        requires limit { IsLimit self.now limit }
+        requires valid { IsValidSpan haystack.now span }
+        requires after { span.start ≤ front.at }
+        requires parts { IsFourParts self.now.table.longest span front.at block }
+        requires paid { IsPaid owed front.at block }
+        requires few { owed ≤ OVERLAP }
+        requires short { block.part ≤ 2 * front.part }
+        requires next { (block.end ≡ span.end) ⊎ (block.end ≡ front.at + 4 * front.part) }
+        ensures first { ForBackward self.now (λ tables. IsOkAnd result (λ looked.
+            IsFirstBegun tables haystack.now span.end (between front.at looked.front.at) looked.first)) }
+        ensures inside { IfOk result (λ looked. LiesInPart front.at span.end looked.first) }
+        ensures later { IfOk result (λ looked. (front.at < looked.front.at) × (looked.front.at ≤ span.end)) }
+        ensures front { (base : ℕ) → IsFront self.now span owed base tally.old.scanned front
+            → IfOk result (λ looked. IsNone looked.first
+            → IsFront self.now span 0 base tally.new.scanned looked.front) }
+        ensures found { (base : ℕ) → IsFront self.now span owed base tally.old.scanned front
+            → IfOk result (λ looked. IfSome looked.first
+            (λ begun. ReadsFor self.now.table.longest span base tally.new.scanned (Some begun))) }
+        ensures most { (base : ℕ) → IsFront self.now span owed base tally.old.scanned front
+            → tally.new.scanned + 3 * span.start ≤ base + 3 * span.end }
+        ensures others { tally.new ≡ record tally.old { scanned = tally.new.scanned } }
+    {
+        let price = PRICE.max(self.table.longest);
+        if price <= front.credit {
+            let first = self.begun_at(classes, haystack, span, front.at, limit, tally)?;
+            let front = Front {
+                at: front.at + 1,
+                credit: front.credit - price,
+                part: front.part,
+            };
+            return Ok(Looked { first, front });
+        }
+        let first = self.first_in_four(classes, haystack, span, front.at, block, limit, tally)?;
+        let part = if front.part < LAST {
+            2 * front.part
+        } else {
+            front.part
+        };
+        let front = Front {
+            at: block.end,
+            credit: front.credit,
+            part,
+        };
+        Ok(Looked { first, front })
+    }
+
+    /// The first place of a span at which a pattern begins. Fingerprints pass over bytes. Where they stop, one walk
+    /// looks at the place, if they passed over enough; else four walks go through a block, from its end. Each block is
+    /// twice as long as the one before it, up to a limit.
     fn first_begun(
         &self,
         haystack: &[u8],
@@ -589,19 +776,25 @@ impl<'t> Backward<'t> {
     {
         let (limit, bytes) = (self.table.limit()?, self.table.class_bytes());
         let classes = &bytes;
-        let mut at = span.start;
-        let mut part = FIRST.max(self.table.longest / 2);
-        while let Some(block) = self.four_parts_at(span, at, part) {
-            if let Some(begun) = self.first_in_four(
-                classes, haystack, span, at, block, limit, tally,
-            )? {
-                return Ok(Some(begun));
+        let fingerprints = &fingerprints_in(self.prints);
+        let owed = owed_by(fingerprints);
+        let begin = Front {
+            at: span.start,
+            credit: 0,
+            part: FIRST.max(self.table.longest / 2 + 3),
+        };
+        let mut front = self.pass_on(fingerprints, haystack, span, begin, tally);
+        while let Some(block) = self.four_parts_at(span, front.at, front.part, owed) {
+            let looked = self.look_on(
+                classes, haystack, span, front, block, owed, limit, tally,
+            )?;
+            if looked.first.is_some() {
+                return Ok(looked.first);
             }
-            at = block.end;
-            part = if part < LAST { 2 * part } else { part };
+            front = self.pass_on(fingerprints, haystack, span, looked.front, tally);
         }
         let rest = Span {
-            start: at,
+            start: front.at,
             end: span.end,
         };
         self.first_in(classes, haystack, span, rest, 0, limit, tally)
@@ -655,15 +848,20 @@ impl<'t> Backward<'t> {
             return Ok(None);
         }
         let span = Span { start: at, end };
-        let part = Span {
-            start: at,
-            end: at + 1,
-        };
-        let place = self.walk_back(classes, haystack, span, part.end, limit, tally)?;
-        if let Some(begun) = self.first_in(classes, haystack, span, part, place, limit, tally)? {
+        if let Some(begun) = self.begun_at(classes, haystack, span, at, limit, tally)? {
             let found = self.match_at(haystack, span, begun.at, begun.code)?;
             return Ok(Some(found));
         }
         Ok(None)
+    }
+}
+
+/// How many bytes a pass by fingerprints may look up more than it passes over.
+fn owed_by(fingerprints: &Option<Fingerprints>) -> usize
+    ensures { result ≡ owed_by fingerprints.now }
+{
+    match fingerprints {
+        Some(_) => OVERLAP,
+        None => 0,
     }
 }

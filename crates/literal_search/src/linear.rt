@@ -1,5 +1,6 @@
 //! A search for all leftmost matches, in time that does not depend on the patterns.
-ghost use Rattle.std.specs.Prelude.{◌≡◌, ◌+◌, ◌-◌, ◌*◌, ◌<◌, ◌≤◌, ◌^◌, [], length, map, reverse};
+ghost use Rattle.std.specs.Prelude.{◌≡◌, ◌+◌, ◌-◌, ◌*◌, ◌<◌, ◌≤◌, ◌^◌, ◌++◌, ◌∷◌, [], length, map, reverse};
+ghost use Rattle.std.specs.List.{repeat};
 ghost use Rattle.std.specs.Prelude.{IfErr, IfOk, IfSome, MatchOption, OnErr, max, min};
 ghost use Rattle.literal_base.specs.Greedy.{IsGreedy};
 ghost use Rattle.literal_base.specs.Leftmost.{IsLeftmost};
@@ -22,14 +23,16 @@ ghost use Rattle.literal_search.specs.declared.backward.TheConstants.{LEAST};
 
 use crate::backward::{Backward, Marks, no_marks};
 use crate::classes::{CLASSES_LEN, classes_for};
-use crate::prepared::{LENGTHS_AT, LINEAR_VERSION, NO_PATTERN, PrepareError, put_numbers, write};
+use crate::prepared::{FINGERPRINTS_LEN, LENGTHS_AT, LINEAR_VERSION, NO_PATTERN, PrepareError};
+use crate::prepared::{fingerprint_numbers, put_numbers, write};
 use crate::prepared_linear::backward_in;
 use crate::rows::{Rows, rows_for};
 use crate::suffixes::Recognised;
-use crate::{BuildError, copies, total_bytes};
+use crate::{BuildError, copies, shortest_len, total_bytes};
 use literal_base::count::Tally;
 use literal_base::packed::MatchKind;
 use literal_base::{Match, Span, search};
+use literal_fingerprints::Fingerprints;
 use std::alloc::{AllocError, Global};
 use std::fmt;
 use std::marker::Model;
@@ -116,7 +119,9 @@ impl Linear {
             patterns: &backward,
         };
         let best = recognised.best_suffixes(alloc, kind)?;
-        let numbers = numbers_for(alloc, classes.width, &patterns, &rows, &best)?;
+        let fingerprints = Fingerprints::new(ignore_case, &patterns);
+        let prints = fingerprint_numbers(shortest_len(&patterns), fingerprints.as_ref());
+        let numbers = numbers_for(alloc, classes.width, &patterns, &rows, &best, &prints)?;
         let parts = Parts {
             kind,
             ignore_case,
@@ -285,18 +290,13 @@ impl Linear {
         self.parts.numbers.as_slice().len()
     }
 
-    /// How many bytes its table and its patterns take: 4 for each number in the rows of all states and for each
-    /// pattern, and one for each byte of a pattern. It leaves out what that of a [`Search`](crate::Search) does.
+    /// How many bytes its numbers and its patterns take: 4 for each place that [`Linear::prepare`] writes, and one for
+    /// each byte of a pattern. It leaves out what the allocator rounds up, and where each pattern lies.
     pub fn memory_usage(&self) -> u128
         ensures { TakesLinearBytes self.now result }
     {
-        let Parts {
-            patterns,
-            numbers,
-            ..
-        } = &self.parts;
-        let before = LENGTHS_AT + patterns.len() + CLASSES_LEN;
-        (numbers.as_slice().len() - before) as u128 * 4 + total_bytes(patterns)
+        let numbers = self.parts.numbers.as_slice();
+        numbers.len() as u128 * 4 + total_bytes(&self.parts.patterns)
     }
 
     /// How many patterns there are, none of them empty.
@@ -392,6 +392,7 @@ fn numbers_for(
     patterns: &[Vec<u8>],
     rows: &Rows,
     best: &[u32],
+    prints: &[u32; FINGERPRINTS_LEN],
 ) -> Result<Numbers, AllocError>
     requires classes { length rows.now.classes ≡ 256 }
     requires width { width ≤ 256 }
@@ -399,9 +400,10 @@ fn numbers_for(
     requires short { AreShort (map (λ pattern. pattern.items) patterns.now) }
     requires rows { length rows.now.rows ≤ 2 ^ 31 - 1 }
     requires best { length best.now ≡ length patterns.now }
-    requires none { patterns.now ≡ [] → (width ≡ 1) × (rows.now ≡ rows_value []) }
+    requires none { patterns.now ≡ [] → (width ≡ 1) × (rows.now ≡ rows_value [])
+        × (prints.now ≡ repeat FINGERPRINTS_LEN (0 ∷ [])) }
     ensures numbers { IfOk result (λ numbers. numbers ≡ numbers_for LINEAR_VERSION rows.now.classes width
-        (map (λ pattern. pattern.items) patterns.now) rows.now.rows [] best.now) }
+        (map (λ pattern. pattern.items) patterns.now) rows.now.rows [] (best.now ++ prints.now)) }
     ensures no_memory { OnErr result (0 < length patterns.now) }
 {
     if patterns.is_empty() {
@@ -410,9 +412,12 @@ fn numbers_for(
         });
     }
     let rows = rows.as_slice();
-    let needed = LENGTHS_AT + patterns.len() + rows.len() + best.len();
+    let mut ends = Vec::new(alloc);
+    ends.extend_from_slice(best)?;
+    ends.extend_from_slice(prints)?;
+    let needed = LENGTHS_AT + patterns.len() + rows.len() + ends.len();
     let mut kept = vec![in alloc; 0u32; needed]?;
-    match write(LINEAR_VERSION, width, patterns, rows, &[], best, &mut kept) {
+    match write(LINEAR_VERSION, width, patterns, rows, &[], &ends, &mut kept) {
         Ok(_) => Ok(Numbers { kept }),
         Err(_) => unreachable!(),
     }

@@ -1,9 +1,10 @@
 //! A search as numbers in an array that its caller lends: written once, and then searched by, with no memory of its
 //! own. A search does not trust the array: where a number leads out of it, the search says so.
-ghost use Rattle.std.specs.Prelude.{◌≡◌, ◌+◌, ◌-◌, ◌*◌, ◌<◌, ◌≤◌, ◌^◌, ◌↔◌, length, map};
+ghost use Rattle.std.specs.Prelude.{◌≡◌, ◌+◌, ◌-◌, ◌*◌, ◌<◌, ◌≤◌, ◌^◌, ◌↔◌, [], ◌∷◌, length, map};
 ghost use Rattle.std.specs.Prelude.{ℕ, IfErr, IfOk, IfSome, IsTrue, MatchOption, MatchResult, OnErr};
 ghost use Rattle.std.specs.Prelude.{min, slice_index, slice_range};
 ghost use Rattle.std.specs.Int.{to_le_bytes, w32};
+ghost use Rattle.std.specs.List.{repeat};
 ghost use Rattle.std.specs.Result.{IsOkAnd};
 ghost use Rattle.literal_base.specs.Occurs.{IsValidSpan};
 ghost use Rattle.literal_base.specs.Leftmost.{IsLeftmost};
@@ -32,21 +33,21 @@ pub const PREPARED_VERSION: u32 = 0x4C50_0005;
 pub const OVERLAPPING_VERSION: u32 = 0x4C4F_0004;
 
 /// What that of one for all leftmost matches in linear time is.
-pub const LINEAR_VERSION: u32 = 0x4C4C_0002;
+pub const LINEAR_VERSION: u32 = 0x4C4C_0003;
 
 /// Where the lengths of the patterns begin, behind the version, the check, the width, how many patterns and places in
 /// the rows there are, and how long the longest pattern is. Behind them stand the rows, and the class of each byte.
 pub const LENGTHS_AT: usize = 6;
 
-/// How many numbers fingerprints take, behind the classes: a length that no pattern is below, or 0 where there are no
+/// How many numbers fingerprints take, behind all others: a length that no pattern is below, or 0 where there are no
 /// fingerprints, and one for four of their bytes each.
 pub const FINGERPRINTS_LEN: usize = 1 + BYTES / 4;
 
 /// The prepared search for all leftmost matches of no pattern: [`LINEAR_VERSION`], its check, one class, no pattern,
 /// two places, and no longest pattern; then the row of its one state, of which its one class leads to itself, and with
-/// which nothing ends, and this class for each byte.
-pub const NO_PATTERN: [u32; 264] = [
-    0x4C4C0002, 0x8F8BB309, 1, 0, 2, 0, 0, NOTHING, 0, 0, 0, 0, 0, 0, 0, 0, 0, 0, 0, 0, 0, 0, 0, 0,
+/// which nothing ends, this class for each byte, and no fingerprints.
+pub const NO_PATTERN: [u32; 297] = [
+    0x4C4C0003, 0xC04A77C6, 1, 0, 2, 0, 0, NOTHING, 0, 0, 0, 0, 0, 0, 0, 0, 0, 0, 0, 0, 0, 0, 0, 0,
     0, 0, 0, 0, 0, 0, 0, 0, 0, 0, 0, 0, 0, 0, 0, 0, 0, 0, 0, 0, 0, 0, 0, 0, 0, 0, 0, 0, 0, 0, 0, 0,
     0, 0, 0, 0, 0, 0, 0, 0, 0, 0, 0, 0, 0, 0, 0, 0, 0, 0, 0, 0, 0, 0, 0, 0, 0, 0, 0, 0, 0, 0, 0, 0,
     0, 0, 0, 0, 0, 0, 0, 0, 0, 0, 0, 0, 0, 0, 0, 0, 0, 0, 0, 0, 0, 0, 0, 0, 0, 0, 0, 0, 0, 0, 0, 0,
@@ -54,7 +55,8 @@ pub const NO_PATTERN: [u32; 264] = [
     0, 0, 0, 0, 0, 0, 0, 0, 0, 0, 0, 0, 0, 0, 0, 0, 0, 0, 0, 0, 0, 0, 0, 0, 0, 0, 0, 0, 0, 0, 0, 0,
     0, 0, 0, 0, 0, 0, 0, 0, 0, 0, 0, 0, 0, 0, 0, 0, 0, 0, 0, 0, 0, 0, 0, 0, 0, 0, 0, 0, 0, 0, 0, 0,
     0, 0, 0, 0, 0, 0, 0, 0, 0, 0, 0, 0, 0, 0, 0, 0, 0, 0, 0, 0, 0, 0, 0, 0, 0, 0, 0, 0, 0, 0, 0, 0,
-    0, 0, 0, 0, 0, 0, 0, 0, 0, 0, 0, 0, 0, 0, 0, 0,
+    0, 0, 0, 0, 0, 0, 0, 0, 0, 0, 0, 0, 0, 0, 0, 0, 0, 0, 0, 0, 0, 0, 0, 0, 0, 0, 0, 0, 0, 0, 0, 0,
+    0, 0, 0, 0, 0, 0, 0, 0, 0, 0, 0, 0, 0, 0, 0, 0, 0,
 ];
 
 /// What a check over no numbers is. It is not zero, so that no zeros lead to a check of zero.
@@ -309,7 +311,7 @@ pub fn fingerprint_numbers(
     shortest: usize,
     fingerprints: Option<&Fingerprints>,
 ) -> [u32; FINGERPRINTS_LEN]
-    ensures { MatchOption fingerprints.entry (shortest_by result ≡ 0)
+    ensures { MatchOption fingerprints.entry (result ≡ repeat FINGERPRINTS_LEN (0 ∷ []))
         (λ f. (shortest_by result ≡ min shortest (2 ^ 32 - 1)) × (fingerprints_by result ≡ f.now)) }
 {
     let mut numbers = [0; FINGERPRINTS_LEN];
@@ -330,6 +332,18 @@ fn number_at(bytes: &[u8], at: usize) -> u32
     ensures { to_le_bytes w32 result ≡ slice_range bytes.now at (at + 4) }
 {
     u32::from_le_bytes([bytes[at], bytes[at + 1], bytes[at + 2], bytes[at + 3]])
+}
+
+/// The fingerprints of such numbers, if these are of any.
+pub fn fingerprints_in(prints: &[u32]) -> Option<Fingerprints>
+    requires { length prints.now ≡ FINGERPRINTS_LEN }
+    ensures { MatchOption result (shortest_by prints.now ≡ 0)
+        (λ f. (0 < shortest_by prints.now) × (f ≡ fingerprints_by prints.now)) }
+{
+    if prints[0] == 0 {
+        return None;
+    }
+    Some(fingerprints_by(prints))
 }
 
 /// The fingerprints by such numbers.

@@ -13,7 +13,8 @@ ghost use Rattle.literal_search.specs.Inside.PreparedLinear.{IsBackIn};
 
 use crate::backward::{Backward, Marks, no_marks, place_after};
 use crate::classes::CLASSES_LEN;
-use crate::prepared::{Damaged, LENGTHS_AT, LINEAR_VERSION, is_checked, split};
+use crate::prepared::{Damaged, FINGERPRINTS_LEN, LENGTHS_AT, LINEAR_VERSION};
+use crate::prepared::{is_checked, split};
 use crate::walk::Table;
 use literal_base::count::Tally;
 use literal_base::{Match, Span};
@@ -55,8 +56,13 @@ impl<'p> PreparedLinear<'p> {
     pub fn is_whole(&self) -> bool
         ensures { IsTrue result ↔ IsWholeLinear self.now }
     {
-        let Backward { table, best, lens } = &self.backward;
-        let end = LENGTHS_AT + lens.len() + table.rows.len() + best.len();
+        let Backward {
+            table,
+            best,
+            lens,
+            prints,
+        } = &self.backward;
+        let end = LENGTHS_AT + lens.len() + table.rows.len() + best.len() + prints.len();
         is_checked(self.numbers, end)
     }
 
@@ -144,8 +150,9 @@ pub(crate) fn backward_in(numbers: &[u32]) -> Result<Backward<'_>, Damaged>
     ensures { MatchResult result (IsBackIn numbers.now) (λ _. ¬ HasLinearParts numbers.now) }
 {
     let header = split(numbers, LINEAR_VERSION)?;
-    let end = LENGTHS_AT + header.lengths.len() + header.rows.len();
-    let is_short = numbers.len() - end < header.lengths.len();
+    let best_at = LENGTHS_AT + header.lengths.len() + header.rows.len();
+    let prints_at = best_at + header.lengths.len();
+    let is_short = numbers.len() < prints_at + FINGERPRINTS_LEN;
     if is_short || header.rows.len() == CLASSES_LEN {
         return Err(Damaged);
     }
@@ -159,8 +166,9 @@ pub(crate) fn backward_in(numbers: &[u32]) -> Result<Backward<'_>, Damaged>
     };
     Ok(Backward {
         table,
-        best: &numbers[end..end + header.lengths.len()],
+        best: &numbers[best_at..prints_at],
         lens: header.lengths,
+        prints: &numbers[prints_at..prints_at + FINGERPRINTS_LEN],
     })
 }
 

@@ -35,7 +35,7 @@ impl Rows {
         ensures classes { classes_of result.now ≡ self.now.classes }
     {
         if self.numbers.is_empty() {
-            return &NO_PATTERN[LENGTHS_AT..];
+            return &NO_PATTERN[LENGTHS_AT..LENGTHS_AT + 2 + CLASSES_LEN];
         }
         &self.numbers
     }

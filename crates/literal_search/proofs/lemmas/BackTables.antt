@@ -1,5 +1,5 @@
 -- The tables of a search from the right, in a `Linear` and in an array that is lent.
-use Rattle.std.proofs.Common.{◌≡◌, ◌∙◌, ◌+◌, ◌≤◌, ◌^◌, ℕ, List, [], ap, arith, length, refl, subst, sym}
+use Rattle.std.proofs.Common.{◌≡◌, ◌∙◌, ◌+◌, ◌++◌, ◌∷◌, ◌≤◌, ◌^◌, ℕ, List, [], ap, append-nil, append_assoc, arith, length, refl, subst, sym}
 use Rattle.std.specs.List.{slice_range}
 use Rattle.literal_base.specs.declared.search.MatchKind.TheVariants.{Standard}
 use Rattle.literal_search.specs.Inside.Classes.{AreClasses}
@@ -9,17 +9,19 @@ use Rattle.std.proofs.Common.{◌*◌, get_or, inl, inr, map}
 use Rattle.literal_base.specs.Occurs.{pattern_at}
 use Rattle.literal_search.specs.Inside.Classes.{symbols_in}
 use Rattle.literal_search.specs.Inside.Linear.{AreKept}
-use Rattle.literal_search.specs.Inside.Prepared.{numbers_for}
+use Rattle.literal_search.specs.Inside.Prepared.{checked, numbers_for}
 use Rattle.literal_search.specs.Linear.{reversed}
 use Rattle.literal_search.specs.Prepared.{AreShort, classes_end, classes_in, rows_at, rows_end, rows_in}
-use Rattle.literal_search.specs.SearchValue.{width_for}
+use Rattle.literal_search.specs.SearchValue.{longest_of, width_for}
 use Rattle.literal_search.specs.Table.{stride_of}
 use Rattle.literal_search.specs.PreparedLinear.{AreBackTables, BackTables, IsPreparedLinear, back_tables_in}
-use Rattle.literal_search.specs.PreparedLinear.{TakesLinearPlaces, best_in, linear_len, texts_back}
+use Rattle.literal_search.specs.PreparedLinear.{ArePrints, TakesLinearPlaces, best_end, best_in, linear_len, prints_in}
+use Rattle.literal_search.specs.PreparedLinear.{texts_back}
 use Rattle.literal_search.specs.SearchValue.{SearchValue}
 use Rattle.literal_search.specs.States.{HasTooManyStates, IsRowsLength}
-use Rattle.literal_search.specs.declared.prepared.TheConstants.{LINEAR_VERSION}
+use Rattle.literal_search.specs.declared.prepared.TheConstants.{FINGERPRINTS_LEN, LINEAR_VERSION}
 use Rattle.literal_search.proofs.lemmas.Numbers.{check_written, classes_written, ends_written, lengths_written}
+use Rattle.literal_search.proofs.lemmas.Numbers.{starts_written}
 use Rattle.literal_search.proofs.lemmas.Numbers.{numbers_long, rows_written}
 use Rattle.literal_search.proofs.lemmas.Backward.{back_count, back_long}
 use Rattle.literal_search.proofs.lemmas.Found.{symbols_length}
@@ -60,66 +62,86 @@ same_tables search classes classes' width width' rows rows' best best' longest l
     ∙ (ap (λ n. of classes' width' rows' n longest) d
     ∙ ap (λ l. of classes' width' rows' best' l) e)))
 
--- what is written for tables is prepared for their search
-module _ (t : BackTables) (are : AreBackTables t) where
-  abbrev pub all_of : List ℕ
-  all_of = numbers_for LINEAR_VERSION t.classes t.width t.search.query.patterns t.rows [] t.best
+-- two lists behind the classes, one behind the other
+pub both_behind : (version width : ℕ) (classes rows one two : List ℕ) (patterns : List (List ℕ))
+    → numbers_for version classes width patterns rows [] (one ++ two)
+    ≡ numbers_for version classes width patterns rows one two
+both_behind version width classes rows one two patterns =
+    let before = map (λ bytes. length bytes) patterns ++ (rows ++ classes) in
+    ap (λ l. checked version (width ∷ length patterns ∷ length rows ∷ longest_of patterns ∷ l))
+    (ap (λ l. l ++ (one ++ two)) (append-nil before) ∙ sym (append_assoc before one two))
 
-  size : length all_of ≡ 6 + length t.search.query.patterns + length t.rows + 256 + 0 + length t.best
-  size = numbers_long LINEAR_VERSION t.classes t.width t.search.query.patterns t.rows [] t.best are.classes.each
+-- what is written for tables is prepared for their search, with fingerprints
+module _ (t : BackTables) (are : AreBackTables t) (prints : List ℕ) (long : length prints ≡ FINGERPRINTS_LEN)
+    (pass : ArePrints t.search prints)
+  where
+    abbrev pub all_of : List ℕ
+    all_of = numbers_for LINEAR_VERSION t.classes t.width t.search.query.patterns t.rows t.best prints
 
-  best_are : best_in all_of ≡ t.best
-  best_are =
-      let from : classes_end all_of ≡ classes_end all_of + 0 = omega arith in
-      let to : linear_len all_of ≡ classes_end all_of + 0 + length t.best = omega (arith, are.best.long) in
-      ap (λ k. slice_range all_of k (linear_len all_of)) from
-      ∙ (ap (slice_range all_of (classes_end all_of + 0)) to
-      ∙ ends_written LINEAR_VERSION t.classes t.width t.search.query.patterns t.rows [] t.best are.classes.each)
+    size : length all_of ≡ 6 + length t.search.query.patterns + length t.rows + 256 + length t.best + length prints
+    size = numbers_long LINEAR_VERSION t.classes t.width t.search.query.patterns t.rows t.best prints
+        are.classes.each
 
-  pub prepared_all : IsPreparedLinear t.search all_of
-  prepared_all =
-      let classes = classes_written LINEAR_VERSION t.classes t.width t.search.query.patterns t.rows [] t.best
-      are.classes.each in
-      let table = rows_are_table Standard (texts_back t) t.width t.rows are.recognises in
-      record {
-        whole = record {
-          parts = record {
-            parts = record { version_is = refl; few = are.kept.few; fits = omega (arith, size) };
-            fits = omega (arith, size, are.best.long);
-            row = omega (arith, table.some.fits);
+    best_are : best_in all_of ≡ t.best
+    best_are =
+        let to : best_end all_of ≡ classes_end all_of + length t.best = omega (arith, are.best.long) in
+        ap (slice_range all_of (classes_end all_of)) to
+        ∙ starts_written LINEAR_VERSION t.classes t.width t.search.query.patterns t.rows t.best prints are.classes.each
+
+    prints_are : prints_in all_of ≡ prints
+    prints_are =
+        let from : best_end all_of ≡ classes_end all_of + length t.best = omega (arith, are.best.long) in
+        let to : linear_len all_of ≡ classes_end all_of + length t.best + length prints =
+        omega (arith, are.best.long, long) in
+        ap (λ k. slice_range all_of k (linear_len all_of)) from
+        ∙ (ap (slice_range all_of (classes_end all_of + length t.best)) to
+        ∙ ends_written LINEAR_VERSION t.classes t.width t.search.query.patterns t.rows t.best prints are.classes.each)
+
+    pub prepared_all : IsPreparedLinear t.search all_of
+    prepared_all =
+        let classes = classes_written LINEAR_VERSION t.classes t.width t.search.query.patterns t.rows t.best
+        prints are.classes.each in
+        let table = rows_are_table Standard (texts_back t) t.width t.rows are.recognises in
+        record {
+          whole = record {
+            parts = record {
+              parts = record { version_is = refl; few = are.kept.few; fits = omega (arith, size) };
+              fits = omega (arith, size, are.best.long, long);
+              row = omega (arith, table.some.fits);
+            };
+            check = check_written LINEAR_VERSION t.classes t.width t.search.query.patterns t.rows t.best prints
+                are.classes.each (linear_len all_of) (omega (arith, size, are.best.long, long));
           };
-          check = check_written LINEAR_VERSION t.classes t.width t.search.query.patterns t.rows [] t.best
-              are.classes.each (linear_len all_of) (omega (arith, size, are.best.long));
-        };
-        tables = subst (λ (b : BackTables). AreBackTables b) (same_tables t.search t.classes _ t.width _ t.rows _ t.best
-            _ t.longest _ (sym classes) refl
-            (sym (rows_written LINEAR_VERSION t.classes t.width t.search.query.patterns t.rows [] t.best
-            are.classes.each)) (sym best_are) are.longest) are;
-        lengths = lengths_written LINEAR_VERSION t.classes t.width t.search.query.patterns t.rows [] t.best
-            are.classes.each;
-      }
+          tables = subst (λ (b : BackTables). AreBackTables b) (same_tables t.search t.classes _ t.width _ t.rows _
+              t.best _ t.longest _ (sym classes) refl
+              (sym (rows_written LINEAR_VERSION t.classes t.width t.search.query.patterns t.rows t.best prints
+              are.classes.each)) (sym best_are) are.longest) are;
+          lengths = lengths_written LINEAR_VERSION t.classes t.width t.search.query.patterns t.rows t.best
+              prints are.classes.each;
+          prints = subst (ArePrints t.search) (sym prints_are) pass;
+        }
 
-  -- they are what a `Linear` keeps
-  pub kept_all : t.width ≡ width_for t.search.ignore_case t.search.query.patterns
-      → IsRowsLength Standard (texts_back t) t.width (length t.rows) → AreKept t.search all_of
-  kept_all width rows =
-      let classes = classes_written LINEAR_VERSION t.classes t.width t.search.query.patterns t.rows [] t.best
-      are.classes.each in
-      let rows_are = rows_written LINEAR_VERSION t.classes t.width t.search.query.patterns t.rows [] t.best
-      are.classes.each in
-      record {
-        prepared = prepared_all;
-        long = omega (arith, size, are.best.long);
-        width = width;
-        rows = subst (λ (c : List ℕ). IsRowsLength Standard (reversed (map (symbols_in c) t.search.query.patterns))
-            t.width (length (rows_in all_of))) (sym classes)
-            (subst (λ (r : List ℕ). IsRowsLength Standard (texts_back t) t.width (length r)) (sym rows_are) rows);
-      }
+    -- they are what a `Linear` keeps
+    pub kept_all : t.width ≡ width_for t.search.ignore_case t.search.query.patterns
+        → IsRowsLength Standard (texts_back t) t.width (length t.rows) → AreKept t.search all_of
+    kept_all width rows =
+        let classes = classes_written LINEAR_VERSION t.classes t.width t.search.query.patterns t.rows t.best
+        prints are.classes.each in
+        let rows_are = rows_written LINEAR_VERSION t.classes t.width t.search.query.patterns t.rows t.best
+        prints are.classes.each in
+        record {
+          prepared = prepared_all;
+          long = omega (arith, size, are.best.long, long);
+          width = width;
+          rows = subst (λ (c : List ℕ). IsRowsLength Standard (reversed (map (symbols_in c) t.search.query.patterns))
+              t.width (length (rows_in all_of))) (sym classes)
+              (subst (λ (r : List ℕ). IsRowsLength Standard (texts_back t) t.width (length r)) (sym rows_are) rows);
+        }
 
 module _ {search : SearchValue} {numbers : List ℕ} (kept : AreKept search numbers) where
   -- so many numbers these are
   pub kept_long : length numbers ≡ 6 + length search.query.patterns + length (rows_in numbers) + 256
-      + length search.query.patterns
+      + length search.query.patterns + FINGERPRINTS_LEN
   kept_long =
       let fits = kept.prepared.whole.parts.fits in
       let places = length_part numbers (rows_at numbers) (rows_end numbers) (omega arith) (omega arith) in

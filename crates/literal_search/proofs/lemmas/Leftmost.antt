@@ -1,6 +1,6 @@
 -- What walks through parts of a span tell of the places of the parts.
 use Rattle.std.proofs.Common.{◌≡◌, ℕ, ◌+◌, ◌-◌, ◌*◌, ◌<◌, ◌≤◌, ◌⊎◌, ◌^◌, ◌%◌, List, Option, Some, None, arith}
-use Rattle.std.proofs.Common.{◌∙◌, ◌≢◌, Err, Ok, Result, ap, false, is_some, get_or, inl, inr, length, set, subst, sym, true}
+use Rattle.std.proofs.Common.{◌∙◌, ◌≢◌, IfSome, Err, Ok, Result, ap, false, is_some, get_or, inl, inr, length, set, subst, sym, true}
 use Rattle.std.proofs.lemmas.Bool.{cases_lt, false≢true}
 use Rattle.std.proofs.lemmas.List.{get_or-set_other, get_or-set_same}
 use Rattle.std.specs.Result.{IsOkAnd}
@@ -12,6 +12,7 @@ use Rattle.literal_base.specs.declared.search.Span.{Span}
 use Rattle.literal_search.specs.Inside.Backward.{AreBackFor, AreMarks, IsMark, NoneBeginsAt, NoneFrom, StandsDown}
 use Rattle.literal_search.specs.Inside.Backward.{back_tables_by, best_by}
 use Rattle.literal_search.specs.Inside.Leftmost.{IsFirstBegun, IsLane, IsLimit, IsStep, LiesInPart, NoneBehind}
+use Rattle.literal_search.specs.Inside.Leftmost.{ReadsFor}
 use Rattle.literal_search.specs.PreparedLinear.{AreBackTables, BackTables}
 use Rattle.literal_search.specs.SearchValue.{SearchValue}
 use Rattle.literal_search.specs.declared.backward.Backward.{Backward}
@@ -191,6 +192,12 @@ pub some_first : (p : BackTables) (haystack : List ℕ) (end start upto other : 
     → IsFirstBegun p haystack end (between start other) first
 some_first p haystack end start upto other None some is = absurd (false≢true some)
 some_first p haystack end start upto other (Some begun) some is = is
+
+-- what is looked up for it, if there is one
+pub found_reads : (longest : ℕ) (span : Span) (old new : ℕ) (first : Option Begun) → is_some first ≡ true
+    → IfSome first (λ begun. ReadsFor longest span old new (Some begun)) → ReadsFor longest span old new first
+found_reads longest span old new None some reads = absurd (false≢true some)
+found_reads longest span old new (Some begun) some reads = reads
 
 pub ok_part_on : (p : BackTables) (haystack : List ℕ) (end from start upto : ℕ) → NoneFrom p haystack end from start
     → (result : Result (Option Begun) Damaged)

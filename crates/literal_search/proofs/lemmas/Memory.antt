@@ -1,19 +1,13 @@
 -- How many bytes a search takes.
-use Rattle.std.proofs.Common.{◌≡◌, ℕ, List, ◌+◌, ◌-◌, ◌*◌, arith, length, map, subst, sum_by}
+use Rattle.std.proofs.Common.{◌≡◌, ℕ, ◌+◌, ◌*◌, length, map, subst, sum_by}
 use Rattle.literal_base.specs.Kinds.{root_kind_of}
-use Rattle.literal_base.specs.declared.search.MatchKind.TheVariants.{Standard}
 use Rattle.literal_search.specs.Inside.Classes.{AreClasses, symbols_in}
-use Rattle.literal_search.specs.Inside.Linear.{AreKept}
 use Rattle.literal_search.specs.Inside.Search.{IsSound, patterns_in, search_value}
 use Rattle.literal_search.specs.Inside.Standing.{overlapping_value}
-use Rattle.literal_search.specs.Memory.{TakesBytes, TakesLinearBytes, TakesListedBytes}
-use Rattle.literal_search.specs.Prepared.{classes_in, rows_in}
-use Rattle.literal_search.specs.PreparedLinear.{back_tables_in, texts_back}
-use Rattle.literal_search.specs.SearchValue.{SearchValue}
+use Rattle.literal_search.specs.Memory.{TakesBytes, TakesListedBytes}
 use Rattle.literal_search.specs.PreparedOverlapping.{AreSized, AreTables, Tables}
 use Rattle.literal_search.specs.States.{IsRowsLength}
 use Rattle.literal_search.specs.declared.Search.TheInside.{Inside}
-use Rattle.literal_search.proofs.lemmas.BackTables.{kept_long}
 use Rattle.literal_search.proofs.lemmas.LentTables.{have_tables}
 
 -- so many bytes are those of the rows, and of the patterns
@@ -30,23 +24,6 @@ takes_bytes a sound bytes is = (
     subst (λ width. IsRowsLength (root_kind_of a.kind) (map (symbols_in a.rows.classes) (patterns_in a)) width
         (length a.rows.rows)) sound.width sound.rows,
     is,
-  ),
-)
-
--- and of the numbers for patterns, in a `Linear`
-pub takes_linear_bytes : (search : SearchValue) (numbers : List ℕ) → AreKept search numbers → (bytes : ℕ)
-    → bytes ≡ (length numbers - (6 + length search.query.patterns + 256)) * 4 + sum_by length search.query.patterns
-    → TakesLinearBytes search bytes
-unfolding TakesLinearBytes
-takes_linear_bytes search numbers kept bytes is = (
-  classes_in numbers,
-  subst (AreClasses (classes_in numbers)) kept.width kept.prepared.tables.classes,
-  kept.prepared.tables.tells,
-  (
-    length (rows_in numbers),
-    subst (λ width. IsRowsLength Standard (texts_back (back_tables_in search numbers)) width
-        (length (rows_in numbers))) kept.width kept.rows,
-    omega (arith, is, kept_long kept),
   ),
 )
 

@@ -13,7 +13,7 @@ use Rattle.literal_search.specs.Prepared.{prepared_len, fingerprints_part, rows_
 use Rattle.literal_search.specs.Prepared.{width_in}
 use Rattle.literal_search.specs.SearchValue.{NoneIsShorter, SearchValue}
 use Rattle.literal_search.specs.Overlapping.{OverlappingValue}
-use Rattle.literal_search.specs.PreparedLinear.{AreBackTables, BackTables, IsPreparedLinear, linear_len}
+use Rattle.literal_search.specs.PreparedLinear.{ArePrints, AreBackTables, BackTables, IsPreparedLinear, best_end, linear_len}
 use Rattle.literal_search.specs.PreparedOverlapping.{IsPreparedOverlapping, ends_at, listed_len}
 use Rattle.literal_search.specs.Table.{Recognises}
 use Rattle.literal_search.proofs.lemmas.BackTables.{same_tables as same_back}
@@ -241,12 +241,13 @@ module _ (search : SearchValue) (old new : List ℕ)
               (sym (same 2 (omega arith)))
               (sym (range_is (rows_at old) (rows_end old) (rows_at new) (rows_end new) rows_is end_is
               (omega arith) (omega arith)))
-              (sym (range_is (classes_end old) (linear_len old) (classes_end new) (linear_len new)
-              (omega (arith, end_is)) linear_is
-              (omega arith) (omega arith)))
+              (sym (range_is (classes_end old) (best_end old) (classes_end new) (best_end new)
+              (omega (arith, end_is)) (omega (arith, linear_is)) (omega arith) (omega arith)))
               (sym (same 5 (omega arith)))) prepared.tables;
           lengths = range_is 6 (rows_at old) 6 (rows_at new) refl rows_is (omega arith) (omega arith)
               ∙ prepared.lengths;
+          prints = subst (ArePrints search) (sym (range_is (best_end old) (linear_len old) (best_end new)
+              (linear_len new) (omega (arith, linear_is)) linear_is (omega arith) (omega arith))) prepared.prints;
         }
 
 module _ (search : SearchValue) (numbers : List ℕ) (n : ℕ) where

@@ -6,7 +6,7 @@ use Rattle.std.proofs.Common.{sym, ap, subst, ◌∙◌, arith}
 use Rattle.std.proofs.lemmas.List.{get_or-map, length-drop, length-map, length-take, take-take, take_more}
 use Rattle.std.proofs.lemmas.List.Concat.{flat_map-append}
 use Rattle.std.specs.Int.{to_le_bytes}
-use Rattle.std.specs.List.{flat_map, slice_range}
+use Rattle.std.specs.List.{flat_map, repeat, slice_range}
 use Rattle.literal_base.specs.Kinds.{root_kind_of}
 use Rattle.literal_base.specs.Leftmost.{IsLeftmostMatch}
 use Rattle.literal_base.specs.Occurs.{pattern_at}
@@ -20,6 +20,7 @@ use Rattle.literal_search.specs.Inside.Rows.{rows_of}
 use Rattle.literal_search.specs.Inside.Scan.{IsTableOf, match_by}
 use Rattle.literal_search.specs.Inside.Prepared.{IsHeader, IsLent, IsSplit, header_table}
 use Rattle.literal_search.specs.declared.prepared.Header.{Header}
+use Rattle.literal_search.specs.declared.prepared.TheConstants.{FINGERPRINTS_LEN}
 use Rattle.literal_base.specs.MatchValue.{MatchValue}
 use Rattle.literal_search.specs.Inside.Prepared.{Puts, RefusesArray, numbers_for}
 use Rattle.literal_search.specs.Inside.Search.{IsSound, patterns_in, search_value}
@@ -210,23 +211,30 @@ module _ (classes : List ℕ) (width : ℕ) (kind : MatchKind) (ignore_case : Bo
 
 -- the numbers of fingerprints are those of none, or of these
 abbrev AreNumbersOf : ℕ → Option (Bor FingerprintsValue) → List ℕ → Type 0
-AreNumbersOf shortest o prints = MatchOption o (shortest_by prints ≡ 0)
+AreNumbersOf shortest o prints = MatchOption o (prints ≡ repeat FINGERPRINTS_LEN (0 ∷ []))
     (λ f. (shortest_by prints ≡ min shortest (2 ^ 32 - 1)) × (fingerprints_by prints ≡ f.now))
 
 pub prints_least : (shortest : ℕ) (o : Option (Bor FingerprintsValue)) (prints : List ℕ)
     → AreNumbersOf shortest o prints → shortest_by prints ≤ shortest
-prints_least shortest None prints are = omega (arith, are)
+prints_least shortest None prints are = omega (arith, ap shortest_by are)
 prints_least shortest (Some f) prints are = omega (arith, are.0)
 
--- what the fingerprints of a `Search` let pass, those by their numbers do
+-- what fingerprints let pass, those by their numbers do
+pub prints_let_pass : (shortest : ℕ) (ignore_case : Bool) (patterns : List (List ℕ))
+    (o : Option (Bor FingerprintsValue)) (prints : List ℕ)
+    → IfSome o (λ f. AllPass f.now ignore_case patterns) → AreNumbersOf shortest o prints → 0 < shortest_by prints
+    → AllPass (fingerprints_by prints) ignore_case patterns
+prints_let_pass shortest ignore_case patterns None prints pass are some =
+    absurd (omega (arith, ap shortest_by are, some))
+prints_let_pass shortest ignore_case patterns (Some f) prints pass are some =
+    subst (λ p. AllPass p ignore_case patterns) (sym are.1) pass
+
 pub prints_pass : (a : Inside) (value : SearchValue) (o : Option (Bor FingerprintsValue)) (prints : List ℕ)
     → search_value a ≡ value → IfSome o (λ f. AllPass f.now value.ignore_case value.query.patterns)
     → AreNumbersOf a.shortest o prints → 0 < shortest_by prints
     → AllPass (fingerprints_by prints) a.ignore_case (patterns_in a)
-prints_pass a value None prints view pass are some = absurd (omega (arith, are, some))
-prints_pass a value (Some f) prints view pass are some =
-    subst (λ p. AllPass p a.ignore_case (patterns_in a)) (sym are.1)
-    (subst (λ (v : SearchValue). AllPass f.now v.ignore_case v.query.patterns) (sym view) pass)
+prints_pass a value o prints view pass are some = prints_let_pass a.shortest a.ignore_case (patterns_in a) o prints
+    (subst (λ (v : SearchValue). IfSome o (λ f. AllPass f.now v.ignore_case v.query.patterns)) (sym view) pass) are some
 
 -- so many places are the header, one for each pattern, the rows, and the fingerprints
 pub takes_places : (a : Inside) → IsSound a → (needed : ℕ)

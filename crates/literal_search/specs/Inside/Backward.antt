@@ -10,7 +10,7 @@ use Rattle.literal_ids.specs.declared.primitives.pattern_id.TheConstants.Pattern
 use Rattle.literal_search.specs.SearchValue.{SearchValue}
 use Rattle.literal_search.specs.Inside.Walk.{IsAt, rows_by, text_of}
 use Rattle.literal_search.specs.Linear.{looked_by}
-use Rattle.literal_search.specs.PreparedLinear.{AreBackTables, BackTables, texts_back}
+use Rattle.literal_search.specs.PreparedLinear.{AreBackTables, ArePrints, BackTables, texts_back}
 use Rattle.literal_search.specs.Table.{Recognises}
 use Rattle.literal_search.specs.declared.backward.Backward.{Backward}
 use Rattle.literal_search.specs.declared.backward.Begun.{Begun}
@@ -18,12 +18,14 @@ use Rattle.literal_search.specs.declared.backward.Marks.{Marks}
 use Rattle.literal_search.specs.declared.backward.Stopped.{Stopped}
 use Rattle.literal_search.specs.declared.backward.Stopped.TheVariants.{OutOfMemory}
 use Rattle.literal_search.specs.declared.backward.TheConstants.{LEAST}
+use Rattle.literal_search.specs.declared.prepared.TheConstants.{FINGERPRINTS_LEN}
 
--- each byte has a class, there is a row, and there are identifiers for the patterns
+-- each byte has a class, there is a row, there are identifiers for the patterns, and numbers for fingerprints
 pub record IsSafe (b : Backward) : Type 0 where
   pub each : length b.table.classes.now ≡ 256
   pub row : 256 < length b.table.rows.now
   pub few : length b.lens.now ≤ PatternID.LIMIT
+  pub prints : length b.prints.now ≡ FINGERPRINTS_LEN
 
 -- the tables that they would be of a search
 abbrev pub back_tables_by : SearchValue → Backward → BackTables
@@ -36,10 +38,11 @@ back_tables_by search b = record {
   longest = b.table.longest;
 }
 
--- they are those of a search, with the length of each pattern
+-- they are those of a search, with the length of each pattern, and fingerprints that let all of them pass, if any
 pub record AreBackFor (search : SearchValue) (b : Backward) : Type 0 where
   pub tables : AreBackTables (back_tables_by search b)
   pub lens : b.lens.now ≡ map (λ bytes. length bytes) search.query.patterns
+  pub prints : ArePrints search b.prints.now
 
 -- what holds of whatever search they are the tables of
 abbrev pub ForBackward : Backward → (BackTables → Type 0) → Type 0

@@ -3,8 +3,9 @@ use Rattle.std.specs.Prelude.{◌≡◌, ◌⊎◌, ℕ, ◌+◌, ◌-◌, ◌*�
 use Rattle.std.specs.Prelude.{IfSome}
 use Rattle.literal_base.specs.Occurs.{between}
 use Rattle.literal_base.specs.declared.search.Span.{Span}
+use Rattle.literal_fingerprints.specs.FingerprintsValue.{AllPass, FingerprintsValue}
 use Rattle.literal_search.specs.Linear.{first_part}
-use Rattle.literal_search.specs.Inside.Backward.{AreMarks, IsMark, NoneFrom, StandsDown}
+use Rattle.literal_search.specs.Inside.Backward.{AreMarks, ForBackward, IsMark, NoneFrom, StandsDown}
 use Rattle.literal_search.specs.Inside.Classes.{AreClasses}
 use Rattle.literal_search.specs.Inside.Walk.{rows_by}
 use Rattle.literal_search.specs.PreparedLinear.{BackTables}
@@ -13,6 +14,8 @@ use Rattle.literal_search.specs.declared.backward.Begun.{Begun}
 use Rattle.literal_search.specs.declared.leftmost.Block.{Block}
 use Rattle.literal_search.specs.declared.leftmost.Lanes.{Lanes}
 use Rattle.literal_search.specs.declared.leftmost.Led.{Led}
+use Rattle.literal_search.specs.declared.leftmost.Front.{Front}
+use Rattle.literal_search.specs.declared.leftmost.TheConstants.{FIRST, OVERLAP}
 
 -- a part of a span, which may be empty
 pub record IsPart (span part : Span) : Type 0 where
@@ -97,8 +100,23 @@ pub record IsFourParts (longest : ℕ) (span : Span) (at : ℕ) (b : Block) : Ty
   pub inside : at + 4 * b.part + b.lead ≤ span.end
   pub far : longest ≤ b.lead + 1
   pub end : (b.end ≡ at + 4 * b.part) ⊎ ((b.end ≡ span.end) × (at + 4 * b.part + b.lead ≡ span.end))
-  pub cheap : 3 * at + 4 * b.part + 4 * b.lead ≤ 3 * b.end
   pub short : b.lead ≤ 2 * b.part + 4
+
+-- so many bytes that are owed, and those that walks look up in the block, are at most three times those of the block,
+-- also where each of its parts is walked through twice
+pub record IsPaid (owed at : ℕ) (b : Block) : Type 0 where
+  pub once : 3 * at + 4 * b.part + 4 * b.lead + owed ≤ 3 * b.end
+  pub twice : b.lead + owed ≤ 4 * b.part
+
+-- how many bytes fingerprints may look up more than they pass over: none where there are none
+abbrev pub owed_by : Option FingerprintsValue → ℕ
+owed_by None = 0
+owed_by (Some fingerprints) = OVERLAP
+
+-- fingerprints are for whatever the tables are of
+abbrev pub AreFor : Backward → Option FingerprintsValue → Type 0
+AreFor b fingerprints = ForBackward b (λ tables. IfSome fingerprints
+    (λ f. AllPass f tables.search.ignore_case tables.search.query.patterns))
 
 -- how many bytes are looked up for the first place of a span at which a pattern begins: all that a pattern may reach
 -- that begins there, and those of the span where none does; and not many times those before it
@@ -107,3 +125,14 @@ ReadsFor longest span old new None = old + span.end ≤ new + span.start
 ReadsFor longest span old new (Some begun) =
     (old + min (begun.at + longest) span.end ≤ new + span.start)
     × (new + 11 * span.start ≤ old + 11 * begun.at + 36 * first_part longest)
+
+-- a search of a span has come to a place: its parts are long enough, and not long yet; it has looked up the bytes before
+-- the place, and at most three times as many, less twice its credit, and so many more
+pub record IsFront (b : Backward) (span : Span) (owed old new : ℕ) (f : Front) : Type 0 where
+  pub after : span.start ≤ f.at
+  pub inside : f.at ≤ span.end
+  pub some : FIRST ≤ f.part
+  pub long : b.table.longest + 5 ≤ 2 * f.part
+  pub near : f.at < span.end → 4 * f.part + span.start ≤ f.at + 4 * first_part b.table.longest
+  pub least : old + f.at ≤ new + span.start
+  pub most : new + 2 * f.credit + 3 * span.start ≤ old + 3 * f.at + min owed (span.end - f.at)

@@ -6,10 +6,11 @@ use Rattle.std.proofs.lemmas.List.{drop-set-add, length-drop, length-set, take_a
 use Rattle.std.proofs.lemmas.List.Concat.{flat_map-append}
 use Rattle.std.proofs.Math.Seq.{take-add}
 use Rattle.std.specs.Int.{to_le_bytes}
-use Rattle.std.specs.List.{flat_map}
+use Rattle.std.specs.List.{flat_map, repeat}
 use Rattle.std.specs.Prelude.{◌^◌, ◌-◌, MatchOption, min}
 use Rattle.literal_fingerprints.specs.FingerprintsValue.{fingerprints_in}
 use Rattle.literal_search.specs.Prepared.{fingerprints_by, shortest_by}
+use Rattle.literal_search.specs.declared.prepared.TheConstants.{FINGERPRINTS_LEN}
 use Rattle.literal_search.proofs.prepared.fingerprint_numbers.Goals as goal
 
 pub loop-at-preserved : goal.loop-at-preserved
@@ -49,6 +50,6 @@ returns c =
     ap (flat_map (to_le_bytes w32)) (sym every)
     ∙ (c.loop-at.invariant.done ∙ take_all (4 * c.loop-at.at) bytes (omega (arith, size, c.loop-at-test.false))) in
     let first : shortest_by numbers ≡ min c.args.shortest (2 ^ 32 - 1) = omega (arith, c.loop-at.invariant.first) in
-    subst (λ o. MatchOption o (shortest_by numbers ≡ 0)
+    subst (λ o. MatchOption o (numbers ≡ repeat FINGERPRINTS_LEN (0 ∷ []))
     (λ f. (shortest_by numbers ≡ min c.args.shortest (2 ^ 32 - 1)) × (fingerprints_by numbers ≡ f.now)))
     (sym c.in-Some.is) (first, ap fingerprints_in read ∙ c.to_bytes-bytes.ensures)

@@ -3,7 +3,8 @@ use Rattle.std.specs.List.{slice_range}
 use Rattle.literal_search.specs.Inside.Prepared.{IsHeader}
 use Rattle.literal_search.specs.Prepared.{HasParts, classes_end, classes_in, lengths_in, longest_in, rows_in, width_in}
 use Rattle.literal_search.specs.SearchValue.{SearchValue}
-use Rattle.literal_search.specs.PreparedLinear.{AreBackTables, BackTables, HasLinearParts, best_in, linear_len}
+use Rattle.literal_search.specs.PreparedLinear.{AreBackTables, ArePrints, BackTables, HasLinearParts, best_end, best_in}
+use Rattle.literal_search.specs.PreparedLinear.{linear_len, prints_in}
 use Rattle.literal_search.specs.declared.prepared.Header.{Header}
 use Rattle.literal_search.specs.declared.prepared.TheConstants.{LINEAR_VERSION}
 use Rattle.literal_search.proofs.lemmas.BackTables.{same_tables}
@@ -19,7 +20,7 @@ module _ (f : Header) (numbers : List ℕ) (same : f.numbers.now ≡ numbers) (h
   known : (end f ≡ classes_end numbers) × (length f.lengths.now ≡ get_or numbers 3 0)
   known = parts_end f numbers same header
 
-  has_parts : HasParts LINEAR_VERSION numbers → length f.lengths.now ≤ length numbers - end f
+  has_parts : HasParts LINEAR_VERSION numbers → end f + length f.lengths.now + 33 ≤ length numbers
       → length f.rows.now ≢ 256 → HasLinearParts f.numbers.now
   has_parts parts long some =
       let own = parts_end f f.numbers.now refl header in
@@ -32,12 +33,20 @@ module _ (f : Header) (numbers : List ℕ) (same : f.numbers.now ≡ numbers) (h
 
   best_are : slice_range numbers (end f) (end f + length f.lengths.now) ≡ best_in f.numbers.now
   best_are =
-      let to : end f + length f.lengths.now ≡ linear_len numbers = omega (arith, known.0, known.1) in
+      let to : end f + length f.lengths.now ≡ best_end numbers = omega (arith, known.0, known.1) in
       ap (λ from. slice_range numbers from (end f + length f.lengths.now)) known.0
       ∙ (ap (slice_range numbers (classes_end numbers)) to ∙ ap best_in (sym same))
 
+  prints_are : slice_range numbers (end f + length f.lengths.now) (end f + length f.lengths.now + 33)
+      ≡ prints_in numbers
+  prints_are =
+      let from : end f + length f.lengths.now ≡ best_end numbers = omega (arith, known.0, known.1) in
+      let to : end f + length f.lengths.now + 33 ≡ linear_len numbers = omega (arith, known.0, known.1) in
+      ap (λ k. slice_range numbers k (end f + length f.lengths.now + 33)) from
+      ∙ ap (slice_range numbers (best_end numbers)) to
+
   -- why there are none
-  short : length numbers - end f < length f.lengths.now → ¬ HasLinearParts numbers
+  short : length numbers < end f + length f.lengths.now + 33 → ¬ HasLinearParts numbers
   short few parts = let fits = parts.fits in omega (arith, few, fits, known.0, known.1)
 
   no_row : length f.rows.now ≡ 256 → ¬ HasLinearParts numbers
@@ -65,6 +74,7 @@ returns c =
     (has_parts f numbers told.0 header told.1 c.if-is_short.false c.if-header-eq-CLASSES_LEN.false) in
     let best = best_are f numbers told.0 header in
     let best_is = best ∙ ap best_in told.0 in
+    let prints_is = prints_are f numbers told.0 header in
     let tables = λ (search : SearchValue). same_tables search _ (classes_in numbers) _ (width_in numbers) _
     (rows_in numbers) _ (best_in numbers) _ (longest_in numbers)
     (header.classes_are ∙ ap classes_in told.0) (header.width_is ∙ ap width_in told.0)
@@ -75,10 +85,13 @@ returns c =
         each = classes_long header;
         row = omega (arith, parts.row, known.0, known.1);
         few = omega (arith, told.1.few, known.1);
+        prints = length_part numbers (end f + length f.lengths.now) (end f + length f.lengths.now + 33) (omega arith)
+            (omega (arith, c.if-is_short.false)) ∙ omega arith;
       };
       is_for = λ search is. record {
         tables = subst (λ (t : BackTables). AreBackTables t) (sym (tables search)) is.tables;
         lens = header.lengths_are ∙ (ap lengths_in told.0 ∙ is.lengths);
+        prints = subst (ArePrints search) (sym prints_is) is.prints;
       };
       tables = tables;
       longest = header.longest_is ∙ ap longest_in told.0;

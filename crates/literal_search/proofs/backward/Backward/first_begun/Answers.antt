@@ -1,95 +1,73 @@
-use Rattle.std.proofs.Common.{◌+◌, ◌*◌, ◌≤◌, ◌≡◌, MatchOption, Option, Some, ap, arith, inl, inr, min, refl, subst, ◌∙◌}
+use Rattle.std.proofs.Common.{◌+◌, ◌*◌, ◌≤◌, ◌∙◌, ◌≡◌, ap, arith, inl, refl, subst, sym}
 use Rattle.literal_base.specs.Counts.{Counts}
 use Rattle.literal_base.specs.Occurs.{between}
 use Rattle.literal_search.specs.Inside.Backward.{back_tables_by}
-use Rattle.literal_search.specs.Inside.Leftmost.{IsFirstBegun, LiesInPart}
-use Rattle.literal_search.specs.declared.backward.Begun.{Begun}
-use Rattle.literal_search.proofs.lemmas.Leftmost.{lane_begins, none_on, ok_part_on, part_on}
+use Rattle.literal_search.specs.Inside.Leftmost.{IsFront}
+use Rattle.literal_search.proofs.lemmas.Leftmost.{found_reads, lane_begins, no_first, none_on, ok_part_on}
 use Rattle.literal_search.proofs.backward.Backward.first_begun.Goals as goal
 
-pub returns-in-Some-2-clause-first : goal.returns-in-Some-2-clause-first
-returns-in-Some-2-clause-first c = λ search is.
-    let tables = back_tables_by search c.args.self.now in
-    let haystack = c.args.haystack.now in
-    let span = c.args.span in
-    let at = c.loop-block.at in
-    part_on tables haystack span.end span.start at c.in-Some.block.end (c.loop-block.invariant.none search is)
-    (Some c.in-Some-2.begun)
-    (subst (IsFirstBegun tables haystack span.end (between at c.in-Some.block.end)) c.in-Some-2.is
-    (c.in_ok-begun.ensures.first search is))
+pub loop-block-init : goal.loop-block-init
+loop-block-init c = record {
+  front = subst (λ n. IsFront c.args.self.now c.args.span n c.args.tally.now.scanned c.pass_on-front.new.tally.scanned
+      c.pass_on-front.result) (sym c.owed_by-owed.ensures)
+      (c.pass_on-front.ensures.front c.args.tally.now.scanned (record {
+    after = omega arith;
+    inside = c.requires.valid.ordered;
+    some = omega arith;
+    long = omega arith;
+    near = λ _. omega arith;
+    least = omega arith;
+    most = omega arith;
+  }));
+  none = c.pass_on-front.ensures.none;
+  others = c.pass_on-front.ensures.others;
+}
 
-pub returns-in-Some-2-clause-counted : goal.returns-in-Some-2-clause-counted
-returns-in-Some-2-clause-counted c =
-    let so_far = c.loop-block.invariant in
-    let parts = c.in-Some.ensures.parts in
-    let at = c.loop-block.at in
-    let span = c.args.span in
-    let inside = parts.inside in
-    let some = parts.some in
-    let short = parts.short in
-    let few = c.in-Some.ensures.short in
-    let near = so_far.near (omega (arith, inside, some)) in
-    let lies = subst (LiesInPart at c.in-Some.block.end) c.in-Some-2.is c.in_ok-begun.ensures.inside in
-    let most = c.in_ok-begun.ensures.most in
-    let counted = subst (λ (first : Option Begun). MatchOption first
-    (c.first_in_four.new.tally.scanned ≡ c.loop-block.tally.scanned + 4 * c.in-Some.block.part
-    + 4 * c.in-Some.block.lead)
-    (λ begun. c.loop-block.tally.scanned + min (begun.at + c.args.self.now.table.longest) span.end
-    ≤ c.first_in_four.new.tally.scanned + at)) c.in-Some-2.is c.in_ok-begun.ensures.counted in
-    let before = so_far.most in
-    let least = so_far.least in
-    let after = so_far.after in (
-      omega (arith, counted, least),
-      omega (arith, near, lies.0, most, before, few, short, some, after),
-    )
+pub returns-in_err-looked-clause-most : goal.returns-in_err-looked-clause-most
+returns-in_err-looked-clause-most c =
+    omega (arith, c.look_on.ensures.most c.args.tally.now.scanned c.loop-block.invariant.front)
 
-pub loop-block-preserved-then-part-lt-LAST : goal.loop-block-preserved-then-part-lt-LAST
-loop-block-preserved-then-part-lt-LAST c =
+pub returns-then-is_some-clause-most : goal.returns-then-is_some-clause-most
+returns-then-is_some-clause-most c =
+    omega (arith, c.in_ok-looked.ensures.most c.args.tally.now.scanned c.loop-block.invariant.front)
+
+pub returns-then-is_some-clause-counted : goal.returns-then-is_some-clause-counted
+returns-then-is_some-clause-counted c =
+    found_reads c.args.self.now.table.longest c.args.span c.args.tally.now.scanned c.look_on.new.tally.scanned
+    c.in_ok-looked.looked.first (sym c.is_some.ensures ∙ c.if-is_some.true)
+    (c.in_ok-looked.ensures.found c.args.tally.now.scanned c.loop-block.invariant.front)
+
+pub loop-block-preserved : goal.loop-block-preserved
+loop-block-preserved c =
     let so_far = c.loop-block.invariant in
-    let parts = c.in-Some.ensures.parts in
-    let span = c.args.span in
-    let at = c.loop-block.at in
-    let cheap = parts.cheap in
-    let inside = parts.inside in
-    let some = parts.some in
-    let end = parts.end in
-    let long = so_far.long in
-    let after = so_far.after in
-    let least = so_far.least in
-    let most = so_far.most in
-    let part = so_far.some in
-    let near = so_far.near (omega (arith, inside, some)) in
-    let counted = subst (λ (first : Option Begun). MatchOption first
-    (c.first_in_four.new.tally.scanned ≡ c.loop-block.tally.scanned + 4 * c.in-Some.block.part
-    + 4 * c.in-Some.block.lead)
-    (λ begun. c.loop-block.tally.scanned + min (begun.at + c.args.self.now.table.longest) span.end
-    ≤ c.first_in_four.new.tally.scanned + at)) c.in_default-2.is c.in_ok-begun.ensures.counted in
+    let looked = c.in_ok-looked.looked in
+    let none = sym c.is_some.ensures ∙ c.if-is_some.false in
     record {
-      after = omega (arith, after, cheap);
-      inside = omega (arith, inside, end);
-      some = omega (arith, part);
-      long = omega (arith, long);
-      near = λ more. elim c.in-Some.ensures.next [
-        | inl whole ↦ absurd (omega (arith, whole, more))
-        | inr next ↦ omega (arith, next, near)
-      ];
+      front = subst (λ n. IsFront c.args.self.now c.args.span n c.args.tally.now.scanned
+          c.pass_on-front-in-Some.new.tally.scanned c.pass_on-front-in-Some.result) (sym c.owed_by-owed.ensures)
+          (c.pass_on-front-in-Some.ensures.front c.args.tally.now.scanned
+          (c.in_ok-looked.ensures.front c.args.tally.now.scanned so_far.front none));
       none = λ search is.
           let tables = back_tables_by search c.args.self.now in
-          none_on tables c.args.haystack.now span.end span.start at c.in-Some.block.end (so_far.none search is)
-          (subst (IsFirstBegun tables c.args.haystack.now span.end (between at c.in-Some.block.end)) c.in_default-2.is
-          (c.in_ok-begun.ensures.first search is));
-      others = c.in_ok-begun.ensures.others
-          ∙ ap (λ (t : Counts). let n : Counts = record t { scanned = c.first_in_four.new.tally.scanned } in n)
-          so_far.others;
-      least = omega (arith, counted, least, end, inside);
-      most = omega (arith, counted, most, cheap);
+          let haystack = c.args.haystack.now in
+          let end = c.args.span.end in
+          none_on tables haystack end c.args.span.start looked.front.at c.pass_on-front-in-Some.result.at
+          (none_on tables haystack end c.args.span.start c.loop-block.front.at looked.front.at
+          (so_far.none search is)
+          (no_first tables haystack end c.loop-block.front.at looked.front.at looked.first none
+          (c.in_ok-looked.ensures.first search is))) (c.pass_on-front-in-Some.ensures.none search is);
+      others = c.pass_on-front-in-Some.ensures.others
+          ∙ (ap (λ (t : Counts). let n : Counts = record t { scanned = c.pass_on-front-in-Some.new.tally.scanned } in n)
+          c.in_ok-looked.ensures.others
+          ∙ ap (λ (t : Counts). let n : Counts = record t { scanned = c.pass_on-front-in-Some.new.tally.scanned } in n)
+          so_far.others);
     }
 
 pub returns-clause-first : goal.returns-clause-first
 returns-clause-first c = λ search is.
     let tables = back_tables_by search c.args.self.now in
     let span = c.args.span in
-    let at = c.loop-block.at in
+    let at = c.loop-block.front.at in
     ok_part_on tables c.args.haystack.now span.end span.start at span.end (c.loop-block.invariant.none search is)
     c.first_in.result
     (c.first_in.ensures.first search is

@@ -1,8 +1,9 @@
-use Rattle.std.proofs.Common.{◌≡◌, ◌∙◌, [], ℕ, List, arith, ap, length, map, refl, subst, sym}
+use Rattle.std.proofs.Common.{◌≡◌, ◌∙◌, [], ℕ, IfSome, List, arith, ap, length, map, refl, subst, sym}
 use Rattle.std.proofs.lemmas.List.{length-map, nil_from_length}
 use Rattle.std.specs.Global.{Global}
 use Rattle.std.specs.declared.vec.Vec.{Vec}
 use Rattle.literal_base.specs.Occurs.{NoneIsEmpty}
+use Rattle.literal_fingerprints.specs.FingerprintsValue.{AllPass}
 use Rattle.literal_base.specs.declared.search.MatchKind.TheVariants.{Standard}
 use Rattle.literal_search.specs.SearchValue.{longest_of, search_by, width_for}
 use Rattle.literal_search.specs.Inside.Linear.{AreKept}
@@ -10,7 +11,7 @@ use Rattle.literal_search.specs.Inside.Prepared.{numbers_for}
 use Rattle.literal_search.specs.Prepared.{AreShort}
 use Rattle.literal_search.specs.PreparedLinear.{AreBackTables, BackTables}
 use Rattle.literal_search.specs.declared.prepared.TheConstants.{LINEAR_VERSION}
-use Rattle.literal_search.proofs.lemmas.BackTables.{kept_all, short_by}
+use Rattle.literal_search.proofs.lemmas.BackTables.{both_behind, kept_all, short_by}
 use Rattle.literal_search.specs.Inside.Best.{AreBest}
 use Rattle.literal_search.specs.Inside.Classes.{Tells, symbols_in}
 use Rattle.literal_search.specs.Linear.{NeedTooManyReversed, reversed}
@@ -19,7 +20,9 @@ use Rattle.literal_search.specs.Table.{Recognises}
 use Rattle.literal_search.proofs.lemmas.Backward.{count_lent, some_back, some_lent, texts_lent}
 use Rattle.literal_search.proofs.lemmas.Built.{holds_in, refused_lists, refused_rows}
 use Rattle.literal_search.proofs.lemmas.Found.{some_symbols}
+use Rattle.literal_search.proofs.lemmas.Prepared.{prints_let_pass}
 use Rattle.literal_search.proofs.lemmas.Rows.{one_class}
+use Rattle.literal_search.proofs.lemmas.Scan.{behind_reference}
 use Rattle.literal_search.proofs.linear.Linear.new.Goals as goal
 
 pub rows_for-requires-clause-one : goal.rows_for-requires-clause-one
@@ -146,15 +149,26 @@ invariant_of-result g c =
       longest = refl;
       kept = c.in_ok-patterns.ensures.ok.5;
     } in
+    let prints = c.fingerprint_numbers-prints.result in
     let All = λ (k : List ℕ) (p : List (Vec ℕ Global)) (b : List ℕ). numbers_for LINEAR_VERSION k classes.width
-    (map (λ (pattern : Vec ℕ Global). pattern.items) p) c.in_ok-rows.rows.rows [] b in
-    let lent = c.deref-5.result.now in
+    (map (λ (pattern : Vec ℕ Global). pattern.items) p) c.in_ok-rows.rows.rows b prints in
+    let lent = c.deref-7.result.now in
     let numbers_are : c.in_ok-numbers.numbers ≡ All classes.table patterns c.in_ok-best.best.items =
     c.in_ok-numbers.ensures.numbers
-    ∙ (ap (λ k. All k lent c.deref-6.result.now) c.in_ok-rows.ensures.classes
-    ∙ (ap (λ p. All classes.table p c.deref-6.result.now) c.deref-5.ensures.value
-    ∙ ap (λ b. All classes.table patterns b) c.deref-6.ensures.value)) in
-    subst (AreKept t.search) (sym numbers_are) (kept_all t are
+    ∙ (both_behind LINEAR_VERSION classes.width c.in_ok-rows.rows.classes c.in_ok-rows.rows.rows c.deref-8.result.now
+    prints (map (λ (pattern : Vec ℕ Global). pattern.items) lent)
+    ∙ (ap (λ k. All k lent c.deref-8.result.now) c.in_ok-rows.ensures.classes
+    ∙ (ap (λ p. All classes.table p c.deref-8.result.now) c.deref-7.ensures.value
+    ∙ ap (λ b. All classes.table patterns b) c.deref-8.ensures.value))) in
+    let pass : IfSome c.new-fingerprints.result (λ f. AllPass f c.args.ignore_case bytes) =
+    subst (λ (p : List (Vec ℕ Global)). IfSome c.new-fingerprints.result
+    (λ f. AllPass f c.args.ignore_case (map (λ (pattern : Vec ℕ Global). pattern.items) p))) c.deref-5.ensures.value
+    c.new-fingerprints.ensures.pass in
+    let lent_pass = behind_reference c.as_ref.result c.new-fingerprints.result
+    (λ f. AllPass f c.args.ignore_case bytes) c.as_ref.ensures.value pass in
+    subst (AreKept t.search) (sym numbers_are) (kept_all t are prints (omega arith)
+    (prints_let_pass c.shortest_len.result c.args.ignore_case bytes c.as_ref.result prints lent_pass
+    c.fingerprint_numbers-prints.ensures)
     (c.classes_for-classes.ensures.width ∙ ap (λ (p : List (Vec ℕ Global)). width_for c.args.ignore_case
     (map (λ (pattern : Vec ℕ Global). pattern.items) p)) c.deref.ensures.value)
     (subst (λ (texts : List (List ℕ)). IsRowsLength Standard texts classes.width (length c.in_ok-rows.rows.rows))
@@ -170,7 +184,7 @@ numbers_for-requires-clause-short g c =
     let rows_are = texts_lent c.deref-3.result.now c.in_ok-backward.backward.items patterns c.deref-3.ensures.value
     copies classes.table in
     subst (λ (p : List (Vec ℕ Global)). AreShort (map (λ (pattern : Vec ℕ Global). pattern.items) p))
-    (sym c.deref-5.ensures.value)
+    (sym c.deref-7.ensures.value)
     (short_by classes.table classes.width (map (λ (pattern : Vec ℕ Global). pattern.items) patterns)
     (subst (λ (texts : List (List ℕ)). ¬ HasTooManyStates Standard texts classes.width) rows_are
     c.in_ok-rows.ensures.few))
@@ -188,8 +202,8 @@ numbers_for-requires-clause-best g c =
       c.in_ok-best.ensures.best.long,
       count,
       length-map patterns (λ (pattern : Vec ℕ Global). pattern.items),
-      ap (λ (p : List (Vec ℕ Global)). length p) c.deref-5.ensures.value,
-      ap (λ (b : List ℕ). length b) c.deref-6.ensures.value,
+      ap (λ (p : List (Vec ℕ Global)). length p) c.deref-7.ensures.value,
+      ap (λ (b : List ℕ). length b) c.deref-8.ensures.value,
     )
 
 pub returns-in_err-numbers-clause-error : goal.returns-in_err-numbers-clause-error
@@ -202,7 +216,7 @@ returns-in_err-numbers-clause-error g c =
       arith,
       c.in_err-numbers.ensures.no_memory,
       length-map patterns (λ (pattern : Vec ℕ Global). pattern.items),
-      ap (λ (p : List (Vec ℕ Global)). length p) c.deref-5.ensures.value,
+      ap (λ (p : List (Vec ℕ Global)). length p) c.deref-7.ensures.value,
     ))
     c.from_residual-in_err-numbers.result c.from_residual-in_err-numbers.ensures.1
 
