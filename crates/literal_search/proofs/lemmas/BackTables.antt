@@ -66,7 +66,7 @@ module _ (t : BackTables) (are : AreBackTables t) where
   all_of = numbers_for LINEAR_VERSION t.classes t.width t.search.query.patterns t.rows [] t.best
 
   size : length all_of ≡ 6 + length t.search.query.patterns + length t.rows + 256 + 0 + length t.best
-  size = numbers_long LINEAR_VERSION t.classes t.width t.search.query.patterns t.rows [] t.best are.classes.each
+  size = numbers_long LINEAR_VERSION t.classes t.width t.search.query.patterns t.rows [] t.best
 
   best_are : best_in all_of ≡ t.best
   best_are =
@@ -74,12 +74,12 @@ module _ (t : BackTables) (are : AreBackTables t) where
       let to : linear_len all_of ≡ classes_end all_of + 0 + length t.best = omega (arith, are.best.long) in
       ap (λ k. slice_range all_of k (linear_len all_of)) from
       ∙ (ap (slice_range all_of (classes_end all_of + 0)) to
-      ∙ ends_written LINEAR_VERSION t.classes t.width t.search.query.patterns t.rows [] t.best are.classes.each)
+      ∙ ends_written LINEAR_VERSION t.classes t.width t.search.query.patterns t.rows [] t.best)
 
   pub prepared_all : IsPreparedLinear t.search all_of
   prepared_all =
       let classes = classes_written LINEAR_VERSION t.classes t.width t.search.query.patterns t.rows [] t.best
-      are.classes.each in
+      are.classes in
       let table = rows_are_table Standard (texts_back t) t.width t.rows are.recognises in
       record {
         whole = record {
@@ -88,15 +88,12 @@ module _ (t : BackTables) (are : AreBackTables t) where
             fits = omega (arith, size, are.best.long);
             row = omega (arith, table.some.fits);
           };
-          check = check_written LINEAR_VERSION t.classes t.width t.search.query.patterns t.rows [] t.best
-              are.classes.each (linear_len all_of) (omega (arith, size, are.best.long));
+          check = check_written LINEAR_VERSION t.classes t.width t.search.query.patterns t.rows [] t.best (linear_len all_of) (omega (arith, size, are.best.long));
         };
         tables = subst (λ (b : BackTables). AreBackTables b) (same_tables t.search t.classes _ t.width _ t.rows _ t.best
             _ t.longest _ (sym classes) refl
-            (sym (rows_written LINEAR_VERSION t.classes t.width t.search.query.patterns t.rows [] t.best
-            are.classes.each)) (sym best_are) are.longest) are;
-        lengths = lengths_written LINEAR_VERSION t.classes t.width t.search.query.patterns t.rows [] t.best
-            are.classes.each;
+            (sym (rows_written LINEAR_VERSION t.classes t.width t.search.query.patterns t.rows [] t.best)) (sym best_are) are.longest) are;
+        lengths = lengths_written LINEAR_VERSION t.classes t.width t.search.query.patterns t.rows [] t.best;
       }
 
   -- they are what a `Linear` keeps
@@ -104,9 +101,8 @@ module _ (t : BackTables) (are : AreBackTables t) where
       → IsRowsLength Standard (texts_back t) t.width (length t.rows) → AreKept t.search all_of
   kept_all width rows =
       let classes = classes_written LINEAR_VERSION t.classes t.width t.search.query.patterns t.rows [] t.best
-      are.classes.each in
-      let rows_are = rows_written LINEAR_VERSION t.classes t.width t.search.query.patterns t.rows [] t.best
-      are.classes.each in
+      are.classes in
+      let rows_are = rows_written LINEAR_VERSION t.classes t.width t.search.query.patterns t.rows [] t.best in
       record {
         prepared = prepared_all;
         long = omega (arith, size, are.best.long);
