@@ -32,6 +32,7 @@ impl Model for Rows {
 
 impl Rows {
     /// The rows, and behind them the classes.
+    #[tactic(auto, unfolding(crate::specs::Inside::Rows::AreKeptRows))]
     pub fn as_slice(&self) -> &[u32]
         ensures rows { rows_of result.now ≡ self.now.rows }
         ensures classes { classes_of result.now ≡ self.now.classes }
@@ -66,6 +67,7 @@ impl Rows {
 }
 
 /// The rows for patterns, none of which is empty, in classes that are made for them.
+#[tactic(auto, unfolding(crate::specs::Inside::Rows::AreKeptRows))]
 pub fn rows_for(
     alloc: Global,
     kind: MatchKind,
@@ -112,6 +114,7 @@ fn push_classes(numbers: &mut Vec<u32>, classes: &[u8; 256]) -> Result<(), Alloc
 
 /// A copy of the rows of some patterns, and those of no pattern where there is none. Memory is asked for only where
 /// there is a pattern.
+#[tactic(auto, unfolding(crate::specs::Inside::Rows::AreKeptRows))]
 pub(crate) fn copy_of_rows(
     alloc: Global,
     patterns: &[Vec<u8>],

@@ -39,5 +39,5 @@ rows_value (number ∷ more) =
     record { rows = rows_of (number ∷ more); classes = classes_of (number ∷ more) }
 
 -- what is kept of them
-abbrev pub AreKeptRows : List ℕ → Type 0
+unfoldable pub AreKeptRows : List ℕ → Type 0
 AreKeptRows numbers = (numbers ≡ []) ⊎ ArePacked numbers

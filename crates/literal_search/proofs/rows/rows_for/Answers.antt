@@ -3,7 +3,7 @@ use Rattle.std.proofs.lemmas.Bool.{eqb-true}
 use Rattle.std.proofs.lemmas.List.{nil_from_length}
 use Rattle.std.specs.Global.{Vec}
 use Rattle.literal_search.specs.Inside.Classes.{symbols_in}
-use Rattle.literal_search.specs.Inside.Rows.{ArePacked, RowsValue, rows_value}
+use Rattle.literal_search.specs.Inside.Rows.{AreKeptRows, ArePacked, RowsValue, rows_value}
 use Rattle.literal_search.specs.States.{HasTooManyStates, IsRowsLength}
 use Rattle.literal_search.specs.Table.{Recognises}
 use Rattle.literal_search.proofs.lemmas.Rows.{are_packed, both_kept, for_none, none_few, none_long, none_recognised, zeros_are}
@@ -37,6 +37,7 @@ returns-then-is_empty-clause-few c =
     (none_few c.args.kind)
 
 pub invariant_of-result-2 : goal.invariant_of-result-2
+unfolding AreKeptRows
 invariant_of-result-2 c =
     inr (subst ArePacked (sym c.in_ok-push_classes.ensures)
     (are_packed c.in_ok-numbers.numbers.items c.args.classes.now.table c.args.classes.now.width c.requires.classes))
