@@ -29,6 +29,7 @@ pub mod Memory
 pub mod NextEnd
 pub mod Numbers
 pub mod Overlapping
+pub mod Packed
 pub mod Places
 pub mod Prepared
 pub mod PreparedLinear

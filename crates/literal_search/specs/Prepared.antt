@@ -2,8 +2,7 @@
 use Rattle.std.specs.Prelude.{◌≡◌, ◌+◌, ◌*◌, ◌/◌, ◌%◌, ◌^◌, ◌<◌, ◌≤◌, ℕ, Bool, List, length, map, take, drop, fold}
 use Rattle.std.specs.Prelude.{slice_index, slice_range}
 use Rattle.std.specs.Int.Bits.{bit_xor}
-use Rattle.std.specs.Int.{to_le_bytes, w32}
-use Rattle.std.specs.List.{All, flat_map}
+use Rattle.std.specs.List.{All}
 use Rattle.literal_base.specs.Kinds.{root_kind_of}
 use Rattle.literal_base.specs.MatchValue.{MatchValue}
 use Rattle.literal_base.specs.Query.{Query}
@@ -11,10 +10,10 @@ use Rattle.literal_base.specs.declared.search.Span.{Span}
 use Rattle.literal_fingerprints.specs.FingerprintsValue.{AllPass, FingerprintsValue, fingerprints_in}
 use Rattle.literal_ids.specs.declared.primitives.pattern_id.TheConstants.PatternID
 use Rattle.literal_search.specs.SearchValue.{CanBeKept, HoldsInClasses, NoneIsShorter, longest_of}
-use Rattle.literal_search.specs.Inside.Classes.{AreClasses, Tells, symbols_in}
+use Rattle.literal_search.specs.Inside.Classes.{AreClasses, Tells, symbols_in, unpacked}
 use Rattle.literal_search.specs.States.{IsRowsLength}
 use Rattle.literal_search.specs.Table.{Recognises}
-use Rattle.literal_search.specs.declared.classes.TheConstants.{CLASSES_LEN}
+use Rattle.literal_search.specs.declared.classes.TheConstants.{CLASSES_LEN, PACKED_LEN}
 use Rattle.literal_search.specs.declared.prepared.PrepareError.{PrepareError}
 use Rattle.literal_search.specs.declared.prepared.PrepareError.TheVariants.{ArrayTooShort, ListsTooLong}
 use Rattle.literal_search.specs.declared.prepared.PrepareError.TheVariants.{PatternTooLong}
@@ -45,13 +44,13 @@ lengths_in numbers = slice_range numbers LENGTHS_AT (rows_at numbers)
 abbrev pub rows_in : List ℕ → List ℕ
 rows_in numbers = slice_range numbers (rows_at numbers) (rows_end numbers)
 
--- where the classes end, one for each byte, which stand behind the rows
+-- where the 256 numbers behind the rows end
 abbrev pub classes_end : List ℕ → ℕ
 classes_end numbers = rows_end numbers + CLASSES_LEN
 
--- the classes of all bytes
+-- the classes of all bytes: each of the first 64 of these holds four, the first in its lowest eight bits
 abbrev pub classes_in : List ℕ → List ℕ
-classes_in numbers = slice_range numbers (rows_end numbers) (classes_end numbers)
+classes_in numbers = unpacked (slice_range numbers (rows_end numbers) (rows_end numbers + PACKED_LEN))
 
 -- how many numbers are those of a search for the leftmost match: behind its classes stand those of its fingerprints
 abbrev pub prepared_len : List ℕ → ℕ
@@ -65,9 +64,9 @@ fingerprints_part numbers = slice_range numbers (classes_end numbers) (prepared_
 abbrev pub shortest_by : List ℕ → ℕ
 shortest_by prints = slice_index prints 0
 
--- the fingerprints by such numbers: each behind the first stands for four bytes, the lowest first
+-- the fingerprints by such numbers: each behind the first holds four of their bytes, the first in its lowest eight bits
 abbrev pub fingerprints_by : List ℕ → FingerprintsValue
-fingerprints_by prints = fingerprints_in (flat_map (to_le_bytes w32) (drop 1 prints))
+fingerprints_by prints = fingerprints_in (unpacked (drop 1 prints))
 
 -- a number of 32 bits, stirred so that no other becomes the same: its upper half is xored into its lower one, and then
 -- it is multiplied by an odd factor, in 32 bits

@@ -5,8 +5,11 @@ ghost use Rattle.literal_search.specs.SearchValue.{width_for};
 ghost use Rattle.literal_search.specs.Inside.Classes.{AreClasses, AreNumbers, IsFoldOfOne, Marks, Tells};
 ghost use Rattle.literal_search.specs.Inside.Classes.{TellsMarked, folded};
 
-/// How many numbers stand behind the rows of an automaton: the class of each byte.
+/// How many numbers stand behind the rows of an automaton: from the place of a row on there is one for any class.
 pub const CLASSES_LEN: usize = 256;
+
+/// How many of them hold the class of each byte, four in a number, the first in its lowest eight bits. Zeros follow.
+pub const PACKED_LEN: usize = CLASSES_LEN / 4;
 
 /// The class of each byte, and how many classes there are: 1 to 256.
 #[derive(Clone, Copy)]

@@ -20,7 +20,7 @@ impl<'t> Table<'t> {
         span: Span,
         tally: &mut Tally,
     ) -> Result<Option<Stop>, Damaged>
-        requires classes { length self.now.classes.now ≡ 256 }
+        requires classes { length self.now.classes.now ≡ 64 }
         requires valid { IsValidSpan haystack.now span }
         ensures next { FindsNext self.now haystack.now from span result }
         ensures inside { IfOk result (λ answer. IfSome answer

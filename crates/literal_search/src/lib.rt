@@ -301,7 +301,8 @@ impl Search {
     /// The numbers by which it searches.
     #[inline(always)]
     fn table(&self) -> Table<'_>
-        ensures { IsTableOf result self.now.query self.now.ignore_case }
+        ensures each { length result.classes.now ≡ 64 }
+        ensures table { IsTableOf result self.now.query self.now.ignore_case }
     {
         Table {
             classes: self.rows.classes(),

@@ -394,7 +394,6 @@ fn numbers_for(
     best: &[u32],
     prints: &[u32; FINGERPRINTS_LEN],
 ) -> Result<Numbers, AllocError>
-    requires classes { length rows.now.classes ≡ 256 }
     requires width { width ≤ 256 }
     requires patterns { length patterns.now ≤ 2 ^ 31 - 1 }
     requires short { AreShort (map (λ pattern. pattern.items) patterns.now) }

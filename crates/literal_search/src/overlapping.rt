@@ -11,7 +11,7 @@ ghost use Rattle.literal_fingerprints.specs.FingerprintsValue.{AllPass};
 ghost use Rattle.literal_search.specs.Earliest.{IsEarliestEnd, ScansToEndWithin};
 ghost use Rattle.literal_search.specs.Inside.Scan.{IsTableFor};
 ghost use Rattle.literal_search.specs.Inside.NextEnd.{IsNextStop, Stands};
-ghost use Rattle.literal_search.specs.Inside.Walk.{rows_by};
+ghost use Rattle.literal_search.specs.Inside.Walk.{classes_by, rows_by};
 ghost use Rattle.literal_search.specs.Memory.{TakesListedBytes};
 ghost use Rattle.literal_search.specs.Overlapping.{BuildsOverlapping};
 ghost use Rattle.literal_search.specs.OverlappingMatchesValue.{GivesOverlapping, IsNextToCome, IsToCome};
@@ -317,7 +317,8 @@ impl Parts {
         requires parts { AreTables (tables_of self.now) }
         requires passes { PassesBy self.now }
         ensures table { IsTableFor result Standard (tables_of self.now).patterns self.now.ignore_case }
-        ensures classes { result.classes.now ≡ self.now.rows.classes }
+        ensures each { length result.classes.now ≡ 64 }
+        ensures classes { classes_by result ≡ self.now.rows.classes }
         ensures width { result.width ≡ self.now.width }
         ensures rows { rows_by result ≡ self.now.rows.rows }
     {
@@ -341,7 +342,6 @@ impl Parts {
 
     /// Where a walk stands that stopped where a pattern ends: before all patterns that end there.
     fn standing_at(&self, stop: Stop) -> Standing
-        requires classes { length self.now.rows.classes ≡ 256 }
         requires row { stop.place + self.now.width < length self.now.rows.rows }
         requires listed { longest_at (tables_of self.now) stop + 1 < length (tables_of self.now).starts }
         ensures { result ≡ standing_at (tables_of self.now) stop }

@@ -12,10 +12,11 @@ ghost use Rattle.literal_search.specs.Prepared.{AreShort, ForPrepared, HasAllPar
 ghost use Rattle.literal_search.specs.Prepared.{check_of, fingerprints_by, longest_in, shortest_by};
 ghost use Rattle.literal_search.specs.SearchValue.{ScansWithin};
 ghost use Rattle.literal_search.specs.Inside.Prepared.{IsHeader, Puts, RefusesArray, numbers_for, header_table};
-ghost use Rattle.literal_search.specs.Inside.Rows.{classes_of, rows_of};
+ghost use Rattle.literal_search.specs.Inside.Classes.{unpacked};
+ghost use Rattle.literal_search.specs.Inside.Rows.{ArePacked, classes_of, rows_of};
 ghost use Rattle.literal_search.specs.Inside.Scan.{IsTableOf};
 
-use crate::classes::CLASSES_LEN;
+use crate::classes::{CLASSES_LEN, PACKED_LEN};
 use crate::longest_len;
 use crate::walk::{NOTHING, Table};
 use literal_base::count::Tally;
@@ -27,10 +28,10 @@ use std::fmt;
 use std::marker::Model;
 
 /// What the first number of a prepared search for the leftmost match is.
-pub const PREPARED_VERSION: u32 = 0x4C50_0005;
+pub const PREPARED_VERSION: u32 = 0x4C50_0006;
 
 /// What that of one for everything that occurs is.
-pub const OVERLAPPING_VERSION: u32 = 0x4C4F_0004;
+pub const OVERLAPPING_VERSION: u32 = 0x4C4F_0005;
 
 /// What that of one for all leftmost matches in linear time is.
 pub const LINEAR_VERSION: u32 = 0x4C4C_0003;
@@ -159,7 +160,7 @@ pub fn split<'p>(numbers: &'p [u32], version: u32) -> Result<Header<'p>, Damaged
     }
     Ok(Header {
         numbers,
-        classes: &numbers[rows_end..end],
+        classes: &numbers[rows_end..rows_end + PACKED_LEN],
         width: numbers[2] as usize,
         lengths: &numbers[LENGTHS_AT..rows_at],
         rows: &numbers[rows_at..end],
@@ -225,7 +226,7 @@ impl<'p> Prepared<'p> {
     /// What a walk reads.
     #[inline(always)]
     fn table(&self) -> Table<'_>
-        ensures classes { length result.classes.now ≡ 256 }
+        ensures classes { length result.classes.now ≡ 64 }
         ensures prepared { ForPrepared self.now (λ query ignore_case. IsTableOf result query ignore_case) }
     {
         self.header.table(self.shortest, self.fingerprints.as_ref())
@@ -327,7 +328,7 @@ pub fn fingerprint_numbers(
 }
 
 /// The number that four bytes from a place on stand for, the lowest first.
-fn number_at(bytes: &[u8], at: usize) -> u32
+pub(crate) fn number_at(bytes: &[u8], at: usize) -> u32
     requires { at + 4 ≤ length bytes.now }
     ensures { to_le_bytes w32 result ≡ slice_range bytes.now at (at + 4) }
 {
@@ -352,10 +353,19 @@ fn fingerprints_by(prints: &[u32]) -> Fingerprints
     ensures { result ≡ fingerprints_by prints.now }
 {
     let mut bytes = [0; BYTES];
-    for at in 0..BYTES / 4 {
-        bytes[4 * at..4 * at + 4].copy_from_slice(&prints[1 + at].to_le_bytes());
-    }
+    unpack(&prints[1..], &mut bytes);
     Fingerprints::from_bytes(&bytes)
+}
+
+/// Writes the bytes that stand in numbers, four in each, the first in its lowest eight bits.
+#[inline(always)]
+pub(crate) fn unpack(numbers: &[u32], bytes: &mut [u8])
+    requires { length bytes.old ≡ 4 * length numbers.now }
+    ensures { bytes.new ≡ unpacked numbers.now }
+{
+    for at in 0..numbers.len() {
+        bytes[4 * at..4 * at + 4].copy_from_slice(&numbers[at].to_le_bytes());
+    }
 }
 
 /// Writes a search of a version into the first places of an array, and answers how many these are. Behind its rows and
@@ -370,7 +380,7 @@ pub fn write(
     ends: &[u32],
     array: &mut [u32],
 ) -> Result<usize, PrepareError>
-    requires classes { length (classes_of rows.now) ≡ 256 }
+    requires classes { ArePacked rows.now }
     requires width { width < 2 ^ 32 }
     requires patterns { length patterns.now < 2 ^ 32 }
     requires rows { length (rows_of rows.now) < 2 ^ 32 }

@@ -2,13 +2,13 @@
 ghost use Rattle.std.specs.Prelude.{◌≡◌, ◌<◌, ◌≤◌, ◌^◌, ◌-◌, ◌++◌, [], IfErr, IfOk, OnErr, length, map};
 ghost use Rattle.literal_base.specs.Occurs.{NoneIsEmpty};
 ghost use Rattle.literal_search.specs.Table.{Recognises};
-ghost use Rattle.literal_search.specs.Inside.Classes.{AreClasses, symbols_in};
-ghost use Rattle.literal_search.specs.Inside.Rows.{classes_of, rows_of, rows_value};
+ghost use Rattle.literal_search.specs.Inside.Classes.{AreClasses, symbols_in, unpacked};
+ghost use Rattle.literal_search.specs.Inside.Rows.{ArePacked, classes_of, packed, rows_of, rows_value};
 ghost use Rattle.literal_search.specs.States.{HasTooManyStates, IsRowsLength};
 
-use crate::classes::{CLASSES_LEN, Classes};
+use crate::classes::{CLASSES_LEN, Classes, PACKED_LEN};
 use crate::grow::{GrowError, grow};
-use crate::prepared::{LENGTHS_AT, NO_PATTERN};
+use crate::prepared::{LENGTHS_AT, NO_PATTERN, number_at};
 use literal_base::search::MatchKind;
 use std::alloc::{AllocError, Global};
 use std::marker::Model;
@@ -21,18 +21,22 @@ pub struct Rows {
 }
 
 impl Model for Rows {
-    ghost use Rattle.literal_search.specs.Inside.Rows.{RowsValue, rows_value};
+    ghost use Rattle.literal_search.specs.Inside.Rows.{AreKeptRows, RowsValue, rows_value};
 
     ghost Value = { RowsValue };
 
     ghost view = { λ r. rows_value r.numbers.items };
+
+    ghost invariant = { λ r. AreKeptRows r.numbers.items };
 }
 
 impl Rows {
     /// The rows, and behind them the classes.
+    #[tactic(auto, unfolding(crate::specs::Inside::Rows::AreKeptRows))]
     pub fn as_slice(&self) -> &[u32]
         ensures rows { rows_of result.now ≡ self.now.rows }
         ensures classes { classes_of result.now ≡ self.now.classes }
+        ensures packed { ArePacked result.now }
     {
         if self.numbers.is_empty() {
             return &NO_PATTERN[LENGTHS_AT..LENGTHS_AT + 2 + CLASSES_LEN];
@@ -41,26 +45,29 @@ impl Rows {
     }
 
     /// The rows alone.
+    #[tactic(auto, using(crate::proofs::lemmas::Rows::length_rows))]
     pub fn without_classes(&self) -> &[u32]
-        requires { length self.now.classes ≡ 256 }
         ensures { result.now ≡ self.now.rows }
     {
         let numbers = self.as_slice();
         &numbers[..numbers.len() - CLASSES_LEN]
     }
 
-    /// The classes alone.
+    /// The numbers that hold the classes.
+    #[tactic(auto, using(crate::proofs::lemmas::Rows::length_rows))]
     #[inline(always)]
     pub fn classes(&self) -> &[u32]
-        requires { length self.now.classes ≡ 256 }
-        ensures { result.now ≡ self.now.classes }
+        ensures each { length result.now ≡ 64 }
+        ensures classes { unpacked result.now ≡ self.now.classes }
     {
         let numbers = self.as_slice();
-        &numbers[numbers.len() - CLASSES_LEN..]
+        let at = numbers.len() - CLASSES_LEN;
+        &numbers[at..at + PACKED_LEN]
     }
 }
 
 /// The rows for patterns, none of which is empty, in classes that are made for them.
+#[tactic(auto, unfolding(crate::specs::Inside::Rows::AreKeptRows))]
 pub fn rows_for(
     alloc: Global,
     kind: MatchKind,
@@ -95,17 +102,19 @@ pub fn rows_for(
 }
 
 /// Puts the class of each byte behind some numbers.
-fn push_classes(numbers: &mut Vec<u32>, classes: &[u8]) -> Result<(), AllocError>
-    ensures { IfOk result (λ _. numbers.new.items ≡ numbers.old.items ++ classes.now) }
+fn push_classes(numbers: &mut Vec<u32>, classes: &[u8; 256]) -> Result<(), AllocError>
+    ensures { IfOk result (λ _. numbers.new.items ≡ numbers.old.items ++ packed classes.now) }
 {
-    for class in classes {
-        numbers.push(u32::from(*class))?;
+    for at in 0..PACKED_LEN {
+        numbers.push(number_at(classes, 4 * at))?;
     }
+    numbers.extend_from_slice(&[0; CLASSES_LEN - PACKED_LEN])?;
     Ok(())
 }
 
 /// A copy of the rows of some patterns, and those of no pattern where there is none. Memory is asked for only where
 /// there is a pattern.
+#[tactic(auto, unfolding(crate::specs::Inside::Rows::AreKeptRows))]
 pub(crate) fn copy_of_rows(
     alloc: Global,
     patterns: &[Vec<u8>],

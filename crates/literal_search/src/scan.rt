@@ -4,10 +4,10 @@ ghost use Rattle.std.specs.Prelude.{◌≡◌, ◌⊎◌, ◌+◌, ◌-◌, ◌*
 ghost use Rattle.std.specs.Prelude.{IfOk, IfSome, None, false, length, true};
 ghost use Rattle.std.specs.Result.{IsOkAnd};
 ghost use Rattle.literal_base.specs.Occurs.{IsValidSpan, between};
-ghost use Rattle.literal_search.specs.Inside.Classes.{AreClasses};
 ghost use Rattle.literal_search.specs.Inside.Scan.{Answers, AreNear, ForPatterns, ForTable};
 ghost use Rattle.literal_search.specs.Inside.Scan.{NoneBefore, SearchesTo, StepsToEnd};
 ghost use Rattle.literal_search.specs.Inside.Scan.{WalksTo};
+ghost use Rattle.literal_search.specs.Inside.Walk.{classes_by};
 
 use crate::classes::CLASSES_LEN;
 use crate::prepared::Damaged;
@@ -68,7 +68,7 @@ impl<'t> Table<'t> {
         is_earliest: bool,
         tally: &mut Tally,
     ) -> Result<Option<Ended>, Damaged>
-        requires classes { length self.now.classes.now ≡ 256 }
+        requires classes { length self.now.classes.now ≡ 64 }
         requires valid { IsValidSpan haystack.now span }
         ensures found { ForTable self.now (λ query ignore_case. IsOkAnd result
             (Answers is_earliest query ignore_case haystack.now span)) }
@@ -108,7 +108,7 @@ impl<'t> Table<'t> {
         is_earliest: bool,
         tally: &mut Tally,
     ) -> Result<Option<Ended>, Damaged>
-        requires classes { length self.now.classes.now ≡ 256 }
+        requires classes { length self.now.classes.now ≡ 64 }
         requires valid { IsValidSpan haystack.now span }
         ensures found { ForTable self.now (λ query ignore_case. IsOkAnd result
             (Answers is_earliest query ignore_case haystack.now span)) }
@@ -167,7 +167,7 @@ impl<'t> Table<'t> {
         near: usize,
         tally: &mut Tally,
     ) -> Result<usize, Damaged>
-        requires classes { length self.now.classes.now ≡ 256 }
+        requires classes { length self.now.classes.now ≡ 64 }
         requires valid { IsValidSpan haystack.now span }
         requires some { 8 ≤ near }
         requires long { self.now.fingerprints ≡ None → 6 * self.now.longest ≤ near }
@@ -199,7 +199,7 @@ impl<'t> Table<'t> {
         near: usize,
         tally: &mut Tally,
     ) -> Result<usize, Damaged>
-        requires classes { length self.now.classes.now ≡ 256 }
+        requires classes { length self.now.classes.now ≡ 64 }
         requires valid { IsValidSpan haystack.now span }
         requires some { BLOCKS_NEAR ≤ near }
         requires long { 6 * self.now.longest ≤ near }
@@ -236,7 +236,7 @@ impl<'t> Table<'t> {
         limit: usize,
         tally: &mut Tally,
     ) -> bool
-        requires same { AreClasses self.now.classes.now self.now.width → classes.now ≡ self.now.classes.now }
+        requires same { classes.now ≡ classes_by self.now }
         requires some { 0 < limit }
         requires limit { limit ≤ 2 ^ 31 }
         requires within { limit + CLASSES_LEN ≤ length self.now.rows.now }

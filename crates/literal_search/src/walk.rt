@@ -6,11 +6,11 @@ ghost use Rattle.std.specs.Result.{IsOkAnd};
 ghost use Rattle.literal_base.specs.Occurs.{IsValidSpan};
 ghost use Rattle.literal_search.specs.Inside.Classes.{AreClasses};
 ghost use Rattle.literal_search.specs.Inside.Walk.{IsTable, LiesWithin, NoneInFour, Reaches, ReachesWithin};
-ghost use Rattle.literal_search.specs.Inside.Walk.{ReadsTo, rows_by};
+ghost use Rattle.literal_search.specs.Inside.Walk.{ReadsTo, classes_by, rows_by};
 ghost use Rattle.literal_search.specs.Inside.Walk.{StopsBy, Walks, WalksFar};
 
-use crate::classes::CLASSES_LEN;
-use crate::prepared::Damaged;
+use crate::classes::{CLASSES_LEN, PACKED_LEN};
+use crate::prepared::{Damaged, unpack};
 use literal_base::Span;
 use literal_base::count::Tally;
 use literal_fingerprints::Fingerprints;
@@ -58,7 +58,7 @@ pub enum Reached {
 /// The numbers of an automaton.
 #[derive(Clone, Copy)]
 pub struct Table<'t> {
-    /// The class of each byte: the last eight bits of its number.
+    /// The class of each byte: [`PACKED_LEN`] numbers.
     pub classes: &'t [u32],
     /// How many classes there are.
     pub width: usize,
@@ -91,17 +91,18 @@ impl<'t> Table<'t> {
     /// at the class is known before the place is, so that a walk waits for one look-up a byte, and for no sum.
     #[inline(always)]
     pub(crate) fn code_at(&self, place: usize, haystack: &[u8], at: usize, tally: &mut Tally) -> u32
-        requires classes { length self.now.classes.now ≡ 256 }
+        requires classes { length self.now.classes.now ≡ 64 }
         requires inside { at < length haystack.now }
         requires within { place + CLASSES_LEN ≤ length self.now.rows.now }
-        ensures number { AreClasses self.now.classes.now self.now.width
+        ensures number { AreClasses (classes_by self.now) self.now.width
             → place + self.now.width < length (rows_by self.now) → result ≡ slice_index (rows_by self.now)
-            (place + slice_index self.now.classes.now (slice_index haystack.now at)) }
+            (place + slice_index (classes_by self.now) (slice_index haystack.now at)) }
         ensures ticks { tally.new ≡ record tally.old { scanned = tally.old.scanned + 1 } }
     {
         tally.tick_scanned();
-        let class = (self.classes[haystack[at] as usize] % 256) as usize;
-        self.rows[class..][place]
+        let byte = haystack[at] as usize;
+        let class = (self.classes[byte / 4] >> (8 * (byte % 4))) % 256;
+        self.rows[class as usize..][place]
     }
 
     /// The pattern that ends with the state whose row begins at a place. A lent width may lead out of the rows.
@@ -127,11 +128,11 @@ impl<'t> Table<'t> {
         is_earliest: bool,
         tally: &mut Tally,
     ) -> Result<Walked, Damaged>
-        requires classes { length self.now.classes.now ≡ 256 }
+        requires classes { length self.now.classes.now ≡ 64 }
         requires valid { IsValidSpan haystack.now span }
-        ensures found { AreClasses self.now.classes.now self.now.width → IsTable self.now.width (rows_by self.now)
+        ensures found { AreClasses (classes_by self.now) self.now.width → IsTable self.now.width (rows_by self.now)
             → IsOkAnd result (Walks self.now haystack.now span is_earliest) }
-        ensures near { AreClasses self.now.classes.now self.now.width → IsTable self.now.width (rows_by self.now)
+        ensures near { AreClasses (classes_by self.now) self.now.width → IsTable self.now.width (rows_by self.now)
             → IsOkAnd result (StopsBy self.now span (tally.new.scanned - tally.old.scanned)) }
         ensures inside { IfOk result (LiesWithin span least) }
         ensures others { tally.new ≡ record tally.old { scanned = tally.new.scanned } }
@@ -177,10 +178,10 @@ impl<'t> Table<'t> {
         least: usize,
         tally: &mut Tally,
     ) -> Result<Reached, Damaged>
-        requires classes { length self.now.classes.now ≡ 256 }
+        requires classes { length self.now.classes.now ≡ 64 }
         requires valid { IsValidSpan haystack.now span }
-        ensures reaches { AreClasses self.now.classes.now self.now.width
-            → Reaches self.now.width (rows_by self.now) from self.now.classes.now haystack.now span result }
+        ensures reaches { AreClasses (classes_by self.now) self.now.width
+            → Reaches self.now.width (rows_by self.now) from (classes_by self.now) haystack.now span result }
         ensures inside { IfOk result (ReachesWithin span least) }
         ensures others { tally.new ≡ record tally.old { scanned = tally.new.scanned } }
         ensures grows { tally.old.scanned ≤ tally.new.scanned }
@@ -219,12 +220,12 @@ impl<'t> Table<'t> {
         limit: usize,
         tally: &mut Tally,
     ) -> bool
-        requires same { AreClasses self.now.classes.now self.now.width → classes.now ≡ self.now.classes.now }
+        requires same { classes.now ≡ classes_by self.now }
         requires some { 0 < limit }
         requires limit { limit ≤ 2 ^ 31 }
         requires within { limit + CLASSES_LEN ≤ length self.now.rows.now }
         requires inside { at + 4 * block + self.now.longest ≤ length haystack.now }
-        ensures none { result ≡ true → AreClasses self.now.classes.now self.now.width
+        ensures none { result ≡ true → AreClasses (classes_by self.now) self.now.width
             → NoneInFour self.now haystack.now at block (block + self.now.longest) }
         ensures others { tally.new ≡ record tally.old { scanned = tally.new.scanned } }
         ensures grows { tally.old.scanned ≤ tally.new.scanned }
@@ -257,13 +258,11 @@ impl<'t> Table<'t> {
     /// The class of each byte as a byte. Four walks at once take longer by any step more, and none over these.
     #[inline(always)]
     pub fn class_bytes(&self) -> [u8; 256]
-        requires { length self.now.classes.now ≡ 256 }
-        ensures { AreClasses self.now.classes.now self.now.width → result ≡ self.now.classes.now }
+        requires { length self.now.classes.now ≡ 64 }
+        ensures { result ≡ classes_by self.now }
     {
         let mut bytes = [0; 256];
-        for at in 0usize..256 {
-            bytes[at] = (self.classes[at] % 256) as u8;
-        }
+        unpack(&self.classes[..PACKED_LEN], &mut bytes);
         bytes
     }
 
@@ -277,12 +276,12 @@ impl<'t> Table<'t> {
         at: usize,
         tally: &mut Tally,
     ) -> usize
-        requires same { AreClasses self.now.classes.now self.now.width → classes.now ≡ self.now.classes.now }
+        requires same { classes.now ≡ classes_by self.now }
         requires inside { at < length haystack.now }
         requires within { place + CLASSES_LEN ≤ length self.now.rows.now }
-        ensures number { AreClasses self.now.classes.now self.now.width
+        ensures number { AreClasses (classes_by self.now) self.now.width
             → place + self.now.width < length (rows_by self.now) → result ≡ slice_index (rows_by self.now)
-            (place + slice_index self.now.classes.now (slice_index haystack.now at)) }
+            (place + slice_index (classes_by self.now) (slice_index haystack.now at)) }
         ensures ticks { tally.new ≡ record tally.old { scanned = tally.old.scanned + 1 } }
     {
         self.code_by(classes, place, haystack, at, tally) as usize
@@ -298,12 +297,12 @@ impl<'t> Table<'t> {
         at: usize,
         tally: &mut Tally,
     ) -> u32
-        requires same { AreClasses self.now.classes.now self.now.width → classes.now ≡ self.now.classes.now }
+        requires same { classes.now ≡ classes_by self.now }
         requires inside { at < length haystack.now }
         requires within { place + CLASSES_LEN ≤ length self.now.rows.now }
-        ensures number { AreClasses self.now.classes.now self.now.width
+        ensures number { AreClasses (classes_by self.now) self.now.width
             → place + self.now.width < length (rows_by self.now) → result ≡ slice_index (rows_by self.now)
-            (place + slice_index self.now.classes.now (slice_index haystack.now at)) }
+            (place + slice_index (classes_by self.now) (slice_index haystack.now at)) }
         ensures ticks { tally.new ≡ record tally.old { scanned = tally.old.scanned + 1 } }
     {
         tally.tick_scanned();

@@ -8,6 +8,7 @@ use Rattle.std.proofs.lemmas.List.{get_or_default, length-map}
 use Rattle.std.proofs.Common.{◌*◌, get_or, inl, inr, map}
 use Rattle.literal_base.specs.Occurs.{pattern_at}
 use Rattle.literal_search.specs.Inside.Classes.{symbols_in}
+use Rattle.literal_search.specs.Inside.Rows.{packed}
 use Rattle.literal_search.specs.Inside.Linear.{AreKept}
 use Rattle.literal_search.specs.Inside.Prepared.{checked, numbers_for}
 use Rattle.literal_search.specs.Linear.{reversed}
@@ -67,7 +68,7 @@ pub both_behind : (version width : ℕ) (classes rows one two : List ℕ) (patte
     → numbers_for version classes width patterns rows [] (one ++ two)
     ≡ numbers_for version classes width patterns rows one two
 both_behind version width classes rows one two patterns =
-    let before = map (λ bytes. length bytes) patterns ++ (rows ++ classes) in
+    let before = map (λ bytes. length bytes) patterns ++ (rows ++ packed classes) in
     ap (λ l. checked version (width ∷ length patterns ∷ length rows ∷ longest_of patterns ∷ l))
     (ap (λ l. l ++ (one ++ two)) (append-nil before) ∙ sym (append_assoc before one two))
 
@@ -80,13 +81,12 @@ module _ (t : BackTables) (are : AreBackTables t) (prints : List ℕ) (long : le
 
     size : length all_of ≡ 6 + length t.search.query.patterns + length t.rows + 256 + length t.best + length prints
     size = numbers_long LINEAR_VERSION t.classes t.width t.search.query.patterns t.rows t.best prints
-        are.classes.each
 
     best_are : best_in all_of ≡ t.best
     best_are =
         let to : best_end all_of ≡ classes_end all_of + length t.best = omega (arith, are.best.long) in
         ap (slice_range all_of (classes_end all_of)) to
-        ∙ starts_written LINEAR_VERSION t.classes t.width t.search.query.patterns t.rows t.best prints are.classes.each
+        ∙ starts_written LINEAR_VERSION t.classes t.width t.search.query.patterns t.rows t.best prints
 
     prints_are : prints_in all_of ≡ prints
     prints_are =
@@ -95,12 +95,12 @@ module _ (t : BackTables) (are : AreBackTables t) (prints : List ℕ) (long : le
         omega (arith, are.best.long, long) in
         ap (λ k. slice_range all_of k (linear_len all_of)) from
         ∙ (ap (slice_range all_of (classes_end all_of + length t.best)) to
-        ∙ ends_written LINEAR_VERSION t.classes t.width t.search.query.patterns t.rows t.best prints are.classes.each)
+        ∙ ends_written LINEAR_VERSION t.classes t.width t.search.query.patterns t.rows t.best prints)
 
     pub prepared_all : IsPreparedLinear t.search all_of
     prepared_all =
         let classes = classes_written LINEAR_VERSION t.classes t.width t.search.query.patterns t.rows t.best
-        prints are.classes.each in
+        prints are.classes in
         let table = rows_are_table Standard (texts_back t) t.width t.rows are.recognises in
         record {
           whole = record {
@@ -110,14 +110,13 @@ module _ (t : BackTables) (are : AreBackTables t) (prints : List ℕ) (long : le
               row = omega (arith, table.some.fits);
             };
             check = check_written LINEAR_VERSION t.classes t.width t.search.query.patterns t.rows t.best prints
-                are.classes.each (linear_len all_of) (omega (arith, size, are.best.long, long));
+                (linear_len all_of) (omega (arith, size, are.best.long, long));
           };
           tables = subst (λ (b : BackTables). AreBackTables b) (same_tables t.search t.classes _ t.width _ t.rows _
               t.best _ t.longest _ (sym classes) refl
-              (sym (rows_written LINEAR_VERSION t.classes t.width t.search.query.patterns t.rows t.best prints
-              are.classes.each)) (sym best_are) are.longest) are;
+              (sym (rows_written LINEAR_VERSION t.classes t.width t.search.query.patterns t.rows t.best prints)) (sym best_are) are.longest) are;
           lengths = lengths_written LINEAR_VERSION t.classes t.width t.search.query.patterns t.rows t.best
-              prints are.classes.each;
+              prints;
           prints = subst (ArePrints t.search) (sym prints_are) pass;
         }
 
@@ -126,9 +125,9 @@ module _ (t : BackTables) (are : AreBackTables t) (prints : List ℕ) (long : le
         → IsRowsLength Standard (texts_back t) t.width (length t.rows) → AreKept t.search all_of
     kept_all width rows =
         let classes = classes_written LINEAR_VERSION t.classes t.width t.search.query.patterns t.rows t.best
-        prints are.classes.each in
+        prints are.classes in
         let rows_are = rows_written LINEAR_VERSION t.classes t.width t.search.query.patterns t.rows t.best
-        prints are.classes.each in
+        prints in
         record {
           prepared = prepared_all;
           long = omega (arith, size, are.best.long, long);

@@ -9,7 +9,7 @@ use Rattle.literal_base.specs.MatchValue.{MatchValue}
 use Rattle.literal_base.specs.Occurs.{IsValidSpan, between, pattern_at}
 use Rattle.literal_base.specs.declared.search.MatchKind.TheVariants.{Standard}
 use Rattle.literal_base.specs.declared.search.Span.{Span}
-use Rattle.literal_search.specs.Inside.Classes.{AreClasses}
+use Rattle.literal_search.specs.Inside.Classes.{AreClasses, unpacked}
 use Rattle.literal_search.specs.Inside.LentTables.{AreFor, AreLent, IsNextBy, IsNextEnd, tables_by}
 use Rattle.literal_search.specs.Inside.Prepared.{IsHeader, Puts, RefusesArray, header_table, numbers_for}
 use Rattle.literal_search.specs.Inside.Rows.{rows_of}
@@ -77,9 +77,9 @@ same_tables search classes classes' width width' rows rows' ends ends' starts st
 pub are_for : (p : LentTables) → AreLent p → (search : OverlappingValue)
     → IsPreparedOverlapping search p.header.numbers.now → AreFor search p
 are_for p lent search prepared = record {
-  tables = same_tables search _ p.header.classes.now _ p.header.width _ (rows_of p.header.rows.now) _ p.ends.now _
+  tables = same_tables search _ (unpacked p.header.classes.now) _ p.header.width _ (rows_of p.header.rows.now) _ p.ends.now _
       p.starts.now
-      (sym lent.header.classes_are) (sym lent.header.width_is) (sym (rows_are lent.header)) (sym lent.ends_are)
+      (ap unpacked (sym lent.header.classes_are)) (sym lent.header.width_is) (sym (rows_are lent.header)) (sym lent.ends_are)
       (sym lent.starts_are) prepared.tables;
   lengths = lent.header.lengths_are ∙ prepared.lengths;
   longest = lent.header.longest_is ∙ prepared.longest;
@@ -229,7 +229,7 @@ module _ (t : Tables) (tables : AreTables t) where
   long = tables.lists.long
 
   size : length all_of ≡ 6 + length t.patterns + length t.rows + 256 + length t.starts + length t.ends
-  size = numbers_long OVERLAPPING_VERSION t.classes t.width t.patterns t.rows t.starts t.ends tables.classes.each
+  size = numbers_long OVERLAPPING_VERSION t.classes t.width t.patterns t.rows t.starts t.ends
 
   ends_at_is : ends_at all_of ≡ classes_end all_of + length t.starts
   ends_at_is = omega (arith, long)
@@ -237,7 +237,7 @@ module _ (t : Tables) (tables : AreTables t) where
   starts_are : starts_in all_of ≡ t.starts
   starts_are =
       ap (slice_range all_of (classes_end all_of)) ends_at_is
-      ∙ starts_written OVERLAPPING_VERSION t.classes t.width t.patterns t.rows t.starts t.ends tables.classes.each
+      ∙ starts_written OVERLAPPING_VERSION t.classes t.width t.patterns t.rows t.starts t.ends
 
   -- the last of the numbers that say where lists begin is how many numbers are in these
   last_is : get_or all_of (classes_end all_of + length t.patterns) 0 ≡ length t.ends
@@ -254,7 +254,7 @@ module _ (t : Tables) (tables : AreTables t) where
   ends_are =
       ap (λ from. slice_range all_of from (listed_len all_of)) ends_at_is
       ∙ (ap (slice_range all_of (classes_end all_of + length t.starts)) listed_is
-      ∙ ends_written OVERLAPPING_VERSION t.classes t.width t.patterns t.rows t.starts t.ends tables.classes.each)
+      ∙ ends_written OVERLAPPING_VERSION t.classes t.width t.patterns t.rows t.starts t.ends)
 
   pub prepared_all : IsPreparedOverlapping (overlapping_value t) all_of
   prepared_all = record {
@@ -267,17 +267,15 @@ module _ (t : Tables) (tables : AreTables t) where
         };
         fits = omega (arith, size, listed_is);
       };
-      check = check_written OVERLAPPING_VERSION t.classes t.width t.patterns t.rows t.starts t.ends tables.classes.each
+      check = check_written OVERLAPPING_VERSION t.classes t.width t.patterns t.rows t.starts t.ends
           (listed_len all_of) (omega (arith, size, listed_is));
     };
     longest = refl;
     tables = same_tables (overlapping_value t) t.classes _ t.width _ t.rows _ t.ends _ t.starts _
         (sym (classes_written OVERLAPPING_VERSION t.classes t.width t.patterns t.rows t.starts t.ends
-        tables.classes.each)) refl
-        (sym (rows_written OVERLAPPING_VERSION t.classes t.width t.patterns t.rows t.starts t.ends
-        tables.classes.each)) (sym ends_are) (sym starts_are) tables;
-    lengths = lengths_written OVERLAPPING_VERSION t.classes t.width t.patterns t.rows t.starts t.ends
-        tables.classes.each;
+        tables.classes)) refl
+        (sym (rows_written OVERLAPPING_VERSION t.classes t.width t.patterns t.rows t.starts t.ends)) (sym ends_are) (sym starts_are) tables;
+    lengths = lengths_written OVERLAPPING_VERSION t.classes t.width t.patterns t.rows t.starts t.ends;
   }
 
   module _ (sized : AreSized t) where

@@ -13,7 +13,7 @@ use Rattle.literal_search.specs.Earliest.{IsEarliestEnd, ScansToEndWithin}
 use Rattle.literal_search.specs.Inside.Classes.{Tells, symbols_in}
 use Rattle.literal_search.specs.Inside.NextEnd.{FindsNext, IsNextStop, Stands, StandsNext, StepsToStop}
 use Rattle.literal_search.specs.Inside.Scan.{IsTableFor, NoneBefore}
-use Rattle.literal_search.specs.Inside.Walk.{rows_by, IsAt, IsFirstEnd, NoneEnds, read_to, text_of}
+use Rattle.literal_search.specs.Inside.Walk.{IsAt, IsFirstEnd, NoneEnds, classes_by, read_to, rows_by, text_of}
 use Rattle.literal_search.specs.Table.{Recognises, stride_of}
 use Rattle.literal_search.specs.Words.{ending, live_suffix, word_of}
 use Rattle.literal_search.specs.declared.prepared.Damaged.{Damaged}
@@ -52,32 +52,32 @@ stands_first patterns ignore_case classes width rows haystack span = record {
 module _ (t : Table) (patterns : List (List ℕ)) (ignore_case : Bool) (is : IsTableFor t Standard patterns ignore_case)
     (haystack : List ℕ) (bytes : (i : ℕ) → get_or haystack i 0 < 256) (span : Span) (valid : IsValidSpan haystack span)
     (s : Stop) (inside : s.end ≤ span.end)
-    (stands : Stands patterns ignore_case t.classes.now t.width (rows_by t) haystack span s.end s) (behind : ℕ)
+    (stands : Stands patterns ignore_case (classes_by t) t.width (rows_by t) haystack span s.end s) (behind : ℕ)
     (later : (i place : ℕ) → Occurs patterns ignore_case haystack span i place
     → behind < place + length (pattern_at patterns i) → s.end < place + length (pattern_at patterns i))
   where
     abbrev texts : List (List ℕ)
-    texts = map (symbols_in t.classes.now) patterns
+    texts = map (symbols_in (classes_by t)) patterns
 
     abbrev pub read : List ℕ
-    read = text_of t.classes.now haystack (between stands.from s.end)
+    read = text_of (classes_by t) haystack (between stands.from s.end)
 
     reads_to : (end : ℕ) → s.end ≤ end
-        → read_to read t.classes.now haystack s.end end ≡ text_of t.classes.now haystack (between stands.from end)
-    reads_to end further = sym (text_halves t.classes.now haystack stands.from s.end end stands.before further)
+        → read_to read (classes_by t) haystack s.end end ≡ text_of (classes_by t) haystack (between stands.from end)
+    reads_to end further = sym (text_halves (classes_by t) haystack stands.from s.end end stands.before further)
 
     -- what is to come ends behind where no pattern ends
-    none_upto : (upto : ℕ) → NoneEnds Standard texts read t.classes.now haystack s.end upto → (i place : ℕ)
+    none_upto : (upto : ℕ) → NoneEnds Standard texts read (classes_by t) haystack s.end upto → (i place : ℕ)
         → Occurs patterns ignore_case haystack span i place → s.end < place + length (pattern_at patterns i)
         → upto < place + length (pattern_at patterns i)
     none_upto upto none i place o further =
         let end = place + length (pattern_at patterns i) in
         elim (cases_lt upto end) [
           | inl past ↦ past
-          | inr within ↦ absurd (none_ends texts (some_symbols t.classes.now patterns is.some)
-              (text_of t.classes.now haystack (between stands.from end))
+          | inr within ↦ absurd (none_ends texts (some_symbols (classes_by t) patterns is.some)
+              (text_of (classes_by t) haystack (between stands.from end))
               (ap (ending Standard texts) (sym (reads_to end (omega arith))) ∙ none end further within) i
-              (occurrence_ends ignore_case t.classes.now patterns is.tells is.some haystack bytes span valid
+              (occurrence_ends ignore_case (classes_by t) patterns is.tells is.some haystack bytes span valid
               stands.from i
               place end (stands.begins i place o further) refl o))
         ]
@@ -85,8 +85,8 @@ module _ (t : Table) (patterns : List (List ℕ)) (ignore_case : Bool) (is : IsT
     -- where something ends next
     pub next_there : (stop : Stop) → s.end < stop.end
         → ((recognises : Recognises Standard texts t.width (rows_by t))
-        → IsFirstEnd Standard texts t.width (rows_by t) recognises read t.classes.now haystack s.end stop)
-        → StandsNext patterns ignore_case t.classes.now t.width (rows_by t) haystack span behind stop
+        → IsFirstEnd Standard texts t.width (rows_by t) recognises read (classes_by t) haystack s.end stop)
+        → StandsNext patterns ignore_case (classes_by t) t.width (rows_by t) haystack span behind stop
     next_there stop further finds =
         let first = finds is.recognises in
         let same = reads_to stop.end (omega arith) in
@@ -106,7 +106,7 @@ module _ (t : Table) (patterns : List (List ℕ)) (ignore_case : Bool) (is : IsT
         }
 
     -- where nothing does
-    pub next_nowhere : NoneEnds Standard texts read t.classes.now haystack s.end span.end → (i place : ℕ)
+    pub next_nowhere : NoneEnds Standard texts read (classes_by t) haystack s.end span.end → (i place : ℕ)
         → Occurs patterns ignore_case haystack span i place → place + length (pattern_at patterns i) ≤ behind
     next_nowhere none i place o = elim (cases_lt behind (place + length (pattern_at patterns i))) [
       | inl to_come ↦
@@ -118,8 +118,8 @@ module _ (t : Table) (patterns : List (List ℕ)) (ignore_case : Bool) (is : IsT
     -- where the walk is back in the first state, and then nothing begins before another place
     module _ (at new : ℕ) (after : s.end ≤ at) (on : at ≤ new) (within : new ≤ span.end)
         (back : (recognises : Recognises Standard texts t.width (rows_by t))
-        → IsAt Standard texts t.width (rows_by t) recognises (read_to read t.classes.now haystack s.end at) 0
-        × NoneEnds Standard texts read t.classes.now haystack s.end at)
+        → IsAt Standard texts t.width (rows_by t) recognises (read_to read (classes_by t) haystack s.end at) 0
+        × NoneEnds Standard texts read (classes_by t) haystack s.end at)
         (none : NoneBefore patterns ignore_case haystack (between at span.end) new)
       where
         begins_new : (i place : ℕ) → Occurs patterns ignore_case haystack span i place
@@ -127,7 +127,7 @@ module _ (t : Table) (patterns : List (List ℕ)) (ignore_case : Bool) (is : IsT
         begins_new i place o further =
             let before = stands.before in
             let live = at_root texts t.width (rows_by t) is.recognises _ (back is.recognises).0 in
-            let behind_at = begins_behind ignore_case t.classes.now patterns is.tells is.some haystack bytes span valid
+            let behind_at = begins_behind ignore_case (classes_by t) patterns is.tells is.some haystack bytes span valid
             stands.from at i place (omega arith) (stands.begins i place o further)
             (none_upto at (back is.recognises).1 i place o further) (omega arith)
             (ap (live_suffix Standard texts) (sym (reads_to at after)) ∙ live) o in
@@ -138,7 +138,7 @@ module _ (t : Table) (patterns : List (List ℕ)) (ignore_case : Bool) (is : IsT
               same = o.same;
             })
 
-        pub stands_new : Stands patterns ignore_case t.classes.now t.width (rows_by t) haystack span new
+        pub stands_new : Stands patterns ignore_case (classes_by t) t.width (rows_by t) haystack span new
             (record { place = 0; end = new })
         stands_new =
             let after_start = stands.after in
@@ -148,7 +148,7 @@ module _ (t : Table) (patterns : List (List ℕ)) (ignore_case : Bool) (is : IsT
               after = omega arith;
               before = omega arith;
               at = λ recognises. subst (λ text. IsAt Standard texts t.width (rows_by t) recognises text 0)
-                  (sym (nothing_read t.classes.now haystack new))
+                  (sym (nothing_read (classes_by t) haystack new))
                   (at_start Standard texts t.width (rows_by t) recognises);
               begins = λ i place o further. begins_new i place o (omega arith);
             }
@@ -199,11 +199,11 @@ pub finds_earliest : (t : Table) (patterns : List (List ℕ)) (ignore_case : Boo
     (λ stop. (span.start < stop.end) × (stop.end ≤ span.end) × (stop.place < 2 ^ 32)))
     → IsOkAnd result (λ answer. IsEarliestEnd patterns ignore_case haystack span (option_map (λ stop. stop.end) answer))
 finds_earliest t patterns ignore_case is haystack bytes span valid result finds inside =
-    also_ok result _ _ _ (λ answer next lies. earliest_is patterns ignore_case t.classes.now t.width (rows_by t)
+    also_ok result _ _ _ (λ answer next lies. earliest_is patterns ignore_case (classes_by t) t.width (rows_by t)
     is.tells
     is.some haystack bytes span valid answer next lies)
     (finds patterns ignore_case is span.start
-    (stands_first patterns ignore_case t.classes.now t.width (rows_by t) haystack span)) inside
+    (stands_first patterns ignore_case (classes_by t) t.width (rows_by t) haystack span)) inside
 
 -- what is scanned up to there
 pub scans_to_end : (span : Span) (old new : Counts) → new ≡ record old { scanned = new.scanned }

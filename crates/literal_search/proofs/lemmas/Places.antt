@@ -6,7 +6,7 @@ use Rattle.std.specs.List.{slice_range}
 use Rattle.literal_base.specs.Kinds.{root_kind_of}
 use Rattle.literal_base.specs.Query.{Query}
 use Rattle.literal_fingerprints.specs.FingerprintsValue.{AllPass}
-use Rattle.literal_search.specs.Inside.Classes.{AreClasses, Tells, symbols_in}
+use Rattle.literal_search.specs.Inside.Classes.{AreClasses, Tells, symbols_in, unpacked}
 use Rattle.literal_search.specs.Prepared.{IsPrepared, IsWhole, check_of, classes_end, classes_in, fingerprints_by}
 use Rattle.literal_search.specs.Prepared.{lengths_in}
 use Rattle.literal_search.specs.Prepared.{prepared_len, fingerprints_part, rows_at, rows_end, rows_in, shortest_by}
@@ -64,8 +64,8 @@ module _ (query : Query) (ignore_case : Bool) (old new : List ℕ)
     pub prepared_as : IsPrepared query ignore_case old → IsPrepared query ignore_case new
     prepared_as prepared =
         let classes_same : classes_in new ≡ classes_in old =
-        ap (λ from. slice_range new from (from + 256)) end_same
-        ∙ parts (rows_end old) (classes_end old) (omega arith) (omega arith) in
+        ap unpacked (ap (λ from. slice_range new from (from + 64)) end_same
+        ∙ parts (rows_end old) (rows_end old + 64) (omega arith) (omega arith)) in
         let width_same : width_in new ≡ width_in old = same 2 (omega arith) in
         let lengths_same : lengths_in new ≡ lengths_in old =
         ap (slice_range new 6) rows_same ∙ parts 6 (rows_at old) (omega arith) (omega arith) in
@@ -166,8 +166,8 @@ module _ (search : OverlappingValue) (old new : List ℕ)
                 (sym (part_is 2 (listed_len old) 2 (listed_len new) refl listed_is (omega arith) (omega arith))));
           };
           longest = same 5 (omega arith) ∙ prepared.longest;
-          tables = same_tables search _ _ _ _ _ _ _ _ _ _ (sym (part_is (rows_end old) (classes_end old) (rows_end new)
-              (classes_end new) len_is (omega (arith, len_is)) (omega arith) (omega arith)))
+          tables = same_tables search _ _ _ _ _ _ _ _ _ _ (sym (ap unpacked (part_is (rows_end old) (rows_end old + 64)
+              (rows_end new) (rows_end new + 64) len_is (omega (arith, len_is)) (omega arith) (omega arith))))
               (sym (same 2 (omega arith)))
               (sym (part_is (rows_at old) (rows_end old) (rows_at new) (rows_end new) rows_is len_is
               (omega arith) (omega arith)))
@@ -218,8 +218,8 @@ module _ (search : SearchValue) (old new : List ℕ)
     linear_as prepared =
         let all = prepared.whole.parts in
         let few = all.parts.few in
-        let first : classes_in new ≡ classes_in old = range_is (rows_end old) (classes_end old) (rows_end new)
-        (classes_end new) end_is (omega (arith, end_is)) (omega arith) (omega arith) in
+        let first : classes_in new ≡ classes_in old = ap unpacked (range_is (rows_end old) (rows_end old + 64)
+        (rows_end new) (rows_end new + 64) end_is (omega (arith, end_is)) (omega arith) (omega arith)) in
         let rows_is : rows_at new ≡ rows_at old = omega (arith, same 3 (omega arith)) in
         record {
           whole = record {

@@ -1,7 +1,7 @@
 -- Searches by an array that is lent.
 use Rattle.std.proofs.Common.{◌≡◌, ℕ, ◌+◌, ◌-◌, ◌<◌, ◌≤◌, ◌^◌, Bool, List, [], drop, length, get_or, map}
 use Rattle.std.proofs.Common.{Bor, Err, IfErr, IfOk, IfSome, MatchOption, None, Ok, Option, Result, Some, min, refl}
-use Rattle.std.proofs.Common.{◌∷◌, ◌++◌, take, w32}
+use Rattle.std.proofs.Common.{◌∷◌, take}
 use Rattle.std.proofs.Common.{sym, ap, subst, ◌∙◌, arith}
 use Rattle.std.proofs.lemmas.List.{get_or-map, length-drop, length-map, length-take, take-take, take_more}
 use Rattle.std.proofs.lemmas.List.Concat.{flat_map-append}
@@ -15,7 +15,7 @@ use Rattle.literal_base.specs.declared.packed.MatchKind.{MatchKind}
 use Rattle.literal_base.specs.declared.search.Span.{Span}
 use Rattle.literal_fingerprints.specs.FingerprintsValue.{AllPass, FingerprintsValue}
 use Rattle.literal_search.specs.SearchValue.{CanBeKept, NoneIsShorter, SearchValue}
-use Rattle.literal_search.specs.Inside.Classes.{AreClasses, Tells, symbols_in}
+use Rattle.literal_search.specs.Inside.Classes.{AreClasses, Tells, symbols_in, unpacked}
 use Rattle.literal_search.specs.Inside.Rows.{rows_of}
 use Rattle.literal_search.specs.Inside.Scan.{IsTableOf, match_by}
 use Rattle.literal_search.specs.Inside.Prepared.{IsHeader, IsLent, IsSplit, header_table}
@@ -45,15 +45,6 @@ pub length_part : (numbers : List ℕ) (from to : ℕ) → from ≤ to → to �
 length_part numbers from to ordered inside =
     omega (arith, length-take (to - from) (drop from numbers), length-drop from numbers)
 
--- the bytes for which numbers stand, with those of one number more
-pub bytes_more : (numbers : List ℕ) (k number : ℕ) → k < length numbers → number ≡ get_or numbers k 0
-    → flat_map (to_le_bytes w32) (take (k + 1) numbers)
-    ≡ flat_map (to_le_bytes w32) (take k numbers) ++ to_le_bytes w32 number
-bytes_more numbers k number below is =
-    ap (flat_map (to_le_bytes w32)) (take_more numbers k 0 below)
-    ∙ (flat_map-append (to_le_bytes w32) (take k numbers) (get_or numbers k 0 ∷ [])
-    ∙ ap (λ n. flat_map (to_le_bytes w32) (take k numbers) ++ to_le_bytes w32 n) (sym is))
-
 -- the rows without the classes behind them
 pub rows_are : {version : ℕ} {numbers classes : List ℕ} {width : ℕ} {lengths rows : List ℕ} {longest : ℕ}
     → IsSplit version numbers classes width lengths rows longest → rows_of rows ≡ rows_in numbers
@@ -67,12 +58,12 @@ rows_are {version} {numbers} split =
     ∙ (ap (λ n. take n (slice_range numbers from (classes_end numbers))) places
     ∙ take-take (rows_end numbers - from) (classes_end numbers - from) (drop from numbers) (omega arith))
 
--- there is a class for each byte
+-- there are numbers for the class of each byte
 pub classes_long : {version : ℕ} {numbers classes : List ℕ} {width : ℕ} {lengths rows : List ℕ} {longest : ℕ}
-    → IsSplit version numbers classes width lengths rows longest → length classes ≡ 256
+    → IsSplit version numbers classes width lengths rows longest → length classes ≡ 64
 classes_long {version} {numbers} split =
     let fits = split.parts.fits in
-    let size = length_part numbers (rows_end numbers) (classes_end numbers) (omega arith) (omega arith) in
+    let size = length_part numbers (rows_end numbers) (rows_end numbers + 64) (omega arith) (omega arith) in
     omega (arith, size, ap (λ (l : List ℕ). length l) split.classes_are)
 
 -- an array that is prepared, in its parts
@@ -80,19 +71,22 @@ module _ {version : ℕ} {numbers classes : List ℕ} {width : ℕ} {lengths row
     (split : IsSplit version numbers classes width lengths rows longest) {query : Query} {ignore_case : Bool}
     (prepared : IsPrepared query ignore_case numbers)
   where
-    are_classes : AreClasses classes width
+    same : classes_in numbers ≡ unpacked classes
+    same = ap unpacked (sym split.classes_are)
+
+    are_classes : AreClasses (unpacked classes) width
     are_classes =
-        subst (λ (w : ℕ). AreClasses classes w) (sym split.width_is)
-        (subst (λ (c : List ℕ). AreClasses c (width_in numbers))
-        (sym split.classes_are) prepared.classes)
+        subst (λ (w : ℕ). AreClasses (unpacked classes) w) (sym split.width_is)
+        (subst (λ (c : List ℕ). AreClasses c (width_in numbers)) same prepared.classes)
 
-    tells : Tells ignore_case classes query.patterns
-    tells = subst (λ (c : List ℕ). Tells ignore_case c query.patterns) (sym split.classes_are) prepared.tells
+    tells : Tells ignore_case (unpacked classes) query.patterns
+    tells = subst (λ (c : List ℕ). Tells ignore_case c query.patterns) same prepared.tells
 
-    recognises : Recognises (root_kind_of query.kind) (map (symbols_in classes) query.patterns) width (rows_of rows)
+    recognises : Recognises (root_kind_of query.kind) (map (symbols_in (unpacked classes)) query.patterns) width
+        (rows_of rows)
     recognises =
         subst (λ (c : List ℕ). Recognises (root_kind_of query.kind) (map (symbols_in c) query.patterns) width
-        (rows_of rows)) (sym split.classes_are)
+        (rows_of rows)) same
         (subst (λ (w : ℕ). Recognises (root_kind_of query.kind)
         (map (symbols_in (classes_in numbers)) query.patterns) w (rows_of rows))
         (sym split.width_is)
@@ -180,29 +174,29 @@ module _ (classes : List ℕ) (width : ℕ) (kind : MatchKind) (ignore_case : Bo
         let to : prepared_len numbers ≡ classes_end numbers + 0 + length prints = omega (arith, size) in
         ap (λ k. slice_range numbers k (prepared_len numbers)) from
         ∙ (ap (slice_range numbers (classes_end numbers + 0)) to
-        ∙ ends_written PREPARED_VERSION classes width patterns rows [] prints are.each)
+        ∙ ends_written PREPARED_VERSION classes width patterns rows [] prints)
 
     pub prepared_numbers : IsPrepared (record { kind = kind; patterns = patterns }) ignore_case numbers
     prepared_numbers =
-        let long = numbers_long PREPARED_VERSION classes width patterns rows [] prints are.each in
-        let first = classes_written PREPARED_VERSION classes width patterns rows [] prints are.each in
+        let long = numbers_long PREPARED_VERSION classes width patterns rows [] prints in
+        let first = classes_written PREPARED_VERSION classes width patterns rows [] prints are in
         record {
           whole = record {
             all = record {
               parts = record { version_is = refl; few = kept.few; fits = omega (arith, long) };
               long = omega (arith, long, size);
             };
-            check = check_written PREPARED_VERSION classes width patterns rows [] prints are.each
+            check = check_written PREPARED_VERSION classes width patterns rows [] prints
                 (prepared_len numbers) (omega (arith, long, size));
           };
           longest = refl;
           classes = subst (λ (c : List ℕ). AreClasses c width) (sym first) are;
           tells = subst (λ (c : List ℕ). Tells ignore_case c patterns) (sym first) told;
-          lengths = lengths_written PREPARED_VERSION classes width patterns rows [] prints are.each;
+          lengths = lengths_written PREPARED_VERSION classes width patterns rows [] prints;
           recognises = subst (λ (c : List ℕ). Recognises (root_kind_of kind) (map (symbols_in c) patterns) width
               (rows_in numbers)) (sym first)
               (subst (λ (r : List ℕ). Recognises (root_kind_of kind) (map (symbols_in classes) patterns) width r)
-              (sym (rows_written PREPARED_VERSION classes width patterns rows [] prints are.each)) recognised);
+              (sym (rows_written PREPARED_VERSION classes width patterns rows [] prints)) recognised);
           shortest = subst (λ (p : List ℕ). NoneIsShorter (shortest_by p) patterns) (sym prints_written) least;
           fingerprints = subst (λ (p : List ℕ). 0 < shortest_by p → AllPass (fingerprints_by p) ignore_case patterns)
               (sym prints_written) pass;
@@ -273,7 +267,7 @@ module _ (a : Inside) (sound : IsSound a) (old new prints : List ℕ) (size : le
     takes : TakesPlaces query a.ignore_case (length all)
     takes = takes_places a sound (length all) (omega (
       arith,
-      numbers_long PREPARED_VERSION a.rows.classes a.width (patterns_in a) a.rows.rows [] prints sound.classes.each,
+      numbers_long PREPARED_VERSION a.rows.classes a.width (patterns_in a) a.rows.rows [] prints,
       size,
     ))
 

@@ -9,29 +9,38 @@ use Rattle.std.specs.Global.{Vec}
 use Rattle.literal_base.specs.declared.search.MatchKind.{MatchKind}
 use Rattle.literal_base.specs.declared.search.MatchKind.TheVariants.{LeftmostFirst, LeftmostLongest, Standard}
 use Rattle.literal_search.specs.SearchValue.{is_in_patterns, width_for}
-use Rattle.literal_search.specs.Inside.Classes.{AreClasses, symbols_in}
-use Rattle.literal_search.specs.Inside.Rows.{RowsValue, classes_of, rows_of, rows_value}
+use Rattle.literal_search.specs.Inside.Classes.{AreClasses, symbols_in, unpacked}
+use Rattle.literal_search.specs.Inside.Rows.{ArePacked, RowsValue, behind_rows, classes_of, packed, rows_of, rows_value}
 use Rattle.literal_search.specs.States.{AreStates, HasTooManyStates, IsRowsLength}
 use Rattle.literal_search.specs.Table.{Leads, Recognises, nothing}
 use Rattle.literal_search.specs.Words.{begins_one, ending, word_of}
+use Rattle.literal_search.proofs.lemmas.Packed.{packed_long, unpacked_again}
 use Rattle.literal_search.proofs.lemmas.States.{few_states}
 
 -- where there are rows before the classes
-module _ (rows classes : List ℕ) (each : length classes ≡ 256) where
-  before : length (rows ++ classes) - 256 ≡ length rows
-  before = omega (arith, each, length-append rows classes)
+module _ (rows classes : List ℕ) (width : ℕ) (are : AreClasses classes width) where
+  abbrev all : List ℕ
+  all = rows ++ packed classes
 
-  pub rows_kept : rows_of (rows ++ classes) ≡ rows
-  rows_kept = ap (λ n. take n (rows ++ classes)) before ∙ take-append_seam rows classes
+  before : length all - 256 ≡ length rows
+  before = omega (arith, packed_long classes, length-append rows (packed classes))
 
-  pub classes_kept : classes_of (rows ++ classes) ≡ classes
-  classes_kept = ap (λ n. drop n (rows ++ classes)) before ∙ drop-append_seam rows classes
+  rows_kept : rows_of all ≡ rows
+  rows_kept = ap (λ n. take n all) before ∙ take-append_seam rows (packed classes)
 
-  pub both_kept : rows_value (rows ++ classes) ≡ record { rows = rows; classes = classes }
+  behind_kept : behind_rows all ≡ packed classes
+  behind_kept = ap (λ n. drop n all) before ∙ drop-append_seam rows (packed classes)
+
+  classes_kept : classes_of all ≡ classes
+  classes_kept = ap (λ l. unpacked (take 64 l)) behind_kept ∙ unpacked_again classes width are
+
+  pub are_packed : ArePacked all
+  are_packed = behind_kept ∙ ap packed (sym classes_kept)
+
+  pub both_kept : rows_value all ≡ record { rows = rows; classes = classes }
   both_kept =
-      some (rows ++ classes) (omega (arith, each, length-append rows classes))
-      ∙ (ap (λ (r : List ℕ). let v : RowsValue = record { rows = r; classes = classes_of (rows ++ classes) } in v)
-      rows_kept
+      some all (omega (arith, packed_long classes, length-append rows (packed classes)))
+      ∙ (ap (λ (r : List ℕ). let v : RowsValue = record { rows = r; classes = classes_of all } in v) rows_kept
       ∙ ap (λ (k : List ℕ). let v : RowsValue = record { rows = rows; classes = k } in v) classes_kept)
     where
       some : (numbers : List ℕ) → 0 < length numbers
@@ -43,12 +52,12 @@ module _ (rows classes : List ℕ) (each : length classes ≡ 256) where
 pub rows_long : (numbers : List ℕ) → length (rows_of numbers) ≡ length numbers - 256
 rows_long numbers = omega (arith, length-take (length numbers - 256) numbers)
 
-pub length_rows : (numbers : List ℕ) → length (classes_of numbers) ≡ 256
-    → length numbers ≡ length (rows_of numbers) + 256
-length_rows numbers each =
+pub length_rows : (numbers : List ℕ) → ArePacked numbers → length numbers ≡ length (rows_of numbers) + 256
+length_rows numbers are =
     omega (
       arith,
-      each,
+      ap (λ (l : List ℕ). length l) are,
+      packed_long (classes_of numbers),
       length-drop (length numbers - 256) numbers,
       length-take (length numbers - 256) numbers,
     )

@@ -20,7 +20,7 @@ use Rattle.literal_search.specs.Inside.Classes.{symbols_in}
 use Rattle.literal_search.specs.Inside.Scan.{Answers, IsTableFor, IsTableOf, NoneBefore, SearchesTo, StepsToEnd}
 use Rattle.literal_search.specs.Inside.Scan.{WalksTo}
 use Rattle.literal_search.specs.Inside.Scan.{match_by}
-use Rattle.literal_search.specs.Inside.Walk.{BeginsAnew, Finds, FindsIn, IsFound, IsTable, LiesWithin}
+use Rattle.literal_search.specs.Inside.Walk.{BeginsAnew, Finds, FindsIn, IsFound, IsTable, LiesWithin, classes_by}
 use Rattle.literal_search.specs.Inside.Walk.{NoneInFour, rows_by, StopsBy, WalksFar, from_match, text_in, text_of}
 use Rattle.literal_search.specs.declared.walk.Ended.{Ended}
 use Rattle.literal_search.specs.declared.walk.Table.{Table}
@@ -94,7 +94,7 @@ short_words classes patterns i = omega (arith, symbols_length classes patterns i
 
 module _ (t : Table) (query : Query) (ignore_case : Bool) (is : IsTableOf t query ignore_case) where
   abbrev words : List (List ℕ)
-  words = map (symbols_in t.classes.now) query.patterns
+  words = map (symbols_in (classes_by t)) query.patterns
 
   pub is_table : IsTable t.width (rows_by t)
   is_table = rows_are_table (root_kind_of query.kind) words t.width (rows_by t) is.recognises
@@ -103,15 +103,15 @@ module _ (t : Table) (query : Query) (ignore_case : Bool) (is : IsTableOf t quer
       (valid : IsValidSpan haystack span)
     where
       found_by : (answer : Option Ended)
-          → FindsIn t.width (rows_by t) span.start (text_of t.classes.now haystack span) answer
-          → IsFound query.kind words span.start (text_of t.classes.now haystack span) answer
+          → FindsIn t.width (rows_by t) span.start (text_of (classes_by t) haystack span) answer
+          → IsFound query.kind words span.start (text_of (classes_by t) haystack span) answer
       found_by answer finds =
-          finds query.kind words is.recognises (some_symbols t.classes.now query.patterns is.some)
+          finds query.kind words is.recognises (some_symbols (classes_by t) query.patterns is.some)
 
-      pub nothing_by : FindsIn t.width (rows_by t) span.start (text_of t.classes.now haystack span) None
+      pub nothing_by : FindsIn t.width (rows_by t) span.start (text_of (classes_by t) haystack span) None
           → NothingOccurs query.patterns ignore_case haystack span
       nothing_by finds =
-          nothing_found ignore_case t.classes.now query.patterns is.tells haystack bytes span valid is.some query.kind
+          nothing_found ignore_case (classes_by t) query.patterns is.tells haystack bytes span valid is.some query.kind
           (found_by None finds)
 
       -- what is known of a walk that is back in the first state
@@ -121,27 +121,27 @@ module _ (t : Table) (query : Query) (ignore_case : Bool) (is : IsTableOf t quer
       none_before at after inside anew i place o = elim (cases_lt place at) [
         | inr not ↦ not
         | inl early ↦
-            let text = text_of t.classes.now haystack span in
-            let more = text_of t.classes.now haystack (between at span.end) in
+            let text = text_of (classes_by t) haystack span in
+            let more = text_of (classes_by t) haystack (between at span.end) in
             let all = valid.in_haystack in
             let ordered = valid.ordered in
             let same : from_match words text ≡ from_match words more =
-            ap (from_match words) (text_halves t.classes.now haystack span.start at span.end after inside)
-            ∙ anew query.kind words is.recognises (some_symbols t.classes.now query.patterns is.some) more in
-            let size = text_length t.classes.now haystack span.start span.end ordered all in
-            let rest = text_length t.classes.now haystack at span.end inside all in
+            ap (from_match words) (text_halves (classes_by t) haystack span.start at span.end after inside)
+            ∙ anew query.kind words is.recognises (some_symbols (classes_by t) query.patterns is.some) more in
+            let size = text_length (classes_by t) haystack span.start span.end ordered all in
+            let rest = text_length (classes_by t) haystack at span.end inside all in
             let short = from_match_short query.kind words more in
             let begins = o.after_start in
             let below : i < length words = omega (
               arith,
               o.is_pattern,
               length-map query.patterns
-                  (symbols_in t.classes.now),
+                  (symbols_in (classes_by t)),
             ) in
             let skipped : place - span.start < length text - length (from_match words text) =
             omega (arith, ap (λ (l : List ℕ). length l) same, size, rest, short, begins) in
             absurd (false≢true (sym ((from_match_at words text).1 (place - span.start) i skipped below)
-            ∙ stands_where ignore_case t.classes.now query.patterns is.tells haystack bytes span valid i place o))
+            ∙ stands_where ignore_case (classes_by t) query.patterns is.tells haystack bytes span valid i place o))
       ]
 
       pub answers_by : (is_earliest : Bool) (answer : Option Ended)
@@ -150,20 +150,20 @@ module _ (t : Table) (query : Query) (ignore_case : Bool) (is : IsTableOf t quer
           → Answers is_earliest query ignore_case haystack span answer
       answers_by is_earliest None inside finds = nothing_by finds
       answers_by false (Some e) inside finds =
-          leftmost_found ignore_case t.classes.now query.patterns is.tells haystack bytes span valid is.some
+          leftmost_found ignore_case (classes_by t) query.patterns is.tells haystack bytes span valid is.some
           query.kind e
           (found_by (Some e) finds)
       answers_by true (Some e) inside finds =
           let all = valid.in_haystack in
           let lies : IsValidSpan haystack (between span.start e.end) =
           record { ordered = omega arith; in_haystack = omega arith } in
-          let before = nothing_found ignore_case t.classes.now query.patterns is.tells haystack bytes
+          let before = nothing_found ignore_case (classes_by t) query.patterns is.tells haystack bytes
           (between span.start (e.end - 1)) (record { ordered = omega arith; in_haystack = omega arith }) is.some
           query.kind (finds.before query.kind words is.recognises
-          (some_symbols t.classes.now query.patterns is.some)) in
-          let found = leftmost_found ignore_case t.classes.now query.patterns is.tells haystack bytes
+          (some_symbols (classes_by t) query.patterns is.some)) in
+          let found = leftmost_found ignore_case (classes_by t) query.patterns is.tells haystack bytes
           (between span.start e.end) lies is.some query.kind e (finds.there query.kind words is.recognises
-          (some_symbols t.classes.now query.patterns is.some)) in
+          (some_symbols (classes_by t) query.patterns is.some)) in
           let o = found.occurs in
           let last = o.before_end in
           record {
@@ -192,11 +192,11 @@ module _ (t : Table) (query : Query) (ignore_case : Bool) (is : IsTableOf t quer
       pub walks_to : (is_earliest : Bool) (steps : ℕ) (answer : Option Ended) → StopsBy t span steps (Known answer)
           → WalksFar span is_earliest steps (Known answer) → WalksTo query.patterns span steps answer
       walks_to is_earliest steps None stops far =
-          stops query.kind words is.recognises (some_symbols t.classes.now query.patterns is.some)
+          stops query.kind words is.recognises (some_symbols (classes_by t) query.patterns is.some)
       walks_to is_earliest steps (Some e) stops far =
-          let near = stops query.kind words is.recognises (some_symbols t.classes.now query.patterns is.some)
-          (longest_of query.patterns) (short_words t.classes.now query.patterns) in
-          (far.0, omega (arith, near, symbols_length t.classes.now query.patterns e.pattern))
+          let near = stops query.kind words is.recognises (some_symbols (classes_by t) query.patterns is.some)
+          (longest_of query.patterns) (short_words (classes_by t) query.patterns) in
+          (far.0, omega (arith, near, symbols_length (classes_by t) query.patterns e.pattern))
 
 -- where four walks find nothing, nothing begins in the blocks from which they begin
 module _ (t : Table) (kind : search.MatchKind) (patterns : List (List ℕ)) (ignore_case : Bool)
@@ -218,9 +218,9 @@ module _ (t : Table) (kind : search.MatchKind) (patterns : List (List ℕ)) (ign
             let same = is.longest in
             let valid : IsValidSpan haystack (between start (start + (block + t.longest))) =
             record { ordered = omega arith; in_haystack = omega arith } in
-            nothing_ends ignore_case t.classes.now patterns is.tells is.some haystack bytes
+            nothing_ends ignore_case (classes_by t) patterns is.tells is.some haystack bytes
             (between start (start + (block + t.longest))) valid kind
-            (none k below kind (map (symbols_in t.classes.now) patterns) is.recognises) i place (record {
+            (none k below kind (map (symbols_in (classes_by t)) patterns) is.recognises) i place (record {
               is_pattern = o.is_pattern;
               after_start = after;
               before_end = omega arith;

@@ -8,7 +8,7 @@ use Rattle.literal_base.specs.declared.search.MatchKind.TheVariants.{Standard}
 use Rattle.literal_base.specs.declared.search.Span.{Span}
 use Rattle.literal_ids.specs.declared.primitives.pattern_id.TheConstants.PatternID
 use Rattle.literal_search.specs.SearchValue.{SearchValue}
-use Rattle.literal_search.specs.Inside.Walk.{IsAt, rows_by, text_of}
+use Rattle.literal_search.specs.Inside.Walk.{IsAt, classes_by, rows_by, text_of}
 use Rattle.literal_search.specs.Linear.{looked_by}
 use Rattle.literal_search.specs.PreparedLinear.{AreBackTables, ArePrints, BackTables, texts_back}
 use Rattle.literal_search.specs.Table.{Recognises}
@@ -22,7 +22,7 @@ use Rattle.literal_search.specs.declared.prepared.TheConstants.{FINGERPRINTS_LEN
 
 -- each byte has a class, there is a row, there are identifiers for the patterns, and numbers for fingerprints
 pub record IsSafe (b : Backward) : Type 0 where
-  pub each : length b.table.classes.now ≡ 256
+  pub each : length b.table.classes.now ≡ 64
   pub row : 256 < length b.table.rows.now
   pub few : length b.lens.now ≤ PatternID.LIMIT
   pub prints : length b.prints.now ≡ FINGERPRINTS_LEN
@@ -31,7 +31,7 @@ pub record IsSafe (b : Backward) : Type 0 where
 abbrev pub back_tables_by : SearchValue → Backward → BackTables
 back_tables_by search b = record {
   search = search;
-  classes = b.table.classes.now;
+  classes = classes_by b.table;
   width = b.table.width;
   rows = rows_by b.table;
   best = b.best.now;

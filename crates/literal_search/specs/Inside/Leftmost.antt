@@ -1,13 +1,12 @@
 -- The leftmost match of a span, by walks from the right.
-use Rattle.std.specs.Prelude.{◌≡◌, ◌⊎◌, ℕ, ◌+◌, ◌-◌, ◌*◌, ◌<◌, ◌≤◌, ◌^◌, ◌%◌, List, None, Option, Some, length, min}
-use Rattle.std.specs.Prelude.{IfSome}
+use Rattle.std.specs.Prelude.{◌≡◌, ◌⊎◌, ℕ, ◌+◌, ◌*◌, ◌<◌, ◌≤◌, ◌^◌, ◌%◌, List, None, Option, Some, length, min}
+use Rattle.std.specs.Prelude.{◌-◌, IfSome}
 use Rattle.literal_base.specs.Occurs.{between}
 use Rattle.literal_base.specs.declared.search.Span.{Span}
 use Rattle.literal_fingerprints.specs.FingerprintsValue.{AllPass, FingerprintsValue}
 use Rattle.literal_search.specs.Linear.{first_part}
 use Rattle.literal_search.specs.Inside.Backward.{AreMarks, ForBackward, IsMark, NoneFrom, StandsDown}
-use Rattle.literal_search.specs.Inside.Classes.{AreClasses}
-use Rattle.literal_search.specs.Inside.Walk.{rows_by}
+use Rattle.literal_search.specs.Inside.Walk.{classes_by, rows_by}
 use Rattle.literal_search.specs.PreparedLinear.{BackTables}
 use Rattle.literal_search.specs.declared.backward.Backward.{Backward}
 use Rattle.literal_search.specs.declared.backward.Begun.{Begun}
@@ -52,9 +51,9 @@ pub record IsLimit (b : Backward) (limit : ℕ) : Type 0 where
   pub is : limit ≡ min (length (rows_by b.table)) (2 ^ 31)
   pub fits : limit + 256 ≤ length b.table.rows.now
 
--- these are the classes of the bytes, if they are classes
+-- these are the classes of the bytes
 abbrev pub HasBytes : Backward → List ℕ → Type 0
-HasBytes b classes = AreClasses b.table.classes.now b.table.width → classes ≡ b.table.classes.now
+HasBytes b classes = classes ≡ classes_by b.table
 
 -- four walks stand at rows
 pub record HaveRows (limit : ℕ) (l : Lanes) : Type 0 where

@@ -2,6 +2,7 @@
 use Rattle.std.specs.Prelude.{◌≡◌, ◌<◌, ◌≤◌, ◌^◌, ℕ, List, IfSome, MatchOption, Option, Some, length, map}
 use Rattle.literal_base.specs.MatchValue.{MatchValue}
 use Rattle.literal_base.specs.declared.search.Span.{Span}
+use Rattle.literal_search.specs.Inside.Classes.{unpacked}
 use Rattle.literal_search.specs.Inside.Prepared.{IsHeader}
 use Rattle.literal_search.specs.Inside.Rows.{rows_of}
 use Rattle.literal_search.specs.Inside.Standing.{HaveSameToCome, IsStanding, standing_value}
@@ -26,7 +27,7 @@ abbrev pub tables_by : OverlappingValue → LentTables → Tables
 tables_by search p = record {
   patterns = search.patterns;
   ignore_case = search.ignore_case;
-  classes = p.header.classes.now;
+  classes = unpacked p.header.classes.now;
   width = p.header.width;
   rows = rows_of p.header.rows.now;
   ends = p.ends.now;

@@ -7,7 +7,7 @@ use Rattle.literal_base.specs.declared.search.MatchKind.TheVariants.{Standard}
 use Rattle.literal_base.specs.declared.search.Span.{Span}
 use Rattle.literal_search.specs.Inside.Classes.{symbols_in}
 use Rattle.literal_search.specs.Inside.Scan.{IsTableFor}
-use Rattle.literal_search.specs.Inside.Walk.{IsAt, rows_by, text_of}
+use Rattle.literal_search.specs.Inside.Walk.{IsAt, classes_by, rows_by, text_of}
 use Rattle.literal_search.specs.Table.{Recognises}
 use Rattle.literal_search.specs.Words.{ending}
 use Rattle.literal_search.specs.declared.prepared.Damaged.{Damaged}
@@ -48,9 +48,9 @@ IsNextStop patterns ignore_case classes width rows haystack span behind answer =
 abbrev pub FindsNext : Table → List ℕ → ℕ → Span → Result (Option Stop) Damaged → Type 0
 FindsNext t haystack from span result =
     (patterns : List (List ℕ)) (ignore_case : Bool) → IsTableFor t Standard patterns ignore_case → (start : ℕ)
-    → Stands patterns ignore_case t.classes.now t.width (rows_by t) haystack (between start span.end) span.start
+    → Stands patterns ignore_case (classes_by t) t.width (rows_by t) haystack (between start span.end) span.start
     (record { place = from; end = span.start })
-    → IsOkAnd result (IsNextStop patterns ignore_case t.classes.now t.width (rows_by t) haystack
+    → IsOkAnd result (IsNextStop patterns ignore_case (classes_by t) t.width (rows_by t) haystack
     (between start span.end) span.start)
 
 -- how many steps it takes: at least as many as there are bytes up to what it finds, or else in the span, and at most
@@ -64,8 +64,8 @@ StepsToStop span steps (Some stop) = (stop.end ≤ span.start + steps) × (3 * s
 abbrev pub HasComeTo : Table → List ℕ → ℕ → Span → Stop → Type 0
 HasComeTo t haystack from span stop =
     (patterns : List (List ℕ)) (ignore_case : Bool) → IsTableFor t Standard patterns ignore_case → (start : ℕ)
-    → Stands patterns ignore_case t.classes.now t.width (rows_by t) haystack (between start span.end) span.start
+    → Stands patterns ignore_case (classes_by t) t.width (rows_by t) haystack (between start span.end) span.start
     (record { place = from; end = span.start })
-    → Stands patterns ignore_case t.classes.now t.width (rows_by t) haystack (between start span.end) stop.end stop
+    → Stands patterns ignore_case (classes_by t) t.width (rows_by t) haystack (between start span.end) stop.end stop
     × ((i place : ℕ) → Occurs patterns ignore_case haystack (between start span.end) i place
     → span.start < place + length (pattern_at patterns i) → stop.end < place + length (pattern_at patterns i))

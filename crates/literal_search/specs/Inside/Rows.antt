@@ -1,15 +1,31 @@
 -- The rows of an automaton, and behind them the class of each byte.
-use Rattle.std.specs.Prelude.{ℕ, ◌-◌, List, [], ◌∷◌, drop, length, take}
-use Rattle.std.specs.List.{repeat}
+use Rattle.std.specs.Prelude.{◌≡◌, ◌⊎◌, ◌*◌, ◌+◌, ℕ, ◌-◌, List, [], ◌∷◌, ◌++◌, drop, length, map, slice_range, take}
+use Rattle.std.specs.Int.{from_le_bytes, w32}
+use Rattle.std.specs.List.{range_with_len, repeat}
+use Rattle.literal_search.specs.Inside.Classes.{unpacked}
 use Rattle.literal_search.specs.Table.{nothing}
 
 -- the rows: all but the last 256 numbers
 abbrev pub rows_of : List ℕ → List ℕ
 rows_of numbers = take (length numbers - 256) numbers
 
--- and these, the classes of all bytes
+-- and these
+abbrev pub behind_rows : List ℕ → List ℕ
+behind_rows numbers = drop (length numbers - 256) numbers
+
+-- the classes of all bytes, which the first 64 of them hold
 abbrev pub classes_of : List ℕ → List ℕ
-classes_of numbers = drop (length numbers - 256) numbers
+classes_of numbers = unpacked (take 64 (behind_rows numbers))
+
+-- 256 numbers that hold such classes: 64 with those of four bytes each, and zeros
+unfoldable pub packed : List ℕ → List ℕ
+packed classes =
+    map (λ k. from_le_bytes w32 (slice_range classes (4 * k) (4 * k + 4))) (range_with_len 0 64)
+    ++ repeat 192 (0 ∷ [])
+
+-- behind the rows stand no other numbers
+abbrev pub ArePacked : List ℕ → Type 0
+ArePacked numbers = behind_rows numbers ≡ packed (classes_of numbers)
 
 -- the same as contracts see them
 pub record RowsValue : Type 0 where
@@ -21,3 +37,7 @@ abbrev pub rows_value : List ℕ → RowsValue
 rows_value [] = record { rows = 0 ∷ nothing ∷ []; classes = repeat 256 (0 ∷ []) }
 rows_value (number ∷ more) =
     record { rows = rows_of (number ∷ more); classes = classes_of (number ∷ more) }
+
+-- what is kept of them
+unfoldable pub AreKeptRows : List ℕ → Type 0
+AreKeptRows numbers = (numbers ≡ []) ⊎ ArePacked numbers

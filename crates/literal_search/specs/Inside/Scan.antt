@@ -12,7 +12,7 @@ use Rattle.literal_fingerprints.specs.FingerprintsValue.{AllPass}
 use Rattle.literal_search.specs.SearchValue.{NoneIsShorter, longest_of}
 use Rattle.literal_search.specs.Earliest.{EndsEarliest}
 use Rattle.literal_search.specs.Inside.Classes.{AreClasses, Tells, symbols_in}
-use Rattle.literal_search.specs.Inside.Walk.{rows_by}
+use Rattle.literal_search.specs.Inside.Walk.{classes_by, rows_by}
 use Rattle.literal_search.specs.Table.{Recognises}
 use Rattle.literal_search.specs.declared.scan.TheConstants.{LONGEST}
 use Rattle.literal_search.specs.declared.scan.Nearest.{Nearest}
@@ -23,9 +23,9 @@ use Rattle.literal_search.specs.declared.walk.Table.{Table}
 -- their texts in these, the length of the longest, a length that none is below, and fingerprints that let all pass
 pub record IsTableFor (t : Table) (kind : search.MatchKind) (patterns : List (List ℕ)) (ignore_case : Bool)
     : Type 0 where
-  pub classes : AreClasses t.classes.now t.width
-  pub tells : Tells ignore_case t.classes.now patterns
-  pub recognises : Recognises kind (map (symbols_in t.classes.now) patterns) t.width (rows_by t)
+  pub classes : AreClasses (classes_by t) t.width
+  pub tells : Tells ignore_case (classes_by t) patterns
+  pub recognises : Recognises kind (map (symbols_in (classes_by t)) patterns) t.width (rows_by t)
   pub some : NoneIsEmpty patterns
   pub longest : t.longest ≡ longest_of patterns
   pub shortest : NoneIsShorter t.shortest patterns

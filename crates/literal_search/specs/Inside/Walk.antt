@@ -12,7 +12,7 @@ use Rattle.literal_base.specs.declared.search.Span.{Span}
 use Rattle.literal_base.specs.Kinds.{root_kind_of}
 use Rattle.literal_base.specs.Leftmost.{IsBetter}
 use Rattle.literal_base.specs.Occurs.{NoneIsEmpty, between, pattern_at}
-use Rattle.literal_search.specs.Inside.Classes.{symbols_in}
+use Rattle.literal_search.specs.Inside.Classes.{symbols_in, unpacked}
 use Rattle.literal_search.specs.Inside.Rows.{rows_of}
 use Rattle.literal_search.specs.Table.{Recognises, nothing, stride_of}
 use Rattle.literal_search.specs.Words.{ending, live_suffix, one_stands, word_of}
@@ -164,9 +164,13 @@ BeginsAnew width rows text =
 abbrev pub rows_by : Table → List ℕ
 rows_by t = rows_of t.rows.now
 
+-- and the class of each byte
+abbrev pub classes_by : Table → List ℕ
+classes_by t = unpacked t.classes.now
+
 -- the classes of the bytes from one place to another
 abbrev pub text_in : Table → List ℕ → ℕ → ℕ → List ℕ
-text_in t haystack start end = text_of t.classes.now haystack (between start end)
+text_in t haystack start end = text_of (classes_by t) haystack (between start end)
 
 -- up to one byte before its end no pattern stands in the span, and up to its end it is the match
 pub record FindsEarliest (t : Table) (haystack : List ℕ) (start : ℕ) (e : Ended) : Type 0 where
@@ -218,7 +222,7 @@ LiesWithin span least (Anew at) = (span.start < at) × (at ≤ span.end) × (lea
 abbrev pub NoneEndsIn : Table → List ℕ → ℕ → ℕ → Type 0
 NoneEndsIn t haystack start end =
     (kind : search.MatchKind) (patterns : List (List ℕ)) → Recognises kind patterns t.width (rows_by t)
-    → NoneEnds kind patterns [] t.classes.now haystack start end
+    → NoneEnds kind patterns [] (classes_by t) haystack start end
 
 -- nor in any of four spans of one length that begin one block behind another
 abbrev pub NoneInFour : Table → List ℕ → ℕ → ℕ → ℕ → Type 0

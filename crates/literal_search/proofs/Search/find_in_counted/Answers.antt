@@ -13,7 +13,7 @@ returns-in_err-ended-clause-leftmost c =
     subst (IsLeftmost q c.args.self.now.ignore_case c.args.haystack.now c.args.span) (sym c.from_residual.ensures)
     (subst answers c.in_err-ended.was
     (unwrapped c.search-answer.result c.unwrap_or.result c.unwrap_or.ensures answers
-    (c.search-answer.ensures.found q c.args.self.now.ignore_case c.table.ensures)))
+    (c.search-answer.ensures.found q c.args.self.now.ignore_case c.table.ensures.table)))
 
 pub returns-in_err-ended-clause-bounded : goal.returns-in_err-ended-clause-bounded
 returns-in_err-ended-clause-bounded c =
@@ -22,7 +22,7 @@ returns-in_err-ended-clause-bounded c =
     let steps = SearchesTo q.patterns c.args.span (c.search-answer.new.tally.scanned - c.args.tally.now.scanned) in
     let near = subst steps c.in_err-ended.was
     (unwrapped c.search-answer.result c.unwrap_or.result c.unwrap_or.ensures steps
-    (told.near refl q c.args.self.now.ignore_case c.table.ensures)) in
+    (told.near refl q c.args.self.now.ignore_case c.table.ensures.table)) in
     subst (λ (o : Option MatchValue). ScansWithin q.patterns c.args.span o c.args.tally.now c.search-answer.new.tally)
     (sym c.from_residual.ensures)
     (record { others = told.others; least = omega (arith, near, told.grows); most = told.most; near = tt })
@@ -33,7 +33,7 @@ match_by-requires-clause-leftmost c =
     let answers = Answers false q c.args.self.now.ignore_case c.args.haystack.now c.args.span in
     subst answers c.in_ok-ended.was
     (unwrapped c.search-answer.result c.unwrap_or.result c.unwrap_or.ensures answers
-    (c.search-answer.ensures.found q c.args.self.now.ignore_case c.table.ensures))
+    (c.search-answer.ensures.found q c.args.self.now.ignore_case c.table.ensures.table))
 
 -- the same behind the next call
 leftmost_by : (c : goal.After-match_by) → IsLeftmostMatch c.args.self.now.query c.args.self.now.ignore_case
@@ -43,7 +43,7 @@ leftmost_by c =
     let answers = Answers false q c.args.self.now.ignore_case c.args.haystack.now c.args.span in
     subst answers c.in_ok-ended.was
     (unwrapped c.search-answer.result c.unwrap_or.result c.unwrap_or.ensures answers
-    (c.search-answer.ensures.found q c.args.self.now.ignore_case c.table.ensures))
+    (c.search-answer.ensures.found q c.args.self.now.ignore_case c.table.ensures.table))
 
 pub returns-clause-leftmost : goal.returns-clause-leftmost
 returns-clause-leftmost c =
@@ -54,7 +54,7 @@ pub returns-clause-not_empty : goal.returns-clause-not_empty
 returns-clause-not_empty c =
     let found = leftmost_by c in
     let whole = found.whole in
-    let some = c.table.ensures.some c.in_ok-ended.ended.pattern [] found.occurs.is_pattern in
+    let some = c.table.ensures.table.some c.in_ok-ended.ended.pattern [] found.occurs.is_pattern in
     omega (
       arith,
       some,
@@ -75,4 +75,4 @@ returns-clause-bounded c =
     c.in_ok-ended.ended (leftmost_by c) told.others told.grows told.most
     (subst (SearchesTo q.patterns c.args.span steps) c.in_ok-ended.was
     (unwrapped c.search-answer.result c.unwrap_or.result c.unwrap_or.ensures (SearchesTo q.patterns c.args.span steps)
-    (told.near refl q c.args.self.now.ignore_case c.table.ensures))))
+    (told.near refl q c.args.self.now.ignore_case c.table.ensures.table))))

@@ -1,4 +1,4 @@
-use Rattle.std.proofs.Common.{◌∙◌, ◌+◌, ◌^◌, ℕ, List, ap, arith, length, refl, subst}
+use Rattle.std.proofs.Common.{◌+◌, ◌^◌, ℕ, List, ap, arith, length, refl, subst}
 use Rattle.std.proofs.lemmas.List.{length-map}
 use Rattle.std.specs.Global.{Vec}
 use Rattle.literal_search.specs.Prepared.{AreShort, TakesPlaces}
@@ -29,7 +29,6 @@ returns-clause-ok c =
         c.len.ensures,
         length-map a.patterns.items (λ (pattern : Vec ℕ). pattern.items),
         ap (λ (l : List ℕ). length l) c.as_slice-rows.ensures.rows,
-        length_rows c.as_slice-rows.result.now (ap (λ (l : List ℕ). length l) c.as_slice-rows.ensures.classes
-            ∙ c.self.invariant.classes.each),
+        length_rows c.as_slice-rows.result.now c.as_slice-rows.ensures.packed,
       )),
     )

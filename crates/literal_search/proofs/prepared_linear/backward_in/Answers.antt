@@ -1,5 +1,6 @@
 use Rattle.std.proofs.Common.{◌≡◌, ◌+◌, ◌-◌, ◌<◌, ◌≤◌, ◌≢◌, ◌∙◌, ℕ, List, ap, arith, get_or, length, refl, subst, sym}
 use Rattle.std.specs.List.{slice_range}
+use Rattle.literal_search.specs.Inside.Classes.{unpacked}
 use Rattle.literal_search.specs.Inside.Prepared.{IsHeader}
 use Rattle.literal_search.specs.Prepared.{HasParts, classes_end, classes_in, lengths_in, longest_in, rows_in, width_in}
 use Rattle.literal_search.specs.SearchValue.{SearchValue}
@@ -77,7 +78,7 @@ returns c =
     let prints_is = prints_are f numbers told.0 header in
     let tables = λ (search : SearchValue). same_tables search _ (classes_in numbers) _ (width_in numbers) _
     (rows_in numbers) _ (best_in numbers) _ (longest_in numbers)
-    (header.classes_are ∙ ap classes_in told.0) (header.width_is ∙ ap width_in told.0)
+    (ap unpacked header.classes_are ∙ ap classes_in told.0) (header.width_is ∙ ap width_in told.0)
     (rows_are header ∙ ap rows_in told.0) best_is (header.longest_is ∙ ap longest_in told.0) in
     record {
       parts = parts;

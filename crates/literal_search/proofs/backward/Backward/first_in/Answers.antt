@@ -1,4 +1,4 @@
-use Rattle.std.proofs.Common.{◌≡◌, ◌+◌, ◌-◌, ap, arith, refl}
+use Rattle.std.proofs.Common.{◌-◌, ap, arith, refl}
 use Rattle.literal_base.specs.Counts.{Counts}
 use Rattle.literal_search.proofs.lemmas.Backward.{ticked_on}
 use Rattle.literal_search.proofs.backward.Backward.first_in.Goals as goal

@@ -1,8 +1,8 @@
-use Rattle.std.proofs.Common.{◌≡◌, ◌+◌, ◌-◌, ◌*◌, ◌≤◌, ◌<◌, ◌⊎◌, ◌∙◌, ◌^◌, ◌%◌, List, ℕ, ap, arith, inl, inr, length}
-use Rattle.std.proofs.Common.{refl, set, subst}
+use Rattle.std.proofs.Common.{◌≡◌, ◌+◌, ◌-◌, ◌*◌, ◌≤◌, ◌∙◌, ℕ, ap, arith, inl, inr, length}
+use Rattle.std.proofs.Common.{refl, set}
 use Rattle.std.proofs.lemmas.List.{length-set}
 use Rattle.literal_base.specs.Counts.{Counts}
-use Rattle.literal_search.specs.Inside.Backward.{AreBackFor, AreMarks, back_tables_by}
+use Rattle.literal_search.specs.Inside.Backward.{AreBackFor, back_tables_by}
 use Rattle.literal_search.specs.Inside.Leftmost.{AreLanes, IsStep}
 use Rattle.literal_search.specs.SearchValue.{SearchValue}
 use Rattle.literal_search.proofs.lemmas.Leftmost.{marks_kept, marks_on, one_more}

@@ -2,7 +2,7 @@ use Rattle.std.proofs.Common.{◌≡◌, ◌+◌, ◌-◌, ◌*◌, ◌<◌, ◌
 use Rattle.literal_base.specs.Counts.{Counts}
 use Rattle.literal_search.specs.Inside.Backward.{AreBackFor, back_tables_by}
 use Rattle.literal_search.specs.Inside.Leftmost.{AreLanes, IsLane, IsStep}
-use Rattle.literal_search.specs.Inside.Walk.{rows_by}
+use Rattle.literal_search.specs.Inside.Walk.{classes_by, rows_by}
 use Rattle.literal_search.specs.SearchValue.{SearchValue}
 use Rattle.literal_search.proofs.lemmas.Leftmost.{begins_if_not, lane_small, lane_step, none_more, one_more}
 use Rattle.literal_search.proofs.backward.Backward.pass_in_four.Goals as goal
@@ -85,7 +85,7 @@ loop-step-preserved c =
     + 1
     → to ≡ at → IsLane (tables search) haystack span end next place
     → code ≡ get_or (rows_by c.args.self.now.table)
-    (place + get_or c.args.self.now.table.classes.now (get_or haystack at 0) 0) 0
+    (place + get_or (classes_by c.args.self.now.table) (get_or haystack at 0) 0) 0
     → IsStep (tables search) haystack span end to code =
     λ search is. lane_step (tables search) is.tables haystack (λ i. omega (arith, c.type_inv.haystack i)) span
     c.requires.valid.in_haystack in

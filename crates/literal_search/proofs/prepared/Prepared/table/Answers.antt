@@ -8,7 +8,7 @@ use Rattle.literal_search.proofs.prepared.Prepared.table.Goals as goal
 
 pub returns-clause-classes : goal.returns-clause-classes
 returns-clause-classes c =
-    subst (λ (t : Table). length t.classes.now ≡ 256) (sym c.table.ensures) (classes_long c.self.invariant.header)
+    subst (λ (t : Table). length t.classes.now ≡ 64) (sym c.table.ensures) (classes_long c.self.invariant.header)
 
 pub returns-clause-prepared : goal.returns-clause-prepared
 returns-clause-prepared c = λ query ignore_case is.

@@ -3,6 +3,7 @@ use Rattle.std.proofs.Common.{subst, sym}
 use Rattle.std.specs.Result.{IsOkAnd}
 use Rattle.literal_base.specs.Occurs.{IsValidSpan, between}
 use Rattle.literal_base.specs.declared.search.Span.{Span}
+use Rattle.literal_search.specs.Inside.Classes.{unpacked}
 use Rattle.literal_search.specs.Inside.LentTables.{AreFor, IsNextEnd, tables_by}
 use Rattle.literal_search.specs.Inside.NextEnd.{FindsNext, IsNextStop}
 use Rattle.literal_search.specs.Inside.Prepared.{header_table}
@@ -26,12 +27,12 @@ returns-then-standing-span-clause-prepared c = λ search are standing.
 
 pub next_end-requires-clause-classes : goal.next_end-requires-clause-classes
 next_end-requires-clause-classes c =
-    subst (λ (t : Table). length t.classes.now ≡ 256) (sym c.table-table.ensures) (classes_long c.requires.lent.header)
+    subst (λ (t : Table). length t.classes.now ≡ 64) (sym c.table-table.ensures) (classes_long c.requires.lent.header)
 
 -- where something ends next by the numbers of a search
 abbrev NextStop : OverlappingValue → LentTables → List ℕ → Span → ℕ → Option Stop → Type 0
 NextStop search p haystack span at =
-    IsNextStop search.patterns search.ignore_case p.header.classes.now p.header.width (rows_of p.header.rows.now)
+    IsNextStop search.patterns search.ignore_case (unpacked p.header.classes.now) p.header.width (rows_of p.header.rows.now)
     haystack span at
 
 finds_by : {search : OverlappingValue} {p : LentTables} (are : AreFor search p) (haystack : List ℕ)

@@ -23,7 +23,7 @@ use Rattle.literal_search.proofs.prepared_overlapping.PreparedOverlapping.earlie
 
 pub next_end-requires-clause-classes : goal.next_end-requires-clause-classes
 next_end-requires-clause-classes c =
-    subst (λ (t : Table). length t.classes.now ≡ 256) (sym c.table-table.ensures) (classes_long c.self.invariant.header)
+    subst (λ (t : Table). length t.classes.now ≡ 64) (sym c.table-table.ensures) (classes_long c.self.invariant.header)
 
 -- what it finds in an array that is prepared is the earliest end
 earliest : (p : LentTables) → AreLent p → (numbers : List ℕ) → p.header.numbers.now ≡ numbers

@@ -4,7 +4,7 @@ use Rattle.literal_base.specs.declared.search.MatchKind.TheVariants.{Standard}
 use Rattle.literal_base.specs.declared.search.Span.{Span}
 use Rattle.literal_search.specs.Inside.Classes.{symbols_in}
 use Rattle.literal_search.specs.Inside.NextEnd.{Stands}
-use Rattle.literal_search.specs.Inside.Walk.{rows_by, HasReached, ReachesWithin, ReadsTo, text_of}
+use Rattle.literal_search.specs.Inside.Walk.{HasReached, ReachesWithin, ReadsTo, classes_by, rows_by, text_of}
 use Rattle.literal_search.specs.Table.{Recognises}
 use Rattle.literal_search.specs.declared.walk.Stop.{Stop}
 use Rattle.literal_search.proofs.lemmas.NextEnd.{later_new, next_nowhere, next_there, stands_new}
@@ -25,45 +25,45 @@ valid_whole patterns ignore_case classes width rows haystack span start stop val
 pub returns-in_err-stop-clause-next : goal.returns-in_err-stop-clause-next
 returns-in_err-stop-clause-next c = λ patterns ignore_case is start begun.
     let come = c.loop-nearest.invariant.comes patterns ignore_case is start begun in
-    absurd (c.in_err-stop.ensures.reaches is.classes (map (symbols_in c.args.self.now.classes.now) patterns)
+    absurd (c.in_err-stop.ensures.reaches is.classes (map (symbols_in (classes_by c.args.self.now)) patterns)
     is.recognises _ (come.0.at is.recognises))
 
 pub returns-in-Ends-clause-next : goal.returns-in-Ends-clause-next
 returns-in-Ends-clause-next c = λ patterns ignore_case is start begun.
     let t = c.args.self.now in
     let haystack = c.args.haystack.now in
-    let words = map (symbols_in t.classes.now) patterns in
+    let words = map (symbols_in (classes_by t)) patterns in
     let whole = between start c.args.span.end in
     let here : Stop = record { place = c.loop-nearest.from; end = c.loop-nearest.start } in
     let rest = between c.loop-nearest.start c.args.span.end in
     let so_far = c.loop-nearest.invariant in
     let come = so_far.comes patterns ignore_case is start begun in
-    let valid = valid_whole patterns ignore_case t.classes.now t.width (rows_by t) haystack c.args.span start _
+    let valid = valid_whole patterns ignore_case (classes_by t) t.width (rows_by t) haystack c.args.span start _
     c.requires.valid refl begun in
     let lies = subst (ReachesWithin rest (c.loop-nearest.start + c.loop-nearest.near)) c.in-Ends.is
     c.in_ok-stop.ensures.inside in
     next_there t patterns ignore_case is haystack (λ k. omega (arith, c.type_inv.haystack k)) whole valid here
     so_far.inside come.0 c.args.span.start come.1 c.in-Ends.stop lies.0
     (λ recognises. subst (HasReached words t.width (rows_by t) recognises
-    (text_of t.classes.now haystack (between come.0.from here.end)) t.classes.now haystack rest)
+    (text_of (classes_by t) haystack (between come.0.from here.end)) (classes_by t) haystack rest)
     c.in-Ends.is (c.in_ok-stop.ensures.reaches is.classes words recognises _ (come.0.at recognises)))
 
 pub returns-in-Nowhere-clause-next : goal.returns-in-Nowhere-clause-next
 returns-in-Nowhere-clause-next c = λ patterns ignore_case is start begun.
     let t = c.args.self.now in
     let haystack = c.args.haystack.now in
-    let words = map (symbols_in t.classes.now) patterns in
+    let words = map (symbols_in (classes_by t)) patterns in
     let whole = between start c.args.span.end in
     let here : Stop = record { place = c.loop-nearest.from; end = c.loop-nearest.start } in
     let rest = between c.loop-nearest.start c.args.span.end in
     let so_far = c.loop-nearest.invariant in
     let come = so_far.comes patterns ignore_case is start begun in
-    let valid = valid_whole patterns ignore_case t.classes.now t.width (rows_by t) haystack c.args.span start _
+    let valid = valid_whole patterns ignore_case (classes_by t) t.width (rows_by t) haystack c.args.span start _
     c.requires.valid refl begun in
     next_nowhere t patterns ignore_case is haystack (λ k. omega (arith, c.type_inv.haystack k)) whole valid here
     so_far.inside come.0 c.args.span.start come.1
     (subst (HasReached words t.width (rows_by t) is.recognises
-    (text_of t.classes.now haystack (between come.0.from here.end)) t.classes.now haystack rest)
+    (text_of (classes_by t) haystack (between come.0.from here.end)) (classes_by t) haystack rest)
     c.in-Nowhere.is (c.in_ok-stop.ensures.reaches is.classes words is.recognises _ (come.0.at is.recognises)))
 
 pub returns-in_err-start-in-Back-clause-next : goal.returns-in_err-start-in-Back-clause-next
@@ -91,16 +91,16 @@ loop-nearest-preserved c =
       short = next.short so_far.short c.nearest-nearest.ensures.short;
       far = next.least;
       comes = λ patterns ignore_case is start begun.
-          let words = map (symbols_in t.classes.now) patterns in
+          let words = map (symbols_in (classes_by t)) patterns in
           let whole = between start c.args.span.end in
           let come = so_far.comes patterns ignore_case is start begun in
-          let valid = valid_whole patterns ignore_case t.classes.now t.width (rows_by t) haystack c.args.span start _
+          let valid = valid_whole patterns ignore_case (classes_by t) t.width (rows_by t) haystack c.args.span start _
           c.requires.valid refl begun in
           let bytes = λ (k : ℕ). (let small : get_or haystack k 0 < 256 = omega (arith, c.type_inv.haystack k) in small)
           in
           let none = passed.none Standard patterns ignore_case is in
           let back = λ (recognises : Recognises Standard words t.width (rows_by t)). subst (HasReached words t.width
-          (rows_by t) recognises (text_of t.classes.now haystack (between come.0.from here.end)) t.classes.now haystack
+          (rows_by t) recognises (text_of (classes_by t) haystack (between come.0.from here.end)) (classes_by t) haystack
           rest) c.in-Back.is (told.reaches is.classes words recognises _ (come.0.at recognises)) in (
             stands_new t patterns ignore_case is haystack bytes whole valid here so_far.inside come.0 c.args.span.start
                 come.1 at new (omega (arith, lies.0)) passed.inside.0 passed.inside.1 back none,
@@ -116,45 +116,45 @@ loop-nearest-preserved c =
 pub returns-in_err-stop-2-clause-next : goal.returns-in_err-stop-2-clause-next
 returns-in_err-stop-2-clause-next c = λ patterns ignore_case is start begun.
     let come = c.loop-nearest.invariant.comes patterns ignore_case is start begun in
-    absurd (c.in_err-stop-2.ensures.reaches is.classes (map (symbols_in c.args.self.now.classes.now) patterns)
+    absurd (c.in_err-stop-2.ensures.reaches is.classes (map (symbols_in (classes_by c.args.self.now)) patterns)
     is.recognises _ (come.0.at is.recognises))
 
 pub returns-in-Ends-2-clause-next : goal.returns-in-Ends-2-clause-next
 returns-in-Ends-2-clause-next c = λ patterns ignore_case is start begun.
     let t = c.args.self.now in
     let haystack = c.args.haystack.now in
-    let words = map (symbols_in t.classes.now) patterns in
+    let words = map (symbols_in (classes_by t)) patterns in
     let whole = between start c.args.span.end in
     let here : Stop = record { place = c.loop-nearest.from; end = c.loop-nearest.start } in
     let rest = between c.loop-nearest.start c.args.span.end in
     let so_far = c.loop-nearest.invariant in
     let come = so_far.comes patterns ignore_case is start begun in
-    let valid = valid_whole patterns ignore_case t.classes.now t.width (rows_by t) haystack c.args.span start _
+    let valid = valid_whole patterns ignore_case (classes_by t) t.width (rows_by t) haystack c.args.span start _
     c.requires.valid refl begun in
     let lies = subst (ReachesWithin rest (2 ^ 64 - 1)) c.in-Ends-2.is
     c.in_ok-stop-2.ensures.inside in
     next_there t patterns ignore_case is haystack (λ k. omega (arith, c.type_inv.haystack k)) whole valid here
     so_far.inside come.0 c.args.span.start come.1 c.in-Ends-2.stop lies.0
     (λ recognises. subst (HasReached words t.width (rows_by t) recognises
-    (text_of t.classes.now haystack (between come.0.from here.end)) t.classes.now haystack rest)
+    (text_of (classes_by t) haystack (between come.0.from here.end)) (classes_by t) haystack rest)
     c.in-Ends-2.is (c.in_ok-stop-2.ensures.reaches is.classes words recognises _ (come.0.at recognises)))
 
 pub returns-in-Nowhere-2-clause-next : goal.returns-in-Nowhere-2-clause-next
 returns-in-Nowhere-2-clause-next c = λ patterns ignore_case is start begun.
     let t = c.args.self.now in
     let haystack = c.args.haystack.now in
-    let words = map (symbols_in t.classes.now) patterns in
+    let words = map (symbols_in (classes_by t)) patterns in
     let whole = between start c.args.span.end in
     let here : Stop = record { place = c.loop-nearest.from; end = c.loop-nearest.start } in
     let rest = between c.loop-nearest.start c.args.span.end in
     let so_far = c.loop-nearest.invariant in
     let come = so_far.comes patterns ignore_case is start begun in
-    let valid = valid_whole patterns ignore_case t.classes.now t.width (rows_by t) haystack c.args.span start _
+    let valid = valid_whole patterns ignore_case (classes_by t) t.width (rows_by t) haystack c.args.span start _
     c.requires.valid refl begun in
     next_nowhere t patterns ignore_case is haystack (λ k. omega (arith, c.type_inv.haystack k)) whole valid here
     so_far.inside come.0 c.args.span.start come.1
     (subst (HasReached words t.width (rows_by t) is.recognises
-    (text_of t.classes.now haystack (between come.0.from here.end)) t.classes.now haystack rest)
+    (text_of (classes_by t) haystack (between come.0.from here.end)) (classes_by t) haystack rest)
     c.in-Nowhere-2.is (c.in_ok-stop-2.ensures.reaches is.classes words is.recognises _ (come.0.at is.recognises)))
 
 pub returns-in-Back-2-clause-next : goal.returns-in-Back-2-clause-next

@@ -2,7 +2,7 @@ use Rattle.std.proofs.Common.{[], ◌≡◌, ◌+◌, ◌*◌, ◌<◌, ◌∙�
 use Rattle.std.proofs.Common.{zero}
 use Rattle.literal_base.specs.Counts.{Counts}
 use Rattle.literal_search.specs.Inside.Classes.{AreClasses}
-use Rattle.literal_search.specs.Inside.Walk.{rows_by, NoneEndsIn, WalksOn}
+use Rattle.literal_search.specs.Inside.Walk.{NoneEndsIn, WalksOn, classes_by, rows_by}
 use Rattle.literal_search.specs.declared.walk.Table.{Table}
 use Rattle.literal_search.proofs.lemmas.Walk.{at_start, walks_further, walks_start}
 use Rattle.literal_search.proofs.walk.Table.none_in_four.Goals as goal
@@ -41,7 +41,7 @@ loop-step-preserved c =
     let at = c.args.at in
     let block = c.args.block in
     let step = c.loop-step.step in
-    let more = lane t.classes.now (rows_by t) haystack t.width in
+    let more = lane (classes_by t) (rows_by t) haystack t.width in
     let so_far = c.loop-step.invariant in
     let byte : (k : ℕ) → get_or haystack k 0 < 256 = λ k. omega (arith, c.type_inv.haystack k) in
     let sum : c.args.tally.now.scanned + 4 * step + 1 + 1 + 1 + 1 ≡ c.args.tally.now.scanned + 4 * (step + 1) =
@@ -76,7 +76,7 @@ loop-step-preserved c =
 pub loop-step-init : goal.loop-step-init
 loop-step-init c =
     let t = c.args.self.now in
-    let first = at_first t.classes.now (rows_by t) c.args.haystack.now t.width in
+    let first = at_first (classes_by t) (rows_by t) c.args.haystack.now t.width in
     record {
       first_within = c.requires.some;
       second_within = c.requires.some;
@@ -91,7 +91,7 @@ loop-step-init c =
 
 -- all of one of the spans
 whole : (t : Table) (haystack : List ℕ) (start start' step len place : ℕ) → start ≡ start' → step ≡ len
-    → WalksOn t.width (rows_by t) 0 t.classes.now haystack start (start + step) place
+    → WalksOn t.width (rows_by t) 0 (classes_by t) haystack start (start + step) place
     → NoneEndsIn t haystack start' (start' + len)
 whole t haystack start start' step len place same all walks =
     subst (λ (from : ℕ). NoneEndsIn t haystack from (from + len)) same

@@ -3,7 +3,7 @@ use Rattle.std.proofs.Common.{get_or, inl, inr, length, min, subst, sym}
 use Rattle.std.proofs.lemmas.Bool.{cond-false, cond-true, le-ltb, lt-ltb}
 use Rattle.literal_base.specs.Counts.{Counts}
 use Rattle.literal_base.specs.declared.search.MatchKind.TheVariants.{Standard}
-use Rattle.literal_search.specs.Inside.Walk.{rows_by, IsFirstEnd, NoneEnds, WalksOn, place_of}
+use Rattle.literal_search.specs.Inside.Walk.{IsFirstEnd, NoneEnds, WalksOn, classes_by, place_of, rows_by}
 use Rattle.literal_search.specs.Table.{stride_of}
 use Rattle.literal_search.proofs.lemmas.Walk.{number_leads, reaches_end, walks_further, walks_start}
 use Rattle.literal_search.proofs.walk.Table.reach.Goals as goal
@@ -13,7 +13,7 @@ loop-at-init c =
     record {
       within = omega (arith, c.if-from-limit.false);
       walks = λ are. walks_start c.args.self.now.width (rows_by c.args.self.now) c.args.from
-          c.args.self.now.classes.now c.args.haystack.now c.args.span.start;
+          (classes_by c.args.self.now) c.args.haystack.now c.args.span.start;
       counted = ap (λ (n : ℕ). let t : Counts = record c.args.tally.now { scanned = n } in t) (omega arith);
     }
 
@@ -29,7 +29,7 @@ loop-at-preserved c =
     omega arith in
     record {
       within = c.if-code-limit.false;
-      walks = λ are. walks_further t.width (rows_by t) c.args.from t.classes.now haystack start at c.loop-at.place
+      walks = λ are. walks_further t.width (rows_by t) c.args.from (classes_by t) haystack start at c.loop-at.place
           (c.loop-at.invariant.walks are) after inside
           (are.below (get_or haystack at 0) (omega (arith, c.type_inv.haystack at))) c.code_at-code.result
           (c.code_at-code.ensures.number are)
@@ -47,9 +47,9 @@ returns-then-code-eq0-clause-reaches c = λ are patterns recognises text begins.
     let at = c.loop-at.at in
     let start = c.args.span.start in
     let inside : at < length haystack = omega (arith, c.loop-at-test.true, c.requires.valid.in_haystack) in
-    subst (λ (place : ℕ). WalksOn t.width (rows_by t) c.args.from t.classes.now haystack start (at + 1) place)
+    subst (λ (place : ℕ). WalksOn t.width (rows_by t) c.args.from (classes_by t) haystack start (at + 1) place)
     c.if-code-eq0.true
-    (walks_further t.width (rows_by t) c.args.from t.classes.now haystack start at c.loop-at.place
+    (walks_further t.width (rows_by t) c.args.from (classes_by t) haystack start at c.loop-at.place
     (c.loop-at.invariant.walks are) c.loop-at.auto.at inside
     (are.below (get_or haystack at 0) (omega (arith, c.type_inv.haystack at))) c.code_at-code.result
     (c.code_at-code.ensures.number are)
@@ -69,7 +69,7 @@ returns-in_err-place-clause-reaches c = λ are patterns recognises text begins.
     let haystack = c.args.haystack.now in
     let at = c.loop-at.at in
     let inside : at < length haystack = omega (arith, c.loop-at-test.true, c.requires.valid.in_haystack) in
-    let row = number_leads t.width (rows_by t) c.args.from t.classes.now haystack c.args.span.start at c.loop-at.place
+    let row = number_leads t.width (rows_by t) c.args.from (classes_by t) haystack c.args.span.start at c.loop-at.place
     (c.loop-at.invariant.walks are) c.loop-at.auto.at inside
     (are.below (get_or haystack at 0) (omega (arith, c.type_inv.haystack at))) c.code_at-code.result
     (c.code_at-code.ensures.number are)
@@ -85,9 +85,9 @@ returns-then-code-limit-clause-reaches c = λ are patterns recognises text begin
     let start = c.args.span.start in
     let inside : at < length haystack = omega (arith, c.loop-at-test.true, c.requires.valid.in_haystack) in
     let few = recognises.few in
-    subst (λ (place : ℕ). IsFirstEnd Standard patterns t.width (rows_by t) recognises text t.classes.now haystack start
+    subst (λ (place : ℕ). IsFirstEnd Standard patterns t.width (rows_by t) recognises text (classes_by t) haystack start
     (record { place = place; end = at + 1 })) (sym c.in_ok-place.ensures.1)
-    (reaches_end t.width (rows_by t) c.args.from t.classes.now haystack start at c.loop-at.place
+    (reaches_end t.width (rows_by t) c.args.from (classes_by t) haystack start at c.loop-at.place
     (c.loop-at.invariant.walks are) c.loop-at.auto.at inside
     (are.below (get_or haystack at 0) (omega (arith, c.type_inv.haystack at))) c.code_at-code.result
     (c.code_at-code.ensures.number are)
@@ -99,5 +99,5 @@ returns-clause-reaches c = λ are patterns recognises text begins.
     let t = c.args.self.now in
     let end : c.loop-at.at ≡ c.args.span.end =
     omega (arith, c.loop-at-test.false, c.loop-at.auto.at-end c.requires.valid.ordered) in
-    subst (λ (upto : ℕ). NoneEnds Standard patterns text t.classes.now c.args.haystack.now c.args.span.start upto) end
+    subst (λ (upto : ℕ). NoneEnds Standard patterns text (classes_by t) c.args.haystack.now c.args.span.start upto) end
     (c.loop-at.invariant.walks are Standard patterns recognises text begins).1

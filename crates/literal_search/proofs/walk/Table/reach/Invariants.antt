@@ -1,12 +1,12 @@
 use Rattle.std.proofs.Common.{◌≡◌, ◌+◌, ◌-◌, ◌<◌}
 use Rattle.literal_search.specs.Inside.Classes.{AreClasses}
-use Rattle.literal_search.specs.Inside.Walk.{rows_by, WalksOn}
+use Rattle.literal_search.specs.Inside.Walk.{WalksOn, classes_by, rows_by}
 use Rattle.literal_search.proofs.walk.Table.reach.Given as goal
 
 abbrev pub invariant-loop-at : goal.invariant-loop-at
 invariant-loop-at l = record {
   within : l.place < l.limit;
-  walks : AreClasses l.self.classes.now l.self.width → WalksOn l.self.width (rows_by l.self) l.fn.from
-      l.self.classes.now l.haystack l.fn.span.start l.at l.place;
+  walks : AreClasses (classes_by l.self) l.self.width → WalksOn l.self.width (rows_by l.self) l.fn.from
+      (classes_by l.self) l.haystack l.fn.span.start l.at l.place;
   counted : l.tally ≡ record l.initial.tally { scanned = l.initial.tally.scanned + (l.at - l.fn.span.start) };
 }

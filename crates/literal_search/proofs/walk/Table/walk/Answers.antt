@@ -2,7 +2,7 @@ use Rattle.std.proofs.Common.{◌≡◌, ◌+◌, ◌-◌, ◌<◌, ◌≤◌, �
 use Rattle.std.proofs.Common.{List, ap, refl, sym, subst}
 use Rattle.literal_base.specs.Counts.{Counts}
 use Rattle.literal_base.specs.Occurs.{between}
-use Rattle.literal_search.specs.Inside.Walk.{FindsIn, HasRead, rows_by, text_of}
+use Rattle.literal_search.specs.Inside.Walk.{FindsIn, HasRead, classes_by, rows_by, text_of}
 use Rattle.literal_search.specs.declared.walk.Ended.{Ended}
 use Rattle.literal_search.proofs.lemmas.Anew.{begins_anew}
 use Rattle.literal_search.proofs.lemmas.Walk.{finds_all, finds_by, finds_first, near_before, reads_near}
@@ -28,7 +28,7 @@ returns-in_err-pattern-clause-found c = λ are table.
     let inside : at < length haystack = omega (arith, c.loop-at-test.true, c.requires.valid.in_haystack) in
     let code_is = c.code_at-code.ensures.number are (omega (arith, (c.loop-at.invariant.reads are table).row.fits)) in
     absurd (c.in_err-pattern.ensures (inside_row c.in_ok-place.place c.in_ok-place.ensures.1
-    (step_end t.classes.now (rows_by t) haystack t.width are table c.args.span.start at c.loop-at.auto.at inside
+    (step_end (classes_by t) (rows_by t) haystack t.width are table c.args.span.start at c.loop-at.auto.at inside
     (omega (arith, c.type_inv.haystack at)) c.loop-at.place c.loop-at.last (c.loop-at.invariant.reads are table)
     c.code_at-code.result code_is c.in_ok-place.ensures.0 c.if-code.false)))
 
@@ -40,7 +40,7 @@ returns-in_err-pattern-clause-near c = λ are table.
     let inside : at < length haystack = omega (arith, c.loop-at-test.true, c.requires.valid.in_haystack) in
     let code_is = c.code_at-code.ensures.number are (omega (arith, (c.loop-at.invariant.reads are table).row.fits)) in
     absurd (c.in_err-pattern.ensures (inside_row c.in_ok-place.place c.in_ok-place.ensures.1
-    (step_end t.classes.now (rows_by t) haystack t.width are table c.args.span.start at c.loop-at.auto.at inside
+    (step_end (classes_by t) (rows_by t) haystack t.width are table c.args.span.start at c.loop-at.auto.at inside
     (omega (arith, c.type_inv.haystack at)) c.loop-at.place c.loop-at.last (c.loop-at.invariant.reads are table)
     c.code_at-code.result code_is c.in_ok-place.ensures.0 c.if-code.false)))
 
@@ -52,10 +52,10 @@ returns-then-code-eq0-clause-found c = λ are table.
     let at = c.loop-at.at in
     let inside : at < length haystack = omega (arith, c.loop-at-test.true, c.requires.valid.in_haystack) in
     let code_is = c.code_at-code.ensures.number are (omega (arith, (c.loop-at.invariant.reads are table).row.fits)) in
-    let text = text_of t.classes.now haystack (between start (at + 1)) in
+    let text = text_of (classes_by t) haystack (between start (at + 1)) in
     begins_anew t.width (rows_by t) start text c.loop-at.last
     (subst (λ (place : ℕ). HasRead t.width (rows_by t) start text place c.loop-at.last) c.if-code-eq0.true
-    (step_on t.classes.now (rows_by t) haystack t.width are table start at c.loop-at.auto.at inside
+    (step_on (classes_by t) (rows_by t) haystack t.width are table start at c.loop-at.auto.at inside
     (omega (arith, c.type_inv.haystack at)) c.loop-at.place c.loop-at.last (c.loop-at.invariant.reads are table)
     c.code_at-code.result code_is (omega (arith, c.if-code-eq0.true))))
 
@@ -67,7 +67,7 @@ returns-then-code-clause-found c = λ are table.
     let inside : at < length haystack = omega (arith, c.loop-at-test.true, c.requires.valid.in_haystack) in
     let code_is = c.code_at-code.ensures.number are (omega (arith, (c.loop-at.invariant.reads are table).row.fits)) in
     finds_by t haystack c.args.span c.args.is_earliest c.loop-at.last c.loop-at.invariant.none
-    (step_dead t.classes.now (rows_by t) haystack t.width are table c.args.span.start at c.loop-at.auto.at inside
+    (step_dead (classes_by t) (rows_by t) haystack t.width are table c.args.span.start at c.loop-at.auto.at inside
     (omega (arith, c.type_inv.haystack at)) c.loop-at.place c.loop-at.last (c.loop-at.invariant.reads are table)
     c.code_at-code.result code_is c.if-code.true c.args.span.end c.loop-at-test.true)
 
@@ -80,12 +80,12 @@ returns-then-code-clause-near c = λ are table.
     let after = c.loop-at.auto.at in
     let inside : at < length haystack = omega (arith, c.loop-at-test.true, c.requires.valid.in_haystack) in
     let code_is = c.code_at-code.ensures.number are (omega (arith, (c.loop-at.invariant.reads are table).row.fits)) in
-    let text = text_of t.classes.now haystack (between start at) in
-    let size = text_length t.classes.now haystack start at after (omega arith) in
+    let text = text_of (classes_by t) haystack (between start at) in
+    let size = text_length (classes_by t) haystack start at after (omega arith) in
     let ticked = ap (λ (n : Counts). n.scanned) c.code_at-code.ensures.ticks in
     let before = ap (λ (n : Counts). n.scanned) c.loop-at.invariant.counted in
     stops_by t c.args.span _ (start + length text) c.loop-at.last
-    (λ none kind patterns recognises some. absurd (step_dead_has_one t.classes.now (rows_by t) haystack t.width are
+    (λ none kind patterns recognises some. absurd (step_dead_has_one (classes_by t) (rows_by t) haystack t.width are
     table start at after inside (omega (arith, c.type_inv.haystack at)) c.loop-at.place c.loop-at.last
     (c.loop-at.invariant.reads are table) c.code_at-code.result code_is c.if-code.true none kind patterns
     recognises some))
@@ -95,7 +95,7 @@ returns-then-code-clause-near c = λ are table.
 pub returns-then-is_earliest-clause-found : goal.returns-then-is_earliest-clause-found
 returns-then-is_earliest-clause-found c = λ are table.
     let t = c.args.self.now in
-    let classes = t.classes.now in
+    let classes = classes_by t in
     let rows = rows_by t in
     let haystack = c.args.haystack.now in
     let start = c.args.span.start in
@@ -129,7 +129,7 @@ returns-then-is_earliest-clause-found c = λ are table.
 pub loop-at-preserved : goal.loop-at-preserved
 loop-at-preserved c =
     let t = c.args.self.now in
-    let classes = t.classes.now in
+    let classes = classes_by t in
     let rows = rows_by t in
     let haystack = c.args.haystack.now in
     let start = c.args.span.start in
@@ -201,9 +201,9 @@ returns-clause-found c = λ are table.
     let end : c.loop-at.at ≡ c.args.span.end =
     omega (arith, c.loop-at-test.false, c.loop-at.auto.at-end c.requires.valid.ordered) in
     finds_by t haystack c.args.span c.args.is_earliest c.loop-at.last c.loop-at.invariant.none
-    (subst (λ (e : ℕ). FindsIn t.width (rows_by t) start (text_of t.classes.now haystack (between start e))
+    (subst (λ (e : ℕ). FindsIn t.width (rows_by t) start (text_of (classes_by t) haystack (between start e))
     c.loop-at.last) end
-    (finds_all t.width (rows_by t) table start (text_of t.classes.now haystack (between start c.loop-at.at))
+    (finds_all t.width (rows_by t) table start (text_of (classes_by t) haystack (between start c.loop-at.at))
     c.loop-at.place c.loop-at.last (c.loop-at.invariant.reads are table)))
 
 pub returns-clause-near : goal.returns-clause-near
@@ -214,8 +214,8 @@ returns-clause-near c = λ are table.
     let at = c.loop-at.at in
     let end : at ≡ c.args.span.end =
     omega (arith, c.loop-at-test.false, c.loop-at.auto.at-end c.requires.valid.ordered) in
-    let text = text_of t.classes.now haystack (between start at) in
-    let size = text_length t.classes.now haystack start at c.loop-at.auto.at
+    let text = text_of (classes_by t) haystack (between start at) in
+    let size = text_length (classes_by t) haystack start at c.loop-at.auto.at
     (omega (arith, end, c.requires.valid.in_haystack)) in
     let before = ap (λ (n : Counts). n.scanned) c.loop-at.invariant.counted in
     let far : start + (c.loop-at.tally.scanned - c.args.tally.now.scanned) - 1 ≤ start + length text =
