@@ -9,7 +9,8 @@ use Rattle.literal_base.specs.MatchValue.{MatchValue}
 use Rattle.literal_base.specs.Occurs.{IsValidSpan, between, pattern_at}
 use Rattle.literal_base.specs.declared.search.MatchKind.TheVariants.{Standard}
 use Rattle.literal_base.specs.declared.search.Span.{Span}
-use Rattle.literal_search.specs.Inside.Classes.{AreClasses, unpacked}
+use Rattle.literal_search.specs.Inside.Classes.{AreClasses}
+use Rattle.literal_search.specs.Inside.Packed.{unpacked}
 use Rattle.literal_search.specs.Inside.LentTables.{AreFor, AreLent, IsNextBy, IsNextEnd, tables_by}
 use Rattle.literal_search.specs.Inside.Prepared.{IsHeader, Puts, RefusesArray, header_table, numbers_for}
 use Rattle.literal_search.specs.Inside.Rows.{rows_of}

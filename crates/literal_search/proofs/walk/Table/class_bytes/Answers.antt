@@ -1,6 +1,6 @@
 use Rattle.std.proofs.Common.{◌∙◌, ap, arith, length, sym}
 use Rattle.std.proofs.lemmas.List.{take_all}
-use Rattle.literal_search.specs.Inside.Classes.{unpacked}
+use Rattle.literal_search.specs.Inside.Packed.{unpacked}
 use Rattle.literal_search.proofs.walk.Table.class_bytes.Goals as goal
 
 pub slice_bounds-unpack-end : goal.slice_bounds-unpack-end
