@@ -88,11 +88,13 @@ module _ (t : BackTables) (are : AreBackTables t) where
             fits = omega (arith, size, are.best.long);
             row = omega (arith, table.some.fits);
           };
-          check = check_written LINEAR_VERSION t.classes t.width t.search.query.patterns t.rows [] t.best (linear_len all_of) (omega (arith, size, are.best.long));
+          check = check_written LINEAR_VERSION t.classes t.width t.search.query.patterns t.rows [] t.best
+              (linear_len all_of) (omega (arith, size, are.best.long));
         };
         tables = subst (λ (b : BackTables). AreBackTables b) (same_tables t.search t.classes _ t.width _ t.rows _ t.best
             _ t.longest _ (sym classes) refl
-            (sym (rows_written LINEAR_VERSION t.classes t.width t.search.query.patterns t.rows [] t.best)) (sym best_are) are.longest) are;
+            (sym (rows_written LINEAR_VERSION t.classes t.width t.search.query.patterns t.rows [] t.best))
+            (sym best_are) are.longest) are;
         lengths = lengths_written LINEAR_VERSION t.classes t.width t.search.query.patterns t.rows [] t.best;
       }
 

@@ -11,7 +11,8 @@ use Rattle.literal_base.specs.declared.search.MatchKind.TheVariants.{LeftmostFir
 use Rattle.literal_search.specs.SearchValue.{is_in_patterns, width_for}
 use Rattle.literal_search.specs.Inside.Classes.{AreClasses, symbols_in}
 use Rattle.literal_search.specs.Inside.Packed.{unpacked}
-use Rattle.literal_search.specs.Inside.Rows.{ArePacked, RowsValue, behind_rows, classes_of, packed_classes, rows_of, rows_value}
+use Rattle.literal_search.specs.Inside.Rows.{ArePacked, RowsValue, behind_rows, classes_of, packed_classes}
+use Rattle.literal_search.specs.Inside.Rows.{rows_of, rows_value}
 use Rattle.literal_search.specs.States.{AreStates, HasTooManyStates, IsRowsLength}
 use Rattle.literal_search.specs.Table.{Leads, Recognises, nothing}
 use Rattle.literal_search.specs.Words.{begins_one, ending, word_of}

@@ -5,7 +5,8 @@ use Rattle.std.specs.List.{splice}
 use Rattle.literal_search.specs.SearchValue.{longest_of}
 use Rattle.literal_search.specs.Inside.Rows.{packed_classes}
 use Rattle.literal_search.specs.Prepared.{AreShort, HasAllParts, HasParts, check_of, fingerprints_by}
-use Rattle.literal_search.specs.Prepared.{classes_end, lengths_in, fingerprints_part, rows_at, rows_end, shortest_by, width_in}
+use Rattle.literal_search.specs.Prepared.{classes_end, lengths_in, fingerprints_part, rows_at, rows_end}
+use Rattle.literal_search.specs.Prepared.{shortest_by, width_in}
 use Rattle.literal_search.specs.declared.classes.TheConstants.{PACKED_LEN}
 use Rattle.literal_search.specs.declared.prepared.Header.{Header}
 use Rattle.literal_search.specs.declared.prepared.Prepared.TheInside.{Inside}

@@ -12,5 +12,6 @@ returns-in-Some c =
     let read : unpacked (numbers ++ []) ≡ bytes =
     ap unpacked (append-nil numbers) ∙ c.pack.ensures.bytes in
     subst (λ o. MatchOption o (c.min.result ≡ 0)
-    (λ f. (c.min.result ≡ min c.args.shortest (2 ^ 32 - 1)) × (fingerprints_by (c.min.result ∷ (numbers ++ [])) ≡ f.now)))
+    (λ f. (c.min.result ≡ min c.args.shortest (2 ^ 32 - 1))
+    × (fingerprints_by (c.min.result ∷ (numbers ++ [])) ≡ f.now)))
     (sym c.in-Some.is) (omega (arith, c.min.ensures), ap fingerprints_in read ∙ c.to_bytes.ensures)

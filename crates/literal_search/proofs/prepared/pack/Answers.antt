@@ -20,7 +20,8 @@ loop-at-preserved c =
 
 pub returns-clause-packed : goal.returns-clause-packed
 returns-clause-packed c =
-    let all : c.loop-at.at ≡ length c.args.numbers.now = omega (arith, c.loop-at.invariant.long, c.loop-at-test.false) in
+    let all : c.loop-at.at ≡ length c.args.numbers.now =
+    omega (arith, c.loop-at.invariant.long, c.loop-at-test.false) in
     sym (take_all c.loop-at.at c.loop-at.numbers (omega (arith, c.loop-at-test.false)))
     ∙ (c.loop-at.invariant.done ∙ ap (λ n. packed n c.args.bytes.now) all)
 
