@@ -3,7 +3,7 @@
 ghost use Rattle.std.specs.Prelude.{◌≡◌, ◌+◌, ◌-◌, ◌*◌, ◌<◌, ◌≤◌, ◌^◌, ◌↔◌, [], ◌∷◌, length, map};
 ghost use Rattle.std.specs.Prelude.{ℕ, IfErr, IfOk, IfSome, IsTrue, MatchOption, MatchResult, OnErr};
 ghost use Rattle.std.specs.Prelude.{min, slice_index, slice_range};
-ghost use Rattle.std.specs.Int.{to_le_bytes, w32};
+ghost use Rattle.std.specs.Int.{from_le_bytes, w32};
 ghost use Rattle.std.specs.List.{repeat};
 ghost use Rattle.std.specs.Result.{IsOkAnd};
 ghost use Rattle.literal_base.specs.Occurs.{IsValidSpan};
@@ -12,7 +12,7 @@ ghost use Rattle.literal_search.specs.Prepared.{AreShort, ForPrepared, HasAllPar
 ghost use Rattle.literal_search.specs.Prepared.{check_of, fingerprints_by, longest_in, shortest_by};
 ghost use Rattle.literal_search.specs.SearchValue.{ScansWithin};
 ghost use Rattle.literal_search.specs.Inside.Prepared.{IsHeader, Puts, RefusesArray, numbers_for, header_table};
-ghost use Rattle.literal_search.specs.Inside.Classes.{unpacked};
+ghost use Rattle.literal_search.specs.Inside.Packed.{packed, unpacked};
 ghost use Rattle.literal_search.specs.Inside.Rows.{ArePacked, classes_of, rows_of};
 ghost use Rattle.literal_search.specs.Inside.Scan.{IsTableOf};
 
@@ -316,21 +316,28 @@ pub fn fingerprint_numbers(
         (λ f. (shortest_by result ≡ min shortest (2 ^ 32 - 1)) × (fingerprints_by result ≡ f.now)) }
 {
     let mut numbers = [0; FINGERPRINTS_LEN];
-    let Some(fingerprints) = fingerprints else {
-        return numbers;
-    };
-    numbers[0] = shortest.min(u32::MAX as usize) as u32;
-    let bytes = fingerprints.to_bytes();
-    for at in 0..BYTES / 4 {
-        numbers[1 + at] = number_at(&bytes, 4 * at);
+    if let Some(fingerprints) = fingerprints {
+        numbers[0] = shortest.min(u32::MAX as usize) as u32;
+        pack(&fingerprints.to_bytes(), &mut numbers[1..]);
     }
     numbers
 }
 
-/// The number that four bytes from a place on stand for, the lowest first.
-pub(crate) fn number_at(bytes: &[u8], at: usize) -> u32
+/// Writes bytes into numbers, four in each, the first in its lowest eight bits.
+pub(crate) fn pack(bytes: &[u8], numbers: &mut [u32])
+    requires { length bytes.now ≡ 4 * length numbers.old }
+    ensures packed { numbers.new ≡ packed (length numbers.old) bytes.now }
+    ensures bytes { unpacked numbers.new ≡ bytes.now }
+{
+    for at in 0..numbers.len() {
+        numbers[at] = number_at(bytes, 4 * at);
+    }
+}
+
+/// The number that holds the four bytes from a place on.
+fn number_at(bytes: &[u8], at: usize) -> u32
     requires { at + 4 ≤ length bytes.now }
-    ensures { to_le_bytes w32 result ≡ slice_range bytes.now at (at + 4) }
+    ensures { result ≡ from_le_bytes w32 (slice_range bytes.now at (at + 4)) }
 {
     u32::from_le_bytes([bytes[at], bytes[at + 1], bytes[at + 2], bytes[at + 3]])
 }
@@ -357,7 +364,7 @@ fn fingerprints_by(prints: &[u32]) -> Fingerprints
     Fingerprints::from_bytes(&bytes)
 }
 
-/// Writes the bytes that stand in numbers, four in each, the first in its lowest eight bits.
+/// Writes the bytes that numbers hold in this way.
 #[inline(always)]
 pub(crate) fn unpack(numbers: &[u32], bytes: &mut [u8])
     requires { length bytes.old ≡ 4 * length numbers.now }

@@ -2,13 +2,14 @@
 ghost use Rattle.std.specs.Prelude.{◌≡◌, ◌<◌, ◌≤◌, ◌^◌, ◌-◌, ◌++◌, [], IfErr, IfOk, OnErr, length, map};
 ghost use Rattle.literal_base.specs.Occurs.{NoneIsEmpty};
 ghost use Rattle.literal_search.specs.Table.{Recognises};
-ghost use Rattle.literal_search.specs.Inside.Classes.{AreClasses, symbols_in, unpacked};
-ghost use Rattle.literal_search.specs.Inside.Rows.{ArePacked, classes_of, packed, rows_of, rows_value};
+ghost use Rattle.literal_search.specs.Inside.Classes.{AreClasses, symbols_in};
+ghost use Rattle.literal_search.specs.Inside.Packed.{unpacked};
+ghost use Rattle.literal_search.specs.Inside.Rows.{ArePacked, classes_of, packed_classes, rows_of, rows_value};
 ghost use Rattle.literal_search.specs.States.{HasTooManyStates, IsRowsLength};
 
 use crate::classes::{CLASSES_LEN, Classes, PACKED_LEN};
 use crate::grow::{GrowError, grow};
-use crate::prepared::{LENGTHS_AT, NO_PATTERN, number_at};
+use crate::prepared::{LENGTHS_AT, NO_PATTERN, pack};
 use literal_base::search::MatchKind;
 use std::alloc::{AllocError, Global};
 use std::marker::Model;
@@ -103,12 +104,11 @@ pub fn rows_for(
 
 /// Puts the class of each byte behind some numbers.
 fn push_classes(numbers: &mut Vec<u32>, classes: &[u8; 256]) -> Result<(), AllocError>
-    ensures { IfOk result (λ _. numbers.new.items ≡ numbers.old.items ++ packed classes.now) }
+    ensures { IfOk result (λ _. numbers.new.items ≡ numbers.old.items ++ packed_classes classes.now) }
 {
-    for at in 0..PACKED_LEN {
-        numbers.push(number_at(classes, 4 * at))?;
-    }
-    numbers.extend_from_slice(&[0; CLASSES_LEN - PACKED_LEN])?;
+    let mut packed = [0; CLASSES_LEN];
+    pack(classes, &mut packed[..PACKED_LEN]);
+    numbers.extend_from_slice(&packed)?;
     Ok(())
 }
 

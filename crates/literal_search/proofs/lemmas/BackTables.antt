@@ -8,7 +8,7 @@ use Rattle.std.proofs.lemmas.List.{get_or_default, length-map}
 use Rattle.std.proofs.Common.{◌*◌, get_or, inl, inr, map}
 use Rattle.literal_base.specs.Occurs.{pattern_at}
 use Rattle.literal_search.specs.Inside.Classes.{symbols_in}
-use Rattle.literal_search.specs.Inside.Rows.{packed}
+use Rattle.literal_search.specs.Inside.Rows.{packed_classes}
 use Rattle.literal_search.specs.Inside.Linear.{AreKept}
 use Rattle.literal_search.specs.Inside.Prepared.{checked, numbers_for}
 use Rattle.literal_search.specs.Linear.{reversed}
@@ -68,7 +68,7 @@ pub both_behind : (version width : ℕ) (classes rows one two : List ℕ) (patte
     → numbers_for version classes width patterns rows [] (one ++ two)
     ≡ numbers_for version classes width patterns rows one two
 both_behind version width classes rows one two patterns =
-    let before = map (λ bytes. length bytes) patterns ++ (rows ++ packed classes) in
+    let before = map (λ bytes. length bytes) patterns ++ (rows ++ packed_classes classes) in
     ap (λ l. checked version (width ∷ length patterns ∷ length rows ∷ longest_of patterns ∷ l))
     (ap (λ l. l ++ (one ++ two)) (append-nil before) ∙ sym (append_assoc before one two))
 

@@ -9,7 +9,8 @@ use Rattle.literal_base.specs.MatchValue.{MatchValue}
 use Rattle.literal_base.specs.Occurs.{IsValidSpan, between, pattern_at}
 use Rattle.literal_base.specs.declared.search.MatchKind.TheVariants.{Standard}
 use Rattle.literal_base.specs.declared.search.Span.{Span}
-use Rattle.literal_search.specs.Inside.Classes.{AreClasses, unpacked}
+use Rattle.literal_search.specs.Inside.Classes.{AreClasses}
+use Rattle.literal_search.specs.Inside.Packed.{unpacked}
 use Rattle.literal_search.specs.Inside.LentTables.{AreFor, AreLent, IsNextBy, IsNextEnd, tables_by}
 use Rattle.literal_search.specs.Inside.Prepared.{IsHeader, Puts, RefusesArray, header_table, numbers_for}
 use Rattle.literal_search.specs.Inside.Rows.{rows_of}
@@ -77,10 +78,10 @@ same_tables search classes classes' width width' rows rows' ends ends' starts st
 pub are_for : (p : LentTables) → AreLent p → (search : OverlappingValue)
     → IsPreparedOverlapping search p.header.numbers.now → AreFor search p
 are_for p lent search prepared = record {
-  tables = same_tables search _ (unpacked p.header.classes.now) _ p.header.width _ (rows_of p.header.rows.now) _ p.ends.now _
-      p.starts.now
-      (ap unpacked (sym lent.header.classes_are)) (sym lent.header.width_is) (sym (rows_are lent.header)) (sym lent.ends_are)
-      (sym lent.starts_are) prepared.tables;
+  tables = same_tables search _ (unpacked p.header.classes.now) _ p.header.width _ (rows_of p.header.rows.now) _
+      p.ends.now _ p.starts.now
+      (ap unpacked (sym lent.header.classes_are)) (sym lent.header.width_is) (sym (rows_are lent.header))
+      (sym lent.ends_are) (sym lent.starts_are) prepared.tables;
   lengths = lent.header.lengths_are ∙ prepared.lengths;
   longest = lent.header.longest_is ∙ prepared.longest;
 }
@@ -274,7 +275,8 @@ module _ (t : Tables) (tables : AreTables t) where
     tables = same_tables (overlapping_value t) t.classes _ t.width _ t.rows _ t.ends _ t.starts _
         (sym (classes_written OVERLAPPING_VERSION t.classes t.width t.patterns t.rows t.starts t.ends
         tables.classes)) refl
-        (sym (rows_written OVERLAPPING_VERSION t.classes t.width t.patterns t.rows t.starts t.ends)) (sym ends_are) (sym starts_are) tables;
+        (sym (rows_written OVERLAPPING_VERSION t.classes t.width t.patterns t.rows t.starts t.ends))
+        (sym ends_are) (sym starts_are) tables;
     lengths = lengths_written OVERLAPPING_VERSION t.classes t.width t.patterns t.rows t.starts t.ends;
   }
 

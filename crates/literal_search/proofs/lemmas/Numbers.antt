@@ -4,8 +4,9 @@ use Rattle.std.proofs.Common.{append-nil, append_assoc, length-append, refl, sym
 use Rattle.std.proofs.Math.Seq.{drop-append_seam, take-append_seam}
 use Rattle.std.proofs.lemmas.List.{length-drop, length-map, length-take, take-append-drop}
 use Rattle.std.specs.List.{slice_range}
-use Rattle.literal_search.specs.Inside.Classes.{AreClasses, unpacked}
-use Rattle.literal_search.specs.Inside.Rows.{packed}
+use Rattle.literal_search.specs.Inside.Classes.{AreClasses}
+use Rattle.literal_search.specs.Inside.Packed.{unpacked}
+use Rattle.literal_search.specs.Inside.Rows.{packed_classes}
 use Rattle.literal_search.specs.Inside.Prepared.{Puts, RefusesArray, numbers_for}
 use Rattle.literal_search.specs.SearchValue.{longest_of}
 use Rattle.literal_search.specs.Prepared.{RefusesNumbers, WritesNumbers, check_of, classes_in, lengths_in}
@@ -27,6 +28,9 @@ part_at numbers prefix part back from to is from_is to_is =
 
 module _ (version : ℕ) (classes : List ℕ) (width : ℕ) (patterns : List (List ℕ)) (rows starts ends : List ℕ)
   where
+    abbrev last : List ℕ
+    last = packed_classes classes
+
     abbrev lengths : List ℕ
     lengths = map (λ (bytes : List ℕ). length bytes) patterns
 
@@ -35,7 +39,7 @@ module _ (version : ℕ) (classes : List ℕ) (width : ℕ) (patterns : List (Li
 
     abbrev body : List ℕ
     body =
-        width ∷ length patterns ∷ length rows ∷ longest_of patterns ∷ lengths ++ (rows ++ packed classes) ++ starts ++ ends
+        width ∷ length patterns ∷ length rows ∷ longest_of patterns ∷ lengths ++ (rows ++ last) ++ starts ++ ends
 
     abbrev head : List ℕ
     head = version ∷ check_of body ∷ width ∷ length patterns ∷ length rows ∷ longest_of patterns ∷ []
@@ -43,86 +47,86 @@ module _ (version : ℕ) (classes : List ℕ) (width : ℕ) (patterns : List (Li
     many : length lengths ≡ length patterns
     many = length-map patterns (λ (bytes : List ℕ). length bytes)
 
-    table_long : length (rows ++ packed classes) ≡ length rows + 256
-    table_long = omega (arith, length-append rows (packed classes), packed_long classes)
+    table_long : length (rows ++ last) ≡ length rows + 256
+    table_long = omega (arith, length-append rows last, packed_long classes)
 
     -- how many they are
     pub numbers_long : length numbers
         ≡ 6 + length patterns + length rows + 256 + length starts + length ends
     numbers_long = omega (
       arith,
-      length-append (lengths ++ (rows ++ packed classes) ++ starts) ends,
-      length-append (lengths ++ (rows ++ packed classes)) starts,
-      length-append lengths (rows ++ packed classes),
+      length-append (lengths ++ (rows ++ last) ++ starts) ends,
+      length-append (lengths ++ (rows ++ last)) starts,
+      length-append lengths (rows ++ last),
       table_long,
       many,
     )
 
     -- what stands behind the lengths
-    behind_lengths : lengths ++ (rows ++ packed classes) ++ starts ++ ends
-        ≡ lengths ++ ((rows ++ packed classes) ++ (starts ++ ends))
+    behind_lengths : lengths ++ (rows ++ last) ++ starts ++ ends
+        ≡ lengths ++ ((rows ++ last) ++ (starts ++ ends))
     behind_lengths =
-        append_assoc (lengths ++ (rows ++ packed classes)) starts ends
-        ∙ append_assoc lengths (rows ++ packed classes) (starts ++ ends)
+        append_assoc (lengths ++ (rows ++ last)) starts ends
+        ∙ append_assoc lengths (rows ++ last) (starts ++ ends)
 
     -- and behind the rows
-    behind_rows : lengths ++ (rows ++ packed classes) ++ starts ++ ends ≡ (lengths ++ rows) ++ (packed classes ++ (starts ++ ends))
+    behind_rows : lengths ++ (rows ++ last) ++ starts ++ ends ≡ (lengths ++ rows) ++ (last ++ (starts ++ ends))
     behind_rows =
         behind_lengths
-        ∙ (ap (λ l. lengths ++ l) (append_assoc rows (packed classes) (starts ++ ends))
-        ∙ sym (append_assoc lengths rows (packed classes ++ (starts ++ ends))))
+        ∙ (ap (λ l. lengths ++ l) (append_assoc rows last (starts ++ ends))
+        ∙ sym (append_assoc lengths rows (last ++ (starts ++ ends))))
 
     pub lengths_written : lengths_in numbers ≡ lengths
     lengths_written =
-        part_at numbers head lengths ((rows ++ packed classes) ++ (starts ++ ends)) 6 (6 + length patterns)
+        part_at numbers head lengths ((rows ++ last) ++ (starts ++ ends)) 6 (6 + length patterns)
         (ap (λ l. head ++ l) behind_lengths) refl (omega (arith, many))
 
     pub rows_written : rows_in numbers ≡ rows
     rows_written =
-        part_at numbers (head ++ lengths) rows (packed classes ++ (starts ++ ends)) (6 + length patterns)
+        part_at numbers (head ++ lengths) rows (last ++ (starts ++ ends)) (6 + length patterns)
         (6 + length patterns + length rows)
-        (ap (λ l. head ++ l) (behind_rows ∙ append_assoc lengths rows (packed classes ++ (starts ++ ends))))
+        (ap (λ l. head ++ l) (behind_rows ∙ append_assoc lengths rows (last ++ (starts ++ ends))))
         (omega (arith, length-append head lengths, many)) (omega arith)
 
     pub classes_written : AreClasses classes width → classes_in numbers ≡ classes
     classes_written are =
-        let first = take 64 (packed classes) in
-        let rest = drop 64 (packed classes) in
+        let first = take 64 last in
+        let rest = drop 64 last in
         ap unpacked (part_at numbers (head ++ (lengths ++ rows)) first (rest ++ (starts ++ ends)) (rows_end numbers)
         (rows_end numbers + 64)
         (ap (λ l. head ++ l) behind_rows
-        ∙ ap (λ l. head ++ (lengths ++ rows) ++ l) (ap (λ l. l ++ (starts ++ ends)) (sym (take-append-drop 64 (packed classes)))
+        ∙ ap (λ l. head ++ (lengths ++ rows) ++ l) (ap (λ l. l ++ (starts ++ ends)) (sym (take-append-drop 64 last))
         ∙ append_assoc first rest (starts ++ ends)))
         (omega (arith, length-append head (lengths ++ rows), length-append lengths rows, many))
-        (omega (arith, packed_long classes, length-take 64 (packed classes))))
+        (omega (arith, packed_long classes, length-take 64 last)))
         ∙ unpacked_again classes width are
 
-    upto_starts : length (head ++ (lengths ++ (rows ++ packed classes))) ≡ classes_end numbers
+    upto_starts : length (head ++ (lengths ++ (rows ++ last))) ≡ classes_end numbers
     upto_starts = omega (
       arith,
-      length-append head (lengths ++ (rows ++ packed classes)),
-      length-append lengths (rows ++ packed classes),
+      length-append head (lengths ++ (rows ++ last)),
+      length-append lengths (rows ++ last),
       table_long,
       many,
     )
 
     pub starts_written : slice_range numbers (classes_end numbers) (classes_end numbers + length starts) ≡ starts
     starts_written =
-        part_at numbers (head ++ (lengths ++ (rows ++ packed classes))) starts ends (classes_end numbers)
+        part_at numbers (head ++ (lengths ++ (rows ++ last))) starts ends (classes_end numbers)
         (classes_end numbers + length starts)
-        (ap (λ l. head ++ l) (append_assoc (lengths ++ (rows ++ packed classes)) starts ends)) (sym upto_starts) refl
+        (ap (λ l. head ++ l) (append_assoc (lengths ++ (rows ++ last)) starts ends)) (sym upto_starts) refl
 
     pub ends_written : slice_range numbers (classes_end numbers + length starts)
         (classes_end numbers + length starts + length ends) ≡ ends
     ends_written =
-        part_at numbers (head ++ (lengths ++ (rows ++ packed classes) ++ starts)) ends []
+        part_at numbers (head ++ (lengths ++ (rows ++ last) ++ starts)) ends []
         (classes_end numbers + length starts) (classes_end numbers + length starts + length ends)
-        (ap (λ l. (head ++ (lengths ++ (rows ++ packed classes) ++ starts)) ++ l) (sym (append-nil ends)))
+        (ap (λ l. (head ++ (lengths ++ (rows ++ last) ++ starts)) ++ l) (sym (append-nil ends)))
         (omega (
           arith,
-          length-append head (lengths ++ (rows ++ packed classes) ++ starts),
-          length-append (lengths ++ (rows ++ packed classes)) starts,
-          length-append head (lengths ++ (rows ++ packed classes)),
+          length-append head (lengths ++ (rows ++ last) ++ starts),
+          length-append (lengths ++ (rows ++ last)) starts,
+          length-append head (lengths ++ (rows ++ last)),
           upto_starts,
         )) refl
 

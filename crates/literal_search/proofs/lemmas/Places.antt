@@ -6,7 +6,8 @@ use Rattle.std.specs.List.{slice_range}
 use Rattle.literal_base.specs.Kinds.{root_kind_of}
 use Rattle.literal_base.specs.Query.{Query}
 use Rattle.literal_fingerprints.specs.FingerprintsValue.{AllPass}
-use Rattle.literal_search.specs.Inside.Classes.{AreClasses, Tells, symbols_in, unpacked}
+use Rattle.literal_search.specs.Inside.Classes.{AreClasses, Tells, symbols_in}
+use Rattle.literal_search.specs.Inside.Packed.{unpacked}
 use Rattle.literal_search.specs.Prepared.{IsPrepared, IsWhole, check_of, classes_end, classes_in, fingerprints_by}
 use Rattle.literal_search.specs.Prepared.{lengths_in}
 use Rattle.literal_search.specs.Prepared.{prepared_len, fingerprints_part, rows_at, rows_end, rows_in, shortest_by}

@@ -15,7 +15,8 @@ use Rattle.literal_base.specs.declared.packed.MatchKind.{MatchKind}
 use Rattle.literal_base.specs.declared.search.Span.{Span}
 use Rattle.literal_fingerprints.specs.FingerprintsValue.{AllPass, FingerprintsValue}
 use Rattle.literal_search.specs.SearchValue.{CanBeKept, NoneIsShorter, SearchValue}
-use Rattle.literal_search.specs.Inside.Classes.{AreClasses, Tells, symbols_in, unpacked}
+use Rattle.literal_search.specs.Inside.Classes.{AreClasses, Tells, symbols_in}
+use Rattle.literal_search.specs.Inside.Packed.{unpacked}
 use Rattle.literal_search.specs.Inside.Rows.{rows_of}
 use Rattle.literal_search.specs.Inside.Scan.{IsTableOf, match_by}
 use Rattle.literal_search.specs.Inside.Prepared.{IsHeader, IsLent, IsSplit, header_table}

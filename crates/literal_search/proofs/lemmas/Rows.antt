@@ -9,8 +9,10 @@ use Rattle.std.specs.Global.{Vec}
 use Rattle.literal_base.specs.declared.search.MatchKind.{MatchKind}
 use Rattle.literal_base.specs.declared.search.MatchKind.TheVariants.{LeftmostFirst, LeftmostLongest, Standard}
 use Rattle.literal_search.specs.SearchValue.{is_in_patterns, width_for}
-use Rattle.literal_search.specs.Inside.Classes.{AreClasses, symbols_in, unpacked}
-use Rattle.literal_search.specs.Inside.Rows.{ArePacked, RowsValue, behind_rows, classes_of, packed, rows_of, rows_value}
+use Rattle.literal_search.specs.Inside.Classes.{AreClasses, symbols_in}
+use Rattle.literal_search.specs.Inside.Packed.{unpacked}
+use Rattle.literal_search.specs.Inside.Rows.{ArePacked, RowsValue, behind_rows, classes_of, packed_classes}
+use Rattle.literal_search.specs.Inside.Rows.{rows_of, rows_value}
 use Rattle.literal_search.specs.States.{AreStates, HasTooManyStates, IsRowsLength}
 use Rattle.literal_search.specs.Table.{Leads, Recognises, nothing}
 use Rattle.literal_search.specs.Words.{begins_one, ending, word_of}
@@ -20,26 +22,26 @@ use Rattle.literal_search.proofs.lemmas.States.{few_states}
 -- where there are rows before the classes
 module _ (rows classes : List ℕ) (width : ℕ) (are : AreClasses classes width) where
   abbrev all : List ℕ
-  all = rows ++ packed classes
+  all = rows ++ packed_classes classes
 
   before : length all - 256 ≡ length rows
-  before = omega (arith, packed_long classes, length-append rows (packed classes))
+  before = omega (arith, packed_long classes, length-append rows (packed_classes classes))
 
   rows_kept : rows_of all ≡ rows
-  rows_kept = ap (λ n. take n all) before ∙ take-append_seam rows (packed classes)
+  rows_kept = ap (λ n. take n all) before ∙ take-append_seam rows (packed_classes classes)
 
-  behind_kept : behind_rows all ≡ packed classes
-  behind_kept = ap (λ n. drop n all) before ∙ drop-append_seam rows (packed classes)
+  behind_kept : behind_rows all ≡ packed_classes classes
+  behind_kept = ap (λ n. drop n all) before ∙ drop-append_seam rows (packed_classes classes)
 
   classes_kept : classes_of all ≡ classes
   classes_kept = ap (λ l. unpacked (take 64 l)) behind_kept ∙ unpacked_again classes width are
 
   pub are_packed : ArePacked all
-  are_packed = behind_kept ∙ ap packed (sym classes_kept)
+  are_packed = behind_kept ∙ ap packed_classes (sym classes_kept)
 
   pub both_kept : rows_value all ≡ record { rows = rows; classes = classes }
   both_kept =
-      some all (omega (arith, packed_long classes, length-append rows (packed classes)))
+      some all (omega (arith, packed_long classes, length-append rows (packed_classes classes)))
       ∙ (ap (λ (r : List ℕ). let v : RowsValue = record { rows = r; classes = classes_of all } in v) rows_kept
       ∙ ap (λ (k : List ℕ). let v : RowsValue = record { rows = rows; classes = k } in v) classes_kept)
     where

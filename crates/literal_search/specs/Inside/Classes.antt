@@ -2,17 +2,11 @@
 use Rattle.std.specs.Prelude.{◌≡◌, ◌↔◌, ℕ, ◌<◌, ◌≤◌, Bool, true, false, if◌then◌else◌, List, length, map, slice_index}
 use Rattle.std.specs.Prelude.{slice_index_or}
 use Rattle.std.specs.Char.{to_ascii_lowercase}
-use Rattle.std.specs.Int.{to_le_bytes, w32}
-use Rattle.std.specs.List.{flat_map}
 use Rattle.literal_base.specs.Occurs.{pattern_at}
 
 -- the byte; where case is ignored, the small letter of one of A to Z
 abbrev pub folded : Bool → ℕ → ℕ
 folded ignore_case byte = if ignore_case then to_ascii_lowercase byte else byte
-
--- the bytes that stand in numbers of 32 bits, four in each, the first in its lowest eight bits
-abbrev pub unpacked : List ℕ → List ℕ
-unpacked numbers = flat_map (to_le_bytes w32) numbers
 
 -- the classes of bytes
 abbrev pub symbols_in : List ℕ → List ℕ → List ℕ

@@ -2,7 +2,7 @@
 use Rattle.std.specs.Prelude.{◌≡◌, ◌<◌, ◌≤◌, ◌^◌, ℕ, List, IfSome, MatchOption, Option, Some, length, map}
 use Rattle.literal_base.specs.MatchValue.{MatchValue}
 use Rattle.literal_base.specs.declared.search.Span.{Span}
-use Rattle.literal_search.specs.Inside.Classes.{unpacked}
+use Rattle.literal_search.specs.Inside.Packed.{unpacked}
 use Rattle.literal_search.specs.Inside.Prepared.{IsHeader}
 use Rattle.literal_search.specs.Inside.Rows.{rows_of}
 use Rattle.literal_search.specs.Inside.Standing.{HaveSameToCome, IsStanding, standing_value}

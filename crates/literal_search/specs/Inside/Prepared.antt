@@ -3,9 +3,10 @@ use Rattle.std.specs.Prelude.{◌≡◌, ◌+◌, ◌<◌, ◌≤◌, ◌^◌, �
 use Rattle.std.specs.Prelude.{length, map, slice_index, slice_range}
 use Rattle.std.specs.List.{splice}
 use Rattle.literal_search.specs.SearchValue.{longest_of}
-use Rattle.literal_search.specs.Inside.Rows.{packed}
+use Rattle.literal_search.specs.Inside.Rows.{packed_classes}
 use Rattle.literal_search.specs.Prepared.{AreShort, HasAllParts, HasParts, check_of, fingerprints_by}
-use Rattle.literal_search.specs.Prepared.{classes_end, lengths_in, fingerprints_part, rows_at, rows_end, shortest_by, width_in}
+use Rattle.literal_search.specs.Prepared.{classes_end, lengths_in, fingerprints_part, rows_at, rows_end}
+use Rattle.literal_search.specs.Prepared.{shortest_by, width_in}
 use Rattle.literal_search.specs.declared.classes.TheConstants.{PACKED_LEN}
 use Rattle.literal_search.specs.declared.prepared.Header.{Header}
 use Rattle.literal_search.specs.declared.prepared.Prepared.TheInside.{Inside}
@@ -62,7 +63,7 @@ checked version numbers = version ∷ check_of numbers ∷ numbers
 abbrev pub numbers_for : ℕ → List ℕ → ℕ → List (List ℕ) → List ℕ → List ℕ → List ℕ → List ℕ
 numbers_for version classes width patterns rows starts ends =
     checked version (width ∷ length patterns ∷ length rows ∷ longest_of patterns
-    ∷ map (λ bytes. length bytes) patterns ++ (rows ++ packed classes) ++ starts ++ ends)
+    ∷ map (λ bytes. length bytes) patterns ++ (rows ++ packed_classes classes) ++ starts ++ ends)
 
 -- why numbers are not written over an array: not all patterns are short; or they are, and there are too many numbers in
 -- lists; or there are not, and the array is too short

@@ -1,8 +1,7 @@
 -- The rows of an automaton, and behind them the class of each byte.
-use Rattle.std.specs.Prelude.{◌≡◌, ◌⊎◌, ◌*◌, ◌+◌, ℕ, ◌-◌, List, [], ◌∷◌, ◌++◌, drop, length, map, slice_range, take}
-use Rattle.std.specs.Int.{from_le_bytes, w32}
-use Rattle.std.specs.List.{range_with_len, repeat}
-use Rattle.literal_search.specs.Inside.Classes.{unpacked}
+use Rattle.std.specs.Prelude.{◌≡◌, ◌⊎◌, ℕ, ◌-◌, List, [], ◌∷◌, ◌++◌, drop, length, take}
+use Rattle.std.specs.List.{repeat}
+use Rattle.literal_search.specs.Inside.Packed.{packed, unpacked}
 use Rattle.literal_search.specs.Table.{nothing}
 
 -- the rows: all but the last 256 numbers
@@ -17,15 +16,13 @@ behind_rows numbers = drop (length numbers - 256) numbers
 abbrev pub classes_of : List ℕ → List ℕ
 classes_of numbers = unpacked (take 64 (behind_rows numbers))
 
--- 256 numbers that hold such classes: 64 with those of four bytes each, and zeros
-unfoldable pub packed : List ℕ → List ℕ
-packed classes =
-    map (λ k. from_le_bytes w32 (slice_range classes (4 * k) (4 * k + 4))) (range_with_len 0 64)
-    ++ repeat 192 (0 ∷ [])
+-- 256 numbers of which the first 64 hold such classes, and the others are zeros
+unfoldable pub packed_classes : List ℕ → List ℕ
+packed_classes classes = packed 64 classes ++ repeat 192 (0 ∷ [])
 
 -- behind the rows stand no other numbers
 abbrev pub ArePacked : List ℕ → Type 0
-ArePacked numbers = behind_rows numbers ≡ packed (classes_of numbers)
+ArePacked numbers = behind_rows numbers ≡ packed_classes (classes_of numbers)
 
 -- the same as contracts see them
 pub record RowsValue : Type 0 where

@@ -2,7 +2,7 @@ use Rattle.std.proofs.Common.{◌≡◌, ◌*◌, ◌+◌, ◌++◌, ◌∙◌, 
 use Rattle.std.proofs.lemmas.List.{take_all}
 use Rattle.std.proofs.lemmas.Slice.{take-put_mid}
 use Rattle.std.specs.Int.{to_le_bytes}
-use Rattle.literal_search.specs.Inside.Classes.{unpacked}
+use Rattle.literal_search.specs.Inside.Packed.{unpacked}
 use Rattle.literal_search.proofs.lemmas.Packed.{unpacked_more}
 use Rattle.literal_search.proofs.prepared.unpack.Goals as goal
 use borrow.Rule.Slice.PartMut.{same_len_mid}

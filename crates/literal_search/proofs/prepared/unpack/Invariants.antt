@@ -1,5 +1,5 @@
 use Rattle.std.proofs.Common.{◌≡◌, ◌*◌, length, take}
-use Rattle.literal_search.specs.Inside.Classes.{unpacked}
+use Rattle.literal_search.specs.Inside.Packed.{unpacked}
 use Rattle.literal_search.proofs.prepared.unpack.Given as goal
 
 abbrev pub invariant-loop-at : goal.invariant-loop-at

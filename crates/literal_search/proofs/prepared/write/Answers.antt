@@ -4,7 +4,7 @@ use Rattle.std.proofs.lemmas.List.{length-map, take-append-drop}
 use Rattle.std.proofs.lemmas.Simd.{map-map}
 use Rattle.std.specs.Global.{Vec}
 use Rattle.literal_search.specs.Inside.Prepared.{Puts, checked}
-use Rattle.literal_search.specs.Inside.Rows.{classes_of, packed, rows_of}
+use Rattle.literal_search.specs.Inside.Rows.{classes_of, packed_classes, rows_of}
 use Rattle.literal_search.specs.SearchValue.{longest_of}
 use Rattle.literal_search.specs.Prepared.{AreShort}
 use Rattle.literal_search.proofs.lemmas.Longest.{all_short, longest_short}
@@ -41,12 +41,12 @@ returns-clause-ok c =
     c.put_numbers-3.new.array c.check_over.result c.put_numbers.ensures put c.put_numbers-2.ensures
     c.put_starts.ensures c.put_numbers-3.ensures c.check_over.ensures in
     let size = size_of_all version width (length patterns) places longest lengths table starts ends old each long in
-    let parts : table ≡ rows ++ packed classes =
+    let parts : table ≡ rows ++ packed_classes classes =
     sym (take-append-drop places table) ∙ ap (λ l. rows ++ l) c.requires.classes in
     let count : places ≡ length rows = sym (rows_long table) in
     let body = λ (n k l : ℕ) (t : List ℕ). checked version (width ∷ n ∷ k ∷ l ∷ lengths ++ t ++ starts ++ ends) in
     let is : body (length patterns) places longest table ≡ body (length all) (length rows) (longest_of all)
-    (rows ++ packed classes) =
+    (rows ++ packed_classes classes) =
     ap (λ n. body n places longest table) (sym many)
     ∙ (ap (λ k. body (length all) k longest table) count
     ∙ (ap (λ l. body (length all) (length rows) l table) c.longest_len-longest.ensures

@@ -6,7 +6,8 @@ use Rattle.literal_search.specs.Inside.Classes.{symbols_in}
 use Rattle.literal_search.specs.Inside.Rows.{AreKeptRows, ArePacked, RowsValue, rows_value}
 use Rattle.literal_search.specs.States.{HasTooManyStates, IsRowsLength}
 use Rattle.literal_search.specs.Table.{Recognises}
-use Rattle.literal_search.proofs.lemmas.Rows.{are_packed, both_kept, for_none, none_few, none_long, none_recognised, zeros_are}
+use Rattle.literal_search.proofs.lemmas.Rows.{are_packed, both_kept, for_none, none_few, none_long, none_recognised}
+use Rattle.literal_search.proofs.lemmas.Rows.{zeros_are}
 use Rattle.literal_search.proofs.rows.rows_for.Goals as goal
 
 pub returns-then-is_empty-clause-classes : goal.returns-then-is_empty-clause-classes
@@ -46,13 +47,15 @@ pub returns-clause-classes : goal.returns-clause-classes
 returns-clause-classes c =
     let table = c.args.classes.now.table in
     ap (λ (l : List ℕ). (rows_value l).classes) c.in_ok-push_classes.ensures
-    ∙ ap (λ (v : RowsValue). v.classes) (both_kept c.in_ok-numbers.numbers.items table c.args.classes.now.width c.requires.classes)
+    ∙ ap (λ (v : RowsValue). v.classes) (both_kept c.in_ok-numbers.numbers.items table c.args.classes.now.width
+    c.requires.classes)
 
 pub returns-clause-recognises : goal.returns-clause-recognises
 returns-clause-recognises c =
     let table = c.args.classes.now.table in
     let is = ap (λ (l : List ℕ). (rows_value l).rows) c.in_ok-push_classes.ensures
-    ∙ ap (λ (v : RowsValue). v.rows) (both_kept c.in_ok-numbers.numbers.items table c.args.classes.now.width c.requires.classes) in
+    ∙ ap (λ (v : RowsValue). v.rows) (both_kept c.in_ok-numbers.numbers.items table c.args.classes.now.width
+    c.requires.classes) in
     subst (λ (rows : List ℕ). Recognises c.args.kind
     (map (λ (pattern : Vec ℕ). symbols_in table pattern.items) c.args.patterns.now) c.args.classes.now.width rows)
     (sym is) c.in_ok-numbers.ensures.recognises
@@ -61,7 +64,8 @@ pub returns-clause-states : goal.returns-clause-states
 returns-clause-states c =
     let table = c.args.classes.now.table in
     let is = ap (λ (l : List ℕ). (rows_value l).rows) c.in_ok-push_classes.ensures
-    ∙ ap (λ (v : RowsValue). v.rows) (both_kept c.in_ok-numbers.numbers.items table c.args.classes.now.width c.requires.classes) in
+    ∙ ap (λ (v : RowsValue). v.rows) (both_kept c.in_ok-numbers.numbers.items table c.args.classes.now.width
+    c.requires.classes) in
     subst (λ (rows : List ℕ). IsRowsLength c.args.kind
     (map (λ (pattern : Vec ℕ). symbols_in table pattern.items) c.args.patterns.now) c.args.classes.now.width
     (length rows)) (sym is) c.in_ok-numbers.ensures.states

@@ -2,14 +2,14 @@ use Rattle.std.proofs.Common.{◌≡◌, ◌∙◌, [], ap, refl, sym}
 use Rattle.std.proofs.lemmas.Bool.{eqb-true}
 use Rattle.std.proofs.lemmas.List.{nil_from_length}
 use Rattle.literal_search.specs.Inside.Kept.{numbers_kept}
-use Rattle.literal_search.specs.Inside.Rows.{packed}
+use Rattle.literal_search.specs.Inside.Rows.{packed_classes}
 use Rattle.literal_search.specs.Prepared.{check_of}
 use Rattle.literal_search.specs.declared.prepared.TheConstants.{NO_PATTERN}
 use Rattle.literal_search.proofs.linear.Numbers.as_slice.Goals as goal
 
 -- the numbers for no pattern
 none_kept : NO_PATTERN ≡ numbers_kept []
-unfolding check_of packed
+unfolding check_of packed_classes
 none_kept = refl
 
 pub returns-then-is_empty : goal.returns-then-is_empty

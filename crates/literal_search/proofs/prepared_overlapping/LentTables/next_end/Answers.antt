@@ -3,7 +3,7 @@ use Rattle.std.proofs.Common.{subst, sym}
 use Rattle.std.specs.Result.{IsOkAnd}
 use Rattle.literal_base.specs.Occurs.{IsValidSpan, between}
 use Rattle.literal_base.specs.declared.search.Span.{Span}
-use Rattle.literal_search.specs.Inside.Classes.{unpacked}
+use Rattle.literal_search.specs.Inside.Packed.{unpacked}
 use Rattle.literal_search.specs.Inside.LentTables.{AreFor, IsNextEnd, tables_by}
 use Rattle.literal_search.specs.Inside.NextEnd.{FindsNext, IsNextStop}
 use Rattle.literal_search.specs.Inside.Prepared.{header_table}
@@ -32,8 +32,8 @@ next_end-requires-clause-classes c =
 -- where something ends next by the numbers of a search
 abbrev NextStop : OverlappingValue → LentTables → List ℕ → Span → ℕ → Option Stop → Type 0
 NextStop search p haystack span at =
-    IsNextStop search.patterns search.ignore_case (unpacked p.header.classes.now) p.header.width (rows_of p.header.rows.now)
-    haystack span at
+    IsNextStop search.patterns search.ignore_case (unpacked p.header.classes.now) p.header.width
+    (rows_of p.header.rows.now) haystack span at
 
 finds_by : {search : OverlappingValue} {p : LentTables} (are : AreFor search p) (haystack : List ℕ)
     → ((i : ℕ) → get_or haystack i 0 < 256) → (span : Span) → IsValidSpan haystack span → (s : Standing)

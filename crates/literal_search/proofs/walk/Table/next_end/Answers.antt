@@ -100,8 +100,8 @@ loop-nearest-preserved c =
           in
           let none = passed.none Standard patterns ignore_case is in
           let back = λ (recognises : Recognises Standard words t.width (rows_by t)). subst (HasReached words t.width
-          (rows_by t) recognises (text_of (classes_by t) haystack (between come.0.from here.end)) (classes_by t) haystack
-          rest) c.in-Back.is (told.reaches is.classes words recognises _ (come.0.at recognises)) in (
+          (rows_by t) recognises (text_of (classes_by t) haystack (between come.0.from here.end)) (classes_by t)
+          haystack rest) c.in-Back.is (told.reaches is.classes words recognises _ (come.0.at recognises)) in (
             stands_new t patterns ignore_case is haystack bytes whole valid here so_far.inside come.0 c.args.span.start
                 come.1 at new (omega (arith, lies.0)) passed.inside.0 passed.inside.1 back none,
             later_new t patterns ignore_case is haystack bytes whole valid here so_far.inside come.0 c.args.span.start
