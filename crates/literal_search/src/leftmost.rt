@@ -37,13 +37,13 @@ const MARKED: usize = LEAST / 4;
 
 /// For each candidate that one walk looks at, fingerprints passed over this many bytes before, or as many as the longest
 /// pattern has.
-const PRICE: usize = 48;
+pub(crate) const PRICE: usize = 48;
 
 /// The largest number of bytes that count as passed over.
 const MOST_CREDIT: usize = 2048;
 
 /// Fingerprints look up at most this many bytes more than they pass over.
-const OVERLAP: usize = 19;
+pub(crate) const OVERLAP: usize = 19;
 
 /// At which rows four walks stand, each in one of four neighbouring parts of a span.
 #[derive(Clone, Copy)]
@@ -230,7 +230,7 @@ impl<'t> Backward<'t> {
     }
 
     /// What begins at a place of a span, by one walk that begins so far behind it that all that begins there lies before.
-    fn begun_at(
+    pub(crate) fn begun_at(
         &self,
         classes: &[u8; 256],
         haystack: &[u8],
@@ -263,7 +263,7 @@ impl<'t> Backward<'t> {
 
     /// A place of a span, or its end, before which no pattern begins, by the fingerprints, if there are any.
     #[inline(always)]
-    fn pass_over(
+    pub(crate) fn pass_over(
         &self,
         fingerprints: &Option<Fingerprints>,
         haystack: &[u8],
@@ -562,29 +562,29 @@ impl<'t> Backward<'t> {
     ) -> Result<(), Stopped>
         requires safe { IsSafe self.now }
         requires valid { IsValidSpan haystack.now span }
-        requires after { marks.old.known ≤ from }
-        requires placed { IsPlaced self.now.table.longest span from marks.old }
+        requires after { span.start ≤ from }
         requires inside { from + 4 * part + self.now.table.longest ≤ span.end }
-        requires long { self.now.table.longest ≤ part }
-        requires some { 2 ≤ part }
+        requires long { self.now.table.longest + 4 ≤ part }
+        requires some { OVERLAP ≤ 4 * part }
         requires short { 4 * part ≤ LEAST }
+        requires places { (marks.old.first ≡ from) × (marks.old.upto ≡ from) }
         ensures marked { ForBackward self.now (λ tables. IfOk result
             (λ _. AreMarked tables haystack.now span from marks.new)) }
         ensures refused { ForBackward self.now (λ tables. IfErr result
             (StopsMarking tables haystack.now from span.end)) }
-        ensures placed { IfOk result (λ _. IsPlaced self.now.table.longest span from marks.new) }
-        ensures known { marks.new.known ≡ from + 4 * part }
-        ensures bounded { ScansThrice (between marks.old.known marks.new.known) tally.old tally.new }
-        ensures least { IfOk result (λ _. tally.old.scanned + looked_by self.now.table.longest span marks.new.known
-            ≤ tally.new.scanned + looked_by self.now.table.longest span marks.old.known) }
+        ensures placed { (marks.new.first ≡ from) × (marks.new.upto ≤ marks.new.known)
+            × (marks.new.known ≡ from + 4 * part) }
+        ensures listed { IfOk result (λ _. marks.new.upto ≤ from + length marks.new.numbers.items) }
+        ensures others { tally.new ≡ record tally.old { scanned = tally.new.scanned } }
+        ensures most { tally.new.scanned + OVERLAP ≤ tally.old.scanned + 12 * part }
+        ensures least { IfOk result (λ _. tally.old.scanned + 4 * part + (self.now.table.longest - 1)
+            ≤ tally.new.scanned) }
         ensures more { length marks.old.numbers.items ≤ length marks.new.numbers.items }
         ensures no_room { IfErr result (λ error. error ≡ Stopped.OutOfMemory
             → length marks.old.numbers.items < min (max self.now.table.longest LEAST) (span.end - from)) }
     {
         let end = from + 4 * part;
         let lead = self.table.longest.saturating_sub(1);
-        marks.first = from;
-        marks.upto = from;
         marks.known = end;
         let (limit, bytes) = (self.table.limit()?, self.table.class_bytes());
         let classes = &bytes;
@@ -619,11 +619,11 @@ impl<'t> Backward<'t> {
     /// few, or the longest pattern is longer than such a part.
     pub(crate) fn part_for_marks(&self, left: usize) -> Option<usize>
         ensures inside { IfSome result (λ part. 4 * part + self.now.table.longest ≤ left) }
-        ensures long { IfSome result (λ part. (self.now.table.longest ≤ part) × (2 ≤ part)) }
+        ensures long { IfSome result (λ part. (self.now.table.longest + 4 ≤ part) × (OVERLAP ≤ 4 * part)) }
         ensures short { IfSome result (λ part. 4 * part ≤ LEAST) }
     {
         let part = (left.saturating_sub(self.table.longest) / 4).min(MARKED);
-        if part < LEAST_PART || part < self.table.longest {
+        if part < LEAST_PART || part < self.table.longest.saturating_add(4) {
             return None;
         }
         Some(part)
