@@ -229,7 +229,7 @@ impl<'t> Backward<'t> {
         Ok(first)
     }
 
-    /// What begins at a place of a span, by one walk that begins so far behind it that all that begins there lies before.
+    /// What begins at a place of a span, by one walk from so far behind it that all that begins there lies before.
     pub(crate) fn begun_at(
         &self,
         classes: &[u8; 256],
