@@ -94,7 +94,7 @@ fn linear_tells_how_many_bytes_it_takes(rt: HostRuntime) -> Result<(), Fail> {
         true,
         [b"ab".as_slice()],
     )?;
-    assert!(rt; search.memory_usage() == 54);
+    assert!(rt; search.memory_usage() == 1238);
     let wanted = "Linear { kind: LeftmostLongest, ignore_case: true, patterns: 1 }";
     assert_prints_as(&rt, rt.alloc(), &search, wanted)?;
     Ok(())
