@@ -85,7 +85,7 @@ fn tells_how_many_bytes_it_takes(rt: HostRuntime) -> Result<(), Fail> {
     Ok(())
 }
 
-/// The states of the reversed pattern are as many; one number more is for the pattern.
+/// Of the 309 numbers 12 are in rows of three states, 256 behind the rows, and 33 for fingerprints.
 #[test]
 fn linear_tells_how_many_bytes_it_takes(rt: HostRuntime) -> Result<(), Fail> {
     let search = Linear::new(
