@@ -18,13 +18,8 @@
  * There are two ways to search. literal_find, literal_find_all, literal_find_overlapping and literal_find_each take the
  * patterns, and build their search anew. Whoever searches more than once lets literal_prepare write the search into an
  * array, and gives this array to the functions whose names end in _in; literal_find_overlapping_in takes one that
- * literal_prepare_overlapping wrote, and those whose names end in _linear_in one of literal_prepare_linear. They build
- * nothing, and but for the last two they take no memory. The arrays may be copied, or kept in a file for machines of
- * the same byte order.
- *
- * Where others choose the patterns, as of a filter, take the functions with linear in their names: they find the same
- * matches, and look in sum at three bytes at most for each byte of the haystack, whatever the patterns are, where the
- * others may look behind each match at as many bytes as the longest pattern has.
+ * literal_prepare_overlapping wrote. They build nothing, and take no memory. The arrays may be copied, or kept in a
+ * file for machines of the same byte order.
  *
  * Each call checks its arguments and answers one of the statuses below. The checks come in their order: first
  * LITERAL_BAD_ARGUMENTS, then LITERAL_NO_SEARCHER, then the two that come while the search is built,
@@ -229,18 +224,6 @@ int32_t literal_prepare(uint32_t kind, bool ignore_case, const uint8_t *patterns
 int32_t literal_prepare_overlapping(bool ignore_case, const uint8_t *patterns, size_t patterns_len, const size_t *ends,
                                     size_t ends_len, uint32_t *prepared, size_t prepared_len, size_t *needed);
 
-/* The same for literal_find_all_linear_in and literal_count_linear_in. The array has one number more for each pattern.
- *
- * LITERAL_OK             prepared and needed are written
- * LITERAL_TOO_SHORT      the array has fewer than *needed places, and stays as it was
- * LITERAL_NO_SEARCHER    the patterns can't be searched for
- * LITERAL_OUT_OF_MEMORY  there is not enough memory for building the search
- * LITERAL_TOO_LARGE      as from literal_prepare
- * LITERAL_BAD_ARGUMENTS  the ends fall or pass the buffer, or the kind is none of the two */
-int32_t literal_prepare_linear(uint32_t kind, bool ignore_case, const uint8_t *patterns, size_t patterns_len,
-                               const size_t *ends, size_t ends_len, uint32_t *prepared, size_t prepared_len,
-                               size_t *needed);
-
 /* Whether an array of literal_prepare is whole, as one that was kept in a file: by its version, its lengths, and a check
  * over all of it. It finds what happens by accident, and is no defence against a forger.
  *
@@ -251,18 +234,15 @@ int32_t literal_check_prepared(const uint32_t *prepared, size_t prepared_len);
 /* The same for an array of literal_prepare_overlapping. */
 int32_t literal_check_overlapping(const uint32_t *prepared, size_t prepared_len);
 
-/* The same for an array of literal_prepare_linear. */
-int32_t literal_check_linear(const uint32_t *prepared, size_t prepared_len);
-
-/* The functions that follow search by an array that literal_prepare wrote, literal_find_overlapping_in by one of
- * literal_prepare_overlapping, and the last two by one of literal_prepare_linear. They look at its version and its
- * lengths, and not at all of it: an array that has not those of such a search, as one that is too short or of the other
- * kind, is always LITERAL_DAMAGED, if the other arguments are right. Of an array with other words each of them still
- * returns, and writes to the lent places alone; what it finds lies in the bytes that were searched, and its pattern is
- * below prepared[3], where the array says how many patterns there are. A page is the last, or fills the room for
- * matches, and of literal_find_all_in page->next is at least as many bytes behind start as the page has matches: with
- * room for one, a loop over pages ends. But the answer need not be right, whether that is LITERAL_DAMAGED or not, and
- * with LITERAL_DAMAGED some places for matches or answers may be written. */
+/* The functions that follow search by an array that literal_prepare wrote, and literal_find_overlapping_in by one of
+ * literal_prepare_overlapping. They look at its version and its lengths, and not at all of it: an array that has not
+ * those of such a search, as one that is too short or of the other kind, is always LITERAL_DAMAGED, if the other
+ * arguments are right. Of an array with other words each of them still returns, and writes to the lent places alone;
+ * what it finds lies in the bytes that were searched, and its pattern is below prepared[3], where the array says how
+ * many patterns there are. A page is the last, or fills the room for matches, and of literal_find_all_in page->next is
+ * at least as many bytes behind start as the page has matches: with room for one, a loop over pages ends. But the
+ * answer need not be right, whether that is LITERAL_DAMAGED or not, and with LITERAL_DAMAGED some places for matches or
+ * answers may be written. */
 
 /* As literal_find.
  *
@@ -325,29 +305,6 @@ int32_t literal_find_each_in(const uint32_t *prepared, size_t prepared_len, cons
  * LITERAL_DAMAGED        the array is not as it was written */
 int32_t literal_count_in(const uint32_t *prepared, size_t prepared_len, const uint8_t *haystack, size_t haystack_len,
                          size_t start, size_t end, size_t *count);
-
-/* As literal_find_all_in, by an array that literal_prepare_linear wrote: the same matches, and a call looks in sum at
- * three bytes at most for each byte that it searches, whatever the patterns are. Behind its matches a call looks for one
- * more, and beyond that at most twice as far as the longest pattern is long, or some thousand bytes; the next page begins anew where that one
- * begins. So with room for as many matches as that pattern has bytes, all pages together take time in proportion to the
- * haystack. While it runs, a call takes 4 bytes of memory for each byte of the longest pattern, or 4 KiB.
- *
- * LITERAL_OK             found and page are written, also where no pattern occurs (then page->written is 0)
- * LITERAL_OUT_OF_MEMORY  malloc refused it; there is a byte to search
- * LITERAL_BAD_ARGUMENTS  start is above end, or end above haystack_len
- * LITERAL_DAMAGED        the array is not as it was written */
-int32_t literal_find_all_linear_in(const uint32_t *prepared, size_t prepared_len, const uint8_t *haystack,
-                                   size_t haystack_len, size_t start, size_t end, literal_match *found,
-                                   size_t found_len, literal_page *page);
-
-/* How many matches literal_find_all_linear_in would write in all, without an array for them.
- *
- * LITERAL_OK             count holds the number
- * LITERAL_OUT_OF_MEMORY  malloc refused as much as literal_find_all_linear_in takes; there is a byte to search
- * LITERAL_BAD_ARGUMENTS  start is above end, or end above haystack_len
- * LITERAL_DAMAGED        the array is not as it was written */
-int32_t literal_count_linear_in(const uint32_t *prepared, size_t prepared_len, const uint8_t *haystack,
-                                size_t haystack_len, size_t start, size_t end, size_t *count);
 
 #ifdef __cplusplus
 }

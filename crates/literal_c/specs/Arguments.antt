@@ -4,9 +4,8 @@ use Rattle.literal_base.specs.declared.packed.MatchKind.{MatchKind}
 use Rattle.literal_base.specs.declared.packed.MatchKind.TheVariants.{LeftmostFirst, LeftmostLongest}
 use Rattle.literal_base.specs.Query.{Query}
 use Rattle.literal_base.specs.Kinds.{root_kind_of}
-use Rattle.literal_search.specs.SearchValue.{CanBeKept, NeedTooManyStates, SearchValue, search_by}
+use Rattle.literal_search.specs.SearchValue.{CanBeKept, NeedTooManyStates}
 use Rattle.literal_search.specs.Prepared.{ForPrepared, HasAllParts}
-use Rattle.literal_search.specs.PreparedLinear.{ForLinear, HasLinearParts}
 use Rattle.literal_search.specs.PreparedOverlapping.{ForOverlapping, HasLists}
 use Rattle.literal_c.specs.declared.TheConstants.{LITERAL_BAD_ARGUMENTS, LITERAL_LEFTMOST_FIRST}
 use Rattle.literal_c.specs.declared.TheConstants.{LITERAL_LEFTMOST_LONGEST}
@@ -25,10 +24,6 @@ kind_of number = if number == LITERAL_LEFTMOST_FIRST then LeftmostFirst else Lef
 -- what is searched for: by the kind of a number, the pieces of a buffer
 abbrev pub argument_query : ℕ → List ℕ → List ℕ → Query
 argument_query kind patterns ends = record { kind = kind_of kind; patterns = pieces patterns 0 ends }
-
--- the same, with case ignored or not, as a `Linear` has it
-abbrev pub linear_for_c : ℕ → Bool → List ℕ → List ℕ → SearchValue
-linear_for_c kind ignore_case patterns ends = search_by (kind_of kind) ignore_case (pieces patterns 0 ends)
 
 -- the arguments agree: the number stands for a kind, and the buffer can be cut at the ends
 pub record Agree (kind : ℕ) (patterns ends : List ℕ) : Type 0 where
@@ -69,7 +64,3 @@ IsStatusBy array = IsStatusOf (HasAllParts array) (λ P. ForPrepared array (λ _
 -- and of one by which everything that occurs is
 abbrev pub IsOverlappingStatusBy : List ℕ → Type 0 → (ℤ → Type 0) → ℤ → Type 0
 IsOverlappingStatusBy array = IsStatusOf (HasLists array) (λ P. ForOverlapping array (λ _. P))
-
--- and of one by which all leftmost matches are listed in linear time
-abbrev pub IsLinearStatusBy : List ℕ → Type 0 → (ℤ → Type 0) → ℤ → Type 0
-IsLinearStatusBy array = IsStatusOf (HasLinearParts array) (λ P. ForLinear array (λ _. P))

@@ -3,8 +3,7 @@ ghost use Rattle.std.specs.Prelude.{◌≡◌};
 ghost use Rattle.literal_base.specs.Occurs.{IsValidSpan};
 
 use literal_search::{
-    Damaged, Match, OverlappingMatches, Prepared, PreparedLinearMatches,
-    PreparedOverlappingMatches, Search, Span,
+    Damaged, Match, OverlappingMatches, Prepared, PreparedOverlappingMatches, Search, Span,
 };
 
 /// A search, which may be by damaged numbers.
@@ -109,25 +108,6 @@ impl<'f, 'h, F: Finder> Matches for FoundIn<'f, 'h, F> {
         };
         self.span.start = it.end();
         Ok(Some(it))
-    }
-}
-
-impl Matches for PreparedLinearMatches<'_, '_, '_> {
-    ghost use Rattle.std.specs.Prelude.{slice_index};
-    ghost use Rattle.literal_base.specs.Occurs.{between};
-    ghost use Rattle.literal_search.specs.PreparedLinear.{IsPreparedLinear};
-
-    ghost is_for = { λ m search. IsPreparedLinear search m.numbers };
-
-    ghost rest = { λ m. record {
-      haystack = m.haystack;
-      span = between m.at m.span.end;
-      patterns = slice_index m.numbers 3;
-    } };
-
-    #[inline(always)]
-    fn next_match(&mut self) -> Result<Option<Match>, Damaged> {
-        PreparedLinearMatches::next_match(self)
     }
 }
 

@@ -3,8 +3,7 @@
 //! Bytes cross as a pointer and a length. A list of byte strings crosses as one buffer and where each of its pieces
 //! ends: piece i is the bytes from `ends[i - 1]`, for the first from 0, up to and not including `ends[i]`. Each call
 //! answers a status, and keeps nothing when it returns. It builds its search anew, except for those whose names end in
-//! `_in`, which search by an array that [`literal_prepare`] filled, [`literal_prepare_overlapping`], or
-//! [`literal_prepare_linear`].
+//! `_in`, which search by an array that [`literal_prepare`] or [`literal_prepare_overlapping`] filled.
 #![tactic(auto)]
 
 ghost use Rattle.std.specs.Prelude.{◌≡◌, ◌⊎◌, ◌↔◌, ◌+◌, ◌-◌, ◌<◌, ◌≤◌, length, slice_index};
@@ -15,15 +14,13 @@ ghost use Rattle.literal_base.specs.declared.search.MatchKind.TheVariants.{Stand
 ghost use Rattle.literal_search.specs.SearchValue.{CanBeKept, NeedTooManyStates};
 ghost use Rattle.literal_search.specs.Prepared.{AreShort, ForPrepared, IsWhole, RefusesToPrepare};
 ghost use Rattle.literal_search.specs.Prepared.{WritesPrepared};
-ghost use Rattle.literal_search.specs.Linear.{NeedTooManyReversed};
-ghost use Rattle.literal_search.specs.PreparedLinear.{ForLinear, IsWholeLinear, RefusesLinear, WritesLinear};
 ghost use Rattle.literal_search.specs.PreparedOverlapping.{ForOverlapping, HasLongLists, RefusesOverlapping};
 ghost use Rattle.literal_search.specs.PreparedOverlapping.{IsWholeOverlapping, WritesOverlapping};
 ghost use Rattle.literal_search.specs.declared.prepared.PrepareError.TheVariants.{ArrayTooShort};
 ghost use Rattle.literal_c.specs.Answers.{IsAnswerForC, IsCount, IsPage, MayBeFound, MayBeAnswer, MayBePage};
 ghost use Rattle.literal_c.specs.Answers.{match_of};
 ghost use Rattle.literal_c.specs.Arguments.{Agree, IsOverlappingStatusBy, IsStatus, IsStatusBy, NeedTooMany};
-ghost use Rattle.literal_c.specs.Arguments.{IsLinearStatusBy, argument_query, linear_for_c};
+ghost use Rattle.literal_c.specs.Arguments.{argument_query};
 ghost use Rattle.literal_c.specs.Overlapping.{IsOverlappingPage, all_that_occurs, overlapping_for};
 ghost use Rattle.literal_c.specs.Pieces.{AreEnds, pieces};
 ghost use Rattle.literal_c.specs.SoFar.{TellsSoFar};
@@ -32,8 +29,6 @@ mod answers;
 mod arguments;
 mod finder;
 pub mod laws;
-#[cfg(test)]
-mod linear_tests;
 mod pieces;
 #[cfg(test)]
 mod prepared_tests;
@@ -42,9 +37,9 @@ mod so_far;
 mod tests;
 
 use answers::{answer_each, count_matches, match_for_c, write_overlapping, write_page};
-use arguments::{can_be_searched, linear_for, search_for, search_for_all};
+use arguments::{can_be_searched, search_for, search_for_all};
 use finder::FoundIn;
-use literal_search::{Damaged, PrepareError, Prepared, PreparedLinear, PreparedOverlapping, Span};
+use literal_search::{Damaged, PrepareError, Prepared, PreparedOverlapping, Span};
 use pieces::{Pieces, are_ends};
 use so_far::{find_so_far, tell_so_far};
 use std::alloc::Global;
@@ -391,48 +386,6 @@ pub extern "C" fn literal_prepare_overlapping(
     }
 }
 
-/// The same for all leftmost matches in linear time: a search by which [`literal_find_all_linear_in`] and
-/// [`literal_count_linear_in`] search. The statuses come as from [`literal_prepare`]. The array takes one place more
-/// for each pattern.
-#[unsafe(no_mangle)]
-pub extern "C" fn literal_prepare_linear(
-    alloc: Global,
-    kind: u32,
-    ignore_case: bool,
-    patterns: &[u8],
-    ends: &[usize],
-    prepared: &mut [u32],
-    needed: &mut usize,
-) -> i32
-    ensures status { IsStatus (Agree kind patterns.now ends.now) (pieces patterns.now 0 ends.now)
-        (NeedTooManyReversed ignore_case (pieces patterns.now 0 ends.now)
-        ⊎ ¬ AreShort (pieces patterns.now 0 ends.now)) result
-        ⊎ ((result ≡ LITERAL_TOO_SHORT) × Agree kind patterns.now ends.now
-        × CanBeKept (pieces patterns.now 0 ends.now)) }
-    ensures ok { result ≡ LITERAL_OK → WritesLinear (linear_for_c kind ignore_case patterns.now ends.now)
-        prepared.old prepared.new needed.new }
-    ensures too_short { result ≡ LITERAL_TOO_SHORT → RefusesLinear
-        (linear_for_c kind ignore_case patterns.now ends.now) prepared.old (ArrayTooShort needed.new) }
-    ensures as_before { (result ≡ LITERAL_OK) ⊎ (prepared.new ≡ prepared.old) }
-    ensures needed { ((result ≡ LITERAL_OK) ⊎ (result ≡ LITERAL_TOO_SHORT)) ⊎ (needed.new ≡ needed.old) }
-    ensures not_none { ¬ (result ≡ LITERAL_NONE) }
-{
-    match linear_for(alloc, kind, ignore_case, patterns, ends) {
-        Err(refusal) => refusal.status(),
-        Ok(search) => match search.prepare(prepared) {
-            Ok(places) => {
-                *needed = places;
-                LITERAL_OK
-            }
-            Err(PrepareError::ArrayTooShort(places)) => {
-                *needed = places;
-                LITERAL_TOO_SHORT
-            }
-            Err(PrepareError::PatternTooLong | PrepareError::ListsTooLong) => LITERAL_TOO_LARGE,
-        },
-    }
-}
-
 /// Whether an array begins with a whole search: [`LITERAL_OK`], as for each that [`literal_prepare`] wrote, or
 /// [`LITERAL_DAMAGED`]. It goes over all numbers of the search, and finds each change of one of them that does not say
 /// how many there are, and most others.
@@ -456,19 +409,6 @@ pub extern "C" fn literal_check_overlapping(prepared: &[u32]) -> i32
     ensures prepared { ForOverlapping prepared.now (λ _. result ≡ LITERAL_OK) }
 {
     match PreparedOverlapping::new(prepared) {
-        Ok(search) if search.is_whole() => LITERAL_OK,
-        _ => LITERAL_DAMAGED,
-    }
-}
-
-/// The same for an array that [`literal_prepare_linear`] wrote.
-#[unsafe(no_mangle)]
-pub extern "C" fn literal_check_linear(prepared: &[u32]) -> i32
-    ensures ok { (result ≡ LITERAL_OK) ↔ IsWholeLinear prepared.now }
-    ensures damaged { (result ≡ LITERAL_DAMAGED) ↔ ¬ IsWholeLinear prepared.now }
-    ensures prepared { ForLinear prepared.now (λ _. result ≡ LITERAL_OK) }
-{
-    match PreparedLinear::new(prepared) {
         Ok(search) if search.is_whole() => LITERAL_OK,
         _ => LITERAL_DAMAGED,
     }
@@ -693,89 +633,6 @@ pub extern "C" fn literal_find_overlapping_in(
         Err(Damaged) => LITERAL_DAMAGED,
         Ok(written) => {
             *page = written;
-            LITERAL_OK
-        }
-    }
-}
-
-/// Answers as [`literal_find_all_in`], by a search that [`literal_prepare_linear`] wrote. A call looks in sum at three
-/// bytes at most for each that it searches, whatever the patterns are. Behind its matches it looks for one more, and
-/// beyond that at most twice as far as the longest pattern is long, or some thousand bytes; the next page begins anew
-/// where that one begins. So pages with room for as many matches as that pattern has bytes take time in proportion to
-/// the haystack. Memory for marks of as many bytes as that pattern has, or 1,024, is asked for once:
-/// [`LITERAL_OUT_OF_MEMORY`] comes only where there is a byte to search, and what was lent is then as it was.
-#[unsafe(no_mangle)]
-pub extern "C" fn literal_find_all_linear_in(
-    alloc: Global,
-    prepared: &[u32],
-    haystack: &[u8],
-    start: usize,
-    end: usize,
-    found: &mut [LiteralMatch],
-    page: &mut LiteralPage,
-) -> i32
-    ensures status { IsLinearStatusBy prepared.now (IsValidSpan haystack.now (between start end))
-        (λ status. (status ≡ LITERAL_OK) ⊎ (status ≡ LITERAL_OUT_OF_MEMORY)) result }
-    ensures page { ForLinear prepared.now (λ search. result ≡ LITERAL_OK → IsPage search.query search.ignore_case
-        haystack.now (between start end) found.old found.new page.new) }
-    ensures inside { result ≡ LITERAL_OK
-        → MayBePage (between start end) (slice_index prepared.now 3) found.new page.new }
-    ensures goes_on { result ≡ LITERAL_OK → start + page.new.written ≤ page.new.next }
-    ensures no_memory { result ≡ LITERAL_OUT_OF_MEMORY → start < end }
-    ensures as_before { (result ≡ LITERAL_OK) ⊎ (page.new ≡ page.old) }
-    ensures refused { (result ≡ LITERAL_BAD_ARGUMENTS) ⊎ (result ≡ LITERAL_OUT_OF_MEMORY) → found.new ≡ found.old }
-{
-    if start > end || end > haystack.len() {
-        return LITERAL_BAD_ARGUMENTS;
-    }
-    let Ok(search) = PreparedLinear::new(prepared) else {
-        return LITERAL_DAMAGED;
-    };
-    let Ok(matches) = search.find_iter_in(alloc, haystack, Span { start, end }) else {
-        return LITERAL_OUT_OF_MEMORY;
-    };
-    match write_page(matches, start, found) {
-        Err(Damaged) => LITERAL_DAMAGED,
-        Ok(written) => {
-            *page = written;
-            LITERAL_OK
-        }
-    }
-}
-
-/// How many matches [`literal_find_all_linear_in`] finds, on one page after another: at most as many as there are bytes
-/// to search. The statuses are the same, and after any but [`LITERAL_OK`] the count is as it was. It looks in sum
-/// at three bytes at most for each that it searches.
-#[unsafe(no_mangle)]
-pub extern "C" fn literal_count_linear_in(
-    alloc: Global,
-    prepared: &[u32],
-    haystack: &[u8],
-    start: usize,
-    end: usize,
-    count: &mut usize,
-) -> i32
-    ensures status { IsLinearStatusBy prepared.now (IsValidSpan haystack.now (between start end))
-        (λ status. (status ≡ LITERAL_OK) ⊎ (status ≡ LITERAL_OUT_OF_MEMORY)) result }
-    ensures count { ForLinear prepared.now (λ search. result ≡ LITERAL_OK
-        → IsCount search.query search.ignore_case haystack.now (between start end) count.new) }
-    ensures most { result ≡ LITERAL_OK → count.new ≤ end - start }
-    ensures no_memory { result ≡ LITERAL_OUT_OF_MEMORY → start < end }
-    ensures as_before { (result ≡ LITERAL_OK) ⊎ (count.new ≡ count.old) }
-{
-    if start > end || end > haystack.len() {
-        return LITERAL_BAD_ARGUMENTS;
-    }
-    let Ok(search) = PreparedLinear::new(prepared) else {
-        return LITERAL_DAMAGED;
-    };
-    let Ok(matches) = search.find_iter_in(alloc, haystack, Span { start, end }) else {
-        return LITERAL_OUT_OF_MEMORY;
-    };
-    match count_matches(matches) {
-        Err(Damaged) => LITERAL_DAMAGED,
-        Ok(counted) => {
-            *count = counted;
             LITERAL_OK
         }
     }

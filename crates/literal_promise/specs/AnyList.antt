@@ -6,7 +6,6 @@ use Rattle.literal_base.specs.Occurs.{NoneIsEmpty, pattern_at}
 use Rattle.literal_base.specs.declared.search.MatchKind.TheVariants.{Standard}
 use Rattle.literal_ids.specs.declared.primitives.pattern_id.TheConstants.PatternID
 use Rattle.literal_base.specs.MatchValue.{MatchValue}
-use Rattle.literal_search.specs.Linear.{NeedTooManyReversed}
 use Rattle.literal_search.specs.Prepared.{WritesPrepared}
 use Rattle.literal_search.specs.SearchValue.{NeedTooManyStates, SearchValue, search_by}
 use Rattle.literal_search.specs.declared.BuildError.{BuildError}
@@ -29,11 +28,11 @@ RefusesPatterns NeedTooMany patterns OutOfMemory = 0 < length patterns
 RefusesPatterns NeedTooMany patterns TooManyPatterns = PatternID.LIMIT < length patterns
 RefusesPatterns NeedTooMany patterns TooManyStates = NeedTooMany patterns
 
--- the patterns need too many states for one of the three searches that are asked for
+-- the patterns need too many states for one of the two searches that are asked for
 abbrev pub NeedTooManyForAny : AnySearch → List (List ℕ) → Type 0
 NeedTooManyForAny asked patterns =
     NeedTooManyStates (root_kind_of asked.kind) asked.ignore_case patterns
-    ⊎ NeedTooManyStates Standard asked.ignore_case patterns ⊎ NeedTooManyReversed asked.ignore_case patterns
+    ⊎ NeedTooManyStates Standard asked.ignore_case patterns
 
 -- why the list that is asked for is refused
 abbrev pub RefusesAnyList : AnySearch → BuildError → Type 0

@@ -4,17 +4,15 @@
 //! `Search`, whose answer on every valid span is the leftmost whole occurrence under the tie rule;
 //! `find_iter` is the greedy list of these, and `Overlapping` gives each occurrence once; a search looks up
 //! at most three times the bytes of its span, and a whole iteration at most three times those of the
-//! haystack and for each match those of the longest pattern; `Linear` lists the same matches, looking up at
-//! most three times the bytes of the haystack; and a search by an array into which the `Search` is written answers
-//! as it does.
+//! haystack and for each match those of the longest pattern; `find_all` lists the same matches, looking up
+//! no more than that; and a search by an array into which the `Search` is written answers as it does.
 //!
 //! The contract of [`search_any_list`] says all of this.
 ghost use Rattle.std.specs.Prelude.{◌≡◌, ◌+◌, ◌<◌, ◌≤◌, IfErr, IfOk, MatchResult, OnErr, length};
 ghost use Rattle.literal_base.specs.Greedy.{IsGreedy};
 ghost use Rattle.literal_base.specs.Leftmost.{IsLeftmost};
-ghost use Rattle.literal_base.specs.Occurs.{IsValidSpan, whole_of};
+ghost use Rattle.literal_base.specs.Occurs.{IsValidSpan};
 ghost use Rattle.literal_search.specs.Earliest.{IsEarliestEnd};
-ghost use Rattle.literal_search.specs.Linear.{ScansThrice};
 ghost use Rattle.literal_search.specs.Overlapping.{IsOverlapping};
 ghost use Rattle.literal_search.specs.Prepared.{RefusesToPrepare};
 ghost use Rattle.literal_search.specs.SearchValue.{CanBeKept, ScansWithin, ScansListAtMost};
@@ -23,7 +21,7 @@ ghost use Rattle.literal_promise.specs.AnyList.{IsKeptOrWritten, RefusesAnyList,
 use literal_base::laws::greedy_is_unique;
 use literal_search::laws::{iterations_give_each_occurrence_once, iterations_scan_at_most};
 use literal_search::{
-    BuildError, Linear, Match, MatchKind, Overlapping, PrepareError, Prepared, Search, Span, Tally,
+    BuildError, Match, MatchKind, Overlapping, PrepareError, Prepared, Search, Span, Tally,
 };
 use std::alloc::{AllocError, Global};
 
@@ -45,6 +43,8 @@ pub struct Searched {
     pub found: Option<Match>,
     /// By [`Search::find_iter`], up to its first `None`.
     pub all: Vec<Match>,
+    /// By [`Search::find_all_counted`], of the whole haystack.
+    pub list: Vec<Match>,
 }
 
 /// What an [`Overlapping`] finds in the span.
@@ -61,15 +61,13 @@ pub struct Occurring {
 pub struct AnyFound {
     pub searched: Searched,
     pub occurring: Occurring,
-    /// By [`Linear::find_all_in_counted`], of the whole haystack.
-    pub linear: Vec<Match>,
     /// By [`Prepared::find_in`], in the span, if the array is long enough.
     pub by_array: Result<Option<Match>, PrepareError>,
 }
 
-/// Searches for a list of patterns by a `Search`, an `Overlapping` and a `Linear`, each made for it. It refuses as they
-/// do. Memory is asked for only where there is a pattern. Of the tallies the first is for the search of the span, the
-/// second for the iteration, and the third for the list of `Linear`. Into the array the `Search` is written.
+/// Searches for a list of patterns by a `Search` and an `Overlapping`, both made for it. It refuses as they do. Memory
+/// is asked for only where there is a pattern. Of the tallies the first is for the search of the span, the second for
+/// the iteration, and the third for the list. Into the array the `Search` is written.
 pub fn search_any_list(
     alloc: Global,
     asked: &AnySearch<'_>,
@@ -95,8 +93,9 @@ pub fn search_any_list(
         (length haystack.now) (length any.searched.all.items) iterated.old iterated.new) }
     ensures overlapping { IfOk result (λ any. IsOverlapping (searched_for asked.now).query.patterns
         asked.now.ignore_case haystack.now span any.occurring.all.items) }
-    ensures same_list { IfOk result (λ any. any.linear.items ≡ any.searched.all.items) }
-    ensures thrice { IfOk result (λ _. ScansThrice (whole_of haystack.now) listed.old listed.new) }
+    ensures same_list { IfOk result (λ any. any.searched.list.items ≡ any.searched.all.items) }
+    ensures list { IfOk result (λ any. ScansListAtMost (searched_for asked.now).query.patterns
+        (length haystack.now) (length any.searched.list.items) listed.old listed.new) }
     ensures by_array { IfOk result (λ any. MatchResult any.by_array
         (IsLeftmost (searched_for asked.now).query asked.now.ignore_case haystack.now span)
         (RefusesToPrepare (searched_for asked.now).query asked.now.ignore_case array.old)) }
@@ -106,14 +105,12 @@ pub fn search_any_list(
     ensures iterated_each { IfOk result (λ _. iterated.old.scanned + length haystack.now ≤ iterated.new.scanned) }
 {
     greedy_is_unique();
-    let searched = search(alloc, asked, haystack, span, once, iterated)?;
+    let searched = search(alloc, asked, haystack, span, once, iterated, listed)?;
     let occurring = all_that_occurs(alloc, asked, haystack, span)?;
-    let linear = list(alloc, asked, haystack, listed)?;
     let by_array = by_array(&search_for(alloc, asked)?, array, haystack, span);
     Ok(AnyFound {
         searched,
         occurring,
-        linear,
         by_array,
     })
 }
@@ -125,6 +122,7 @@ fn search(
     span: Span,
     once: &mut Tally,
     iterated: &mut Tally,
+    listed: &mut Tally,
 ) -> Result<Searched, BuildError>
     requires { IsValidSpan haystack.now span }
     ensures built { IfOk result (λ _. CanBeKept (searched_for asked.now).query.patterns) }
@@ -138,11 +136,17 @@ fn search(
     ensures iteration { IfOk result (λ searched. ScansListAtMost (searched_for asked.now).query.patterns
         (length haystack.now) (length searched.all.items) iterated.old iterated.new) }
     ensures each { IfOk result (λ _. iterated.old.scanned + length haystack.now ≤ iterated.new.scanned) }
+    ensures greedy_list { IfOk result (λ searched. IsGreedy (searched_for asked.now).query asked.now.ignore_case
+        haystack.now 0 searched.list.items) }
+    ensures list { IfOk result (λ searched. ScansListAtMost (searched_for asked.now).query.patterns
+        (length haystack.now) (length searched.list.items) listed.old listed.new) }
+    ensures listed_each { IfOk result (λ _. listed.old.scanned + length haystack.now ≤ listed.new.scanned) }
 {
     let search = search_for(alloc, asked)?;
     let found = search.find_in_counted(haystack, span, once);
     let all = taken_in_turn(alloc, &search, haystack, iterated)?;
-    Ok(Searched { found, all })
+    let list = search.find_all_counted(haystack, listed)?;
+    Ok(Searched { found, all, list })
 }
 
 fn search_for(alloc: Global, asked: &AnySearch<'_>) -> Result<Search, BuildError>
@@ -243,22 +247,4 @@ fn taken_overlapping(
         all.push(found)?;
     }
     Ok(all)
-}
-
-fn list(
-    alloc: Global,
-    asked: &AnySearch<'_>,
-    haystack: &[u8],
-    listed: &mut Tally,
-) -> Result<Vec<Match>, BuildError>
-    ensures refused { IfErr result (RefusesAnyList asked.now) }
-    ensures greedy { IfOk result (λ all. IsGreedy (searched_for asked.now).query asked.now.ignore_case haystack.now
-        0 all.items) }
-    ensures thrice { IfOk result (λ _. ScansThrice (whole_of haystack.now) listed.old listed.new) }
-    ensures once { IfOk result (λ _. listed.old.scanned + length haystack.now ≤ listed.new.scanned) }
-{
-    let patterns = asked.patterns.iter().copied();
-    let linear = Linear::new(alloc, asked.kind, asked.ignore_case, patterns)?;
-    let end = haystack.len();
-    Ok(linear.find_all_in_counted(haystack, Span { start: 0, end }, listed)?)
 }

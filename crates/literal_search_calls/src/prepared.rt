@@ -2,8 +2,7 @@
 use crate::made::first_of;
 use literal_base::count::Tally;
 use literal_search::{
-    Linear, Match, MatchKind, Overlapping, PrepareError, Prepared, PreparedLinear,
-    PreparedOverlapping, SoFar, Span,
+    Match, Overlapping, PrepareError, Prepared, PreparedOverlapping, SoFar, Span,
 };
 use std::alloc::Global;
 use std::test::Fail;
@@ -71,29 +70,6 @@ fn damaged_arrays_are_not_whole(rt: HostRuntime) -> Result<(), Fail> {
     Ok(())
 }
 
-/// The array that a `Linear` fills.
-fn filled_by_linear(alloc: Global) -> Result<Vec<u32>, Fail> {
-    let search = Linear::new(alloc, MatchKind::LeftmostFirst, true, WORDS)?;
-    let mut array = vec![in alloc; 0; search.prepared_len()]?;
-    search.prepare(&mut array)?;
-    Ok(array)
-}
-
-/// The first match by it behind that of the haystack.
-fn found_by_linear(alloc: Global, array: &[u32]) -> Result<Option<Match>, Fail> {
-    let prepared = PreparedLinear::new(array)?;
-    let mut matches = prepared.find_iter_in(alloc, HAYSTACK, Span { start: 3, end: 18 })?;
-    Ok(matches.next_counted(&mut Tally::new())?)
-}
-
-/// The same without an iteration, by both calls.
-fn found_once_by_linear(array: &[u32]) -> Result<[Option<Match>; 2], Fail> {
-    let (span, tally) = (Span { start: 3, end: 18 }, &mut Tally::new());
-    let prepared = PreparedLinear::new(array)?;
-    let found = prepared.find_in(HAYSTACK, span)?;
-    Ok([found, prepared.find_in_counted(HAYSTACK, span, tally)?])
-}
-
 /// The array that an `Overlapping` fills, of as many places as it takes.
 fn filled_by_overlapping(alloc: Global) -> Result<Vec<u32>, Fail> {
     let search = Overlapping::new(alloc, true, WORDS)?;
@@ -121,10 +97,7 @@ fn earliest_ends(array: &[u32]) -> Result<[Option<usize>; 2], Fail> {
 }
 
 #[test]
-fn counts_by_other_arrays(rt: HostRuntime) -> Result<(), Fail> {
-    let array = filled_by_linear(rt.alloc())?;
-    assert!(rt; found_by_linear(rt.alloc(), &array)? == second());
-    assert!(rt; found_once_by_linear(&array)? == [second(); 2]);
+fn counts_by_an_array_for_all(rt: HostRuntime) -> Result<(), Fail> {
     let array = filled_by_overlapping(rt.alloc())?;
     assert!(rt; found_by_overlapping(&array)? == second());
     assert!(rt; earliest_ends(&array)? == [Some(18); 2]);

@@ -1,5 +1,5 @@
 -- Why there is no search for a list that is given as a slice.
--- For `search_for`, `all_that_occurs` and `list`.
+-- For `search_for`, `all_that_occurs` and `search`.
 use Rattle.std.proofs.Common.{◌≡◌, ◌<◌, ℕ, Bool, List, [], ◌∷◌, length, take, Option}
 use Rattle.std.proofs.Common.{Result, Ok, Err, IfErr}
 use Rattle.std.proofs.Common.{sym, ap, ◌∙◌, arith, subst, inl, inr}

@@ -10,7 +10,7 @@ pub returns-in_err-search-clause-refused : goal.returns-in_err-search-clause-ref
 returns-in_err-search-clause-refused c =
     let asked = c.args.asked.now in
     refuses_any asked c.from_residual.result (slice_gives asked.patterns.now (cc))
-    (NeedTooManyStates Standard asked.ignore_case) (λ patterns many. inr (inl many))
+    (NeedTooManyStates Standard asked.ignore_case) (λ patterns many. inr many)
     c.in_err-search.field-0.0 c.in_err-search.ensures.error c.from_residual.ensures.1
 
 pub returns-in_err-all-clause-refused : goal.returns-in_err-all-clause-refused
