@@ -35,8 +35,8 @@ const LEAST_PART: usize = 6;
 /// The length of each of the four parts of a block that is marked, if as much is left.
 const MARKED: usize = LEAST / 4;
 
-/// For each candidate that one walk looks at, fingerprints passed over this many bytes before, or as many as the longest
-/// pattern has.
+/// Before one walk looks at a candidate, fingerprints passed over this many bytes, or as many as the longest pattern
+/// has.
 pub(crate) const PRICE: usize = 48;
 
 /// The largest number of bytes that count as passed over.
@@ -785,9 +785,7 @@ impl<'t> Backward<'t> {
         };
         let mut front = self.pass_on(fingerprints, haystack, span, begin, tally);
         while let Some(block) = self.four_parts_at(span, front.at, front.part, owed) {
-            let looked = self.look_on(
-                classes, haystack, span, front, block, owed, limit, tally,
-            )?;
+            let looked = self.look_on(classes, haystack, span, front, block, owed, limit, tally)?;
             if looked.first.is_some() {
                 return Ok(looked.first);
             }

@@ -23,8 +23,10 @@ ghost use Rattle.literal_search.specs.declared.backward.TheConstants.{LEAST};
 
 use crate::backward::{Backward, Marks, no_marks};
 use crate::classes::{CLASSES_LEN, classes_for};
-use crate::prepared::{FINGERPRINTS_LEN, LENGTHS_AT, LINEAR_VERSION, NO_PATTERN, PrepareError};
-use crate::prepared::{fingerprint_numbers, put_numbers, write};
+use crate::prepared::{
+    FINGERPRINTS_LEN, LENGTHS_AT, LINEAR_VERSION, NO_PATTERN, PrepareError, fingerprint_numbers,
+    put_numbers, write,
+};
 use crate::prepared_linear::backward_in;
 use crate::rows::{Rows, rows_for};
 use crate::suffixes::Recognised;
