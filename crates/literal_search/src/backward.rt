@@ -10,9 +10,10 @@ ghost use Rattle.literal_search.specs.LinearMatchesValue.{place_behind};
 ghost use Rattle.literal_search.specs.Inside.Backward.{AreMarked, AreMarks, ForBackward, IsBegun, IsBlock};
 ghost use Rattle.literal_search.specs.Inside.Backward.{IsLastBegun, IsMark, IsMatchBy, IsPlaced, IsRead, StopsMarking};
 ghost use Rattle.literal_search.specs.Inside.Backward.{IsSafe, LeadsOn, NoneFrom, StandsDown};
+ghost use Rattle.literal_search.specs.Inside.Leftmost.{AreLanes, HasBytes, HaveRows, IsLimit};
 
 use crate::classes::CLASSES_LEN;
-use crate::leftmost::{OVERLAP, PRICE};
+use crate::leftmost::{Block, LEAST_PART, Lanes, OVERLAP, PRICE};
 use crate::prepared::{Damaged, fingerprints_in};
 use crate::walk::{ENDS, Table};
 use literal_base::count::Tally;
@@ -21,6 +22,9 @@ use std::alloc::{AllocError, Global};
 
 /// How long a block is at least, if the span is.
 pub(crate) const LEAST: usize = 1024;
+
+/// The length of each of the four parts of a block that is marked, if as much is left.
+const MARKED: usize = LEAST / 4;
 
 /// What a search from the right reads.
 #[derive(Clone, Copy)]
@@ -399,6 +403,133 @@ impl<'t> Backward<'t> {
             marks.upto = begun.at + 1;
         }
         Ok(())
+    }
+
+    /// Marks each place of four neighbouring parts, by four walks at once that stand at their ends.
+    #[inline(never)]
+    fn mark_in_four(
+        &self,
+        classes: &[u8; 256],
+        haystack: &[u8],
+        span: Span,
+        at: usize,
+        part: usize,
+        lanes: Lanes,
+        limit: usize,
+        marks: &mut [u32],
+        tally: &mut Tally,
+    ) -> Result<(), Damaged>
+        requires safe { IsSafe self.now }
+        requires same { HasBytes self.now classes.now }
+        requires limit { IsLimit self.now limit }
+        requires rows { HaveRows limit lanes }
+        requires valid { IsValidSpan haystack.now span }
+        requires inside { at + 4 * part ≤ span.end }
+        requires room { 4 * part ≤ length marks.old }
+        ensures marks { ForBackward self.now (λ tables. AreLanes tables haystack.now span at part part lanes
+            → IsOkAnd result (λ _. AreMarks tables haystack.now span.end marks.new at at (at + 4 * part))) }
+        ensures others { tally.new ≡ record tally.old { scanned = tally.new.scanned } }
+        ensures most { tally.new.scanned ≤ tally.old.scanned + 4 * part }
+        ensures all { IfOk result (λ _. tally.new.scanned ≡ tally.old.scanned + 4 * part) }
+    {
+        let (mut first, mut second) = (lanes.first, lanes.second);
+        let (mut third, mut fourth) = (lanes.third, lanes.fourth);
+        let search = *self; // (a copy: what is written to the marks does not change it)
+        for step in (0..part).rev() {
+            let here = at + step;
+            let one = search.step(classes, first, haystack, here, limit, tally)?;
+            marks[step] = one;
+            first = (one % ENDS) as usize;
+            let two = search.step(classes, second, haystack, here + part, limit, tally)?;
+            marks[step + part] = two;
+            second = (two % ENDS) as usize;
+            let three = search.step(classes, third, haystack, here + 2 * part, limit, tally)?;
+            marks[step + 2 * part] = three;
+            third = (three % ENDS) as usize;
+            let four = search.step(classes, fourth, haystack, here + 3 * part, limit, tally)?;
+            marks[step + 3 * part] = four;
+            fourth = (four % ENDS) as usize;
+        }
+        Ok(())
+    }
+
+    /// Marks the block of four parts that begins at a place, unless nothing begins in it.
+    pub(crate) fn mark_four_parts(
+        &self,
+        haystack: &[u8],
+        span: Span,
+        from: usize,
+        part: usize,
+        marks: &mut Marks,
+        tally: &mut Tally,
+    ) -> Result<(), Stopped>
+        requires safe { IsSafe self.now }
+        requires valid { IsValidSpan haystack.now span }
+        requires after { span.start ≤ from }
+        requires inside { from + 4 * part + self.now.table.longest ≤ span.end }
+        requires long { self.now.table.longest + 4 ≤ part }
+        requires some { OVERLAP ≤ 4 * part }
+        requires short { 4 * part ≤ LEAST }
+        requires places { (marks.old.first ≡ from) × (marks.old.upto ≡ from) }
+        ensures marked { ForBackward self.now (λ tables. IfOk result
+            (λ _. AreMarked tables haystack.now span from marks.new)) }
+        ensures refused { ForBackward self.now (λ tables. IfErr result
+            (StopsMarking tables haystack.now from span.end)) }
+        ensures placed { (marks.new.first ≡ from) × (marks.new.upto ≤ marks.new.known)
+            × (marks.new.known ≡ from + 4 * part) }
+        ensures listed { IfOk result (λ _. marks.new.upto ≤ from + length marks.new.numbers.items) }
+        ensures others { tally.new ≡ record tally.old { scanned = tally.new.scanned } }
+        ensures most { tally.new.scanned + OVERLAP ≤ tally.old.scanned + 12 * part }
+        ensures least { IfOk result (λ _. tally.old.scanned + 4 * part + (self.now.table.longest - 1)
+            ≤ tally.new.scanned) }
+        ensures more { length marks.old.numbers.items ≤ length marks.new.numbers.items }
+        ensures no_room { IfErr result (λ error. error ≡ Stopped.OutOfMemory
+            → length marks.old.numbers.items < min (max self.now.table.longest LEAST) (span.end - from)) }
+    {
+        let end = from + 4 * part;
+        let lead = self.table.longest.saturating_sub(1);
+        marks.known = end;
+        let (limit, bytes) = (self.table.limit()?, self.table.class_bytes());
+        let classes = &bytes;
+        let led = self.lead_in_four(
+            classes,
+            haystack,
+            span,
+            from,
+            Block { part, lead, end },
+            limit,
+            tally,
+        )?;
+        if !self.pass_in_four(classes, haystack, span, from, part, led.lanes, limit, tally) {
+            self.make_room(&mut marks.numbers, span.end - from)?;
+            self.mark_in_four(
+                classes,
+                haystack,
+                span,
+                from,
+                part,
+                led.lanes,
+                limit,
+                &mut marks.numbers,
+                tally,
+            )?;
+            marks.upto = end;
+        }
+        Ok(())
+    }
+
+    /// How long each of four parts is that are marked at once, where so many bytes are left; and none where these are
+    /// few, or the longest pattern is longer than such a part.
+    pub(crate) fn part_for_marks(&self, left: usize) -> Option<usize>
+        ensures inside { IfSome result (λ part. 4 * part + self.now.table.longest ≤ left) }
+        ensures long { IfSome result (λ part. (self.now.table.longest + 4 ≤ part) × (OVERLAP ≤ 4 * part)) }
+        ensures short { IfSome result (λ part. 4 * part ≤ LEAST) }
+    {
+        let part = (left.saturating_sub(self.table.longest) / 4).min(MARKED);
+        if part < LEAST_PART || part < self.table.longest.saturating_add(4) {
+            return None;
+        }
+        Some(part)
     }
 
     /// The match that begins at the first marked place, from one on, at which a pattern begins.
