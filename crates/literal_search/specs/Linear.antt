@@ -1,11 +1,13 @@
 -- All leftmost matches of a span, and what a search for them scans.
-use Rattle.std.specs.Prelude.{◌≡◌, ℕ, ◌+◌, ◌-◌, ◌*◌, ◌≤◌, ◌/◌, Bool, List, None, Option, Some, map, max, min, reverse}
+use Rattle.std.specs.Prelude.{◌≡◌, ◌⊎◌, ℕ, ◌+◌, ◌-◌, ◌*◌, ◌<◌, ◌≤◌, ◌/◌, Bool, List, None, Option, Some, map, max, min, reverse}
 use Rattle.literal_base.specs.Counts.{Counts}
 use Rattle.literal_base.specs.MatchValue.{MatchValue}
+use Rattle.literal_base.specs.Occurs.{NothingOccurs, between}
 use Rattle.literal_base.specs.declared.search.MatchKind.TheVariants.{Standard}
 use Rattle.literal_base.specs.declared.search.Span.{Span}
-use Rattle.literal_search.specs.SearchValue.{HoldsInClasses, longest_of}
+use Rattle.literal_search.specs.SearchValue.{HoldsInClasses, SearchValue, longest_of}
 use Rattle.literal_search.specs.States.{HasTooManyStates}
+use Rattle.literal_search.specs.declared.backward.TheConstants.{LEAST}
 use Rattle.literal_search.specs.declared.leftmost.TheConstants.{FIRST}
 
 -- at most three times as many bytes are scanned as the span has
@@ -54,3 +56,19 @@ pub record ScansBack (patterns : List (List ℕ)) (span : Span) (answer : Option
   pub others : new ≡ record old { scanned = new.scanned }
   pub most : new.scanned ≤ old.scanned + 3 * (span.end - span.start)
   pub counted : LooksFor (longest_of patterns) span answer old.scanned new.scanned
+
+-- what the search for the next match of a list scans, from a place on, where it is known up to another what begins, and
+-- then further: by patterns that are no longer than a block at most three times as many bytes as it is known further,
+-- and at least those that had not been looked up; by longer ones what the search of the rest scans
+pub record ScansNext (longest : ℕ) (span : Span) (at known further : ℕ) (answer : Option MatchValue) (old new : Counts)
+    : Type 0 where
+  pub others : new ≡ record old { scanned = new.scanned }
+  pub most : new.scanned ≤ old.scanned + 3 * (span.end - known)
+  pub marked : longest ≤ LEAST → new.scanned ≤ old.scanned + 3 * (further - known)
+  pub least : longest ≤ LEAST → old.scanned + looked_by longest span further ≤ new.scanned + looked_by longest span known
+  pub found : LEAST < longest → LooksFor longest (between at span.end) answer old.scanned new.scanned
+
+-- why there may be no memory for a list: something occurs in the span, or a pattern is longer than a block
+abbrev pub MayRefuseList : SearchValue → List ℕ → Span → Type 0
+MayRefuseList search haystack span = ¬ NothingOccurs search.query.patterns search.ignore_case haystack span
+    ⊎ (LEAST < longest_of search.query.patterns)

@@ -6,8 +6,8 @@ use Rattle.literal_base.specs.Leftmost.{IsLeftmost}
 use Rattle.literal_base.specs.MatchValue.{MatchValue}
 use Rattle.literal_base.specs.Occurs.{between}
 use Rattle.literal_base.specs.declared.search.Span.{Span}
-use Rattle.literal_search.specs.Linear.{ScansThrice, looked_upto}
-use Rattle.literal_search.specs.SearchValue.{SearchValue}
+use Rattle.literal_search.specs.Linear.{ScansNext, looked_upto}
+use Rattle.literal_search.specs.SearchValue.{SearchValue, longest_of}
 
 -- a `LinearMatches` as contracts see it: what is searched for, where, the place from which it goes on, and up to which
 -- place it has looked
@@ -35,14 +35,12 @@ pub record GivesInSpan (old : LinearMatchesValue) (answer : Option MatchValue) (
   pub inside : new.known ≤ old.span.end
   pub looked : new.at ≤ looked_upto old.search.query.patterns old.span new.known
 
--- a step of an iteration that counts: what `next` gives; it scans at most three times as many bytes as those up to
--- which it looks further than before, and at least those that it had not looked up and now has
+-- a step of an iteration that counts: what `next` gives, and what it scans
 pub record GivesInSpanCounted (old : LinearMatchesValue × Counts) (answer : Option MatchValue)
     (new : LinearMatchesValue × Counts) : Type 0 where
   pub gives : GivesInSpan old.0 answer new.0
-  pub bounded : ScansThrice (between old.0.known new.0.known) old.1 new.1
-  pub least : old.1.scanned + looked_upto old.0.search.query.patterns old.0.span new.0.known
-      ≤ new.1.scanned + looked_upto old.0.search.query.patterns old.0.span old.0.known
+  pub scans : ScansNext (longest_of old.0.search.query.patterns) old.0.span old.0.at old.0.known new.0.known answer old.1
+      new.1
 
 -- at most how many matches are to come: each takes a byte or more of the rest
 abbrev pub most_in_span : LinearMatchesValue → Count

@@ -160,7 +160,7 @@ impl<'t> Backward<'t> {
     }
 
     /// Where a walk stands at an end, that began so far behind the end that it tells all that begins before it.
-    fn walk_back(
+    pub(crate) fn walk_back(
         &self,
         classes: &[u8; 256],
         haystack: &[u8],

@@ -9,7 +9,8 @@ ghost use Rattle.literal_base.specs.Given.{CanBeTaken};
 ghost use Rattle.literal_search.specs.At.{IsMatchAt, ScansAt};
 ghost use Rattle.literal_search.specs.SearchValue.{BuildsSearch, CanBeKept, RefusesSearch};
 ghost use Rattle.literal_base.specs.Greedy.{IsGreedyIn};
-ghost use Rattle.literal_search.specs.Linear.{NeedFewReversed, NeedTooManyReversed, ScansThrice};
+ghost use Rattle.literal_search.specs.Linear.{MayRefuseList, NeedFewReversed, NeedTooManyReversed, ScansNext, ScansThrice};
+ghost use Rattle.literal_search.specs.SearchValue.{longest_of};
 ghost use Rattle.literal_search.specs.Linear.{ScansBack, looked_upto, reversed};
 ghost use Rattle.literal_search.specs.LinearMatchesValue.{GivesInSpan, most_in_span, place_behind};
 ghost use Rattle.literal_search.specs.Memory.{TakesLinearBytes};
@@ -21,7 +22,7 @@ ghost use Rattle.literal_search.specs.Prepared.{AreShort, longest_in};
 ghost use Rattle.literal_search.specs.PreparedLinear.{RefusesLinear, TakesLinearPlaces, WritesLinear};
 ghost use Rattle.literal_search.specs.declared.backward.TheConstants.{LEAST};
 
-use crate::backward::{Backward, Marks, no_marks};
+use crate::backward::{Backward, LEAST, Marks, no_marks, place_after};
 use crate::classes::{CLASSES_LEN, classes_for};
 use crate::prepared::{
     FINGERPRINTS_LEN, LENGTHS_AT, LINEAR_VERSION, NO_PATTERN, PrepareError, fingerprint_numbers,
@@ -135,12 +136,11 @@ impl Linear {
 
     /// The list of all matches in the haystack, from the left, none of which overlaps another: first the leftmost match
     /// of the haystack, and after each match the leftmost one of what is left behind it. Memory is asked for only where
-    /// there is a match.
+    /// there is a match, or a pattern has more than 1,024 bytes.
     pub fn find_all(&self, haystack: &[u8]) -> Result<Vec<Match>, AllocError>
         ensures greedy { IfOk result
             (λ all. IsGreedy self.now.query self.now.ignore_case haystack.now 0 all.items) }
-        ensures no_memory { OnErr result (¬ NothingOccurs self.now.query.patterns self.now.ignore_case haystack.now
-            (whole_of haystack.now)) }
+        ensures no_memory { OnErr result (MayRefuseList self.now haystack.now (whole_of haystack.now)) }
     {
         let end = haystack.len();
         self.find_all_in(haystack, Span { start: 0, end })
@@ -153,8 +153,7 @@ impl Linear {
         requires { IsValidSpan haystack.now span }
         ensures greedy { IfOk result
             (λ all. IsGreedyIn self.now.query self.now.ignore_case haystack.now span all.items) }
-        ensures no_memory { OnErr result
-            (¬ NothingOccurs self.now.query.patterns self.now.ignore_case haystack.now span) }
+        ensures no_memory { OnErr result (MayRefuseList self.now haystack.now span) }
     {
         self.find_all_in_counted(haystack, span, &mut Tally::new())
     }
@@ -172,21 +171,14 @@ impl Linear {
             (λ all. IsGreedyIn self.now.query self.now.ignore_case haystack.now span all.items) }
         ensures bounded { ScansThrice span tally.old tally.new }
         ensures least { IfOk result (λ _. tally.old.scanned + (span.end - span.start) ≤ tally.new.scanned) }
-        ensures no_memory { OnErr result
-            (¬ NothingOccurs self.now.query.patterns self.now.ignore_case haystack.now span) }
+        ensures no_memory { OnErr result (MayRefuseList self.now haystack.now span) }
     {
-        let alloc = *self.parts.patterns.allocator();
-        let mut all = Vec::new(alloc);
-        let mut marks = no_marks(alloc, span);
-        let mut at = span.start;
-        while let Some(found) = self
-            .parts
-            .next_match(haystack, span, at, &mut marks, tally)?
-        {
-            at = found.end();
-            all.push(found)?;
+        if self.parts.longest() <= LEAST {
+            return self.parts.all_in(haystack, span, &mut [0; LEAST], tally);
         }
-        Ok(all)
+        let alloc = *self.parts.patterns.allocator();
+        let mut numbers = vec![in alloc; 0u32; self.parts.longest()]?;
+        self.parts.all_in(haystack, span, &mut numbers, tally)
     }
 
     /// The leftmost match in a span of the haystack: of the occurrences of patterns that lie whole in the span the one
@@ -237,36 +229,28 @@ impl Linear {
         answer.unwrap_or(None)
     }
 
-    /// The matches that [`Linear::find_all_in`] lists, one after another. Memory is asked for once, and for no empty
-    /// span: it holds what is known of one block, which is as long as the longest pattern or longer. The iterator
-    /// borrows the haystack, and ends with the first `None`.
-    pub fn find_iter_in<'s, 'h>(
-        &'s self,
-        haystack: &'h [u8],
-        span: Span,
-    ) -> Result<LinearMatches<'s, 'h>, AllocError>
+    /// The matches that [`Linear::find_all_in`] lists, one after another. No memory is asked for: what is known of one
+    /// block stands in the iterator, which takes 4 KiB. If a pattern is longer than a block, of 1,024 bytes, each match
+    /// is searched for alone. The iterator borrows the haystack, and ends with the first `None`.
+    pub fn find_iter_in<'s, 'h>(&'s self, haystack: &'h [u8], span: Span) -> LinearMatches<'s, 'h>
         requires { IsValidSpan haystack.now span }
-        ensures ok { IfOk result (λ matches. matches ≡ record {
+        ensures { result ≡ record {
           search = self.now;
           haystack = haystack.now;
           span = span;
           at = span.start;
           known = span.start;
-        }) }
-        ensures no_memory { OnErr result (span.start < span.end) }
+        } }
     {
         prove!(span.end <= haystack.len());
-        let mut marks = no_marks(*self.parts.patterns.allocator(), span);
-        self.parts
-            .backward()
-            .make_room(&mut marks.numbers, span.end - span.start)?;
-        Ok(LinearMatches {
+        LinearMatches {
             parts: &self.parts,
             haystack,
             span,
             at: span.start,
-            marks,
-        })
+            numbers: [0; LEAST],
+            marks: no_marks(span.start),
+        }
     }
 
     /// Writes the search into the first places of an array, and answers how many these are: about as many as the
@@ -324,41 +308,73 @@ impl fmt::Debug for Linear {
 }
 
 impl Parts {
-    /// The leftmost match of the rest of a span, from a place on. Memory is asked for only where a pattern occurs in
-    /// the rest, and there is no room for the marks of a block.
+    /// The list of all matches in a span, by numbers that have room for the marks of a block.
+    fn all_in(
+        &self,
+        haystack: &[u8],
+        span: Span,
+        numbers: &mut [u32],
+        tally: &mut Tally,
+    ) -> Result<Vec<Match>, AllocError>
+        requires parts { AreParts self.now }
+        requires valid { IsValidSpan haystack.now span }
+        requires room { max (longest_in self.now.numbers) LEAST ≤ length numbers.old }
+        ensures greedy { IfOk result
+            (λ all. IsGreedyIn (linear_value self.now).query self.now.ignore_case haystack.now span all.items) }
+        ensures bounded { ScansThrice span tally.old tally.new }
+        ensures least { IfOk result (λ _. tally.old.scanned + (span.end - span.start) ≤ tally.new.scanned) }
+        ensures no_memory { OnErr result
+            (¬ NothingOccurs (patterns_of self.now) self.now.ignore_case haystack.now span) }
+    {
+        let mut all = Vec::new(*self.patterns.allocator());
+        let mut marks = no_marks(span.start);
+        let mut at = span.start;
+        while let Some(found) = self.next_match(haystack, span, at, numbers, &mut marks, tally) {
+            at = found.end();
+            all.push(found)?;
+        }
+        Ok(all)
+    }
+
+    /// The leftmost match of the rest of a span, from a place on.
     fn next_match(
         &self,
         haystack: &[u8],
         span: Span,
         at: usize,
+        numbers: &mut [u32],
         marks: &mut Marks,
         tally: &mut Tally,
-    ) -> Result<Option<Match>, AllocError>
+    ) -> Option<Match>
         requires parts { AreParts self.now }
         requires valid { IsValidSpan haystack.now span }
+        requires room { max (longest_in self.now.numbers) LEAST ≤ length numbers.old }
         requires placed { IsPlaced (longest_in self.now.numbers) span at marks.old }
-        requires marked { AreMarked (tables_of self.now) haystack.now span at marks.old }
-        ensures leftmost { IfOk result (IsLeftmost (linear_value self.now).query self.now.ignore_case haystack.now
-            (between at span.end)) }
-        ensures not_empty { IfOk result (λ answer. IfSome answer (λ found. found.start < found.end)) }
-        ensures placed { IfOk result (λ answer. IsPlaced (longest_in self.now.numbers) span (place_behind span answer)
-            marks.new) }
-        ensures marked { IfOk result
-            (λ answer. AreMarked (tables_of self.now) haystack.now span (place_behind span answer) marks.new) }
+        requires marked { AreMarked (tables_of self.now) haystack.now span at numbers.old marks.old }
+        ensures leftmost { IsLeftmost (linear_value self.now).query self.now.ignore_case haystack.now
+            (between at span.end) result }
+        ensures not_empty { IfSome result (λ found. found.start < found.end) }
+        ensures placed { IsPlaced (longest_in self.now.numbers) span (place_behind span result) marks.new }
+        ensures marked { AreMarked (tables_of self.now) haystack.now span (place_behind span result) numbers.new
+            marks.new }
         ensures further { (marks.old.known ≤ marks.new.known) × (marks.new.known ≤ span.end) }
         ensures bounded { ScansThrice (between marks.old.known marks.new.known) tally.old tally.new }
-        ensures least { IfOk result (λ _. tally.old.scanned + looked_upto (patterns_of self.now) span marks.new.known
-            ≤ tally.new.scanned + looked_upto (patterns_of self.now) span marks.old.known) }
-        ensures more { IfOk result (λ _. length marks.old.numbers.items ≤ length marks.new.numbers.items) }
-        ensures no_room { OnErr result
-            (length marks.old.numbers.items < min (max (longest_in self.now.numbers) LEAST) (span.end - at)) }
-        ensures no_memory { OnErr result (¬ NothingOccurs (patterns_of self.now) self.now.ignore_case haystack.now
-            (between at span.end)) }
+        ensures least { tally.old.scanned + looked_upto (patterns_of self.now) span marks.new.known
+            ≤ tally.new.scanned + looked_upto (patterns_of self.now) span marks.old.known }
     {
-        match self.backward().next_match(haystack, span, at, marks, tally) {
-            Ok(answer) => Ok(answer),
-            Err(_) => Err(AllocError),
+        let backward = self.backward();
+        match backward.next_match(haystack, span, at, numbers, marks, tally) {
+            Ok(answer) => answer,
+            Err(_) => unreachable!(),
         }
+    }
+
+    /// How long the longest pattern is.
+    fn longest(&self) -> usize
+        requires { AreParts self.now }
+        ensures { result ≡ longest_in self.now.numbers }
+    {
+        self.backward().table.longest
     }
 
     /// What a search from the right reads of them.
@@ -456,12 +472,15 @@ pub struct LinearMatches<'s, 'h> {
     haystack: &'h [u8],
     span: Span,
     at: usize,
+    numbers: [u32; LEAST],
     marks: Marks,
 }
 
 impl<'s, 'h> Model for LinearMatches<'s, 'h> {
     ghost use Rattle.literal_search.specs.LinearMatchesValue.{LinearMatchesValue};
-    ghost use Rattle.literal_search.specs.Inside.Backward.{AreMarked, HasRoomForMarks, IsPlaced};
+    ghost use Rattle.std.specs.Prelude.{◌≤◌};
+    ghost use Rattle.literal_search.specs.Inside.Backward.{AreMarked, IsAhead};
+    ghost use Rattle.literal_search.specs.declared.backward.TheConstants.{LEAST};
     ghost use Rattle.literal_search.specs.Inside.Linear.{AreParts, linear_value, tables_of};
     ghost use Rattle.literal_search.specs.Prepared.{longest_in};
     ghost use Rattle.literal_base.specs.Occurs.{IsValidSpan};
@@ -477,32 +496,36 @@ impl<'s, 'h> Model for LinearMatches<'s, 'h> {
     } };
 
     ghost invariant = { λ m. AreParts m.parts.now × IsValidSpan m.haystack.now m.span
-        × IsPlaced (longest_in m.parts.now.numbers) m.span m.at m.marks
-        × AreMarked (tables_of m.parts.now) m.haystack.now m.span m.at m.marks
-        × HasRoomForMarks (longest_in m.parts.now.numbers) m.span m.marks };
+        × IsAhead (longest_in m.parts.now.numbers) m.span m.at m.marks
+        × (longest_in m.parts.now.numbers ≤ LEAST
+        → AreMarked (tables_of m.parts.now) m.haystack.now m.span m.at m.numbers m.marks) };
 }
 
 impl<'s, 'h> LinearMatches<'s, 'h> {
     /// Answers as `next`, and adds each byte that it looks up to a tally, as scanned: at most three times as many as
     /// those up to which it looks further than before, and at least those by which it reads further, which is as far
     /// ahead as a pattern may reach. A whole iteration so looks up at least the bytes of the span, and at most three
-    /// times as many.
+    /// times as many. If a pattern has more than 1,024 bytes, it is what [`Linear::find_in_counted`] looks up in the
+    /// rest.
     pub fn next_counted(&mut self, tally: &mut Tally) -> Option<Match>
         ensures gives { GivesInSpan self.old result self.new }
-        ensures bounded { ScansThrice (between self.old.known self.new.known) tally.old tally.new }
-        ensures least { tally.old.scanned + looked_upto self.old.search.query.patterns self.old.span self.new.known
-            ≤ tally.new.scanned + looked_upto self.old.search.query.patterns self.old.span self.old.known }
+        ensures scans { ScansNext (longest_of self.old.search.query.patterns) self.old.span self.old.at self.old.known
+            self.new.known result tally.old tally.new }
     {
-        let span = self.span;
-        let next = self
-            .parts
-            .next_match(self.haystack, span, self.at, &mut self.marks, tally);
-        let Some(found) = next.unwrap_or(None) else {
-            self.at = span.end;
-            return None;
+        let (span, backward) = (self.span, self.parts.backward());
+        let next = backward.next_in(
+            self.haystack,
+            span,
+            self.at,
+            &mut self.numbers,
+            &mut self.marks,
+            tally,
+        );
+        let Ok(answer) = next else {
+            unreachable!();
         };
-        self.at = found.end();
-        Some(found)
+        self.at = place_after(span, &answer);
+        answer
     }
 }
 

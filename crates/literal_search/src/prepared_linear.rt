@@ -4,20 +4,19 @@ ghost use Rattle.std.specs.Prelude.{◌≡◌, ◌+◌, ◌-◌, ◌*◌, ◌<�
 ghost use Rattle.std.specs.Prelude.{IfOk, IfSome, IsTrue, MatchOption, MatchResult, None, OnErr, ⊤};
 ghost use Rattle.std.specs.Result.{IsOkAnd};
 ghost use Rattle.literal_base.specs.Occurs.{IsValidSpan, between};
-ghost use Rattle.literal_search.specs.Linear.{LooksFor, ScansThrice, looked_by};
+ghost use Rattle.literal_search.specs.Linear.{LooksFor, ScansNext};
 ghost use Rattle.literal_base.specs.Leftmost.{IsLeftmost};
 ghost use Rattle.literal_search.specs.LinearMatchesValue.{GivesInSpan, place_behind};
 ghost use Rattle.literal_search.specs.Prepared.{LiesIn, longest_in};
 ghost use Rattle.literal_search.specs.PreparedLinear.{ForLinear, HasLinearParts, IsWholeLinear, linear_matches_for};
 ghost use Rattle.literal_search.specs.Inside.PreparedLinear.{IsBackIn};
 
-use crate::backward::{Backward, Marks, no_marks, place_after};
+use crate::backward::{Backward, LEAST, Marks, no_marks, place_after};
 use crate::classes::CLASSES_LEN;
 use crate::prepared::{Damaged, FINGERPRINTS_LEN, LENGTHS_AT, LINEAR_VERSION, is_checked, split};
 use crate::walk::Table;
 use literal_base::count::Tally;
 use literal_base::{Match, Span};
-use std::alloc::{AllocError, Global};
 use std::marker::Model;
 
 /// A search for all leftmost matches by numbers that [`Linear::prepare`](crate::Linear::prepare) wrote into an array,
@@ -68,34 +67,30 @@ impl<'p> PreparedLinear<'p> {
     /// All matches in a span of the haystack, one after another, for which the same holds as for
     /// [`Linear::find_iter_in`](crate::Linear::find_iter_in). With numbers that were changed it may give others, or
     /// [`Damaged`]; but each lies in the span, is not empty, begins behind the one before it, and names one of the
-    /// patterns. Memory is asked for once, and for no empty span.
+    /// patterns.
     pub fn find_iter_in<'s, 'h>(
         &'s self,
-        alloc: Global,
         haystack: &'h [u8],
         span: Span,
-    ) -> Result<PreparedLinearMatches<'s, 'p, 'h>, AllocError>
+    ) -> PreparedLinearMatches<'s, 'p, 'h>
         requires { IsValidSpan haystack.now span }
-        ensures ok { IfOk result (λ matches. matches ≡ record {
+        ensures { result ≡ record {
           numbers = self.now;
           haystack = haystack.now;
           span = span;
           at = span.start;
           known = span.start;
-        }) }
-        ensures no_memory { OnErr result (span.start < span.end) }
+        } }
     {
         prove!(span.end <= haystack.len());
-        let mut marks = no_marks(alloc, span);
-        self.backward()
-            .make_room(&mut marks.numbers, span.end - span.start)?;
-        Ok(PreparedLinearMatches {
+        PreparedLinearMatches {
             prepared: self,
             haystack,
             span,
             at: span.start,
-            marks,
-        })
+            numbers: [0; LEAST],
+            marks: no_marks(span.start),
+        }
     }
 
     /// The leftmost match in a span of the haystack, for which the same holds as for
@@ -180,6 +175,7 @@ pub struct PreparedLinearMatches<'s, 'p, 'h> {
     haystack: &'h [u8],
     span: Span,
     at: usize,
+    numbers: [u32; LEAST],
     marks: Marks,
 }
 
@@ -199,7 +195,7 @@ impl<'s, 'p, 'h> Model for PreparedLinearMatches<'s, 'p, 'h> {
     } };
 
     ghost invariant = { λ m. IsValidSpan m.haystack.now m.span
-        × GoesOnBy m.prepared.now m.haystack.now m.span m.at m.marks };
+        × GoesOnBy m.prepared.now m.haystack.now m.span m.at m.numbers m.marks };
 }
 
 impl<'s, 'p, 'h> PreparedLinearMatches<'s, 'p, 'h> {
@@ -233,23 +229,28 @@ impl<'s, 'p, 'h> PreparedLinearMatches<'s, 'p, 'h> {
         ensures ended { self.old.at ≡ self.old.span.end → IsOkAnd result (λ answer. answer ≡ None) }
         ensures same { self.new ≡ record self.old { at = self.new.at; known = self.new.known } }
         ensures further { (self.old.known ≤ self.new.known) × (self.new.known ≤ self.old.span.end) }
-        ensures bounded { ScansThrice (between self.old.known self.new.known) tally.old tally.new }
-        ensures least { IfOk result (λ _. tally.old.scanned
-            + looked_by (longest_in self.old.numbers) self.old.span self.new.known
-            ≤ tally.new.scanned + looked_by (longest_in self.old.numbers) self.old.span self.old.known) }
+        ensures others { tally.new ≡ record tally.old { scanned = tally.new.scanned } }
+        ensures most { tally.new.scanned ≤ tally.old.scanned + 3 * (self.old.span.end - self.old.known) }
+        ensures scans { IfOk result (λ answer. ScansNext (longest_in self.old.numbers) self.old.span self.old.at
+            self.old.known self.new.known answer tally.old tally.new) }
     {
-        let answer = self
-            .prepared
-            .backward()
-            .next_match(self.haystack, self.span, self.at, &mut self.marks, tally);
+        let (span, backward) = (self.span, self.prepared.backward());
+        let answer = backward.next_in(
+            self.haystack,
+            span,
+            self.at,
+            &mut self.numbers,
+            &mut self.marks,
+            tally,
+        );
         match answer {
             Ok(answer) => {
-                self.at = place_after(self.span, &answer);
+                self.at = place_after(span, &answer);
                 Ok(answer)
             }
             Err(_) => {
-                self.at = self.span.end;
-                self.marks.pass_to(self.span.end);
+                self.at = span.end;
+                self.marks = no_marks(span.end);
                 Err(Damaged)
             }
         }

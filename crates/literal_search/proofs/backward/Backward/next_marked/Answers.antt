@@ -7,11 +7,7 @@ pub returns-then-code-ge-ENDS-clause-found : goal.returns-then-code-ge-ENDS-clau
 returns-then-code-ge-ENDS-clause-found c = λ search is marked.
     let at = c.loop-at.at in
     let tables = back_tables_by search c.args.self.now in
-    let first = c.args.marks.now.first in
-    let numbers = c.args.marks.now.numbers.items in
-    let read = get_or_default_zero numbers (at - first) c.index-code.result.now (omega arith) in
-    let mark = subst (IsMark tables c.args.haystack.now c.args.span.end at) (sym (c.index-code.ensures ∙ read))
-    (marked.marks at (omega arith) (omega arith)) in
+    let mark = marked.marks at (omega arith) (omega arith) in
     let leftmost = c.in_ok-match_at.ensures.leftmost search is mark in
     let here = c.in_ok-match_at.ensures.here in
     record {
