@@ -66,7 +66,8 @@ pub record ScansNext (longest : ℕ) (span : Span) (at known further : ℕ) (ans
   pub most : new.scanned ≤ old.scanned + 3 * (span.end - known)
   pub marked : longest ≤ LEAST → new.scanned ≤ old.scanned + 3 * (further - known)
   pub least : longest ≤ LEAST → old.scanned + looked_by longest span further ≤ new.scanned + looked_by longest span known
-  pub found : LEAST < longest → LooksFor longest (between at span.end) answer old.scanned new.scanned
+  pub found : LEAST < longest → (new.scanned ≤ old.scanned + 3 * (span.end - at))
+      × LooksFor longest (between at span.end) answer old.scanned new.scanned
 
 -- why there may be no memory for a list: something occurs in the span, or a pattern is longer than a block
 abbrev pub MayRefuseList : SearchValue → List ℕ → Span → Type 0

@@ -23,6 +23,7 @@ ghost use Rattle.literal_search.specs.PreparedLinear.{IsPreparedLinear, IsWholeL
 ghost use Rattle.literal_search.specs.PreparedOverlapping.{IsPreparedOverlapping, IsWholeOverlapping, listed_len};
 ghost use Rattle.literal_search.specs.Replaced.{replaced};
 ghost use Rattle.literal_search.specs.SearchValue.{ScansListAtMost, SearchValue, longest_of};
+ghost use Rattle.literal_search.specs.declared.backward.TheConstants.{LEAST};
 ghost use Rattle.literal_search.specs.declared.prepared.PrepareError.{PrepareError};
 ghost use Rattle.literal_search.specs.Stream.{GivesStreamed, StreamValue, stream_of};
 
@@ -60,18 +61,20 @@ pub fn iterations_scan_at_most()
 {}
 
 /// What an iteration over all leftmost matches of a span gives up to its first `None` is the greedy list from where it
-/// stood. One that counts scans at most three times the bytes up to which it had not looked (`bounded`), whatever the
-/// patterns and however many matches; and each of those that it had not looked up (`each`), which as it begins are
-/// those of the span. One match more leads it on (`more`).
+/// stood. One that counts, by patterns of at most 1,024 bytes, scans at most three times the bytes up to which it had
+/// not looked (`bounded`), however many matches; and each of those that it had not looked up (`each`), which as it
+/// begins are those of the span. One match more leads it on (`more`).
 pub fn iterations_in_spans_are_greedy()
     ensures greedy { (first last ended : LinearMatchesValue) (all : List MatchValue)
         → Yields GivesInSpan first all last → GivesInSpan last None ended
         → IsGreedyIn first.search.query first.search.ignore_case first.haystack (between first.at first.span.end)
         all }
     ensures bounded { (first last ended : LinearMatchesValue × Counts) (all : List MatchValue)
+        → longest_of first.0.search.query.patterns ≤ LEAST
         → Yields GivesInSpanCounted first all last → GivesInSpanCounted last None ended
         → ScansThrice (between first.0.known first.0.span.end) first.1 ended.1 }
     ensures each { (first last ended : LinearMatchesValue × Counts) (all : List MatchValue)
+        → longest_of first.0.search.query.patterns ≤ LEAST
         → Yields GivesInSpanCounted first all last → GivesInSpanCounted last None ended
         → first.1.scanned + first.0.span.end
         ≤ ended.1.scanned + looked_upto first.0.search.query.patterns first.0.span first.0.known }
