@@ -433,6 +433,7 @@ impl Search {
             &self.patterns,
             self.rows.as_slice(),
             &[],
+            &[],
             &prints,
             array,
         )

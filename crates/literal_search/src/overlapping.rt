@@ -22,12 +22,12 @@ ghost use Rattle.literal_search.specs.Inside.Standing.{HaveSameToCome, IsStandin
 ghost use Rattle.literal_search.specs.Inside.Standing.{overlapping_value, standing_at, standing_value, tables_of};
 
 use crate::classes::classes_for;
-use crate::prepared::{OVERLAPPING_VERSION, PrepareError, write};
+use crate::prepared::{OVERLAPPING_VERSION, PrepareError, fingerprint_numbers, write};
 use crate::rows::{Rows, rows_for};
 use crate::standing::Standing;
 use crate::suffixes::{Lists, Recognised};
 use crate::walk::{Stop, Table};
-use crate::{BuildError, copies, longest_len, total_bytes};
+use crate::{BuildError, copies, longest_len, shortest_len, total_bytes};
 use literal_base::count::Tally;
 use literal_base::search::MatchKind;
 use literal_base::{Match, Span};
@@ -203,6 +203,7 @@ impl Overlapping {
             lists,
             ..
         } = &self.parts;
+        let prints = fingerprint_numbers(shortest_len(patterns), self.parts.fingerprints());
         write(
             OVERLAPPING_VERSION,
             *width,
@@ -210,6 +211,7 @@ impl Overlapping {
             rows.as_slice(),
             lists.starts(),
             &lists.ends,
+            &prints,
             array,
         )
     }

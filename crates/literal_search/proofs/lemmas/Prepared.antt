@@ -3,10 +3,8 @@ use Rattle.std.proofs.Common.{◌≡◌, ℕ, ◌+◌, ◌-◌, ◌<◌, ◌≤�
 use Rattle.std.proofs.Common.{Bor, Err, IfErr, IfOk, IfSome, MatchOption, None, Ok, Option, Result, Some, min, refl}
 use Rattle.std.proofs.Common.{◌∷◌, take}
 use Rattle.std.proofs.Common.{sym, ap, subst, ◌∙◌, arith}
-use Rattle.std.proofs.lemmas.List.{get_or-map, length-drop, length-map, length-take, take-take, take_more}
-use Rattle.std.proofs.lemmas.List.Concat.{flat_map-append}
-use Rattle.std.specs.Int.{to_le_bytes}
-use Rattle.std.specs.List.{flat_map, repeat, slice_range}
+use Rattle.std.proofs.lemmas.List.{get_or-map, length-drop, length-map, length-take, take-take}
+use Rattle.std.specs.List.{repeat, slice_range}
 use Rattle.literal_base.specs.Kinds.{root_kind_of}
 use Rattle.literal_base.specs.Leftmost.{IsLeftmostMatch}
 use Rattle.literal_base.specs.Occurs.{pattern_at}
@@ -273,7 +271,7 @@ module _ (a : Inside) (sound : IsSound a) (old new prints : List ℕ) (size : le
     ))
 
     pub prepare_ok : (result : Result ℕ PrepareError)
-        → IfOk result (λ needed. (needed ≤ length old) × (length prints < 2 ^ 32) × Puts 0 all old new
+        → IfOk result (λ needed. (needed ≤ length old) × (0 < 2 ^ 32) × Puts 0 all old new
         × (needed ≡ length all))
         → IfOk result (WritesPrepared query a.ignore_case old new)
     prepare_ok (Err error) ok = tt
@@ -281,9 +279,9 @@ module _ (a : Inside) (sound : IsSound a) (old new prints : List ℕ) (size : le
         numbers_written (IsPrepared query a.ignore_case) (TakesPlaces query a.ignore_case) all old new needed
         is_prepared takes ok.0 ok.2 ok.3
 
-    pub prepare_refused : (result : Result ℕ PrepareError) → IfErr result (RefusesArray (patterns_in a) prints all old)
+    pub prepare_refused : (result : Result ℕ PrepareError) → IfErr result (RefusesArray (patterns_in a) [] all old)
         → IfErr result (RefusesToPrepare query a.ignore_case old)
     prepare_refused (Ok needed) refused = tt
     prepare_refused (Err error) refused =
-        numbers_refused (patterns_in a) ⊥ (IsPrepared query a.ignore_case) (TakesPlaces query a.ignore_case) prints
-        all old is_prepared takes (λ long. omega (arith, long, size)) error refused
+        numbers_refused (patterns_in a) ⊥ (IsPrepared query a.ignore_case) (TakesPlaces query a.ignore_case) []
+        all old is_prepared takes (λ long. omega (arith, long)) error refused
