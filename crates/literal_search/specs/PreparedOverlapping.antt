@@ -1,5 +1,5 @@
 -- A search for everything that occurs as numbers in an array that is lent.
-use Rattle.std.specs.Prelude.{◌≡◌, ◌⊎◌, ◌+◌, ◌<◌, ◌≤◌, ◌^◌, ℕ, Bool, List, length, map, slice_index, slice_range}
+use Rattle.std.specs.Prelude.{◌≡◌, ◌⊎◌, ◌+◌, ◌<◌, ◌≤◌, ℕ, Bool, List, length, map, slice_index, slice_range}
 use Rattle.literal_base.specs.declared.search.MatchKind.TheVariants.{Standard}
 use Rattle.literal_base.specs.declared.search.Span.{Span}
 use Rattle.literal_fingerprints.specs.FingerprintsValue.{AllPass}
@@ -8,13 +8,15 @@ use Rattle.literal_search.specs.Inside.Classes.{AreClasses, Tells, symbols_in}
 use Rattle.literal_search.specs.Inside.Lists.{AreLists}
 use Rattle.literal_search.specs.Overlapping.{OverlappingValue}
 use Rattle.literal_search.specs.OverlappingMatchesValue.{OverlappingMatchesValue}
-use Rattle.literal_search.specs.Prepared.{HasParts, RefusesNumbers, WritesNumbers, check_of, classes_end}
+use Rattle.literal_search.specs.Prepared.{HasParts, WritesNumbers, check_of, classes_end}
 use Rattle.literal_search.specs.Prepared.{classes_in, fingerprints_by, lengths_in, longest_in, rows_in, shortest_by}
 use Rattle.literal_search.specs.Prepared.{width_in}
 use Rattle.literal_search.specs.States.{IsRowsLength}
 use Rattle.literal_search.specs.Table.{Recognises}
 use Rattle.literal_search.specs.declared.classes.TheConstants.{CLASSES_LEN}
 use Rattle.literal_search.specs.declared.prepared.PrepareError.{PrepareError}
+use Rattle.literal_search.specs.declared.prepared.PrepareError.TheVariants.{ArrayTooShort, ListsTooLong}
+use Rattle.literal_search.specs.declared.prepared.PrepareError.TheVariants.{PatternTooLong}
 use Rattle.literal_search.specs.declared.prepared.TheConstants.{FINGERPRINTS_LEN, LENGTHS_AT}
 use Rattle.literal_search.specs.declared.prepared.TheConstants.{OVERLAPPING_VERSION}
 
@@ -108,32 +110,27 @@ pub record IsPreparedOverlapping (search : OverlappingValue) (numbers : List ℕ
 abbrev pub ForOverlapping : List ℕ → (OverlappingValue → Type 0) → Type 0
 ForOverlapping numbers P = (search : OverlappingValue) → IsPreparedOverlapping search numbers → P search
 
--- in some classes there are rows for the patterns' texts, of so many numbers, and lists
-abbrev pub HaveTables : OverlappingValue → (ℕ → List ℕ → List ℕ → Type 0) → Type 0
-HaveTables search P =
-    HoldsInClasses (λ texts width. (rows : ℕ) × IsRowsLength Standard texts width rows
-    × (ends : List ℕ) × (starts : List ℕ) × AreLists texts ends starts (length search.patterns) × P rows ends starts)
-    search.ignore_case search.patterns
-
--- how many places a search takes: the header, one for each pattern, the rows of all states, the classes, the lists with
--- the places where these begin, and the fingerprints
+-- how many places a search takes, in some classes, by rows for its patterns' texts, and lists: the header, one for each
+-- pattern, the rows of all states, the classes, the lists with the places where these begin, and the fingerprints
 unfoldable pub TakesListedPlaces : OverlappingValue → ℕ → Type 0
-TakesListedPlaces search needed = HaveTables search (λ rows ends starts. needed
-    ≡ LENGTHS_AT + length search.patterns + rows + CLASSES_LEN + length starts + length ends
-    + FINGERPRINTS_LEN)
-
--- the lists have 2^32 numbers or more
-unfoldable pub HasLongLists : OverlappingValue → Type 0
-HasLongLists search = HaveTables search (λ rows ends starts. 2 ^ 32 ≤ length ends)
+TakesListedPlaces search needed =
+    HoldsInClasses (λ texts width. (rows : ℕ) × IsRowsLength Standard texts width rows
+    × (ends : List ℕ) × (starts : List ℕ) × AreLists texts ends starts (length search.patterns)
+    × (needed ≡ LENGTHS_AT + length search.patterns + rows + CLASSES_LEN + length starts + length ends
+    + FINGERPRINTS_LEN)) search.ignore_case search.patterns
 
 -- the search is written into the first places of an array
 abbrev pub WritesOverlapping : OverlappingValue → List ℕ → List ℕ → ℕ → Type 0
 WritesOverlapping search = WritesNumbers (IsPreparedOverlapping search) (TakesListedPlaces search)
 
--- why it is not
+-- why it is not: the array has fewer places than it takes, which would be enough; no pattern is too long, and no lists
+-- are, of a search that there is
 abbrev pub RefusesOverlapping : OverlappingValue → List ℕ → PrepareError → Type 0
-RefusesOverlapping search =
-    RefusesNumbers search.patterns (HasLongLists search) (IsPreparedOverlapping search) (TakesListedPlaces search)
+RefusesOverlapping search array PatternTooLong = ⊥
+RefusesOverlapping search array ListsTooLong = ⊥
+RefusesOverlapping search array (ArrayTooShort needed) =
+    (length array < needed) × TakesListedPlaces search needed
+    × ((numbers : List ℕ) × IsPreparedOverlapping search numbers × (length numbers ≡ needed))
 
 -- a `PreparedOverlappingMatches` as contracts see it: by which array, where, and from which end and, at that one, from
 -- which identifier on it goes on

@@ -2,9 +2,10 @@
 //! either.
 ghost use Rattle.std.specs.Prelude.{◌≡◌, ◌+◌, ◌-◌, ◌*◌, ◌<◌, ◌≤◌, ◌^◌, ◌↔◌, length, slice_index, List, ℕ};
 ghost use Rattle.std.specs.Prelude.{IfOk, IfSome, IsTrue, MatchOption, MatchResult, None, ⊤};
+ghost use Rattle.std.specs.Option.{option_map};
 ghost use Rattle.std.specs.Result.{IsOkAnd};
 ghost use Rattle.literal_base.specs.MatchValue.{MatchValue};
-ghost use Rattle.literal_base.specs.Occurs.{IsValidSpan};
+ghost use Rattle.literal_base.specs.Occurs.{IsValidSpan, between};
 ghost use Rattle.literal_search.specs.Earliest.{IsEarliestEnd, ScansToEndWithin};
 ghost use Rattle.literal_search.specs.Overlapping.{OverlappingValue};
 ghost use Rattle.literal_search.specs.OverlappingMatchesValue.{GivesOverlapping, IsToCome};
@@ -39,9 +40,9 @@ pub struct PreparedOverlapping<'p> {
     lent: LentTables<'p>,
 }
 
-/// The numbers in an array, in their parts.
+/// The numbers in an array, in their parts: by these an [`Overlapping`](crate::Overlapping) searches, too.
 #[derive(Clone, Copy)]
-struct LentTables<'p> {
+pub struct LentTables<'p> {
     header: Header<'p>,
     /// Where the list of each pattern begins, and the last ends.
     starts: &'p [u32],
@@ -153,7 +154,7 @@ impl<'p> PreparedOverlapping<'p> {
 
 /// The parts of an array, where its first numbers say that it is such a search, and it is as long as they and its lists
 /// say.
-fn lent_in(numbers: &[u32]) -> Result<LentTables<'_>, Damaged>
+pub fn lent_in(numbers: &[u32]) -> Result<LentTables<'_>, Damaged>
     ensures { MatchResult result (λ lent. (lent.header.numbers.now ≡ numbers.now) × AreLent lent)
         (λ _. ¬ HasLists numbers.now) }
 {
@@ -192,7 +193,7 @@ impl<'p> LentTables<'p> {
     }
 
     /// Where a search stands before all that occurs in the span.
-    fn before_all(&self, haystack: &[u8], span: Span) -> Standing
+    pub fn before_all(&self, haystack: &[u8], span: Span) -> Standing
         requires { IsValidSpan haystack.now span }
         ensures at { (result.at ≡ span.start) × (result.pattern ≡ 0) }
         ensures lies { LiesAt span result }
@@ -209,7 +210,7 @@ impl<'p> LentTables<'p> {
     }
 
     /// Where a search stands behind all that occurs in the span.
-    fn behind_all(&self, haystack: &[u8], span: Span) -> Standing
+    pub fn behind_all(&self, haystack: &[u8], span: Span) -> Standing
         requires lent { AreLent self.now }
         requires valid { IsValidSpan haystack.now span }
         ensures at { result.at ≡ span.end }
@@ -269,8 +270,8 @@ impl<'p> LentTables<'p> {
             IsNotBefore here.at here.pattern standing.at standing.pattern)) }
         ensures others { tally.new ≡ record tally.old { scanned = tally.new.scanned } }
         ensures most { tally.new.scanned + 3 * standing.at ≤ tally.old.scanned + 3 * span.end }
-        ensures near { IfOk result (λ next. IfSome next (λ here.
-            tally.new.scanned + 3 * standing.at ≤ tally.old.scanned + 3 * here.at)) }
+        ensures bounded { IfOk result (λ next. ScansToEndWithin (between standing.at span.end)
+            (option_map (λ here. here.at) next) tally.old tally.new) }
     {
         if standing.next < standing.end {
             return Ok(Some(standing));
@@ -329,7 +330,7 @@ impl<'p> LentTables<'p> {
     }
 
     /// The next occurrence behind where a search stands, and where it then stands.
-    fn next_from(
+    pub fn next_from(
         &self,
         haystack: &[u8],
         span: Span,
@@ -352,8 +353,8 @@ impl<'p> LentTables<'p> {
             × (r.1.pattern ≡ r.0.pattern + 1))) }
         ensures others { tally.new ≡ record tally.old { scanned = tally.new.scanned } }
         ensures most { tally.new.scanned + 3 * standing.at ≤ tally.old.scanned + 3 * span.end }
-        ensures near { IfOk result (λ answer. IfSome answer (λ r.
-            tally.new.scanned + 3 * standing.at ≤ tally.old.scanned + 3 * r.0.end)) }
+        ensures bounded { IfOk result (λ answer. ScansToEndWithin (between standing.at span.end)
+            (option_map (λ r. r.0.end) answer) tally.old tally.new) }
     {
         let Some(here) = self.next_end(haystack, span, standing, tally)? else {
             return Ok(None);

@@ -15,7 +15,7 @@ use Rattle.literal_search.specs.Prepared.{width_in}
 use Rattle.literal_search.specs.SearchValue.{NoneIsShorter, SearchValue}
 use Rattle.literal_search.specs.Overlapping.{OverlappingValue}
 use Rattle.literal_search.specs.PreparedLinear.{ArePrints, AreBackTables, BackTables, IsPreparedLinear, best_end, linear_len}
-use Rattle.literal_search.specs.PreparedOverlapping.{IsPreparedOverlapping, ends_at, listed_len, overlapping_len}
+use Rattle.literal_search.specs.PreparedOverlapping.{AreTables, IsPreparedOverlapping, ends_at, listed_len, overlapping_len}
 use Rattle.literal_search.specs.Table.{Recognises}
 use Rattle.literal_search.proofs.lemmas.BackTables.{same_tables as same_back}
 use Rattle.literal_search.proofs.lemmas.LentTables.{same_tables}
@@ -168,7 +168,7 @@ module _ (search : OverlappingValue) (old new : List ℕ)
                 (omega arith))));
           };
           longest = same 5 (omega arith) ∙ prepared.longest;
-          tables = same_tables search _ _ _ _ _ _ _ _ _ _ (sym (ap unpacked (part_is (rows_end old) (rows_end old + 64)
+          tables = subst AreTables (same_tables search _ _ _ _ _ _ _ _ _ _ (sym (ap unpacked (part_is (rows_end old) (rows_end old + 64)
               (rows_end new) (rows_end new + 64) len_is (omega (arith, len_is)) (omega arith) (omega arith))))
               (sym (same 2 (omega arith)))
               (sym (part_is (rows_at old) (rows_end old) (rows_at new) (rows_end new) rows_is len_is
@@ -177,7 +177,7 @@ module _ (search : OverlappingValue) (old new : List ℕ)
               (omega arith) (omega arith)))
               (sym (part_is (classes_end old) (ends_at old) (classes_end new) (ends_at new)
               (omega (arith, len_is)) ends_is
-              (omega arith) (omega arith))) prepared.tables;
+              (omega arith) (omega arith)))) prepared.tables;
           lengths = part_is 6 (rows_at old) 6 (rows_at new) refl rows_is (omega arith) (omega arith)
               ∙ prepared.lengths;
           prints = subst (λ (p : List ℕ). 0 < shortest_by p
