@@ -22,9 +22,9 @@
  * nothing, and but for the last two they take no memory. The arrays may be copied, or kept in a file for machines of
  * the same byte order.
  *
- * Where others choose the patterns, as of a filter, take the functions with linear in their names: they find the same
- * matches, and look in sum at three bytes at most for each byte of the haystack, whatever the patterns are, where the
- * others may look behind each match at as many bytes as the longest pattern has.
+ * If others choose the patterns, as for a filter, take the functions with linear in their names. They find the same
+ * matches, and a call looks up at most three times as many bytes as it searches, whatever the patterns are. The other
+ * functions may look behind each match at as many bytes as the longest pattern has.
  *
  * Each call checks its arguments and answers one of the statuses below. The checks come in their order: first
  * LITERAL_BAD_ARGUMENTS, then LITERAL_NO_SEARCHER, then the two that come while the search is built,
@@ -327,11 +327,12 @@ int32_t literal_find_each_in(const uint32_t *prepared, size_t prepared_len, cons
 int32_t literal_count_in(const uint32_t *prepared, size_t prepared_len, const uint8_t *haystack, size_t haystack_len,
                          size_t start, size_t end, size_t *count);
 
-/* As literal_find_all_in, by an array that literal_prepare_linear wrote: the same matches, and a call looks in sum at
- * three bytes at most for each byte that it searches, whatever the patterns are. Behind its matches a call looks for one
- * more, and beyond that at most twice as far as the longest pattern is long, or some thousand bytes; the next page begins anew where that one
- * begins. So with room for as many matches as that pattern has bytes, all pages together take time in proportion to the
- * haystack. While it runs, a call takes 4 bytes of memory for each byte of the longest pattern, or 4 KiB.
+/* As literal_find_all_in, by an array that literal_prepare_linear wrote: the same matches, and a call looks up at most
+ * three times as many bytes as it searches, whatever the patterns are. Behind its matches a call looks for one more,
+ * and beyond that at most twice as far as the longest pattern is long, or some thousand bytes. The next page begins
+ * anew where that match begins. So with room for as many matches as that pattern has bytes, all pages together take
+ * time in proportion to the haystack. While it runs, a call takes 4 bytes of memory for each byte of the longest
+ * pattern, or 4 KiB.
  *
  * LITERAL_OK             found and page are written, also where no pattern occurs (then page->written is 0)
  * LITERAL_OUT_OF_MEMORY  malloc refused it; there is a byte to search

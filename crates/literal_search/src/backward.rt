@@ -1,6 +1,6 @@
 //! Walks through a span from its end, by an automaton of the reversed patterns. The numbers may be lent, and so any:
 //! they are damaged where one leads out of the rows.
-ghost use Rattle.std.specs.Prelude.{◌≡◌, ◌+◌, ◌-◌, ◌*◌, ◌<◌, ◌≤◌, ◌^◌, ◌%◌, [], length, max, min, slice_index};
+ghost use Rattle.std.specs.Prelude.{◌≡◌, ◌⊎◌, ◌+◌, ◌-◌, ◌*◌, ◌<◌, ◌≤◌, ◌^◌, ◌%◌, [], length, max, min, slice_index};
 ghost use Rattle.std.specs.Prelude.{ℕ, IfErr, IfOk, IfSome, MatchOption, MatchResult, None, OnErr};
 ghost use Rattle.std.specs.Result.{IsOkAnd};
 ghost use Rattle.literal_base.specs.Leftmost.{IsLeftmost, IsLeftmostMatch};
@@ -10,9 +10,11 @@ ghost use Rattle.literal_search.specs.LinearMatchesValue.{place_behind};
 ghost use Rattle.literal_search.specs.Inside.Backward.{AreMarked, AreMarks, ForBackward, IsBegun, IsBlock};
 ghost use Rattle.literal_search.specs.Inside.Backward.{IsLastBegun, IsMark, IsMatchBy, IsPlaced, IsRead, StopsMarking};
 ghost use Rattle.literal_search.specs.Inside.Backward.{IsSafe, LeadsOn, NoneFrom, StandsDown};
+ghost use Rattle.literal_search.specs.Inside.Leftmost.{AreLanes, HasBytes, HaveRows, IsLimit};
 
 use crate::classes::CLASSES_LEN;
-use crate::prepared::Damaged;
+use crate::leftmost::{Block, LEAST_PART, Lanes, OVERLAP, PRICE};
+use crate::prepared::{Damaged, fingerprints_in};
 use crate::walk::{ENDS, Table};
 use literal_base::count::Tally;
 use literal_base::{Match, Span};
@@ -20,6 +22,9 @@ use std::alloc::{AllocError, Global};
 
 /// How long a block is at least, if the span is.
 pub(crate) const LEAST: usize = 1024;
+
+/// The length of each of the four parts of a block that is marked, if as much is left.
+const MARKED: usize = LEAST / 4;
 
 /// What a search from the right reads.
 #[derive(Clone, Copy)]
@@ -259,8 +264,8 @@ impl<'t> Backward<'t> {
     {
         let mut from = at;
         while from < span.end {
-            self.mark_from(haystack, span, from, marks, tally)?;
-            let found = self.next_marked(haystack, span, from, marks)?;
+            let at = self.mark_from(haystack, span, from, marks, tally)?;
+            let found = self.next_marked(haystack, span, at, marks)?;
             if found.is_some() {
                 return Ok(found);
             }
@@ -269,8 +274,9 @@ impl<'t> Backward<'t> {
         Ok(None)
     }
 
-    /// Marks the block that begins at a place, unless it is known what begins there. It is called, and not put in its
-    /// place, so that the next match in a marked block costs little.
+    /// Looks further ahead from a place, unless it is known what begins there, and answers a place before which nothing
+    /// begins. Fingerprints pass over bytes. Where they stop, the place alone is marked, if they passed over enough;
+    /// else a block. It is called, and not put in its place, so that the next match in a marked block costs little.
     #[inline(never)]
     fn mark_from(
         &self,
@@ -279,16 +285,18 @@ impl<'t> Backward<'t> {
         from: usize,
         marks: &mut Marks,
         tally: &mut Tally,
-    ) -> Result<(), Stopped>
+    ) -> Result<usize, Stopped>
         requires safe { IsSafe self.now }
         requires valid { IsValidSpan haystack.now span }
         requires more { from < span.end }
         requires placed { IsPlaced self.now.table.longest span from marks.old }
+        ensures later { IfOk result (λ at. (from ≤ at) × (at ≤ marks.new.known)) }
+        ensures none { ForBackward self.now (λ tables. IfOk result (NoneFrom tables haystack.now span.end from)) }
         ensures marked { ForBackward self.now (λ tables. AreMarked tables haystack.now span from marks.old
-            → IfOk result (λ _. AreMarked tables haystack.now span from marks.new)) }
+            → IfOk result (λ at. AreMarked tables haystack.now span at marks.new)) }
         ensures refused { ForBackward self.now (λ tables. IfErr result
             (StopsMarking tables haystack.now from span.end)) }
-        ensures placed { IfOk result (λ _. IsPlaced self.now.table.longest span from marks.new) }
+        ensures placed { IfOk result (λ at. IsPlaced self.now.table.longest span at marks.new) }
         ensures known { IfOk result (λ _. from < marks.new.known) }
         ensures further { (marks.old.known ≤ marks.new.known) × (marks.new.known ≤ span.end) }
         ensures bounded { ScansThrice (between marks.old.known marks.new.known) tally.old tally.new }
@@ -299,14 +307,95 @@ impl<'t> Backward<'t> {
             → length marks.old.numbers.items < min (max self.now.table.longest LEAST) (span.end - from)) }
     {
         if from < marks.known {
-            return Ok(());
+            return Ok(from);
         }
+        let fingerprints = &fingerprints_in(self.prints);
+        let rest = Span {
+            start: from,
+            end: span.end,
+        };
+        let at = self.pass_over(fingerprints, haystack, rest, tally);
+        marks.pass_to(at);
+        if at - from >= PRICE.max(self.table.longest) && at < span.end {
+            self.mark_place(haystack, span, at, marks, tally)?;
+        } else if at < span.end {
+            self.mark_block(haystack, span, at, marks, tally)?;
+        }
+        Ok(at)
+    }
+
+    /// Marks one place, if a pattern begins there.
+    fn mark_place(
+        &self,
+        haystack: &[u8],
+        span: Span,
+        at: usize,
+        marks: &mut Marks,
+        tally: &mut Tally,
+    ) -> Result<(), Stopped>
+        requires safe { IsSafe self.now }
+        requires valid { IsValidSpan haystack.now span }
+        requires after { span.start ≤ at }
+        requires inside { at < span.end }
+        requires places { (marks.old.first ≡ at) × (marks.old.upto ≡ at) × (marks.old.known ≡ at) }
+        ensures marked { ForBackward self.now (λ tables. IfOk result
+            (λ _. AreMarked tables haystack.now span at marks.new)) }
+        ensures refused { ForBackward self.now (λ tables. IfErr result (StopsMarking tables haystack.now at span.end)) }
+        ensures placed { (marks.new.first ≡ at) × (marks.new.upto ≤ marks.new.known) × (marks.new.known ≡ at + 1) }
+        ensures listed { IfOk result (λ _. marks.new.upto ≤ at + length marks.new.numbers.items) }
+        ensures others { tally.new ≡ record tally.old { scanned = tally.new.scanned } }
+        ensures most { tally.new.scanned ≤ tally.old.scanned + max self.now.table.longest 1 }
+        ensures least { IfOk result (λ _. tally.old.scanned + min (at + max self.now.table.longest 1) span.end
+            ≤ tally.new.scanned + at) }
+        ensures more { length marks.old.numbers.items ≤ length marks.new.numbers.items }
+        ensures no_room { IfErr result (λ error. error ≡ Stopped.OutOfMemory
+            → length marks.old.numbers.items < min (max self.now.table.longest LEAST) (span.end - at)) }
+    {
+        marks.known = at + 1;
+        let (limit, bytes) = (self.table.limit()?, self.table.class_bytes());
+        if let Some(begun) = self.begun_at(&bytes, haystack, span, at, limit, tally)? {
+            self.make_room(&mut marks.numbers, span.end - at)?;
+            marks.numbers[0] = begun.code;
+            marks.upto = at + 1;
+        }
+        Ok(())
+    }
+
+    /// Marks the block that begins at a place, unless nothing begins in it.
+    fn mark_block(
+        &self,
+        haystack: &[u8],
+        span: Span,
+        from: usize,
+        marks: &mut Marks,
+        tally: &mut Tally,
+    ) -> Result<(), Stopped>
+        requires safe { IsSafe self.now }
+        requires valid { IsValidSpan haystack.now span }
+        requires after { span.start ≤ from }
+        requires inside { from < span.end }
+        requires places { (marks.old.first ≡ from) × (marks.old.upto ≡ from) × (marks.old.known ≡ from) }
+        ensures marked { ForBackward self.now (λ tables. IfOk result
+            (λ _. AreMarked tables haystack.now span from marks.new)) }
+        ensures refused { ForBackward self.now (λ tables. IfErr result
+            (StopsMarking tables haystack.now from span.end)) }
+        ensures placed { (marks.new.first ≡ from) × (marks.new.upto ≤ marks.new.known)
+            × (from < marks.new.known) × (marks.new.known ≤ span.end) }
+        ensures full { (marks.new.known ≡ span.end) ⊎ (from + self.now.table.longest ≤ marks.new.known) }
+        ensures listed { IfOk result (λ _. marks.new.upto ≤ from + length marks.new.numbers.items) }
+        ensures others { tally.new ≡ record tally.old { scanned = tally.new.scanned } }
+        ensures most { tally.new.scanned + min OVERLAP (span.end - from) + 3 * from
+            ≤ tally.old.scanned + 3 * marks.new.known }
+        ensures least { IfOk result (λ _. tally.old.scanned
+            + min (marks.new.known + (self.now.table.longest - 1)) span.end ≤ tally.new.scanned + from) }
+        ensures more { length marks.old.numbers.items ≤ length marks.new.numbers.items }
+        ensures no_room { IfErr result (λ error. error ≡ Stopped.OutOfMemory
+            → length marks.old.numbers.items < min (max self.now.table.longest LEAST) (span.end - from)) }
+    {
         if let Some(part) = self.part_for_marks(span.end - from) {
             return self.mark_four_parts(haystack, span, from, part, marks, tally);
         }
         let block = self.block_at(span, from);
-        marks.first = from;
-        marks.upto = from;
         marks.known = block.end;
         if let Some(begun) = self.last_begun(haystack, span, block, tally)? {
             self.make_room(&mut marks.numbers, span.end - from)?;
@@ -314,6 +403,133 @@ impl<'t> Backward<'t> {
             marks.upto = begun.at + 1;
         }
         Ok(())
+    }
+
+    /// Marks each place of four neighbouring parts, by four walks at once that stand at their ends.
+    #[inline(never)]
+    fn mark_in_four(
+        &self,
+        classes: &[u8; 256],
+        haystack: &[u8],
+        span: Span,
+        at: usize,
+        part: usize,
+        lanes: Lanes,
+        limit: usize,
+        marks: &mut [u32],
+        tally: &mut Tally,
+    ) -> Result<(), Damaged>
+        requires safe { IsSafe self.now }
+        requires same { HasBytes self.now classes.now }
+        requires limit { IsLimit self.now limit }
+        requires rows { HaveRows limit lanes }
+        requires valid { IsValidSpan haystack.now span }
+        requires inside { at + 4 * part ≤ span.end }
+        requires room { 4 * part ≤ length marks.old }
+        ensures marks { ForBackward self.now (λ tables. AreLanes tables haystack.now span at part part lanes
+            → IsOkAnd result (λ _. AreMarks tables haystack.now span.end marks.new at at (at + 4 * part))) }
+        ensures others { tally.new ≡ record tally.old { scanned = tally.new.scanned } }
+        ensures most { tally.new.scanned ≤ tally.old.scanned + 4 * part }
+        ensures all { IfOk result (λ _. tally.new.scanned ≡ tally.old.scanned + 4 * part) }
+    {
+        let (mut first, mut second) = (lanes.first, lanes.second);
+        let (mut third, mut fourth) = (lanes.third, lanes.fourth);
+        let search = *self; // (a copy: what is written to the marks does not change it)
+        for step in (0..part).rev() {
+            let here = at + step;
+            let one = search.step(classes, first, haystack, here, limit, tally)?;
+            marks[step] = one;
+            first = (one % ENDS) as usize;
+            let two = search.step(classes, second, haystack, here + part, limit, tally)?;
+            marks[step + part] = two;
+            second = (two % ENDS) as usize;
+            let three = search.step(classes, third, haystack, here + 2 * part, limit, tally)?;
+            marks[step + 2 * part] = three;
+            third = (three % ENDS) as usize;
+            let four = search.step(classes, fourth, haystack, here + 3 * part, limit, tally)?;
+            marks[step + 3 * part] = four;
+            fourth = (four % ENDS) as usize;
+        }
+        Ok(())
+    }
+
+    /// Marks the block of four parts that begins at a place, unless nothing begins in it.
+    pub(crate) fn mark_four_parts(
+        &self,
+        haystack: &[u8],
+        span: Span,
+        from: usize,
+        part: usize,
+        marks: &mut Marks,
+        tally: &mut Tally,
+    ) -> Result<(), Stopped>
+        requires safe { IsSafe self.now }
+        requires valid { IsValidSpan haystack.now span }
+        requires after { span.start ≤ from }
+        requires inside { from + 4 * part + self.now.table.longest ≤ span.end }
+        requires long { self.now.table.longest + 4 ≤ part }
+        requires some { OVERLAP ≤ 4 * part }
+        requires short { 4 * part ≤ LEAST }
+        requires places { (marks.old.first ≡ from) × (marks.old.upto ≡ from) }
+        ensures marked { ForBackward self.now (λ tables. IfOk result
+            (λ _. AreMarked tables haystack.now span from marks.new)) }
+        ensures refused { ForBackward self.now (λ tables. IfErr result
+            (StopsMarking tables haystack.now from span.end)) }
+        ensures placed { (marks.new.first ≡ from) × (marks.new.upto ≤ marks.new.known)
+            × (marks.new.known ≡ from + 4 * part) }
+        ensures listed { IfOk result (λ _. marks.new.upto ≤ from + length marks.new.numbers.items) }
+        ensures others { tally.new ≡ record tally.old { scanned = tally.new.scanned } }
+        ensures most { tally.new.scanned + OVERLAP ≤ tally.old.scanned + 12 * part }
+        ensures least { IfOk result (λ _. tally.old.scanned + 4 * part + (self.now.table.longest - 1)
+            ≤ tally.new.scanned) }
+        ensures more { length marks.old.numbers.items ≤ length marks.new.numbers.items }
+        ensures no_room { IfErr result (λ error. error ≡ Stopped.OutOfMemory
+            → length marks.old.numbers.items < min (max self.now.table.longest LEAST) (span.end - from)) }
+    {
+        let end = from + 4 * part;
+        let lead = self.table.longest.saturating_sub(1);
+        marks.known = end;
+        let (limit, bytes) = (self.table.limit()?, self.table.class_bytes());
+        let classes = &bytes;
+        let led = self.lead_in_four(
+            classes,
+            haystack,
+            span,
+            from,
+            Block { part, lead, end },
+            limit,
+            tally,
+        )?;
+        if !self.pass_in_four(classes, haystack, span, from, part, led.lanes, limit, tally) {
+            self.make_room(&mut marks.numbers, span.end - from)?;
+            self.mark_in_four(
+                classes,
+                haystack,
+                span,
+                from,
+                part,
+                led.lanes,
+                limit,
+                &mut marks.numbers,
+                tally,
+            )?;
+            marks.upto = end;
+        }
+        Ok(())
+    }
+
+    /// How long each of four parts is that are marked at once, where so many bytes are left; and none where these are
+    /// few, or the longest pattern is longer than such a part.
+    pub(crate) fn part_for_marks(&self, left: usize) -> Option<usize>
+        ensures inside { IfSome result (λ part. 4 * part + self.now.table.longest ≤ left) }
+        ensures long { IfSome result (λ part. (self.now.table.longest + 4 ≤ part) × (OVERLAP ≤ 4 * part)) }
+        ensures short { IfSome result (λ part. 4 * part ≤ LEAST) }
+    {
+        let part = (left.saturating_sub(self.table.longest) / 4).min(MARKED);
+        if part < LEAST_PART || part < self.table.longest.saturating_add(4) {
+            return None;
+        }
+        Some(part)
     }
 
     /// The match that begins at the first marked place, from one on, at which a pattern begins.

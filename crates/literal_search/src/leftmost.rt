@@ -1,22 +1,21 @@
 //! The leftmost match of a span, by walks from the right by an automaton of the reversed patterns. No memory is asked
 //! for. The numbers may be lent, and so any: they are damaged where one leads out of the rows.
 ghost use Rattle.std.specs.Prelude.{◌≡◌, ◌⊎◌, ◌+◌, ◌-◌, ◌*◌, ◌/◌, ◌<◌, ◌≤◌, ◌^◌, ◌%◌, ℕ, length, max, min};
-ghost use Rattle.std.specs.Prelude.{IfErr, IfOk, IfSome, IsNone, MatchOption, Some, false, true};
+ghost use Rattle.std.specs.Prelude.{IfOk, IfSome, IsNone, MatchOption, Some, false, true};
 ghost use Rattle.std.specs.Result.{IsOkAnd};
 ghost use Rattle.literal_base.specs.Leftmost.{IsLeftmost};
 ghost use Rattle.literal_base.specs.Occurs.{IsValidSpan, between, rest_from};
 ghost use Rattle.literal_base.specs.declared.search.Span.{Span};
 ghost use Rattle.literal_search.specs.At.{IsMatchAt};
-ghost use Rattle.literal_search.specs.Inside.Backward.{AreMarked, AreMarks, ForBackward, IsMatchBy, IsPlaced};
-ghost use Rattle.literal_search.specs.Inside.Backward.{IsSafe, NoneFrom, StopsMarking};
+ghost use Rattle.literal_search.specs.Inside.Backward.{ForBackward, IsMatchBy};
+ghost use Rattle.literal_search.specs.Inside.Backward.{IsSafe, NoneFrom};
 ghost use Rattle.literal_search.specs.Inside.Leftmost.{AreLanes, HasBytes, HaveRows, IsFirstBegun, IsFourParts};
 ghost use Rattle.literal_search.specs.Inside.Leftmost.{IsLane, IsLed};
 ghost use Rattle.literal_search.specs.Inside.Leftmost.{IsFront, IsLimit, IsPaid, IsPart, IsStep, LiesInPart, ReadsFor};
 ghost use Rattle.literal_search.specs.Inside.Leftmost.{AreFor, owed_by};
-ghost use Rattle.literal_search.specs.Linear.{LooksFor, ScansThrice, looked_by};
-ghost use Rattle.literal_search.specs.declared.backward.TheConstants.{LEAST};
+ghost use Rattle.literal_search.specs.Linear.{LooksFor};
 
-use crate::backward::{Backward, Begun, LEAST, Marks, Stopped};
+use crate::backward::{Backward, Begun};
 use crate::prepared::{Damaged, fingerprints_in};
 use crate::walk::ENDS;
 use literal_base::count::Tally;
@@ -30,20 +29,17 @@ const FIRST: usize = 16;
 const LAST: usize = 1024;
 
 /// Four walks go through the last block if its parts have at least this length.
-const LEAST_PART: usize = 6;
+pub(crate) const LEAST_PART: usize = 6;
 
-/// The length of each of the four parts of a block that is marked, if as much is left.
-const MARKED: usize = LEAST / 4;
-
-/// For each candidate that one walk looks at, fingerprints passed over this many bytes before, or as many as the longest
-/// pattern has.
-const PRICE: usize = 48;
+/// Before one walk looks at a candidate, fingerprints passed over this many bytes, or as many as the longest pattern
+/// has.
+pub(crate) const PRICE: usize = 48;
 
 /// The largest number of bytes that count as passed over.
 const MOST_CREDIT: usize = 2048;
 
 /// Fingerprints look up at most this many bytes more than they pass over.
-const OVERLAP: usize = 19;
+pub(crate) const OVERLAP: usize = 19;
 
 /// At which rows four walks stand, each in one of four neighbouring parts of a span.
 #[derive(Clone, Copy)]
@@ -94,7 +90,7 @@ pub struct Looked {
 impl<'t> Backward<'t> {
     /// The number for a byte of the haystack in the row that begins at a place. It leads to a row before the limit.
     #[inline(always)]
-    fn step(
+    pub(crate) fn step(
         &self,
         classes: &[u8; 256],
         place: usize,
@@ -229,8 +225,8 @@ impl<'t> Backward<'t> {
         Ok(first)
     }
 
-    /// What begins at a place of a span, by one walk that begins so far behind it that all that begins there lies before.
-    fn begun_at(
+    /// What begins at a place of a span, by one walk from so far behind it that all that begins there lies before.
+    pub(crate) fn begun_at(
         &self,
         classes: &[u8; 256],
         haystack: &[u8],
@@ -263,7 +259,7 @@ impl<'t> Backward<'t> {
 
     /// A place of a span, or its end, before which no pattern begins, by the fingerprints, if there are any.
     #[inline(always)]
-    fn pass_over(
+    pub(crate) fn pass_over(
         &self,
         fingerprints: &Option<Fingerprints>,
         haystack: &[u8],
@@ -289,7 +285,7 @@ impl<'t> Backward<'t> {
     /// Four walks at once, each through as many bytes behind one of four neighbouring parts of a span, so that no
     /// look-up waits for those of the others.
     #[inline(never)]
-    fn lead_in_four(
+    pub(crate) fn lead_in_four(
         &self,
         classes: &[u8; 256],
         haystack: &[u8],
@@ -337,7 +333,7 @@ impl<'t> Backward<'t> {
     /// The same walks through the parts, up to where a number does not lead on: where a pattern begins, or where it is
     /// damaged.
     #[inline(never)]
-    fn pass_in_four(
+    pub(crate) fn pass_in_four(
         &self,
         classes: &[u8; 256],
         haystack: &[u8],
@@ -502,133 +498,6 @@ impl<'t> Backward<'t> {
         }
     }
 
-    /// Marks each place of four neighbouring parts, by four walks at once that stand at their ends.
-    #[inline(never)]
-    fn mark_in_four(
-        &self,
-        classes: &[u8; 256],
-        haystack: &[u8],
-        span: Span,
-        at: usize,
-        part: usize,
-        lanes: Lanes,
-        limit: usize,
-        marks: &mut [u32],
-        tally: &mut Tally,
-    ) -> Result<(), Damaged>
-        requires safe { IsSafe self.now }
-        requires same { HasBytes self.now classes.now }
-        requires limit { IsLimit self.now limit }
-        requires rows { HaveRows limit lanes }
-        requires valid { IsValidSpan haystack.now span }
-        requires inside { at + 4 * part ≤ span.end }
-        requires room { 4 * part ≤ length marks.old }
-        ensures marks { ForBackward self.now (λ tables. AreLanes tables haystack.now span at part part lanes
-            → IsOkAnd result (λ _. AreMarks tables haystack.now span.end marks.new at at (at + 4 * part))) }
-        ensures others { tally.new ≡ record tally.old { scanned = tally.new.scanned } }
-        ensures most { tally.new.scanned ≤ tally.old.scanned + 4 * part }
-        ensures all { IfOk result (λ _. tally.new.scanned ≡ tally.old.scanned + 4 * part) }
-    {
-        let (mut first, mut second) = (lanes.first, lanes.second);
-        let (mut third, mut fourth) = (lanes.third, lanes.fourth);
-        let search = *self; // (a copy: what is written to the marks does not change it)
-        for step in (0..part).rev() {
-            let here = at + step;
-            let one = search.step(classes, first, haystack, here, limit, tally)?;
-            marks[step] = one;
-            first = (one % ENDS) as usize;
-            let two = search.step(classes, second, haystack, here + part, limit, tally)?;
-            marks[step + part] = two;
-            second = (two % ENDS) as usize;
-            let three = search.step(classes, third, haystack, here + 2 * part, limit, tally)?;
-            marks[step + 2 * part] = three;
-            third = (three % ENDS) as usize;
-            let four = search.step(classes, fourth, haystack, here + 3 * part, limit, tally)?;
-            marks[step + 3 * part] = four;
-            fourth = (four % ENDS) as usize;
-        }
-        Ok(())
-    }
-
-    /// Marks the block of four parts that begins at a place, unless nothing begins in it.
-    pub(crate) fn mark_four_parts(
-        &self,
-        haystack: &[u8],
-        span: Span,
-        from: usize,
-        part: usize,
-        marks: &mut Marks,
-        tally: &mut Tally,
-    ) -> Result<(), Stopped>
-        requires safe { IsSafe self.now }
-        requires valid { IsValidSpan haystack.now span }
-        requires after { marks.old.known ≤ from }
-        requires placed { IsPlaced self.now.table.longest span from marks.old }
-        requires inside { from + 4 * part + self.now.table.longest ≤ span.end }
-        requires long { self.now.table.longest ≤ part }
-        requires some { 2 ≤ part }
-        requires short { 4 * part ≤ LEAST }
-        ensures marked { ForBackward self.now (λ tables. IfOk result
-            (λ _. AreMarked tables haystack.now span from marks.new)) }
-        ensures refused { ForBackward self.now (λ tables. IfErr result
-            (StopsMarking tables haystack.now from span.end)) }
-        ensures placed { IfOk result (λ _. IsPlaced self.now.table.longest span from marks.new) }
-        ensures known { marks.new.known ≡ from + 4 * part }
-        ensures bounded { ScansThrice (between marks.old.known marks.new.known) tally.old tally.new }
-        ensures least { IfOk result (λ _. tally.old.scanned + looked_by self.now.table.longest span marks.new.known
-            ≤ tally.new.scanned + looked_by self.now.table.longest span marks.old.known) }
-        ensures more { length marks.old.numbers.items ≤ length marks.new.numbers.items }
-        ensures no_room { IfErr result (λ error. error ≡ Stopped.OutOfMemory
-            → length marks.old.numbers.items < min (max self.now.table.longest LEAST) (span.end - from)) }
-    {
-        let end = from + 4 * part;
-        let lead = self.table.longest.saturating_sub(1);
-        marks.first = from;
-        marks.upto = from;
-        marks.known = end;
-        let (limit, bytes) = (self.table.limit()?, self.table.class_bytes());
-        let classes = &bytes;
-        let led = self.lead_in_four(
-            classes,
-            haystack,
-            span,
-            from,
-            Block { part, lead, end },
-            limit,
-            tally,
-        )?;
-        if !self.pass_in_four(classes, haystack, span, from, part, led.lanes, limit, tally) {
-            self.make_room(&mut marks.numbers, span.end - from)?;
-            self.mark_in_four(
-                classes,
-                haystack,
-                span,
-                from,
-                part,
-                led.lanes,
-                limit,
-                &mut marks.numbers,
-                tally,
-            )?;
-            marks.upto = end;
-        }
-        Ok(())
-    }
-
-    /// How long each of four parts is that are marked at once, where so many bytes are left; and none where these are
-    /// few, or the longest pattern is longer than such a part.
-    pub(crate) fn part_for_marks(&self, left: usize) -> Option<usize>
-        ensures inside { IfSome result (λ part. 4 * part + self.now.table.longest ≤ left) }
-        ensures long { IfSome result (λ part. (self.now.table.longest ≤ part) × (2 ≤ part)) }
-        ensures short { IfSome result (λ part. 4 * part ≤ LEAST) }
-    {
-        let part = (left.saturating_sub(self.table.longest) / 4).min(MARKED);
-        if part < LEAST_PART || part < self.table.longest {
-            return None;
-        }
-        Some(part)
-    }
-
     /// A block of the rest of a span from a place on, of parts that are so long, or of the whole rest if that is not
     /// much longer; and none where the rest is short. The bytes that are owed are paid by it.
     fn four_parts_at(&self, span: Span, at: usize, part: usize, owed: usize) -> Option<Block>
@@ -785,9 +654,7 @@ impl<'t> Backward<'t> {
         };
         let mut front = self.pass_on(fingerprints, haystack, span, begin, tally);
         while let Some(block) = self.four_parts_at(span, front.at, front.part, owed) {
-            let looked = self.look_on(
-                classes, haystack, span, front, block, owed, limit, tally,
-            )?;
+            let looked = self.look_on(classes, haystack, span, front, block, owed, limit, tally)?;
             if looked.first.is_some() {
                 return Ok(looked.first);
             }

@@ -251,7 +251,9 @@ impl Search {
         ensures not_empty { IfSome result (λ found. found.start < found.end) }
         ensures bounded { ScansOnce self.now.query.patterns span result tally.old tally.new }
     {
-        let answer = self.table().search_once(haystack, span, false, tally);
+        let table = self.table();
+        let classes = &table.class_bytes();
+        let answer = table.search_once(classes, haystack, span, false, tally);
         let ended = answer.unwrap_or(None)?;
         Some(self.match_by(haystack, span, ended))
     }

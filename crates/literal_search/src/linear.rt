@@ -23,8 +23,10 @@ ghost use Rattle.literal_search.specs.declared.backward.TheConstants.{LEAST};
 
 use crate::backward::{Backward, Marks, no_marks};
 use crate::classes::{CLASSES_LEN, classes_for};
-use crate::prepared::{FINGERPRINTS_LEN, LENGTHS_AT, LINEAR_VERSION, NO_PATTERN, PrepareError};
-use crate::prepared::{fingerprint_numbers, put_numbers, write};
+use crate::prepared::{
+    FINGERPRINTS_LEN, LENGTHS_AT, LINEAR_VERSION, NO_PATTERN, PrepareError, fingerprint_numbers,
+    put_numbers, write,
+};
 use crate::prepared_linear::backward_in;
 use crate::rows::{Rows, rows_for};
 use crate::suffixes::Recognised;
@@ -201,7 +203,8 @@ impl Linear {
 
     /// Answers as [`Linear::find_in`], and adds each byte that it looks up to a tally, as scanned: at most three times
     /// the bytes of the span. It looks up at least those of the span, or with a match those up to its end; and then at
-    /// most eleven times those before the match, and a number that the longest pattern's length tells.
+    /// most eleven times those before the match, and 36 times the larger of 16 and half the longest pattern's length
+    /// and 3.
     pub fn find_in_counted(&self, haystack: &[u8], span: Span, tally: &mut Tally) -> Option<Match>
         requires { IsValidSpan haystack.now span }
         ensures leftmost { IsLeftmost self.now.query self.now.ignore_case haystack.now span result }

@@ -13,8 +13,7 @@ ghost use Rattle.literal_search.specs.Inside.PreparedLinear.{IsBackIn};
 
 use crate::backward::{Backward, Marks, no_marks, place_after};
 use crate::classes::CLASSES_LEN;
-use crate::prepared::{Damaged, FINGERPRINTS_LEN, LENGTHS_AT, LINEAR_VERSION};
-use crate::prepared::{is_checked, split};
+use crate::prepared::{Damaged, FINGERPRINTS_LEN, LENGTHS_AT, LINEAR_VERSION, is_checked, split};
 use crate::walk::Table;
 use literal_base::count::Tally;
 use literal_base::{Match, Span};

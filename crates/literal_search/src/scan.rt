@@ -81,13 +81,13 @@ impl<'t> Table<'t> {
         ensures first { is_earliest ≡ true → ForTable self.now (λ query ignore_case. IsOkAnd result (StepsToEnd span
             (tally.new.scanned - tally.old.scanned))) }
     {
-        let end = span.end;
+        let (end, classes) = (span.end, &self.class_bytes());
         let (mut start, nearest) = (span.start, self.nearest());
         let mut near = nearest.first;
         let passes = self.can_pass(end - start);
         while passes && 3 * near <= end - start {
             let rest = Span { start, end };
-            match self.walk(haystack, rest, start + near, is_earliest, tally)? {
+            match self.walk(classes, haystack, rest, start + near, is_earliest, tally)? {
                 Walked::Known(answer) => return Ok(answer),
                 Walked::Anew(at) => {
                     let later = Span { start: at, end };
@@ -96,19 +96,20 @@ impl<'t> Table<'t> {
                 }
             }
         }
-        self.search_once(haystack, Span { start, end }, is_earliest, tally)
+        self.search_once(classes, haystack, Span { start, end }, is_earliest, tally)
     }
 
     /// The same by one walk.
     #[inline(always)]
     pub fn search_once(
         &self,
+        classes: &[u8; 256],
         haystack: &[u8],
         span: Span,
         is_earliest: bool,
         tally: &mut Tally,
     ) -> Result<Option<Ended>, Damaged>
-        requires classes { length self.now.classes.now ≡ 64 }
+        requires same { classes.now ≡ classes_by self.now }
         requires valid { IsValidSpan haystack.now span }
         ensures found { ForTable self.now (λ query ignore_case. IsOkAnd result
             (Answers is_earliest query ignore_case haystack.now span)) }
@@ -121,7 +122,7 @@ impl<'t> Table<'t> {
         ensures first { IfOk result (λ answer. IfSome answer (λ e. is_earliest ≡ true
             → tally.new.scanned + span.start ≡ tally.old.scanned + e.end)) }
     {
-        match self.walk(haystack, span, usize::MAX, is_earliest, tally)? {
+        match self.walk(classes, haystack, span, usize::MAX, is_earliest, tally)? {
             Walked::Known(answer) => Ok(answer),
             Walked::Anew(_) => Ok(None),
         }

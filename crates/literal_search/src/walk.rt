@@ -122,13 +122,14 @@ impl<'t> Table<'t> {
     #[inline(never)]
     pub fn walk(
         &self,
+        classes: &[u8; 256],
         haystack: &[u8],
         span: Span,
         least: usize,
         is_earliest: bool,
         tally: &mut Tally,
     ) -> Result<Walked, Damaged>
-        requires classes { length self.now.classes.now ≡ 64 }
+        requires same { classes.now ≡ classes_by self.now }
         requires valid { IsValidSpan haystack.now span }
         ensures found { AreClasses (classes_by self.now) self.now.width → IsTable self.now.width (rows_by self.now)
             → IsOkAnd result (Walks self.now haystack.now span is_earliest) }
@@ -144,7 +145,7 @@ impl<'t> Table<'t> {
         let mut last = None;
         let mut place = 0;
         for at in span.start..span.end {
-            let code = self.code_at(place, haystack, at, tally);
+            let code = self.code_by(classes, place, haystack, at, tally);
             if at >= least && code == 0 {
                 return Ok(Walked::Anew(at + 1));
             }

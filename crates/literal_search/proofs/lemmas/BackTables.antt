@@ -1,5 +1,6 @@
 -- The tables of a search from the right, in a `Linear` and in an array that is lent.
-use Rattle.std.proofs.Common.{◌≡◌, ◌∙◌, ◌+◌, ◌++◌, ◌∷◌, ◌≤◌, ◌^◌, ℕ, List, [], ap, append-nil, append_assoc, arith, length, refl, subst, sym}
+use Rattle.std.proofs.Common.{◌≡◌, ◌∙◌, ◌+◌, ◌++◌, ◌∷◌, ◌≤◌, ◌^◌, ℕ, List, [], ap, append-nil, append_assoc, arith}
+use Rattle.std.proofs.Common.{length, refl, subst, sym}
 use Rattle.std.specs.List.{slice_range}
 use Rattle.literal_base.specs.declared.search.MatchKind.TheVariants.{Standard}
 use Rattle.literal_search.specs.Inside.Classes.{AreClasses}
@@ -114,7 +115,8 @@ module _ (t : BackTables) (are : AreBackTables t) (prints : List ℕ) (long : le
           };
           tables = subst (λ (b : BackTables). AreBackTables b) (same_tables t.search t.classes _ t.width _ t.rows _
               t.best _ t.longest _ (sym classes) refl
-              (sym (rows_written LINEAR_VERSION t.classes t.width t.search.query.patterns t.rows t.best prints)) (sym best_are) are.longest) are;
+              (sym (rows_written LINEAR_VERSION t.classes t.width t.search.query.patterns t.rows t.best prints))
+              (sym best_are) are.longest) are;
           lengths = lengths_written LINEAR_VERSION t.classes t.width t.search.query.patterns t.rows t.best
               prints;
           prints = subst (ArePrints t.search) (sym prints_are) pass;

@@ -14,8 +14,10 @@ use Rattle.literal_search.specs.Prepared.{prepared_len, fingerprints_part, rows_
 use Rattle.literal_search.specs.Prepared.{width_in}
 use Rattle.literal_search.specs.SearchValue.{NoneIsShorter, SearchValue}
 use Rattle.literal_search.specs.Overlapping.{OverlappingValue}
-use Rattle.literal_search.specs.PreparedLinear.{ArePrints, AreBackTables, BackTables, IsPreparedLinear, best_end, linear_len}
-use Rattle.literal_search.specs.PreparedOverlapping.{AreTables, IsPreparedOverlapping, ends_at, listed_len, overlapping_len}
+use Rattle.literal_search.specs.PreparedLinear.{ArePrints, AreBackTables, BackTables, IsPreparedLinear, best_end}
+use Rattle.literal_search.specs.PreparedLinear.{linear_len}
+use Rattle.literal_search.specs.PreparedOverlapping.{AreTables, IsPreparedOverlapping, ends_at, listed_len}
+use Rattle.literal_search.specs.PreparedOverlapping.{overlapping_len}
 use Rattle.literal_search.specs.Table.{Recognises}
 use Rattle.literal_search.proofs.lemmas.BackTables.{same_tables as same_back}
 use Rattle.literal_search.proofs.lemmas.LentTables.{same_tables}

@@ -125,8 +125,8 @@ ReadsFor longest span old new (Some begun) =
     (old + min (begun.at + longest) span.end ≤ new + span.start)
     × (new + 11 * span.start ≤ old + 11 * begun.at + 36 * first_part longest)
 
--- a search of a span has come to a place: its parts are long enough, and not long yet; it has looked up the bytes before
--- the place, and at most three times as many, less twice its credit, and so many more
+-- a search of a span has come to a place: its parts are long enough, and not long yet; it has looked up the bytes
+-- before the place, and at most three times as many, less twice its credit, and so many more
 pub record IsFront (b : Backward) (span : Span) (owed old new : ℕ) (f : Front) : Type 0 where
   pub after : span.start ≤ f.at
   pub inside : f.at ≤ span.end

@@ -13,7 +13,7 @@ returns-in_err-ended-clause-leftmost c =
     subst (IsLeftmost q c.args.self.now.ignore_case c.args.haystack.now c.args.span) (sym c.from_residual.ensures)
     (subst answers c.in_err-ended.was
     (unwrapped c.search_once-answer.result c.unwrap_or.result c.unwrap_or.ensures answers
-    (c.search_once-answer.ensures.found q c.args.self.now.ignore_case c.table.ensures.table)))
+    (c.search_once-answer.ensures.found q c.args.self.now.ignore_case c.table-table.ensures.table)))
 
 exactly : (old new start end : ℕ) → old ≤ new → new - old ≡ end - start → new ≡ old + (end - start)
 exactly old new start end grows is = omega arith
@@ -24,7 +24,7 @@ returns-in_err-ended-clause-bounded c =
     let steps = c.search_once-answer.new.tally.scanned - c.args.tally.now.scanned in
     let walked = subst (WalksTo q.patterns c.args.span steps) c.in_err-ended.was
     (unwrapped c.search_once-answer.result c.unwrap_or.result c.unwrap_or.ensures (WalksTo q.patterns c.args.span steps)
-    (c.search_once-answer.ensures.near q c.args.self.now.ignore_case c.table.ensures.table)) in
+    (c.search_once-answer.ensures.near q c.args.self.now.ignore_case c.table-table.ensures.table)) in
     subst (λ (o : Option MatchValue). ScansOnce q.patterns c.args.span o c.args.tally.now
     c.search_once-answer.new.tally)
     (sym c.from_residual.ensures) (record {
@@ -40,7 +40,7 @@ match_by-requires-clause-leftmost c =
     let answers = Answers false q c.args.self.now.ignore_case c.args.haystack.now c.args.span in
     subst answers c.in_ok-ended.was
     (unwrapped c.search_once-answer.result c.unwrap_or.result c.unwrap_or.ensures answers
-    (c.search_once-answer.ensures.found q c.args.self.now.ignore_case c.table.ensures.table))
+    (c.search_once-answer.ensures.found q c.args.self.now.ignore_case c.table-table.ensures.table))
 
 -- the same behind the next call
 leftmost_by : (c : goal.After-match_by) → IsLeftmostMatch c.args.self.now.query c.args.self.now.ignore_case
@@ -50,7 +50,7 @@ leftmost_by c =
     let answers = Answers false q c.args.self.now.ignore_case c.args.haystack.now c.args.span in
     subst answers c.in_ok-ended.was
     (unwrapped c.search_once-answer.result c.unwrap_or.result c.unwrap_or.ensures answers
-    (c.search_once-answer.ensures.found q c.args.self.now.ignore_case c.table.ensures.table))
+    (c.search_once-answer.ensures.found q c.args.self.now.ignore_case c.table-table.ensures.table))
 
 pub returns-clause-leftmost : goal.returns-clause-leftmost
 returns-clause-leftmost c =
@@ -61,7 +61,7 @@ pub returns-clause-not_empty : goal.returns-clause-not_empty
 returns-clause-not_empty c =
     let found = leftmost_by c in
     let whole = found.whole in
-    let some = c.table.ensures.table.some c.in_ok-ended.ended.pattern [] found.occurs.is_pattern in
+    let some = c.table-table.ensures.table.some c.in_ok-ended.ended.pattern [] found.occurs.is_pattern in
     omega (
       arith,
       some,
@@ -83,4 +83,4 @@ returns-clause-bounded c =
     c.in_ok-ended.ended (leftmost_by c) told.others told.grows told.once
     (subst (WalksTo q.patterns c.args.span steps) c.in_ok-ended.was
     (unwrapped c.search_once-answer.result c.unwrap_or.result c.unwrap_or.ensures (WalksTo q.patterns c.args.span steps)
-    (told.near q c.args.self.now.ignore_case c.table.ensures.table))))
+    (told.near q c.args.self.now.ignore_case c.table-table.ensures.table))))

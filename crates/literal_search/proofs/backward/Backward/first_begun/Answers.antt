@@ -11,14 +11,14 @@ loop-block-init c = record {
   front = subst (λ n. IsFront c.args.self.now c.args.span n c.args.tally.now.scanned c.pass_on-front.new.tally.scanned
       c.pass_on-front.result) (sym c.owed_by-owed.ensures)
       (c.pass_on-front.ensures.front c.args.tally.now.scanned (record {
-    after = omega arith;
-    inside = c.requires.valid.ordered;
-    some = omega arith;
-    long = omega arith;
-    near = λ _. omega arith;
-    least = omega arith;
-    most = omega arith;
-  }));
+        after = omega arith;
+        inside = c.requires.valid.ordered;
+        some = omega arith;
+        long = omega arith;
+        near = λ _. omega arith;
+        least = omega arith;
+        most = omega arith;
+      }));
   none = c.pass_on-front.ensures.none;
   others = c.pass_on-front.ensures.others;
 }

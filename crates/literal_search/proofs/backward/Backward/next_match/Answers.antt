@@ -26,7 +26,7 @@ marked_behind tables haystack span from m before marked b (Some found) lies =
 
 pub returns-then-is_some-clause-marked : goal.returns-then-is_some-clause-marked
 returns-then-is_some-clause-marked c = λ search is marked.
-    marked_behind (back_tables_by search c.args.self.now) c.args.haystack.now c.args.span c.loop-from.from
-    c.mark_from.new.marks (omega (arith, c.loop-from-test.true))
-    (c.in_ok-mark_from.ensures.marked search is (c.loop-from.invariant.marked search is marked)) c.args.self.now
+    marked_behind (back_tables_by search c.args.self.now) c.args.haystack.now c.args.span c.in_ok-at.at
+    c.mark_from.new.marks (omega (arith, c.in_ok-at.ensures.later, c.in_ok-at.ensures.placed.known_inside))
+    (c.in_ok-at.ensures.marked search is (c.loop-from.invariant.marked search is marked)) c.args.self.now
     c.in_ok-found.found c.in_ok-found.ensures.lies

@@ -26,11 +26,11 @@ returns-in_err-pattern-clause-found c = λ are table.
     let haystack = c.args.haystack.now in
     let at = c.loop-at.at in
     let inside : at < length haystack = omega (arith, c.loop-at-test.true, c.requires.valid.in_haystack) in
-    let code_is = c.code_at-code.ensures.number are (omega (arith, (c.loop-at.invariant.reads are table).row.fits)) in
+    let code_is = c.code_by-code.ensures.number are (omega (arith, (c.loop-at.invariant.reads are table).row.fits)) in
     absurd (c.in_err-pattern.ensures (inside_row c.in_ok-place.place c.in_ok-place.ensures.1
     (step_end (classes_by t) (rows_by t) haystack t.width are table c.args.span.start at c.loop-at.auto.at inside
     (omega (arith, c.type_inv.haystack at)) c.loop-at.place c.loop-at.last (c.loop-at.invariant.reads are table)
-    c.code_at-code.result code_is c.in_ok-place.ensures.0 c.if-code.false)))
+    c.code_by-code.result code_is c.in_ok-place.ensures.0 c.if-code.false)))
 
 pub returns-in_err-pattern-clause-near : goal.returns-in_err-pattern-clause-near
 returns-in_err-pattern-clause-near c = λ are table.
@@ -38,11 +38,11 @@ returns-in_err-pattern-clause-near c = λ are table.
     let haystack = c.args.haystack.now in
     let at = c.loop-at.at in
     let inside : at < length haystack = omega (arith, c.loop-at-test.true, c.requires.valid.in_haystack) in
-    let code_is = c.code_at-code.ensures.number are (omega (arith, (c.loop-at.invariant.reads are table).row.fits)) in
+    let code_is = c.code_by-code.ensures.number are (omega (arith, (c.loop-at.invariant.reads are table).row.fits)) in
     absurd (c.in_err-pattern.ensures (inside_row c.in_ok-place.place c.in_ok-place.ensures.1
     (step_end (classes_by t) (rows_by t) haystack t.width are table c.args.span.start at c.loop-at.auto.at inside
     (omega (arith, c.type_inv.haystack at)) c.loop-at.place c.loop-at.last (c.loop-at.invariant.reads are table)
-    c.code_at-code.result code_is c.in_ok-place.ensures.0 c.if-code.false)))
+    c.code_by-code.result code_is c.in_ok-place.ensures.0 c.if-code.false)))
 
 pub returns-then-code-eq0-clause-found : goal.returns-then-code-eq0-clause-found
 returns-then-code-eq0-clause-found c = λ are table.
@@ -51,13 +51,13 @@ returns-then-code-eq0-clause-found c = λ are table.
     let start = c.args.span.start in
     let at = c.loop-at.at in
     let inside : at < length haystack = omega (arith, c.loop-at-test.true, c.requires.valid.in_haystack) in
-    let code_is = c.code_at-code.ensures.number are (omega (arith, (c.loop-at.invariant.reads are table).row.fits)) in
+    let code_is = c.code_by-code.ensures.number are (omega (arith, (c.loop-at.invariant.reads are table).row.fits)) in
     let text = text_of (classes_by t) haystack (between start (at + 1)) in
     begins_anew t.width (rows_by t) start text c.loop-at.last
     (subst (λ (place : ℕ). HasRead t.width (rows_by t) start text place c.loop-at.last) c.if-code-eq0.true
     (step_on (classes_by t) (rows_by t) haystack t.width are table start at c.loop-at.auto.at inside
     (omega (arith, c.type_inv.haystack at)) c.loop-at.place c.loop-at.last (c.loop-at.invariant.reads are table)
-    c.code_at-code.result code_is (omega (arith, c.if-code-eq0.true))))
+    c.code_by-code.result code_is (omega (arith, c.if-code-eq0.true))))
 
 pub returns-then-code-clause-found : goal.returns-then-code-clause-found
 returns-then-code-clause-found c = λ are table.
@@ -65,11 +65,11 @@ returns-then-code-clause-found c = λ are table.
     let haystack = c.args.haystack.now in
     let at = c.loop-at.at in
     let inside : at < length haystack = omega (arith, c.loop-at-test.true, c.requires.valid.in_haystack) in
-    let code_is = c.code_at-code.ensures.number are (omega (arith, (c.loop-at.invariant.reads are table).row.fits)) in
+    let code_is = c.code_by-code.ensures.number are (omega (arith, (c.loop-at.invariant.reads are table).row.fits)) in
     finds_by t haystack c.args.span c.args.is_earliest c.loop-at.last c.loop-at.invariant.none
     (step_dead (classes_by t) (rows_by t) haystack t.width are table c.args.span.start at c.loop-at.auto.at inside
     (omega (arith, c.type_inv.haystack at)) c.loop-at.place c.loop-at.last (c.loop-at.invariant.reads are table)
-    c.code_at-code.result code_is c.if-code.true c.args.span.end c.loop-at-test.true)
+    c.code_by-code.result code_is c.if-code.true c.args.span.end c.loop-at-test.true)
 
 pub returns-then-code-clause-near : goal.returns-then-code-clause-near
 returns-then-code-clause-near c = λ are table.
@@ -79,15 +79,15 @@ returns-then-code-clause-near c = λ are table.
     let at = c.loop-at.at in
     let after = c.loop-at.auto.at in
     let inside : at < length haystack = omega (arith, c.loop-at-test.true, c.requires.valid.in_haystack) in
-    let code_is = c.code_at-code.ensures.number are (omega (arith, (c.loop-at.invariant.reads are table).row.fits)) in
+    let code_is = c.code_by-code.ensures.number are (omega (arith, (c.loop-at.invariant.reads are table).row.fits)) in
     let text = text_of (classes_by t) haystack (between start at) in
     let size = text_length (classes_by t) haystack start at after (omega arith) in
-    let ticked = ap (λ (n : Counts). n.scanned) c.code_at-code.ensures.ticks in
+    let ticked = ap (λ (n : Counts). n.scanned) c.code_by-code.ensures.ticks in
     let before = ap (λ (n : Counts). n.scanned) c.loop-at.invariant.counted in
     stops_by t c.args.span _ (start + length text) c.loop-at.last
     (λ none kind patterns recognises some. absurd (step_dead_has_one (classes_by t) (rows_by t) haystack t.width are
     table start at after inside (omega (arith, c.type_inv.haystack at)) c.loop-at.place c.loop-at.last
-    (c.loop-at.invariant.reads are table) c.code_at-code.result code_is c.if-code.true none kind patterns
+    (c.loop-at.invariant.reads are table) c.code_by-code.result code_is c.if-code.true none kind patterns
     recognises some))
     (omega (arith, size, ticked, before))
     (reads_near t.width (rows_by t) start text c.loop-at.place c.loop-at.last (c.loop-at.invariant.reads are table))
@@ -101,8 +101,8 @@ returns-then-is_earliest-clause-found c = λ are table.
     let start = c.args.span.start in
     let at = c.loop-at.at in
     let inside : at < length haystack = omega (arith, c.loop-at-test.true, c.requires.valid.in_haystack) in
-    let code = c.code_at-code.result in
-    let code_is = c.code_at-code.ensures.number are (omega (arith, (c.loop-at.invariant.reads are table).row.fits)) in
+    let code = c.code_by-code.result in
+    let code_is = c.code_by-code.ensures.number are (omega (arith, (c.loop-at.invariant.reads are table).row.fits)) in
     let so_far = c.loop-at.invariant.reads are table in
     let none = c.loop-at.invariant.none c.if-is_earliest.true in
     let here : at ≡ at + 1 - 1 = omega arith in
@@ -136,7 +136,7 @@ loop-at-preserved c =
     let at = c.loop-at.at in
     let inside : at < length haystack = omega (arith, c.loop-at-test.true, c.requires.valid.in_haystack) in
     let is_byte : get_or haystack at 0 < 256 = omega (arith, c.type_inv.haystack at) in
-    let code = c.code_at-code.result in
+    let code = c.code_by-code.result in
     let text = text_of classes haystack (between start (at + 1)) in
     let so_far = c.loop-at.invariant in
     let after = c.loop-at.auto.at in
@@ -149,7 +149,7 @@ loop-at-preserved c =
             omega (arith, w.place-is, w.in_ok-place.ensures.2)
       ];
       reads = λ are table.
-          let code_is = c.code_at-code.ensures.number are (omega (arith, (so_far.reads are table).row.fits)) in
+          let code_is = c.code_by-code.ensures.number are (omega (arith, (so_far.reads are table).row.fits)) in
           elim c.if-code-limit.branch [
             | goal.then-code-limit w ↦
                 subst (λ (last : Option Ended). HasRead t.width rows start text c.if-code-limit.place last)
@@ -188,7 +188,7 @@ loop-at-preserved c =
         | goal.else-code-limit+else-code+in_ok-place+in_ok-pattern+else-is_earliest w ↦ λ is.
             let never : ⊥ = let not = w.if-is_earliest.false in cc in absurd never
       ];
-      counted = c.code_at-code.ensures.ticks
+      counted = c.code_by-code.ensures.ticks
           ∙ (ap (λ (n : Counts). let n' : Counts = record n { scanned = n.scanned + 1 } in n') so_far.counted
           ∙ ap (λ (n : ℕ). let n' : Counts = record c.args.tally.now { scanned = n } in n') more);
     }
