@@ -342,7 +342,7 @@ pub extern "C" fn literal_prepare(
                 *needed = places;
                 LITERAL_TOO_SHORT
             }
-            Err(PrepareError::PatternTooLong | PrepareError::ListsTooLong) => LITERAL_TOO_LARGE,
+            Err(PrepareError::PatternTooLong) => LITERAL_TOO_LARGE,
         },
     }
 }
@@ -384,7 +384,7 @@ pub extern "C" fn literal_prepare_overlapping(
                 *needed = places;
                 LITERAL_TOO_SHORT
             }
-            Err(PrepareError::PatternTooLong | PrepareError::ListsTooLong) => LITERAL_TOO_LARGE,
+            Err(PrepareError::PatternTooLong) => LITERAL_TOO_LARGE,
         },
     }
 }
@@ -426,7 +426,7 @@ pub extern "C" fn literal_prepare_linear(
                 *needed = places;
                 LITERAL_TOO_SHORT
             }
-            Err(PrepareError::PatternTooLong | PrepareError::ListsTooLong) => LITERAL_TOO_LARGE,
+            Err(PrepareError::PatternTooLong) => LITERAL_TOO_LARGE,
         },
     }
 }

@@ -15,8 +15,7 @@ use Rattle.literal_search.specs.States.{IsRowsLength}
 use Rattle.literal_search.specs.Table.{Recognises}
 use Rattle.literal_search.specs.declared.classes.TheConstants.{CLASSES_LEN}
 use Rattle.literal_search.specs.declared.prepared.PrepareError.{PrepareError}
-use Rattle.literal_search.specs.declared.prepared.PrepareError.TheVariants.{ArrayTooShort, ListsTooLong}
-use Rattle.literal_search.specs.declared.prepared.PrepareError.TheVariants.{PatternTooLong}
+use Rattle.literal_search.specs.declared.prepared.PrepareError.TheVariants.{ArrayTooShort, PatternTooLong}
 use Rattle.literal_search.specs.declared.prepared.TheConstants.{FINGERPRINTS_LEN, LENGTHS_AT}
 use Rattle.literal_search.specs.declared.prepared.TheConstants.{OVERLAPPING_VERSION}
 
@@ -123,11 +122,10 @@ TakesListedPlaces search needed =
 abbrev pub WritesOverlapping : OverlappingValue → List ℕ → List ℕ → ℕ → Type 0
 WritesOverlapping search = WritesNumbers (IsPreparedOverlapping search) (TakesListedPlaces search)
 
--- why it is not: the array has fewer places than it takes, which would be enough; no pattern is too long, and no lists
--- are, of a search that there is
+-- why it is not: the array has fewer places than it takes, which would be enough; no pattern is too long, since each
+-- byte of the longest has a state
 abbrev pub RefusesOverlapping : OverlappingValue → List ℕ → PrepareError → Type 0
 RefusesOverlapping search array PatternTooLong = ⊥
-RefusesOverlapping search array ListsTooLong = ⊥
 RefusesOverlapping search array (ArrayTooShort needed) =
     (length array < needed) × TakesListedPlaces search needed
     × ((numbers : List ℕ) × IsPreparedOverlapping search numbers × (length numbers ≡ needed))

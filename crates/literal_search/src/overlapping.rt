@@ -90,7 +90,8 @@ impl Model for Overlapping {
 impl Overlapping {
     /// The search for the patterns that the iterator gives, with ASCII case ignored or not. The iterator has to end.
     /// There may be no pattern: then nothing is found, and no memory is asked for. Else it is asked for only for a
-    /// pattern that is kept, and behind the last of them.
+    /// pattern that is kept, and behind the last of them. Lists of the patterns that are a suffix of another, of 2^32
+    /// numbers or more, are refused as [`BuildError::OutOfMemory`].
     pub fn new<'a, I: IntoIterator<Item = &'a [u8]>>(
         alloc: Global,
         ignore_case: bool,
@@ -276,7 +277,7 @@ impl Numbers {
 }
 
 /// The numbers for patterns, by their rows and lists. Memory is asked for only where there is a pattern. Lists of 2^32
-/// numbers or more are refused as where there is no memory for them.
+/// numbers or more are refused, too.
 fn numbers_for(
     alloc: Global,
     width: usize,
@@ -301,6 +302,9 @@ fn numbers_for(
         return Ok(Numbers {
             kept: Vec::new(alloc),
         });
+    }
+    if ends.len() > u32::MAX as usize {
+        return Err(AllocError);
     }
     let rows = rows.as_slice();
     let lists_at = LENGTHS_AT + patterns.len() + rows.len();

@@ -86,8 +86,6 @@ const CHECK_FACTOR: u32 = 16_777_619;
 pub enum PrepareError {
     /// A pattern has 2^32 bytes or more.
     PatternTooLong,
-    /// The lists of the patterns that are a suffix of another have 2^32 numbers or more.
-    ListsTooLong,
     /// The array has to have this many places.
     ArrayTooShort(usize),
 }
@@ -102,7 +100,6 @@ impl fmt::Display for PrepareError {
     fn fmt<W: fmt::Write>(&self, f: &mut fmt::Formatter<W>) -> fmt::Result {
         match self {
             PrepareError::PatternTooLong => write!(f, "a pattern is too long"),
-            PrepareError::ListsTooLong => write!(f, "too many patterns are a suffix of another"),
             PrepareError::ArrayTooShort(needed) => write!(f, "the array needs {needed} places"),
         }
     }
@@ -408,13 +405,14 @@ pub fn write(
     requires patterns { length patterns.now < 2 ^ 32 }
     requires rows { length (rows_of rows.now) < 2 ^ 32 }
     requires starts { length starts.now ≤ 2 ^ 32 }
+    requires ends { length ends.now < 2 ^ 32 }
     requires inside { (i : ℕ) → slice_index starts.now i ≤ length ends.now }
-    ensures ok { IfOk result (λ needed. (needed ≤ length array.old) × (length ends.now < 2 ^ 32)
+    ensures ok { IfOk result (λ needed. (needed ≤ length array.old)
         × Puts 0 (numbers_for version (classes_of rows.now) width (map (λ pattern. pattern.items) patterns.now)
         (rows_of rows.now) starts.now (ends.now ++ prints.now)) array.old array.new
         × (needed ≡ length (numbers_for version (classes_of rows.now) width
         (map (λ pattern. pattern.items) patterns.now) (rows_of rows.now) starts.now (ends.now ++ prints.now)))) }
-    ensures error { IfErr result (RefusesArray (map (λ pattern. pattern.items) patterns.now) ends.now
+    ensures error { IfErr result (RefusesArray (map (λ pattern. pattern.items) patterns.now)
         (numbers_for version (classes_of rows.now) width (map (λ pattern. pattern.items) patterns.now)
         (rows_of rows.now) starts.now (ends.now ++ prints.now)) array.old) }
     ensures as_before { OnErr result (array.new ≡ array.old) }
@@ -422,9 +420,6 @@ pub fn write(
     let longest = longest_len(patterns);
     if longest > u32::MAX as usize {
         return Err(PrepareError::PatternTooLong);
-    }
-    if ends.len() > u32::MAX as usize {
-        return Err(PrepareError::ListsTooLong);
     }
     let rows_at = LENGTHS_AT + patterns.len();
     let starts_at = rows_at + rows.len();

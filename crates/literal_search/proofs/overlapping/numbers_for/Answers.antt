@@ -52,7 +52,7 @@ returns-in-Ok-clause-numbers c =
     let old = c.deref_mut.result.now in
     let none : drop (0 + length written) old ≡ [] = nil_from_length (drop (0 + length written) old)
     (omega (arith, length-drop (0 + length written) old, size, c.deref_mut.ensures.len)) in
-    let new_is : new ≡ written = c.in-Ok.ensures.ok.2 ∙ (ap (λ l. written ++ l) none ∙ append-nil written) in
+    let new_is : new ≡ written = c.in-Ok.ensures.ok.1 ∙ (ap (λ l. written ++ l) none ∙ append-nil written) in
     let rest = drop (length new) kept.items in
     let items : take kept.len (new ++ rest) ≡ written =
     ap (λ n. take n (new ++ rest)) (size ∙ sym (ap (λ (l : List ℕ). length l) new_is))

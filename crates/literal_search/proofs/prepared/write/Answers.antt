@@ -63,7 +63,6 @@ returns-clause-ok c =
     ∙ ap (λ t. body (length all) (length rows) (longest_of all) t) parts))
     in (
       omega arith,
-      omega arith,
       subst (λ (numbers : List ℕ). Puts 0 numbers old (set last 1 c.check_over.result)) is
           written,
       all_behind ∙ (sym size ∙ ap (λ (numbers : List ℕ). length numbers) is),
@@ -80,19 +79,11 @@ returns-then-longest-clause-error c = λ short.
     let below = longest_short all (2 ^ 32) (omega arith) short in
     omega (arith, below, c.longest_len-longest.ensures, c.if-longest.true)
 
-pub returns-then-ends-clause-error : goal.returns-then-ends-clause-error
-returns-then-ends-clause-error c = (
-  short_by (map (λ (p : Vec ℕ). p.items) c.args.patterns.now) c.longest_len-longest.result
-      c.longest_len-longest.ensures (omega (arith, c.if-longest.false)),
-  omega (arith, c.if-ends.true),
-)
-
 pub returns-then-array-needed-clause-error : goal.returns-then-array-needed-clause-error
 returns-then-array-needed-clause-error c =
     let patterns = c.args.patterns.now in
     let all = map (λ (p : Vec ℕ). p.items) patterns in (
       short_by all c.longest_len-longest.result c.longest_len-longest.ensures (omega (arith, c.if-longest.false)),
-      omega (arith, c.if-ends.false),
       omega (arith, c.if-array-needed.true),
       omega (
         arith,
