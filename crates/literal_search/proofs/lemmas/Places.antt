@@ -166,11 +166,13 @@ module _ (search : OverlappingValue) (old new : List ℕ)
             check = same 1 (omega arith)
                 ∙ (prepared.whole.check
                 ∙ ap check_of
-                (sym (part_is 2 (overlapping_len old) 2 (overlapping_len new) refl (ap (λ n. n + 33) listed_is) (omega arith)
+                (sym (part_is 2 (overlapping_len old) 2 (overlapping_len new) refl (ap (λ n. n + 33) listed_is)
+                (omega arith)
                 (omega arith))));
           };
           longest = same 5 (omega arith) ∙ prepared.longest;
-          tables = subst AreTables (same_tables search _ _ _ _ _ _ _ _ _ _ (sym (ap unpacked (part_is (rows_end old) (rows_end old + 64)
+          tables = subst AreTables (same_tables search _ _ _ _ _ _ _ _ _ _
+              (sym (ap unpacked (part_is (rows_end old) (rows_end old + 64)
               (rows_end new) (rows_end new + 64) len_is (omega (arith, len_is)) (omega arith) (omega arith))))
               (sym (same 2 (omega arith)))
               (sym (part_is (rows_at old) (rows_end old) (rows_at new) (rows_end new) rows_is len_is

@@ -47,8 +47,8 @@ returns-in_err-first-clause-end c =
     let search = c.args.self.now in
     let gives = subst (λ (v : OverlappingMatchesValue). (found : MatchValue) → ¬ IsToCome v found)
     c.find_overlapping_in-matches.ensures c.in_err-first.ensures.gives.gives in
-    subst (IsEarliestEnd search.patterns search.ignore_case c.args.haystack.now c.args.span) (sym c.from_residual.ensures)
-    (earliest search c.args.haystack.now c.args.span None gives)
+    subst (IsEarliestEnd search.patterns search.ignore_case c.args.haystack.now c.args.span)
+    (sym c.from_residual.ensures) (earliest search c.args.haystack.now c.args.span None gives)
 
 pub returns-clause-end : goal.returns-clause-end
 returns-clause-end c =

@@ -8,8 +8,8 @@ use Rattle.literal_search.proofs.overlapping.Overlapping.memory_usage.Goals as g
 pub returns : goal.returns
 returns c =
     let p = c.self.inside.parts in
-    subst (λ (v : OverlappingValue). TakesListedBytes v (length c.as_slice-numbers.result.now * 4 + c.total_bytes.result))
-    c.self.view_is (
+    subst (λ (v : OverlappingValue). TakesListedBytes v
+    (length c.as_slice-numbers.result.now * 4 + c.total_bytes.result)) c.self.view_is (
       length p.numbers,
       takes_listed c.self.invariant,
       omega (

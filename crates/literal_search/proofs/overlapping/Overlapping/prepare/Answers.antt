@@ -1,7 +1,8 @@
 use Rattle.std.proofs.Common.{List, ℕ, ap, arith, length, subst, sym}
 use Rattle.literal_search.specs.Inside.Overlapping.{overlapping_of}
 use Rattle.literal_search.specs.Inside.Prepared.{Puts}
-use Rattle.literal_search.specs.PreparedOverlapping.{IsPreparedOverlapping, RefusesOverlapping, TakesListedPlaces, WritesOverlapping}
+use Rattle.literal_search.specs.PreparedOverlapping.{IsPreparedOverlapping, RefusesOverlapping, TakesListedPlaces}
+use Rattle.literal_search.specs.PreparedOverlapping.{WritesOverlapping}
 use Rattle.literal_search.specs.Overlapping.{OverlappingValue}
 use Rattle.literal_search.specs.declared.prepared.PrepareError.TheVariants.{ArrayTooShort}
 use Rattle.literal_search.proofs.lemmas.LentTables.{takes_listed}

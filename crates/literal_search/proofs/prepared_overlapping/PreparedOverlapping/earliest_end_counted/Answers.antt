@@ -40,8 +40,8 @@ returns-in_err-stop-clause-prepared c = λ search prepared.
     search.ignore_case c.args.haystack.now c.args.span (option_map (λ (stop : Stop). stop.end) answer)))
     c.in_err-stop.was
     (earliest c.self.inside.lent c.self.invariant c.args.self.now c.self.view_is search prepared c.table.result
-    (c.table.ensures.table search) c.args.haystack.now (λ k. omega (arith, c.type_inv.haystack k)) c.args.span c.requires
-    c.next_end.result told.next told.inside))
+    (c.table.ensures.table search) c.args.haystack.now (λ k. omega (arith, c.type_inv.haystack k)) c.args.span
+    c.requires c.next_end.result told.next told.inside))
 
 pub returns-in-Some-clause-prepared : goal.returns-in-Some-clause-prepared
 returns-in-Some-clause-prepared c = λ search prepared.
@@ -50,8 +50,8 @@ returns-in-Some-clause-prepared c = λ search prepared.
     search.ignore_case c.args.haystack.now c.args.span (option_map (λ (stop : Stop). stop.end) answer) in
     subst is c.in-Some.is (subst (λ (r : Result (Option Stop) Damaged). IsOkAnd r is) c.in_ok-stop.was
     (earliest c.self.inside.lent c.self.invariant c.args.self.now c.self.view_is search prepared c.table.result
-    (c.table.ensures.table search) c.args.haystack.now (λ k. omega (arith, c.type_inv.haystack k)) c.args.span c.requires
-    c.next_end.result told.next told.inside))
+    (c.table.ensures.table search) c.args.haystack.now (λ k. omega (arith, c.type_inv.haystack k)) c.args.span
+    c.requires c.next_end.result told.next told.inside))
 
 pub returns-in-None-clause-prepared : goal.returns-in-None-clause-prepared
 returns-in-None-clause-prepared c = λ search prepared.
@@ -60,5 +60,5 @@ returns-in-None-clause-prepared c = λ search prepared.
     search.ignore_case c.args.haystack.now c.args.span (option_map (λ (stop : Stop). stop.end) answer) in
     subst is c.in-None.is (subst (λ (r : Result (Option Stop) Damaged). IsOkAnd r is) c.in_ok-stop.was
     (earliest c.self.inside.lent c.self.invariant c.args.self.now c.self.view_is search prepared c.table.result
-    (c.table.ensures.table search) c.args.haystack.now (λ k. omega (arith, c.type_inv.haystack k)) c.args.span c.requires
-    c.next_end.result told.next told.inside))
+    (c.table.ensures.table search) c.args.haystack.now (λ k. omega (arith, c.type_inv.haystack k)) c.args.span
+    c.requires c.next_end.result told.next told.inside))
