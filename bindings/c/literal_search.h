@@ -218,8 +218,9 @@ int32_t literal_prepare(uint32_t kind, bool ignore_case, const uint8_t *patterns
  * LITERAL_OK             prepared and needed are written
  * LITERAL_TOO_SHORT      the array has fewer than *needed places, and stays as it was
  * LITERAL_NO_SEARCHER    the patterns can't be searched for
- * LITERAL_OUT_OF_MEMORY  there is not enough memory for building the search
- * LITERAL_TOO_LARGE      as from literal_prepare; or only where 2^32 times or more a pattern is a suffix of another
+ * LITERAL_OUT_OF_MEMORY  there is not enough memory for building the search, or 2^32 times or more a pattern is a suffix
+ *                        of another
+ * LITERAL_TOO_LARGE      only where the table of the search would have 2^31 places or more
  * LITERAL_BAD_ARGUMENTS  the ends fall or pass the buffer */
 int32_t literal_prepare_overlapping(bool ignore_case, const uint8_t *patterns, size_t patterns_len, const size_t *ends,
                                     size_t ends_len, uint32_t *prepared, size_t prepared_len, size_t *needed);

@@ -14,7 +14,7 @@ ghost use Rattle.literal_base.specs.declared.search.MatchKind.TheVariants.{Stand
 ghost use Rattle.literal_search.specs.SearchValue.{CanBeKept, NeedTooManyStates};
 ghost use Rattle.literal_search.specs.Prepared.{AreShort, ForPrepared, IsWhole, RefusesToPrepare};
 ghost use Rattle.literal_search.specs.Prepared.{WritesPrepared};
-ghost use Rattle.literal_search.specs.PreparedOverlapping.{ForOverlapping, HasLongLists, RefusesOverlapping};
+ghost use Rattle.literal_search.specs.PreparedOverlapping.{ForOverlapping, RefusesOverlapping};
 ghost use Rattle.literal_search.specs.PreparedOverlapping.{IsWholeOverlapping, WritesOverlapping};
 ghost use Rattle.literal_search.specs.declared.prepared.PrepareError.TheVariants.{ArrayTooShort};
 ghost use Rattle.literal_c.specs.Answers.{IsAnswerForC, IsCount, IsPage, MayBeFound, MayBeAnswer, MayBePage};
@@ -337,13 +337,13 @@ pub extern "C" fn literal_prepare(
                 *needed = places;
                 LITERAL_TOO_SHORT
             }
-            Err(PrepareError::PatternTooLong | PrepareError::ListsTooLong) => LITERAL_TOO_LARGE,
+            Err(PrepareError::PatternTooLong) => LITERAL_TOO_LARGE,
         },
     }
 }
 
 /// The same for everything that occurs: a search by which [`literal_find_overlapping_in`] searches. The statuses come
-/// as from [`literal_prepare`], and [`LITERAL_TOO_LARGE`] also where the lists of the patterns that are a suffix of
+/// as from [`literal_prepare`], and [`LITERAL_OUT_OF_MEMORY`] also where the lists of the patterns that are a suffix of
 /// another have 2^32 numbers or more. The array takes one place more for each pattern, and in lists one for each that
 /// is a suffix of it.
 #[unsafe(no_mangle)]
@@ -356,9 +356,7 @@ pub extern "C" fn literal_prepare_overlapping(
     needed: &mut usize,
 ) -> i32
     ensures status { IsStatus (AreEnds (length patterns.now) 0 ends.now) (pieces patterns.now 0 ends.now)
-        (NeedTooManyStates Standard ignore_case (pieces patterns.now 0 ends.now)
-        ⊎ (¬ AreShort (pieces patterns.now 0 ends.now)
-        ⊎ HasLongLists (overlapping_for (pieces patterns.now 0 ends.now) ignore_case))) result
+        (NeedTooManyStates Standard ignore_case (pieces patterns.now 0 ends.now)) result
         ⊎ ((result ≡ LITERAL_TOO_SHORT) × AreEnds (length patterns.now) 0 ends.now
         × CanBeKept (pieces patterns.now 0 ends.now)) }
     ensures ok { result ≡ LITERAL_OK → WritesOverlapping (overlapping_for (pieces patterns.now 0 ends.now) ignore_case)
@@ -381,7 +379,7 @@ pub extern "C" fn literal_prepare_overlapping(
                 *needed = places;
                 LITERAL_TOO_SHORT
             }
-            Err(PrepareError::PatternTooLong | PrepareError::ListsTooLong) => LITERAL_TOO_LARGE,
+            Err(PrepareError::PatternTooLong) => LITERAL_TOO_LARGE,
         },
     }
 }

@@ -5,8 +5,7 @@ use Rattle.literal_search.specs.declared.BuildError.{BuildError}
 use Rattle.literal_search.specs.declared.BuildError.TheVariants.{EmptyPattern, OutOfMemory, TooManyPatterns}
 use Rattle.literal_search.specs.declared.BuildError.TheVariants.{TooManyStates}
 use Rattle.literal_search.specs.declared.prepared.PrepareError.{PrepareError}
-use Rattle.literal_search.specs.declared.prepared.PrepareError.TheVariants.{ArrayTooShort, ListsTooLong}
-use Rattle.literal_search.specs.declared.prepared.PrepareError.TheVariants.{PatternTooLong}
+use Rattle.literal_search.specs.declared.prepared.PrepareError.TheVariants.{ArrayTooShort, PatternTooLong}
 use Rattle.literal_search.specs.declared.replace.ReplaceError.{ReplaceError}
 use Rattle.literal_search.specs.declared.replace.ReplaceError.TheVariants as replace
 use Rattle.literal_search.specs.declared.replace_stream.ReplaceStreamError.{ReplaceStreamError}
@@ -22,7 +21,6 @@ build_error_text TooManyStates = codes "the patterns need too many states"
 -- what is printed of why a search is not written into an array
 abbrev pub prepare_error_text : PrepareError → List ℕ
 prepare_error_text PatternTooLong = codes "a pattern is too long"
-prepare_error_text ListsTooLong = codes "too many patterns are a suffix of another"
 prepare_error_text (ArrayTooShort needed) = codes "the array needs " ++ decimal needed ++ codes " places"
 
 -- what is printed of why matches are not replaced

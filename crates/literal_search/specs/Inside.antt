@@ -12,6 +12,7 @@ pub mod LentTables
 pub mod Linear
 pub mod Lists
 pub mod NextEnd
+pub mod Overlapping
 pub mod Packed
 pub mod Prepared
 pub mod PreparedLinear

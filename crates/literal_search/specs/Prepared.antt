@@ -16,8 +16,7 @@ use Rattle.literal_search.specs.States.{IsRowsLength}
 use Rattle.literal_search.specs.Table.{Recognises}
 use Rattle.literal_search.specs.declared.classes.TheConstants.{CLASSES_LEN, PACKED_LEN}
 use Rattle.literal_search.specs.declared.prepared.PrepareError.{PrepareError}
-use Rattle.literal_search.specs.declared.prepared.PrepareError.TheVariants.{ArrayTooShort, ListsTooLong}
-use Rattle.literal_search.specs.declared.prepared.PrepareError.TheVariants.{PatternTooLong}
+use Rattle.literal_search.specs.declared.prepared.PrepareError.TheVariants.{ArrayTooShort, PatternTooLong}
 use Rattle.literal_search.specs.declared.prepared.TheConstants.{FINGERPRINTS_LEN, LENGTHS_AT}
 use Rattle.literal_search.specs.declared.prepared.TheConstants.{PREPARED_VERSION}
 
@@ -138,19 +137,13 @@ WritesPrepared query ignore_case = WritesNumbers (IsPrepared query ignore_case) 
 abbrev pub AreShort : List (List ℕ) → Type 0
 AreShort patterns = All (λ (bytes : List ℕ). length bytes < 2 ^ 32) patterns
 
--- why a search for patterns is not written into an array: not all patterns are short; or they are, and its lists are
--- too long, or the array has fewer places than it takes, which would be enough
-abbrev pub RefusesNumbers : List (List ℕ) → Type 0 → (List ℕ → Type 0) → (ℕ → Type 0) → List ℕ → PrepareError → Type 0
-RefusesNumbers patterns HasLongLists AreFor Takes array PatternTooLong = ¬ AreShort patterns
-RefusesNumbers patterns HasLongLists AreFor Takes array ListsTooLong = AreShort patterns × HasLongLists
-RefusesNumbers patterns HasLongLists AreFor Takes array (ArrayTooShort needed) =
-    AreShort patterns × (length array < needed) × Takes needed
-    × ((numbers : List ℕ) × AreFor numbers × (length numbers ≡ needed))
-
--- why the search for the leftmost match is not, which has no lists
+-- why it is not: not all patterns are short; or they are, and the array has fewer places than it takes, which would be
+-- enough
 abbrev pub RefusesToPrepare : Query → Bool → List ℕ → PrepareError → Type 0
-RefusesToPrepare query ignore_case =
-    RefusesNumbers query.patterns ⊥ (IsPrepared query ignore_case) (TakesPlaces query ignore_case)
+RefusesToPrepare query ignore_case array PatternTooLong = ¬ AreShort query.patterns
+RefusesToPrepare query ignore_case array (ArrayTooShort needed) =
+    AreShort query.patterns × (length array < needed) × TakesPlaces query ignore_case needed
+    × ((numbers : List ℕ) × IsPrepared query ignore_case numbers × (length numbers ≡ needed))
 
 -- a match lies in the span, and is not empty
 pub record LiesIn (span : Span) (found : MatchValue) : Type 0 where

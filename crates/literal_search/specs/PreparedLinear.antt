@@ -15,8 +15,7 @@ use Rattle.literal_search.specs.States.{IsRowsLength}
 use Rattle.literal_search.specs.Table.{Recognises}
 use Rattle.literal_search.specs.declared.classes.TheConstants.{CLASSES_LEN}
 use Rattle.literal_search.specs.declared.prepared.PrepareError.{PrepareError}
-use Rattle.literal_search.specs.declared.prepared.PrepareError.TheVariants.{ArrayTooShort, ListsTooLong}
-use Rattle.literal_search.specs.declared.prepared.PrepareError.TheVariants.{PatternTooLong}
+use Rattle.literal_search.specs.declared.prepared.PrepareError.TheVariants.{ArrayTooShort, PatternTooLong}
 use Rattle.literal_search.specs.declared.prepared.TheConstants.{FINGERPRINTS_LEN, LENGTHS_AT}
 use Rattle.literal_search.specs.declared.prepared.TheConstants.{LINEAR_VERSION}
 
@@ -112,10 +111,9 @@ abbrev pub WritesLinear : SearchValue → List ℕ → List ℕ → ℕ → Type
 WritesLinear search = WritesNumbers (IsPreparedLinear search) (TakesLinearPlaces search)
 
 -- why it is not: the array has fewer places than it takes, which would be enough; no pattern is too long, since each
--- byte of the longest has a state, and there are no lists
+-- byte of the longest has a state
 abbrev pub RefusesLinear : SearchValue → List ℕ → PrepareError → Type 0
 RefusesLinear search array PatternTooLong = ⊥
-RefusesLinear search array ListsTooLong = ⊥
 RefusesLinear search array (ArrayTooShort needed) =
     (length array < needed) × TakesLinearPlaces search needed
     × ((numbers : List ℕ) × IsPreparedLinear search numbers × (length numbers ≡ needed))

@@ -20,7 +20,8 @@ ghost use Rattle.literal_search.specs.OverlappingMatchesValue.{GivesOverlapping,
 ghost use Rattle.literal_search.specs.Prepared.{AreShort, IsPrepared, IsWhole, RefusesToPrepare, TakesPlaces};
 ghost use Rattle.literal_search.specs.Prepared.{check_of, prepared_len};
 ghost use Rattle.literal_search.specs.PreparedLinear.{IsPreparedLinear, IsWholeLinear, linear_len};
-ghost use Rattle.literal_search.specs.PreparedOverlapping.{IsPreparedOverlapping, IsWholeOverlapping, listed_len};
+ghost use Rattle.literal_search.specs.PreparedOverlapping.{IsPreparedOverlapping, IsWholeOverlapping};
+ghost use Rattle.literal_search.specs.PreparedOverlapping.{overlapping_len};
 ghost use Rattle.literal_search.specs.Replaced.{replaced};
 ghost use Rattle.literal_search.specs.SearchValue.{ScansListAtMost, SearchValue, longest_of};
 ghost use Rattle.literal_search.specs.declared.backward.TheConstants.{LEAST};
@@ -146,7 +147,7 @@ pub fn first_places_are_enough()
     ensures longer_overlapping { (search : OverlappingValue) (numbers : List ℕ) (n : ℕ)
         → IsPreparedOverlapping search (take n numbers) → IsPreparedOverlapping search numbers }
     ensures shorter_overlapping { (search : OverlappingValue) (numbers : List ℕ) (n : ℕ)
-        → IsPreparedOverlapping search numbers → listed_len numbers ≤ n
+        → IsPreparedOverlapping search numbers → overlapping_len numbers ≤ n
         → IsPreparedOverlapping search (take n numbers) }
     ensures longer_linear { (search : SearchValue) (numbers : List ℕ) (n : ℕ)
         → IsPreparedLinear search (take n numbers) → IsPreparedLinear search numbers }

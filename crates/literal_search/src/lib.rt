@@ -435,6 +435,7 @@ impl Search {
             &self.patterns,
             self.rows.as_slice(),
             &[],
+            &[],
             &prints,
             array,
         )

@@ -430,12 +430,18 @@ fn numbers_for(
         });
     }
     let rows = rows.as_slice();
-    let mut ends = Vec::new(alloc);
-    ends.extend_from_slice(best)?;
-    ends.extend_from_slice(prints)?;
-    let needed = LENGTHS_AT + patterns.len() + rows.len() + ends.len();
+    let needed = LENGTHS_AT + patterns.len() + rows.len() + best.len() + FINGERPRINTS_LEN;
     let mut kept = vec![in alloc; 0u32; needed]?;
-    match write(LINEAR_VERSION, width, patterns, rows, &[], &ends, &mut kept) {
+    match write(
+        LINEAR_VERSION,
+        width,
+        patterns,
+        rows,
+        &[],
+        best,
+        prints,
+        &mut kept,
+    ) {
         Ok(_) => Ok(Numbers { kept }),
         Err(_) => unreachable!(),
     }

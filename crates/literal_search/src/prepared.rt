@@ -1,6 +1,6 @@
 //! A search as numbers in an array that its caller lends: written once, and then searched by, with no memory of its
 //! own. A search does not trust the array: where a number leads out of it, the search says so.
-ghost use Rattle.std.specs.Prelude.{◌≡◌, ◌+◌, ◌-◌, ◌*◌, ◌<◌, ◌≤◌, ◌^◌, ◌↔◌, [], ◌∷◌, length, map};
+ghost use Rattle.std.specs.Prelude.{◌≡◌, ◌+◌, ◌-◌, ◌*◌, ◌<◌, ◌≤◌, ◌^◌, ◌↔◌, ◌++◌, [], ◌∷◌, length, map};
 ghost use Rattle.std.specs.Prelude.{ℕ, IfErr, IfOk, IfSome, IsTrue, MatchOption, MatchResult, OnErr};
 ghost use Rattle.std.specs.Prelude.{min, slice_index, slice_range};
 ghost use Rattle.std.specs.Int.{from_le_bytes, w32};
@@ -31,7 +31,7 @@ use std::marker::Model;
 pub const PREPARED_VERSION: u32 = 0x4C50_0006;
 
 /// What that of one for everything that occurs is.
-pub const OVERLAPPING_VERSION: u32 = 0x4C4F_0005;
+pub const OVERLAPPING_VERSION: u32 = 0x4C4F_0006;
 
 /// What that of one for all leftmost matches in linear time is.
 pub const LINEAR_VERSION: u32 = 0x4C4C_0003;
@@ -60,6 +60,21 @@ pub const NO_PATTERN: [u32; 297] = [
     0, 0, 0, 0, 0, 0, 0, 0, 0, 0, 0, 0, 0, 0, 0, 0, 0,
 ];
 
+/// The prepared search for everything that occurs of no pattern: [`OVERLAPPING_VERSION`], its check, and the numbers of
+/// [`NO_PATTERN`] with that of where the last of no lists ends.
+pub const NO_LISTED: [u32; 298] = [
+    0x4C4F0006, 0x419EF164, 1, 0, 2, 0, 0, NOTHING, 0, 0, 0, 0, 0, 0, 0, 0, 0, 0, 0, 0, 0, 0, 0, 0,
+    0, 0, 0, 0, 0, 0, 0, 0, 0, 0, 0, 0, 0, 0, 0, 0, 0, 0, 0, 0, 0, 0, 0, 0, 0, 0, 0, 0, 0, 0, 0, 0,
+    0, 0, 0, 0, 0, 0, 0, 0, 0, 0, 0, 0, 0, 0, 0, 0, 0, 0, 0, 0, 0, 0, 0, 0, 0, 0, 0, 0, 0, 0, 0, 0,
+    0, 0, 0, 0, 0, 0, 0, 0, 0, 0, 0, 0, 0, 0, 0, 0, 0, 0, 0, 0, 0, 0, 0, 0, 0, 0, 0, 0, 0, 0, 0, 0,
+    0, 0, 0, 0, 0, 0, 0, 0, 0, 0, 0, 0, 0, 0, 0, 0, 0, 0, 0, 0, 0, 0, 0, 0, 0, 0, 0, 0, 0, 0, 0, 0,
+    0, 0, 0, 0, 0, 0, 0, 0, 0, 0, 0, 0, 0, 0, 0, 0, 0, 0, 0, 0, 0, 0, 0, 0, 0, 0, 0, 0, 0, 0, 0, 0,
+    0, 0, 0, 0, 0, 0, 0, 0, 0, 0, 0, 0, 0, 0, 0, 0, 0, 0, 0, 0, 0, 0, 0, 0, 0, 0, 0, 0, 0, 0, 0, 0,
+    0, 0, 0, 0, 0, 0, 0, 0, 0, 0, 0, 0, 0, 0, 0, 0, 0, 0, 0, 0, 0, 0, 0, 0, 0, 0, 0, 0, 0, 0, 0, 0,
+    0, 0, 0, 0, 0, 0, 0, 0, 0, 0, 0, 0, 0, 0, 0, 0, 0, 0, 0, 0, 0, 0, 0, 0, 0, 0, 0, 0, 0, 0, 0, 0,
+    0, 0, 0, 0, 0, 0, 0, 0, 0, 0, 0, 0, 0, 0, 0, 0, 0, 0,
+];
+
 /// What a check over no numbers is. It is not zero, so that no zeros lead to a check of zero.
 const CHECK_START: u32 = 2_166_136_261;
 
@@ -71,8 +86,6 @@ const CHECK_FACTOR: u32 = 16_777_619;
 pub enum PrepareError {
     /// A pattern has 2^32 bytes or more.
     PatternTooLong,
-    /// The lists of the patterns that are a suffix of another have 2^32 numbers or more.
-    ListsTooLong,
     /// The array has to have this many places.
     ArrayTooShort(usize),
 }
@@ -87,7 +100,6 @@ impl fmt::Display for PrepareError {
     fn fmt<W: fmt::Write>(&self, f: &mut fmt::Formatter<W>) -> fmt::Result {
         match self {
             PrepareError::PatternTooLong => write!(f, "a pattern is too long"),
-            PrepareError::ListsTooLong => write!(f, "too many patterns are a suffix of another"),
             PrepareError::ArrayTooShort(needed) => write!(f, "the array needs {needed} places"),
         }
     }
@@ -125,7 +137,7 @@ pub struct Header<'p> {
 }
 
 impl<'p> Header<'p> {
-    /// What a walk reads of them. By fingerprints go searches for the leftmost match alone.
+    /// What a walk reads of them, with a length that no pattern is below, and fingerprints, if there are any.
     #[inline(always)]
     pub fn table<'t>(&'t self, shortest: usize, fingerprints: Option<&'t Fingerprints>) -> Table<'t>
         ensures { result ≡ record (header_table self.now) { shortest = shortest; fingerprints = fingerprints.entry } }
@@ -376,8 +388,8 @@ pub(crate) fn unpack(numbers: &[u32], bytes: &mut [u8])
 }
 
 /// Writes a search of a version into the first places of an array, and answers how many these are. Behind its rows and
-/// the classes behind these may stand lists, of which `starts` says where each begins, or the numbers of fingerprints
-/// alone.
+/// the classes behind these may stand lists, of which `starts` says where each begins, and behind all others the
+/// numbers of its fingerprints.
 pub fn write(
     version: u32,
     width: usize,
@@ -385,6 +397,7 @@ pub fn write(
     rows: &[u32],
     starts: &[usize],
     ends: &[u32],
+    prints: &[u32; FINGERPRINTS_LEN],
     array: &mut [u32],
 ) -> Result<usize, PrepareError>
     requires classes { ArePacked rows.now }
@@ -392,28 +405,27 @@ pub fn write(
     requires patterns { length patterns.now < 2 ^ 32 }
     requires rows { length (rows_of rows.now) < 2 ^ 32 }
     requires starts { length starts.now ≤ 2 ^ 32 }
+    requires ends { length ends.now < 2 ^ 32 }
     requires inside { (i : ℕ) → slice_index starts.now i ≤ length ends.now }
-    ensures ok { IfOk result (λ needed. (needed ≤ length array.old) × (length ends.now < 2 ^ 32)
+    ensures ok { IfOk result (λ needed. (needed ≤ length array.old)
         × Puts 0 (numbers_for version (classes_of rows.now) width (map (λ pattern. pattern.items) patterns.now)
-        (rows_of rows.now) starts.now ends.now) array.old array.new
+        (rows_of rows.now) starts.now (ends.now ++ prints.now)) array.old array.new
         × (needed ≡ length (numbers_for version (classes_of rows.now) width
-        (map (λ pattern. pattern.items) patterns.now) (rows_of rows.now) starts.now ends.now))) }
-    ensures error { IfErr result (RefusesArray (map (λ pattern. pattern.items) patterns.now) ends.now
+        (map (λ pattern. pattern.items) patterns.now) (rows_of rows.now) starts.now (ends.now ++ prints.now)))) }
+    ensures error { IfErr result (RefusesArray (map (λ pattern. pattern.items) patterns.now)
         (numbers_for version (classes_of rows.now) width (map (λ pattern. pattern.items) patterns.now)
-        (rows_of rows.now) starts.now ends.now) array.old) }
+        (rows_of rows.now) starts.now (ends.now ++ prints.now)) array.old) }
     ensures as_before { OnErr result (array.new ≡ array.old) }
 {
     let longest = longest_len(patterns);
     if longest > u32::MAX as usize {
         return Err(PrepareError::PatternTooLong);
     }
-    if ends.len() > u32::MAX as usize {
-        return Err(PrepareError::ListsTooLong);
-    }
     let rows_at = LENGTHS_AT + patterns.len();
     let starts_at = rows_at + rows.len();
     let ends_at = starts_at + starts.len();
-    let needed = ends_at + ends.len();
+    let prints_at = ends_at + ends.len();
+    let needed = prints_at + FINGERPRINTS_LEN;
     if array.len() < needed {
         return Err(PrepareError::ArrayTooShort(needed));
     }
@@ -428,6 +440,7 @@ pub fn write(
     put_numbers(array, rows_at, rows);
     put_starts(array, starts_at, starts);
     put_numbers(array, ends_at, ends);
+    put_numbers(array, prints_at, prints);
     array[1] = check_over(&array[2..needed]);
     Ok(needed)
 }

@@ -73,9 +73,8 @@ fn damaged_arrays_are_not_whole(rt: HostRuntime) -> Result<(), Fail> {
 /// The array that an `Overlapping` fills, of as many places as it takes.
 fn filled_by_overlapping(alloc: Global) -> Result<Vec<u32>, Fail> {
     let search = Overlapping::new(alloc, true, WORDS)?;
-    let mut array = vec![in alloc; 0; 10_000]?;
-    let filled = search.prepare(&mut array)?;
-    array.truncate(filled);
+    let mut array = vec![in alloc; 0; search.prepared_len()]?;
+    search.prepare(&mut array)?;
     Ok(array)
 }
 

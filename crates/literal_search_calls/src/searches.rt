@@ -85,11 +85,12 @@ fn tells_how_many_bytes_it_takes(rt: HostRuntime) -> Result<(), Fail> {
     Ok(())
 }
 
-/// The list of the pattern has one number, and two places tell where it begins and ends.
+/// It has 6 numbers, one for the pattern, 12 in the rows, 256 for classes, two where its list begins and ends, one in
+/// this, and 33 for fingerprints.
 #[test]
 fn overlapping_tells_how_many_bytes_it_takes(rt: HostRuntime) -> Result<(), Fail> {
     let search = Overlapping::new(rt.alloc(), false, [b"ab".as_slice()])?;
-    assert!(rt; search.memory_usage() == 70);
+    assert!(rt; search.memory_usage() == 4 * 311 + 2);
     let wanted = "Overlapping { ignore_case: false, patterns: 1 }";
     assert_prints_as(&rt, rt.alloc(), &search, wanted)?;
     Ok(())

@@ -3,12 +3,9 @@ use Rattle.std.proofs.Common.{◌≡◌, ℕ, ◌+◌, ◌*◌, length, map, sub
 use Rattle.literal_base.specs.Kinds.{root_kind_of}
 use Rattle.literal_search.specs.Inside.Classes.{AreClasses, symbols_in}
 use Rattle.literal_search.specs.Inside.Search.{IsSound, patterns_in, search_value}
-use Rattle.literal_search.specs.Inside.Standing.{overlapping_value}
-use Rattle.literal_search.specs.Memory.{TakesBytes, TakesListedBytes}
-use Rattle.literal_search.specs.PreparedOverlapping.{AreSized, AreTables, Tables}
+use Rattle.literal_search.specs.Memory.{TakesBytes}
 use Rattle.literal_search.specs.States.{IsRowsLength}
 use Rattle.literal_search.specs.declared.Search.TheInside.{Inside}
-use Rattle.literal_search.proofs.lemmas.LentTables.{have_tables}
 
 -- so many bytes are those of the rows, and of the patterns
 pub takes_bytes : (a : Inside) → IsSound a → (bytes : ℕ)
@@ -26,12 +23,3 @@ takes_bytes a sound bytes is = (
     is,
   ),
 )
-
--- and of the lists, in an `Overlapping`
-pub takes_listed_bytes : (t : Tables) → AreTables t → AreSized t → (bytes : ℕ)
-    → bytes ≡ 4 * (length t.rows + length t.ends) + 8 * length t.starts + sum_by length t.patterns
-    → TakesListedBytes (overlapping_value t) bytes
-unfolding TakesListedBytes
-takes_listed_bytes t tables sized bytes is =
-    have_tables t tables sized (λ rows ends starts. bytes
-    ≡ 4 * (rows + length ends) + 8 * length starts + sum_by length t.patterns) is

@@ -16,7 +16,8 @@ use Rattle.literal_search.specs.SearchValue.{NoneIsShorter, SearchValue}
 use Rattle.literal_search.specs.Overlapping.{OverlappingValue}
 use Rattle.literal_search.specs.PreparedLinear.{ArePrints, AreBackTables, BackTables, IsPreparedLinear, best_end}
 use Rattle.literal_search.specs.PreparedLinear.{linear_len}
-use Rattle.literal_search.specs.PreparedOverlapping.{IsPreparedOverlapping, ends_at, listed_len}
+use Rattle.literal_search.specs.PreparedOverlapping.{AreTables, IsPreparedOverlapping, ends_at, listed_len}
+use Rattle.literal_search.specs.PreparedOverlapping.{overlapping_len}
 use Rattle.literal_search.specs.Table.{Recognises}
 use Rattle.literal_search.proofs.lemmas.BackTables.{same_tables as same_back}
 use Rattle.literal_search.proofs.lemmas.LentTables.{same_tables}
@@ -122,9 +123,9 @@ module _ (query : Query) (ignore_case : Bool) (numbers : List ℕ) (n : ℕ) whe
 
 -- the same of an array for everything that occurs
 module _ (search : OverlappingValue) (old new : List ℕ)
-    (same : (k : ℕ) → k < listed_len old → get_or new k 0 ≡ get_or old k 0)
-    (parts : (from to : ℕ) → from ≤ to → to ≤ listed_len old → slice_range new from to ≡ slice_range old from to)
-    (fits : listed_len old ≤ length new)
+    (same : (k : ℕ) → k < overlapping_len old → get_or new k 0 ≡ get_or old k 0)
+    (parts : (from to : ℕ) → from ≤ to → to ≤ overlapping_len old → slice_range new from to ≡ slice_range old from to)
+    (fits : overlapping_len old ≤ length new)
   where
     len_is : rows_end new ≡ rows_end old
     len_is = omega (arith, same 3 (omega arith), same 4 (omega arith))
@@ -144,7 +145,7 @@ module _ (search : OverlappingValue) (old new : List ℕ)
         )
 
     -- a part that lies at the same places is the same
-    part_is : (from to from' to' : ℕ) → from' ≡ from → to' ≡ to → from ≤ to → to ≤ listed_len old
+    part_is : (from to from' to' : ℕ) → from' ≡ from → to' ≡ to → from ≤ to → to ≤ overlapping_len old
         → slice_range new from' to' ≡ slice_range old from to
     part_is from to from' to' from_is to_is ordered inside =
         ap (λ k. slice_range new k to') from_is ∙ (ap (slice_range new from) to_is ∙ parts from to ordered inside)
@@ -165,10 +166,13 @@ module _ (search : OverlappingValue) (old new : List ℕ)
             check = same 1 (omega arith)
                 ∙ (prepared.whole.check
                 ∙ ap check_of
-                (sym (part_is 2 (listed_len old) 2 (listed_len new) refl listed_is (omega arith) (omega arith))));
+                (sym (part_is 2 (overlapping_len old) 2 (overlapping_len new) refl (ap (λ n. n + 33) listed_is)
+                (omega arith)
+                (omega arith))));
           };
           longest = same 5 (omega arith) ∙ prepared.longest;
-          tables = same_tables search _ _ _ _ _ _ _ _ _ _ (sym (ap unpacked (part_is (rows_end old) (rows_end old + 64)
+          tables = subst AreTables (same_tables search _ _ _ _ _ _ _ _ _ _
+              (sym (ap unpacked (part_is (rows_end old) (rows_end old + 64)
               (rows_end new) (rows_end new + 64) len_is (omega (arith, len_is)) (omega arith) (omega arith))))
               (sym (same 2 (omega arith)))
               (sym (part_is (rows_at old) (rows_end old) (rows_at new) (rows_end new) rows_is len_is
@@ -177,9 +181,13 @@ module _ (search : OverlappingValue) (old new : List ℕ)
               (omega arith) (omega arith)))
               (sym (part_is (classes_end old) (ends_at old) (classes_end new) (ends_at new)
               (omega (arith, len_is)) ends_is
-              (omega arith) (omega arith))) prepared.tables;
+              (omega arith) (omega arith)))) prepared.tables;
           lengths = part_is 6 (rows_at old) 6 (rows_at new) refl rows_is (omega arith) (omega arith)
               ∙ prepared.lengths;
+          prints = subst (λ (p : List ℕ). 0 < shortest_by p
+              → AllPass (fingerprints_by p) search.ignore_case search.patterns)
+              (sym (part_is (listed_len old) (overlapping_len old) (listed_len new) (overlapping_len new) listed_is
+              (ap (λ n. n + 33) listed_is) (omega arith) (omega arith))) prepared.prints;
         }
 
 module _ (search : OverlappingValue) (numbers : List ℕ) (n : ℕ) where
@@ -190,7 +198,7 @@ module _ (search : OverlappingValue) (numbers : List ℕ) (n : ℕ) where
       listed_as search (take n numbers) numbers (λ k below. sym (get_or-take n numbers k 0 (omega arith)))
       (λ from to ordered inside. sym (part_of_first n numbers from to ordered (omega arith))) (omega arith) prepared
 
-  pub shorter_listed : IsPreparedOverlapping search numbers → listed_len numbers ≤ n
+  pub shorter_listed : IsPreparedOverlapping search numbers → overlapping_len numbers ≤ n
       → IsPreparedOverlapping search (take n numbers)
   shorter_listed prepared enough =
       let fits = prepared.whole.lists.fits in

@@ -3,10 +3,8 @@ use Rattle.std.proofs.Common.{◌≡◌, ℕ, ◌+◌, ◌-◌, ◌<◌, ◌≤�
 use Rattle.std.proofs.Common.{Bor, Err, IfErr, IfOk, IfSome, MatchOption, None, Ok, Option, Result, Some, min, refl}
 use Rattle.std.proofs.Common.{◌∷◌, take}
 use Rattle.std.proofs.Common.{sym, ap, subst, ◌∙◌, arith}
-use Rattle.std.proofs.lemmas.List.{get_or-map, length-drop, length-map, length-take, take-take, take_more}
-use Rattle.std.proofs.lemmas.List.Concat.{flat_map-append}
-use Rattle.std.specs.Int.{to_le_bytes}
-use Rattle.std.specs.List.{flat_map, repeat, slice_range}
+use Rattle.std.proofs.lemmas.List.{get_or-map, length-drop, length-map, length-take, take-take}
+use Rattle.std.specs.List.{repeat, slice_range}
 use Rattle.literal_base.specs.Kinds.{root_kind_of}
 use Rattle.literal_base.specs.Leftmost.{IsLeftmostMatch}
 use Rattle.literal_base.specs.Occurs.{pattern_at}
@@ -36,9 +34,10 @@ use Rattle.literal_search.specs.States.{IsRowsLength}
 use Rattle.literal_search.specs.Table.{Recognises}
 use Rattle.literal_search.specs.declared.Search.TheInside.{Inside}
 use Rattle.literal_search.specs.declared.prepared.PrepareError.{PrepareError}
+use Rattle.literal_search.specs.declared.prepared.PrepareError.TheVariants.{ArrayTooShort, PatternTooLong}
 use Rattle.literal_search.specs.declared.walk.Ended.{Ended}
 use Rattle.literal_search.proofs.lemmas.Numbers.{check_written, classes_written, lengths_written, numbers_long}
-use Rattle.literal_search.proofs.lemmas.Numbers.{ends_written, numbers_refused, numbers_written, rows_written}
+use Rattle.literal_search.proofs.lemmas.Numbers.{ends_written, numbers_written, rows_written}
 
 -- the length of a part of a list
 pub length_part : (numbers : List ℕ) (from to : ℕ) → from ≤ to → to ≤ length numbers
@@ -273,17 +272,20 @@ module _ (a : Inside) (sound : IsSound a) (old new prints : List ℕ) (size : le
     ))
 
     pub prepare_ok : (result : Result ℕ PrepareError)
-        → IfOk result (λ needed. (needed ≤ length old) × (length prints < 2 ^ 32) × Puts 0 all old new
-        × (needed ≡ length all))
+        → IfOk result (λ needed. (needed ≤ length old) × Puts 0 all old new × (needed ≡ length all))
         → IfOk result (WritesPrepared query a.ignore_case old new)
     prepare_ok (Err error) ok = tt
     prepare_ok (Ok needed) ok =
         numbers_written (IsPrepared query a.ignore_case) (TakesPlaces query a.ignore_case) all old new needed
-        is_prepared takes ok.0 ok.2 ok.3
+        is_prepared takes ok.0 ok.1 ok.2
 
-    pub prepare_refused : (result : Result ℕ PrepareError) → IfErr result (RefusesArray (patterns_in a) prints all old)
+    pub prepare_refused : (result : Result ℕ PrepareError) → IfErr result (RefusesArray (patterns_in a) all old)
         → IfErr result (RefusesToPrepare query a.ignore_case old)
     prepare_refused (Ok needed) refused = tt
-    prepare_refused (Err error) refused =
-        numbers_refused (patterns_in a) ⊥ (IsPrepared query a.ignore_case) (TakesPlaces query a.ignore_case) prints
-        all old is_prepared takes (λ long. omega (arith, long, size)) error refused
+    prepare_refused (Err PatternTooLong) refused = refused
+    prepare_refused (Err (ArrayTooShort needed)) refused = (
+      refused.0,
+      refused.1,
+      subst (TakesPlaces query a.ignore_case) (sym refused.2) takes,
+      (all, is_prepared, sym refused.2),
+    )

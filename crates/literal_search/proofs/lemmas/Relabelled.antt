@@ -20,7 +20,7 @@ use Rattle.literal_search.specs.States.{AreStates, IsRowsLength, IsStateCount}
 use Rattle.literal_search.specs.Table.{stride_of}
 use Rattle.literal_search.specs.Words.{begins_one}
 use Rattle.literal_search.specs.declared.prepared.PrepareError.{PrepareError}
-use Rattle.literal_search.specs.declared.prepared.PrepareError.TheVariants.{ArrayTooShort, ListsTooLong, PatternTooLong}
+use Rattle.literal_search.specs.declared.prepared.PrepareError.TheVariants.{ArrayTooShort, PatternTooLong}
 use Rattle.literal_search.proofs.lemmas.Live.{NoEarlierPrefix, any_in_question, any_in_question_at}
 
 eqb_same : (n : ℕ) → eqb n n ≡ true
@@ -218,7 +218,6 @@ pub long_enough : (query : Query) (ignore_case : Bool) (n : ℕ) (array : List �
     → AreShort query.patterns → TakesPlaces query ignore_case n → n ≤ length array
     → ¬ RefusesToPrepare query ignore_case array error
 long_enough query ignore_case n array PatternTooLong short takes fits refused = refused short
-long_enough query ignore_case n array ListsTooLong short takes fits refused = refused.1
 long_enough query ignore_case n array (ArrayTooShort needed) short takes fits refused =
     let same = places_once query ignore_case n needed takes refused.2 in
     omega (arith, same, fits, refused.1)

@@ -1,5 +1,5 @@
 -- The parts of a prepared search, and how they are written.
-use Rattle.std.specs.Prelude.{◌≡◌, ◌+◌, ◌<◌, ◌≤◌, ◌^◌, ℕ, List, ◌∷◌, ◌++◌, IfSome, None}
+use Rattle.std.specs.Prelude.{◌≡◌, ◌+◌, ◌<◌, ◌^◌, ℕ, List, ◌∷◌, ◌++◌, IfSome, None}
 use Rattle.std.specs.Prelude.{length, map, slice_index, slice_range}
 use Rattle.std.specs.List.{splice}
 use Rattle.literal_search.specs.SearchValue.{longest_of}
@@ -13,8 +13,7 @@ use Rattle.literal_search.specs.declared.prepared.Prepared.TheInside.{Inside}
 use Rattle.literal_search.specs.declared.prepared.TheConstants.{PREPARED_VERSION}
 use Rattle.literal_search.specs.declared.walk.Table.{Table}
 use Rattle.literal_search.specs.declared.prepared.PrepareError.{PrepareError}
-use Rattle.literal_search.specs.declared.prepared.PrepareError.TheVariants.{ArrayTooShort, ListsTooLong}
-use Rattle.literal_search.specs.declared.prepared.PrepareError.TheVariants.{PatternTooLong}
+use Rattle.literal_search.specs.declared.prepared.PrepareError.TheVariants.{ArrayTooShort, PatternTooLong}
 
 -- the parts of an array that begins as a prepared search of a version, where the classes stand behind the rows too
 pub record IsSplit (version : ℕ) (numbers classes : List ℕ) (width : ℕ) (lengths rows : List ℕ)
@@ -65,10 +64,8 @@ numbers_for version classes width patterns rows starts ends =
     checked version (width ∷ length patterns ∷ length rows ∷ longest_of patterns
     ∷ map (λ bytes. length bytes) patterns ++ (rows ++ packed_classes classes) ++ starts ++ ends)
 
--- why numbers are not written over an array: not all patterns are short; or they are, and there are too many numbers in
--- lists; or there are not, and the array is too short
-abbrev pub RefusesArray : List (List ℕ) → List ℕ → List ℕ → List ℕ → PrepareError → Type 0
-RefusesArray patterns ends numbers array PatternTooLong = ¬ AreShort patterns
-RefusesArray patterns ends numbers array ListsTooLong = AreShort patterns × (2 ^ 32 ≤ length ends)
-RefusesArray patterns ends numbers array (ArrayTooShort needed) =
-    AreShort patterns × (length ends < 2 ^ 32) × (length array < needed) × (needed ≡ length numbers)
+-- why numbers are not written over an array: not all patterns are short; or they are, and the array is too short
+abbrev pub RefusesArray : List (List ℕ) → List ℕ → List ℕ → PrepareError → Type 0
+RefusesArray patterns numbers array PatternTooLong = ¬ AreShort patterns
+RefusesArray patterns numbers array (ArrayTooShort needed) =
+    AreShort patterns × (length array < needed) × (needed ≡ length numbers)

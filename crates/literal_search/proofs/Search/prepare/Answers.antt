@@ -1,4 +1,4 @@
-use Rattle.std.proofs.Common.{◌≡◌, ◌<◌, ◌≤◌, ◌^◌, ℕ, IfErr, IfOk, List, [], arith, length, map, subst}
+use Rattle.std.proofs.Common.{◌≡◌, ◌≤◌, ℕ, IfErr, IfOk, List, [], arith, length, map, subst}
 use Rattle.std.specs.Global.{Vec}
 use Rattle.literal_search.specs.SearchValue.{SearchValue}
 use Rattle.literal_search.specs.Inside.Prepared.{Puts, RefusesArray, numbers_for}
@@ -18,7 +18,7 @@ returns-clause-ok c =
     let least = prints_least a.shortest c.fingerprints.result prints are in
     let pass = prints_pass a _ c.fingerprints.result prints c.self.view_is c.fingerprints.ensures are in
     let Writes : List (Vec ℕ) → List ℕ → List ℕ → Type 0 = λ patterns rows classes. IfOk c.write.result (λ needed.
-    (needed ≤ length old) × (length prints < 2 ^ 32)
+    (needed ≤ length old)
     × Puts 0 (numbers_for PREPARED_VERSION classes a.width (map (λ pattern. pattern.items) patterns) rows [] prints) old
     new × (needed ≡ length (numbers_for PREPARED_VERSION classes a.width (map (λ pattern. pattern.items) patterns) rows
     [] prints))) in
@@ -39,7 +39,7 @@ returns-clause-error c =
     let least = prints_least a.shortest c.fingerprints.result prints are in
     let pass = prints_pass a _ c.fingerprints.result prints c.self.view_is c.fingerprints.ensures are in
     let Refuses : List (Vec ℕ) → List ℕ → List ℕ → Type 0 = λ patterns rows classes. IfErr c.write.result
-    (RefusesArray (map (λ pattern. pattern.items) patterns) prints
+    (RefusesArray (map (λ pattern. pattern.items) patterns)
     (numbers_for PREPARED_VERSION classes a.width (map (λ pattern. pattern.items) patterns) rows [] prints) old) in
     let refused = subst (λ (patterns : List (Vec ℕ)). Refuses patterns a.rows.rows a.rows.classes) c.deref.ensures.value
     (subst (λ (rows : List ℕ). Refuses c.deref.result.now rows a.rows.classes) c.as_slice.ensures.rows
