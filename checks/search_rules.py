@@ -32,11 +32,9 @@ CONFIRMING = "crates/literal_prefilters/src/prefilter/confirming.rt"
 # The functions that may make a tally: for the hashes of patterns, or for a search that is given none.
 MAKERS = (
     "Builder::build", "Searcher::find_in", "Searcher::find_iter", "Prefilter::find_in", "ConfirmingSearch::find_in",
-    "Search::find_in", "Search::match_at", "Search::find_all", "MatchesIterator::next",
-    "Overlapping::earliest_end", "OverlappingMatchesIterator::next", "Prepared::find_in",
+    "Search::find_in", "Search::match_at", "Search::find_all_in", "MatchesIterator::next",
+    "Overlapping::earliest_end", "OverlappingMatchesIterator::next", "Prepared::find_in", "PreparedMatches::next_match",
     "PreparedOverlapping::earliest_end", "PreparedOverlappingMatches::next_match",
-    "Linear::find_all_in", "Linear::find_in", "Linear::match_at", "LinearMatchesIterator::next",
-    "PreparedLinear::find_in", "PreparedLinearMatches::next_match",
 )
 
 # Where each step ticks, once in each function, and a sum of the words of its body as it was reviewed, if it was. The
@@ -61,8 +59,8 @@ BYTES = re.compile(r"\b([a-z]\w*)\s*:[^,):]*(?:\[u8\]|\bVec<u8>|\bstr\b)")
 
 # The types that may keep a slice of bytes: a haystack, patterns, or what C hands over of either.
 KEEPERS = (
-    "FindIter", "Matches", "LinearMatches", "PreparedLinearMatches", "OverlappingMatches", "PreparedOverlappingMatches",
-    "Input", "Pattern", "SearchRequest", "Pieces", "FoundIn", "AnySearch",
+    "FindIter", "Matches", "PreparedMatches", "OverlappingMatches", "PreparedOverlappingMatches", "Input", "Pattern",
+    "SearchRequest", "Pieces", "AnySearch",
 )
 
 # The fields of `BucketEntries` that tell nothing of an entry, and the functions that may name the others: the one that

@@ -11,7 +11,7 @@ static const char *const WORDS[] = {"apple", "maple", "Snapple"};
 static const char TEXT[] = "Nobody likes maple in their apple flavored Snapple.";
 static uint8_t patterns[32];
 static size_t ends[3];
-static uint32_t prepared[PLACES], for_all[PLACES], linear[PLACES];
+static uint32_t prepared[PLACES], for_all[PLACES];
 static int wrong;
 
 #define CHECK(CLAIM) \
@@ -73,12 +73,6 @@ static void prepare(void) {
     CHECK(again == needed && literal_check_prepared(for_all, needed) == LITERAL_DAMAGED);
     CHECK(literal_check_overlapping(for_all, needed) == LITERAL_OK);
     CHECK(literal_check_overlapping(for_all, needed - 1) == LITERAL_DAMAGED);
-    CHECK(literal_prepare_linear(0, false, patterns, 17, ends, 3, NULL, 0, &needed) == LITERAL_TOO_SHORT);
-    CHECK(needed < PLACES && linear[0] == 0);
-    CHECK(literal_prepare_linear(0, false, patterns, 17, ends, 3, linear, PLACES, &again) == LITERAL_OK);
-    CHECK(again == needed && literal_check_prepared(linear, needed) == LITERAL_DAMAGED);
-    CHECK(literal_check_linear(linear, needed) == LITERAL_OK);
-    CHECK(literal_check_linear(linear, needed - 1) == LITERAL_DAMAGED);
 }
 
 static void by_prepared(const uint8_t *text, size_t len) {
@@ -104,11 +98,7 @@ static void by_prepared(const uint8_t *text, size_t len) {
     CHECK(is(&answers[0].found, 1, 13, 18) && answers[1].status == LITERAL_NONE);
     CHECK(literal_count_in(prepared, PLACES, text, len, 0, len, &count) == LITERAL_OK && count == 3);
     CHECK(literal_count_in(prepared, PLACES, text, len, 0, 49, &count) == LITERAL_OK && count == 2);
-    CHECK(literal_find_all_linear_in(linear, PLACES, text, len, 14, 50, found, 3, &page) == LITERAL_OK);
-    CHECK(page.written == 2 && page.is_last == 1 && is(&found[0], 0, 28, 33) && is(&found[1], 2, 43, 50));
-    CHECK(literal_find_all_linear_in(prepared, PLACES, text, len, 14, 50, found, 3, &page) == LITERAL_DAMAGED);
-    CHECK(literal_count_linear_in(linear, PLACES, text, len, 0, len, &count) == LITERAL_OK && count == 3);
-    CHECK(literal_count_linear_in(linear, PLACES, text, len, 1, 0, &count) == LITERAL_BAD_ARGUMENTS && count == 3);
+    CHECK(literal_count_in(prepared, PLACES, text, len, 1, 0, &count) == LITERAL_BAD_ARGUMENTS && count == 2);
 }
 
 /* Where a length is 0 the pointer may be NULL. */
@@ -137,11 +127,7 @@ static void by_null(const uint8_t *text, size_t len) {
     CHECK(literal_find_overlapping_in(NULL, 0, text, len, 0, len, NULL, 0, &page) == LITERAL_DAMAGED);
     CHECK(literal_find_each_in(prepared, PLACES, NULL, 0, NULL, 0, NULL, 0) == LITERAL_OK);
     CHECK(literal_count_in(prepared, PLACES, NULL, 0, 0, 0, &count) == LITERAL_OK && count == 0);
-    CHECK(literal_check_linear(NULL, 0) == LITERAL_DAMAGED);
-    CHECK(literal_find_all_linear_in(linear, PLACES, NULL, 0, 0, 0, NULL, 0, &page) == LITERAL_OK);
-    CHECK(page.written == 0 && page.next == 0 && page.is_last == 1);
-    CHECK(literal_count_linear_in(linear, PLACES, NULL, 0, 0, 0, &count) == LITERAL_OK && count == 0);
-    CHECK(literal_count_linear_in(NULL, 0, text, len, 0, len, &count) == LITERAL_DAMAGED && count == 0);
+    CHECK(literal_count_in(NULL, 0, text, len, 0, len, &count) == LITERAL_DAMAGED && count == 0);
     CHECK(literal_prepare_overlapping(true, NULL, 0, NULL, 0, empty, PLACES, &needed) == LITERAL_OK);
     CHECK(literal_find_overlapping_in(empty, needed, text, len, 0, len, NULL, 0, &page) == LITERAL_OK);
     CHECK(literal_prepare(1, true, NULL, 0, NULL, 0, empty, PLACES, &needed) == LITERAL_OK);

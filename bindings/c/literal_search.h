@@ -18,13 +18,16 @@
  * There are two ways to search. literal_find, literal_find_all, literal_find_overlapping and literal_find_each take the
  * patterns, and build their search anew. Whoever searches more than once lets literal_prepare write the search into an
  * array, and gives this array to the functions whose names end in _in; literal_find_overlapping_in takes one that
- * literal_prepare_overlapping wrote, and those whose names end in _linear_in one of literal_prepare_linear. They build
- * nothing, and but for the last two they take no memory. The arrays may be copied, or kept in a file for machines of
- * the same byte order.
+ * literal_prepare_overlapping wrote. They build nothing, and take no memory. The arrays may be copied, or kept in a
+ * file for machines of the same byte order. An array that another version of the library wrote is LITERAL_DAMAGED, if
+ * the two write different ones: the first number says which. Prepare the search again then.
  *
- * If others choose the patterns, as for a filter, take the functions with linear in their names. They find the same
- * matches, and a call looks up at most three times as many bytes as it searches, whatever the patterns are. The other
- * functions may look behind each match at as many bytes as the longest pattern has.
+ * A search takes linear time, whatever the patterns are. One for the leftmost match looks up at most three times the
+ * bytes that it is given to search; where there is a match, also at most eleven times the bytes before that, and 576
+ * more, or 108 more than 18 times the length of the longest pattern, whichever is more. One call for all matches, or
+ * for their count, looks up at most three times the bytes that it is given, however many matches there are. Only with a
+ * pattern of more than 1,024 bytes it searches anew behind each match, as literal_find does: then each match may cost
+ * 18 times the length of that pattern.
  *
  * Each call checks its arguments and answers one of the statuses below. The checks come in their order: first
  * LITERAL_BAD_ARGUMENTS, then LITERAL_NO_SEARCHER, then the two that come while the search is built,
@@ -34,12 +37,12 @@
  * literal_find_so_far_in by LITERAL_NONE where to go on, and with LITERAL_DAMAGED some of the places for matches or
  * answers may be written.
  *
- * The table of a search has a row for each different beginning of a pattern, and in each row a place for each different
- * byte that stands in patterns, and two more (one, if all 256 stand there). So in LITERAL_TOO_LARGE the patterns decide,
- * and not the memory: one of 8.4 million bytes is too large if it has all 256, and one of 77 million if it has 26. A
- * pattern that alone is too large is refused by its length, with LITERAL_LEFTMOST_FIRST only as the first; where others
- * are, or many together, the rows are made first, and LITERAL_OUT_OF_MEMORY may come instead. A place takes 4 bytes in a
- * prepared array, and as much again while that is written.
+ * The table of a search has a row for each different end of a pattern (for all that occurs: for each different
+ * beginning), and in each row a place for each different byte that stands in patterns, and two more (one, if all 256
+ * stand there). So in LITERAL_TOO_LARGE the patterns decide, and not the memory: one of 8.4 million bytes is too large
+ * if it has all 256, and one of 77 million if it has 26. A pattern that alone is too large is refused by its length;
+ * where many together are, the rows are made first, and LITERAL_OUT_OF_MEMORY may come instead. A place takes 4 bytes
+ * in a prepared array, and two to three times as much more while that is written.
  *
  * No call keeps anything after it returns. There is nothing to free, and any thread may call at any time. A call needs
  * less than 16 KiB of stack.
@@ -80,7 +83,7 @@ extern "C" {
 #define LITERAL_NO_SEARCHER 2    /* the patterns can't be searched for: one is empty, or there are 2^31 or more */
 #define LITERAL_OUT_OF_MEMORY 3  /* malloc or realloc refused a request; there are patterns that can be searched for */
 #define LITERAL_BAD_ARGUMENTS 4  /* the arguments contradict each other, as each function says */
-#define LITERAL_TOO_LARGE 5      /* only where the table of the search would have 2^31 places or more, or as said below */
+#define LITERAL_TOO_LARGE 5      /* only where the table of the search would have 2^31 places or more */
 #define LITERAL_TOO_SHORT 6      /* the lent array is shorter than it has to be */
 #define LITERAL_DAMAGED 7        /* the array is not as it was written for such a call */
 
@@ -162,7 +165,9 @@ int32_t literal_find(uint32_t kind, bool ignore_case, const uint8_t *patterns, s
  *
  * Give room for at least one match. With found_len 0 and a match left, nothing is written, page->next is where that
  * begins, and a loop would spin for ever. Behind its last match a page looks whether another one is left: page->next is
- * where it begins, so that the next page reads no bytes before it again.
+ * where it begins, so that the next page reads no bytes before it again. A page may look up some 2,000 bytes behind
+ * that too, which the next page looks up again. So give room for hundreds of matches where there are many; for a single
+ * match literal_find is quicker.
  *
  * LITERAL_OK             found and page are written, also where no pattern occurs (then page->written is 0)
  * LITERAL_NO_SEARCHER    the patterns can't be searched for
@@ -211,38 +216,26 @@ int32_t literal_find_each(uint32_t kind, bool ignore_case, const uint8_t *patter
  * LITERAL_TOO_SHORT      the array has fewer than *needed places, and stays as it was
  * LITERAL_NO_SEARCHER    the patterns can't be searched for
  * LITERAL_OUT_OF_MEMORY  there is not enough memory for building the search
- * LITERAL_TOO_LARGE      only where the table of the search would have 2^31 places or more, or a pattern has 2^32 bytes
- *                        or more; there LITERAL_OUT_OF_MEMORY may come first
+ * LITERAL_TOO_LARGE      only where the table of the search would have 2^31 places or more
  * LITERAL_BAD_ARGUMENTS  the ends fall or pass the buffer, or the kind is none of the two */
 int32_t literal_prepare(uint32_t kind, bool ignore_case, const uint8_t *patterns, size_t patterns_len,
                         const size_t *ends, size_t ends_len, uint32_t *prepared, size_t prepared_len, size_t *needed);
 
-/* The same for literal_find_overlapping_in. The array has one number more for each pattern, and one for each pattern
- * that is a suffix of it, or equals it.
+/* The same for literal_find_overlapping_in. The array has one number more for each pattern, and one for each other
+ * pattern that is a suffix of it, or equals it.
  *
  * LITERAL_OK             prepared and needed are written
  * LITERAL_TOO_SHORT      the array has fewer than *needed places, and stays as it was
  * LITERAL_NO_SEARCHER    the patterns can't be searched for
- * LITERAL_OUT_OF_MEMORY  there is not enough memory for building the search
- * LITERAL_TOO_LARGE      as from literal_prepare; or only where 2^32 times or more a pattern is a suffix of another
+ * LITERAL_OUT_OF_MEMORY  there is not enough memory for building the search, or 2^32 times or more a pattern is a
+ *                        suffix of another
+ * LITERAL_TOO_LARGE      only where the table of the search would have 2^31 places or more
  * LITERAL_BAD_ARGUMENTS  the ends fall or pass the buffer */
 int32_t literal_prepare_overlapping(bool ignore_case, const uint8_t *patterns, size_t patterns_len, const size_t *ends,
                                     size_t ends_len, uint32_t *prepared, size_t prepared_len, size_t *needed);
 
-/* The same for literal_find_all_linear_in and literal_count_linear_in. The array has one number more for each pattern.
- *
- * LITERAL_OK             prepared and needed are written
- * LITERAL_TOO_SHORT      the array has fewer than *needed places, and stays as it was
- * LITERAL_NO_SEARCHER    the patterns can't be searched for
- * LITERAL_OUT_OF_MEMORY  there is not enough memory for building the search
- * LITERAL_TOO_LARGE      as from literal_prepare
- * LITERAL_BAD_ARGUMENTS  the ends fall or pass the buffer, or the kind is none of the two */
-int32_t literal_prepare_linear(uint32_t kind, bool ignore_case, const uint8_t *patterns, size_t patterns_len,
-                               const size_t *ends, size_t ends_len, uint32_t *prepared, size_t prepared_len,
-                               size_t *needed);
-
-/* Whether an array of literal_prepare is whole, as one that was kept in a file: by its version, its lengths, and a check
- * over all of it. It finds what happens by accident, and is no defence against a forger.
+/* Whether an array of literal_prepare is whole, as one that was kept in a file: by its version, its lengths, and a
+ * check over all of it. It finds what happens by accident, and is no defence against a forger.
  *
  * LITERAL_OK       the array is whole
  * LITERAL_DAMAGED  it is not */
@@ -251,18 +244,15 @@ int32_t literal_check_prepared(const uint32_t *prepared, size_t prepared_len);
 /* The same for an array of literal_prepare_overlapping. */
 int32_t literal_check_overlapping(const uint32_t *prepared, size_t prepared_len);
 
-/* The same for an array of literal_prepare_linear. */
-int32_t literal_check_linear(const uint32_t *prepared, size_t prepared_len);
-
-/* The functions that follow search by an array that literal_prepare wrote, literal_find_overlapping_in by one of
- * literal_prepare_overlapping, and the last two by one of literal_prepare_linear. They look at its version and its
- * lengths, and not at all of it: an array that has not those of such a search, as one that is too short or of the other
- * kind, is always LITERAL_DAMAGED, if the other arguments are right. Of an array with other words each of them still
- * returns, and writes to the lent places alone; what it finds lies in the bytes that were searched, and its pattern is
- * below prepared[3], where the array says how many patterns there are. A page is the last, or fills the room for
- * matches, and of literal_find_all_in page->next is at least as many bytes behind start as the page has matches: with
- * room for one, a loop over pages ends. But the answer need not be right, whether that is LITERAL_DAMAGED or not, and
- * with LITERAL_DAMAGED some places for matches or answers may be written. */
+/* The functions that follow search by an array that literal_prepare wrote, and literal_find_overlapping_in by one of
+ * literal_prepare_overlapping. They look at its version and its lengths, and not at all of it: an array that has not
+ * those of such a search, as one that is too short or of the other kind, is always LITERAL_DAMAGED, if the other
+ * arguments are right. Of an array with other words each of them still returns, and writes to the lent places alone;
+ * what it finds lies in the bytes that were searched, and its pattern is below prepared[3], where the array says how
+ * many patterns there are. A page is the last, or fills the room for matches, and of literal_find_all_in page->next is
+ * at least as many bytes behind start as the page has matches: with room for one, a loop over pages ends. But the
+ * answer need not be right, whether that is LITERAL_DAMAGED or not, and with LITERAL_DAMAGED some places for matches or
+ * answers may be written. */
 
 /* As literal_find.
  *
@@ -279,9 +269,9 @@ int32_t literal_find_in(const uint32_t *prepared, size_t prepared_len, const uin
  * the first place at which a match may still begin: nobody needs the bytes before it any more, which are all but one
  * less than the longest pattern has. Keep those from there on, put what comes next behind them, and call again with the
  * place where they begin now for start. Whoever reads little at a time reads at least as many bytes as are kept before
- * the next call, or up to the end: then each byte lies in at most two calls, but behind each match, where a call may look
- * ahead as far as the longest pattern is long. With more false it is the leftmost match of the bytes
- * from start on, as of literal_find_in, or next is haystack_len.
+ * the next call, or up to the end: then each byte lies in at most two calls, but behind each match, where a call may
+ * look ahead as far as the longest pattern is long. With more false it is the leftmost match of the bytes from start
+ * on, as of literal_find_in, or next is haystack_len.
  *
  * LITERAL_OK             found holds the match, and next its end
  * LITERAL_NONE           whatever follows, no match begins before next; found stays as it was
@@ -291,7 +281,8 @@ int32_t literal_find_so_far_in(const uint32_t *prepared, size_t prepared_len, co
                                size_t haystack_len, size_t start, bool more, literal_match *found, size_t *next);
 
 /* As literal_find_all, in the bytes of the haystack from start up to and not including end. To go on, call again with
- * page->next for start.
+ * page->next for start. With patterns of at most 1,024 bytes a call looks up at most three times these bytes, also if
+ * other numbers of the array were changed.
  *
  * LITERAL_OK             found and page are written, also where no pattern occurs (then page->written is 0)
  * LITERAL_BAD_ARGUMENTS  start is above end, or end above haystack_len
@@ -318,37 +309,13 @@ int32_t literal_find_each_in(const uint32_t *prepared, size_t prepared_len, cons
                              size_t haystacks_len, const size_t *haystack_ends, size_t haystack_ends_len,
                              literal_answer *answers, size_t answers_len);
 
-/* How many matches literal_find_all_in would write in all, without an array for them.
+/* How many matches literal_find_all_in would write in all, without an array for them. It looks up as few bytes.
  *
  * LITERAL_OK             count holds the number
  * LITERAL_BAD_ARGUMENTS  start is above end, or end above haystack_len
  * LITERAL_DAMAGED        the array is not as it was written */
 int32_t literal_count_in(const uint32_t *prepared, size_t prepared_len, const uint8_t *haystack, size_t haystack_len,
                          size_t start, size_t end, size_t *count);
-
-/* As literal_find_all_in, by an array that literal_prepare_linear wrote: the same matches, and a call looks up at most
- * three times as many bytes as it searches, whatever the patterns are. Behind its matches a call looks for one more,
- * and beyond that at most twice as far as the longest pattern is long, or some thousand bytes. The next page begins
- * anew where that match begins. So with room for as many matches as that pattern has bytes, all pages together take
- * time in proportion to the haystack. While it runs, a call takes 4 bytes of memory for each byte of the longest
- * pattern, or 4 KiB.
- *
- * LITERAL_OK             found and page are written, also where no pattern occurs (then page->written is 0)
- * LITERAL_OUT_OF_MEMORY  malloc refused it; there is a byte to search
- * LITERAL_BAD_ARGUMENTS  start is above end, or end above haystack_len
- * LITERAL_DAMAGED        the array is not as it was written */
-int32_t literal_find_all_linear_in(const uint32_t *prepared, size_t prepared_len, const uint8_t *haystack,
-                                   size_t haystack_len, size_t start, size_t end, literal_match *found,
-                                   size_t found_len, literal_page *page);
-
-/* How many matches literal_find_all_linear_in would write in all, without an array for them.
- *
- * LITERAL_OK             count holds the number
- * LITERAL_OUT_OF_MEMORY  malloc refused as much as literal_find_all_linear_in takes; there is a byte to search
- * LITERAL_BAD_ARGUMENTS  start is above end, or end above haystack_len
- * LITERAL_DAMAGED        the array is not as it was written */
-int32_t literal_count_linear_in(const uint32_t *prepared, size_t prepared_len, const uint8_t *haystack,
-                                size_t haystack_len, size_t start, size_t end, size_t *count);
 
 #ifdef __cplusplus
 }

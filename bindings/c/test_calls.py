@@ -41,15 +41,6 @@ def prepared_for_all(words, ignore_case=False):
     return array, needed.value
 
 
-def prepared_linear(words, kind=0, ignore_case=False):
-    """The array of a search for all leftmost matches in linear time, and its length."""
-    needed = ctypes.c_size_t()
-    assert CALLS.literal_prepare_linear(kind, ignore_case, *joined(words), None, 0, needed) == TOO_SHORT
-    array = (ctypes.c_uint32 * needed.value)()
-    assert CALLS.literal_prepare_linear(kind, ignore_case, *joined(words), array, needed.value, needed) == OK
-    return array, needed.value
-
-
 def fields(struct):
     """The values of a struct's fields."""
     return tuple(getattr(struct, name) for name, _ in struct._fields_)
@@ -58,7 +49,6 @@ def fields(struct):
 CHECKS = (
     (prepared, CALLS.literal_check_prepared),
     (prepared_for_all, CALLS.literal_check_overlapping),
-    (prepared_linear, CALLS.literal_check_linear),
 )
 
 
@@ -163,6 +153,46 @@ class Pages(unittest.TestCase):
             self.assertEqual(self.spans(by_patterns, room), wanted)
             self.assertEqual(self.spans(by_array, room), wanted)
 
+    def all_found(self, array, text, room):
+        """All matches, by pages with room for so many, and their count."""
+        found, page, number, at, all_found = (Match * room)(), Page(), ctypes.c_size_t(), 0, []
+        while not page.is_last:
+            self.assertEqual(CALLS.literal_find_all_in(*array, text, len(text), at, len(text), found, room, page), OK)
+            all_found += [fields(it) for it in found[: page.written]]
+            at = page.next
+        self.assertEqual(CALLS.literal_count_in(*array, text, len(text), 0, len(text), number), OK)
+        self.assertEqual(number.value, len(all_found))
+        return all_found
+
+    def test_same_matches(self):
+        """Pages and counts are those of one search after another."""
+        chance, found = random.Random(7), Match()
+        for _ in range(300):
+            words = [bytes(chance.choices(b"abA", k=chance.randint(1, 4))) for _ in range(chance.randint(0, 5))]
+            text, kind = bytes(chance.choices(b"aabbAc", k=chance.randint(0, 60))), chance.choice((0, 1))
+            array, at, wanted = prepared(words, kind, kind == 1), 0, []
+            while CALLS.literal_find_in(*array, text, len(text), at, len(text), found) == OK:
+                wanted.append(fields(found))
+                at = found.end
+            for size in (1, 3, 60):
+                self.assertEqual(self.all_found(array, text, size), wanted, (words, text, size))
+
+    def test_a_long_word_that_breaks_off(self):
+        """At each match the long word could begin too, and does not stand there."""
+        array, text = prepared([b"a" * 1000 + b"b", b"a"]), b"a" * 20_000
+        self.assertEqual(self.all_found(array, text, 3000), [(1, at, at + 1) for at in range(len(text))])
+
+    def test_no_pattern_spoils_the_time(self):
+        """One search after another looks up 1,000 bytes behind each match, some 10^9 in all."""
+        array = prepared([b"a" * 1000 + b"b", b"a"])
+        for size in (10_000, 1 << 20):
+            text, number, found, page = b"a" * size, ctypes.c_size_t(), (Match * size)(), Page()
+            began = time.monotonic()
+            self.assertEqual(CALLS.literal_count_in(*array, text, size, 0, size, number), OK)
+            self.assertEqual(CALLS.literal_find_all_in(*array, text, size, 0, size, found, size, page), OK)
+            self.assertLess(time.monotonic() - began, size / (1 << 20) + 0.1)
+            self.assertEqual((number.value, page.written, page.is_last), (size, size, 1))
+            self.assertEqual(fields(found[size - 1]), (1, size - 1, size))
 
     def test_overlapping(self):
         words, text = [b"a", b"aa", b"baa"], b"baabaaa"
@@ -224,42 +254,6 @@ class SoFar(unittest.TestCase):
         ):
             status = CALLS.literal_find_so_far_in(*array, b"xabcx", length, start, more, found, next_at)
             self.assertEqual((status, fields(found), next_at.value), wanted, (length, start, more))
-
-
-class Linear(unittest.TestCase):
-    def spans(self, array, text, room):
-        """All matches, by pages with room for so many, and their count."""
-        found, page, number, at, all_found = (Match * room)(), Page(), ctypes.c_size_t(), 0, []
-        while True:
-            status = CALLS.literal_find_all_linear_in(*array, text, len(text), at, len(text), found, room, page)
-            self.assertEqual(status, OK)
-            all_found += [fields(it) for it in found[: page.written]]
-            if page.is_last:
-                break
-            at = page.next
-        self.assertEqual(CALLS.literal_count_linear_in(*array, text, len(text), 0, len(text), number), OK)
-        self.assertEqual(number.value, len(all_found))
-        return all_found
-
-    def test_same_matches(self):
-        chance = random.Random(7)
-        for _ in range(300):
-            words = [bytes(chance.choices(b"abA", k=chance.randint(1, 4))) for _ in range(chance.randint(0, 5))]
-            text, kind = bytes(chance.choices(b"aabbAc", k=chance.randint(0, 60))), chance.choice((0, 1))
-            room, page = (Match * 60)(), Page()
-            array, linear = (it(words, kind, kind == 1) for it in (prepared, prepared_linear))
-            self.assertEqual(CALLS.literal_find_all_in(*array, text, len(text), 0, len(text), room, 60, page), OK)
-            wanted = [fields(it) for it in room[: page.written]]
-            for size in (1, 3, 60):
-                self.assertEqual(self.spans(linear, text, size), wanted, (words, text, size))
-
-    def test_no_pattern_spoils_the_time(self):
-        """Behind each match the other search looks at as many bytes as the long word has, some 10^10 in all."""
-        array, text = prepared_linear([b"a" * 10_000 + b"b", b"a"]), b"a" * (1 << 20)
-        number, began = ctypes.c_size_t(), time.monotonic()
-        self.assertEqual(CALLS.literal_count_linear_in(*array, text, len(text), 0, len(text), number), OK)
-        self.assertEqual(number.value, 1 << 20)
-        self.assertLess(time.monotonic() - began, 1)
 
 
 class Arrays(unittest.TestCase):
@@ -332,8 +326,6 @@ class Arrays(unittest.TestCase):
         for lent, given in (None, 0), (array, length), (for_all, 1), (for_all, longer - 1):
             asked = (lent, given, TEXT, len(TEXT))
             self.assertEqual(CALLS.literal_find_overlapping_in(*asked, 0, len(TEXT), found, 2, page), DAMAGED)
-            self.assertEqual(CALLS.literal_find_all_linear_in(*asked, 0, len(TEXT), found, 2, page), DAMAGED)
-            self.assertEqual(CALLS.literal_count_linear_in(*asked, 0, len(TEXT), number), DAMAGED)
 
     def assert_page(self, copy, start, room, page):
         """What a page of four matches by any array is like."""
@@ -387,8 +379,8 @@ class Arrays(unittest.TestCase):
                 self.assert_page(copy, 9, room, page)
         self.assertEqual(seen, {OK, DAMAGED})
 
-    def test_what_a_damaged_linear_array_finds_lies_inside(self):
-        chance, (array, length) = random.Random(5), prepared_linear([*WORDS, b"e", b"le", b"e"], 1, True)
+    def test_what_a_damaged_array_finds_lies_inside(self):
+        chance, (array, length) = random.Random(5), prepared([*WORDS, b"e", b"le", b"e"], 1, True)
         seen = set()
         for _ in range(5000):
             copy = (ctypes.c_uint32 * length)(*array)
@@ -396,7 +388,7 @@ class Arrays(unittest.TestCase):
                 word = chance.choice((0, 1, 2, 255, 2**31, 2**32 - 1, chance.randrange(2**32)))
                 copy[chance.randrange(length)] = word
             room, page = (Match * 5)(*[Match(*BEFORE)] * 5), Page()
-            status = CALLS.literal_find_all_linear_in(copy, length, TEXT, len(TEXT), 9, 50, room, 4, page)
+            status = CALLS.literal_find_all_in(copy, length, TEXT, len(TEXT), 9, 50, room, 4, page)
             seen.add(status)
             self.assertEqual(fields(room[4]), BEFORE)
             if status == OK:
@@ -412,7 +404,6 @@ class RefusedMemory(unittest.TestCase):
 
     def test_all_requests_refused(self):
         process, array, asked = ctypes.CDLL(None), prepared(WORDS), (0, False, *joined(WORDS))
-        linear = prepared_linear(WORDS)
         found, page, answers = Match(*BEFORE), Page(*BEFORE), (Answer * 1)(Answer(7, Match(*BEFORE)))
         room, ends, text = (Match * 1)(found), (ctypes.c_size_t * 1)(5), (TEXT, len(TEXT))
         lent, needed, number = (ctypes.c_uint32 * 4)(*BEFORE), ctypes.c_size_t(7), ctypes.c_size_t(7)
@@ -424,15 +415,12 @@ class RefusedMemory(unittest.TestCase):
             CALLS.literal_find_each(*asked, *text, ends, 1, answers, 1),
             CALLS.literal_prepare(*asked, lent, 4, needed),
             CALLS.literal_prepare_overlapping(*asked[1:], lent, 4, needed),
-            CALLS.literal_prepare_linear(*asked, lent, 4, needed),
-            CALLS.literal_find_all_linear_in(*linear, *text, 0, 5, room, 1, page),
-            CALLS.literal_count_linear_in(*linear, *text, 0, 5, number),
             CALLS.literal_can_search(*asked[2:]),
             CALLS.literal_check_prepared(*array),
             CALLS.literal_count_in(*array, *text, 0, len(TEXT), number),
         )
         process.unsetenv(b"REFUSED_REQUEST")
-        self.assertEqual(statuses, (*9 * [OUT_OF_MEMORY], *3 * [OK]))
+        self.assertEqual(statuses, (*6 * [OUT_OF_MEMORY], *3 * [OK]))
         self.assertEqual([fields(it) for it in (found, room[0], answers[0].found, page)], 4 * [BEFORE])
         self.assertEqual((answers[0].status, needed.value, tuple(lent[:3]), number.value), (7, 7, BEFORE, 3))
 

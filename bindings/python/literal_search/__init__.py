@@ -39,20 +39,15 @@ __all__ = ["Kind", "Match", "Search", "__version__"]
 
 _Any = TypeVar("_Any", bound="Search[Any]")
 
-# A file of a searcher: these words first, the kind, whether case is ignored, whether all matches are found in linear
-# time, whether the patterns are str, how many they are, and how many bytes they and the prepared search have; then the
-# ends of the patterns, the patterns, and the prepared search; and at the end a sum of all that.
-_HEAD, _MAGIC, _SUM = struct.Struct("=8s7Q"), b"LITERAL2", struct.Struct("=L")
+# A file of a searcher: these words first, the kind, whether case is ignored, whether the patterns are str, how many
+# they are, and how many bytes they and the prepared search have; then the ends of the patterns, the patterns, and the
+# prepared search; and at the end a sum of all that.
+_HEAD, _MAGIC, _SUM = struct.Struct("=8s6Q"), b"LITERAL1", struct.Struct("=L")
 
 
 class Search(_native.Prepared[AnyStr]):
     """Searches for any number of patterns, none of them empty. Without a pattern it finds nothing, in any text. Of a
     mapping, it searches for the keys, and `value` of each match is what the mapping gives for its pattern.
-
-    With `linear` all matches of a text are found, counted, replaced, or split at, in time that does not depend on the
-    patterns: for patterns that others choose. Else behind each match as many bytes may be looked at as the longest
-    pattern has. The answers are the same. The first call that needs it prepares a second search, and what is read from
-    a file is searched as ever.
 
     With `ignore_case` A to Z are the same as a to z, in a str too; all other characters are themselves. A searcher
     never changes, so threads may share one. In a long text, the other threads of Python run while the library searches,
@@ -96,12 +91,7 @@ class Search(_native.Prepared[AnyStr]):
 
     @overload
     def __init__(
-        self,
-        patterns: Iterable[AnyStr],
-        kind: Kind = Kind.LEFTMOST_FIRST,
-        ignore_case: bool = False,
-        *,
-        linear: bool = False,
+        self, patterns: Iterable[AnyStr], kind: Kind = Kind.LEFTMOST_FIRST, ignore_case: bool = False
     ) -> None: ...
 
     @overload
@@ -110,17 +100,10 @@ class Search(_native.Prepared[AnyStr]):
         patterns: "Iterable[ReadableBuffer]",
         kind: Kind = Kind.LEFTMOST_FIRST,
         ignore_case: bool = False,
-        *,
-        linear: bool = False,
     ) -> None: ...
 
     def __init__(
-        self,
-        patterns: Iterable[Any],
-        kind: Kind = Kind.LEFTMOST_FIRST,
-        ignore_case: bool = False,
-        *,
-        linear: bool = False,
+        self, patterns: Iterable[Any], kind: Kind = Kind.LEFTMOST_FIRST, ignore_case: bool = False
     ) -> None:
         if isinstance(kind, bool):  # (else it would be taken for the number of a kind)
             raise TypeError("the kind is a Kind, not a bool")
@@ -135,8 +118,7 @@ class Search(_native.Prepared[AnyStr]):
         )
         if len({isinstance(it, str) for it in given}) > 1:
             raise TypeError("the patterns are partly str and partly bytes")
-        pieces, flags = tuple(map(_encoded, given)), (bool(ignore_case), bool(linear))
-        self._prepare(given, pieces, int(Kind(kind)), *flags, None, values)
+        self._prepare(given, tuple(map(_encoded, given)), int(Kind(kind)), bool(ignore_case), None, values)
 
     @property
     def kind(self) -> Kind:
@@ -286,19 +268,19 @@ class Search(_native.Prepared[AnyStr]):
         return list(self.patterns) if self._values is None else dict(zip(self.patterns, self._values))
 
     def __repr__(self) -> str:
-        name, more = type(self).__qualname__, ", linear=True" if self.linear else ""
-        return f"{name}({self._given()!r}, Kind.{self.kind.name}, ignore_case={self.ignore_case}{more})"
+        name = type(self).__qualname__
+        return f"{name}({self._given()!r}, Kind.{self.kind.name}, ignore_case={self.ignore_case})"
 
     def __reduce__(self) -> Tuple[Any, ...]:
         # (the __init__ of a subclass may take something else)
         state = getattr(self, "__getstate__", lambda: _state(self))  # (Python 3.10 has no such method)
-        return _made, (type(self), self._given(), self.kind, self.ignore_case, self.linear), state()
+        return _made, (type(self), self._given(), self.kind, self.ignore_case), state()
 
 
-def _made(cls: Type[_Any], patterns: Iterable[Any], kind: Kind, ignore_case: bool, linear: bool = False) -> _Any:
+def _made(cls: Type[_Any], patterns: Iterable[Any], kind: Kind, ignore_case: bool) -> _Any:
     """A searcher of a class, whose own __init__ is not called: for pickle and copy."""
     made = cls.__new__(cls)
-    Search.__init__(made, patterns, kind, ignore_case, linear=linear)
+    Search.__init__(made, patterns, kind, ignore_case)
     return made
 
 
@@ -329,7 +311,7 @@ def _written(searcher: "Search[Any]") -> bytes:
     pieces = [_encoded(it) for it in searcher.patterns]
     ends, kept = list(accumulate(map(len, pieces))), searcher._prepared
     lens = len(pieces), sum(map(len, pieces)), len(kept)
-    head = _HEAD.pack(_MAGIC, searcher.kind, searcher.ignore_case, searcher.linear, _are_str(searcher), *lens)
+    head = _HEAD.pack(_MAGIC, searcher.kind, searcher.ignore_case, _are_str(searcher), *lens)
     return b"".join([head, struct.pack(f"={len(ends)}Q", *ends), *pieces, kept])
 
 
@@ -349,11 +331,11 @@ def _replace(name: str, whole: bytes, mode: Optional[int]) -> None:
         raise
 
 
-def _read(whole: bytes) -> Optional[Tuple[Tuple[Any, ...], Tuple[bytes, ...], int, bool, bool, bytes, None]]:
+def _read(whole: bytes) -> Optional[Tuple[Tuple[Any, ...], Tuple[bytes, ...], int, bool, bytes, None]]:
     """What `_prepare` takes, of the file that holds it."""
     if len(whole) < _HEAD.size + _SUM.size or _SUM.pack(zlib.crc32(whole[: -_SUM.size])) != whole[-_SUM.size :]:
         return None
-    magic, kind, ignore_case, linear, is_str, count, size, prepared = _HEAD.unpack_from(whole)
+    magic, kind, ignore_case, is_str, count, size, prepared = _HEAD.unpack_from(whole)
     behind_ends = _HEAD.size + 8 * count
     if magic != _MAGIC or len(whole) != behind_ends + size + prepared + _SUM.size:
         return None
@@ -363,8 +345,7 @@ def _read(whole: bytes) -> Optional[Tuple[Tuple[Any, ...], Tuple[bytes, ...], in
     buffer = whole[behind_ends : behind_ends + size]
     pieces = tuple(buffer[start:end] for start, end in zip((0, *ends), ends))
     patterns = tuple(it.decode() for it in pieces) if is_str else pieces
-    kept = whole[behind_ends + size : -_SUM.size]
-    return patterns, pieces, kind, bool(ignore_case), bool(linear), kept, None
+    return patterns, pieces, kind, bool(ignore_case), whole[behind_ends + size : -_SUM.size], None
 
 
 def _has_objects(view: memoryview) -> bool:

@@ -80,7 +80,7 @@ static PyObject *first_of(Prepared *self, PyObject *const *given, Py_ssize_t cou
     literal_match found;
     if (arguments(OF_SEARCH, 1, given, count, names, asked) || hold(&text, self->takes, asked[0]))
         return NULL;
-    if (!(wanted == THE_EARLIEST && prepare_also(self, FOR_ALL)) && !bounds(&text, asked[1], asked[2], &place, &end)) {
+    if (!(wanted == THE_EARLIEST && prepare_for_all(self)) && !bounds(&text, asked[1], asked[2], &place, &end)) {
         int is_found = wanted == THE_EARLIEST ? find_earliest(self, &text, place.byte, end, &found)
                                               : find_first(self, &text, place.byte, end, &found);
         if (is_found >= 0 && wanted == WHETHER)
@@ -316,8 +316,6 @@ static PyObject *search_so_far(PyObject *of, PyObject *given) {
         walk_begin(&walk, (Prepared *)of, false, (PyObject *const[3]){part, start}))
         return NULL;
     walk.is_part = true;
-    walk.is_linear = false;
-    walk.room = walk.wanted = most_matches(&walk, FIRST_PAGE);
     walk.more = more;
     walk.before = (size_t)before;
     answer = wanted_of(&walk, wanted, replacement);
@@ -400,17 +398,16 @@ static bool has_one_each(PyObject *of, size_t count) {
     return PyTuple_Check(of) && (size_t)PyTuple_GET_SIZE(of) == count;
 }
 
-PyDoc_STRVAR(prepare_doc, "_prepare($self, patterns, pieces, kind, ignore_case, linear, kept, values, /)\n--\n\n"
+PyDoc_STRVAR(prepare_doc, "_prepare($self, patterns, pieces, kind, ignore_case, kept, values, /)\n--\n\n"
 "Sets the patterns, whose bytes are the pieces. Kept is what `_prepared` was of a searcher for the same, or None. The\n"
 "values are what a mapping gives for each, or None.");
 
 static PyObject *search_prepare(PyObject *of, PyObject *given) {
     Prepared *self = (Prepared *)of, new = {.takes = TAKES_EITHER};
     PyObject *pieces_of, *kept, *values;
-    int ignore_case, is_linear;
-    if (!PyArg_ParseTuple(given, "O!O!ippOO:_prepare", &PyTuple_Type, &new.patterns, &PyTuple_Type, &pieces_of,
-                          &new.kind, &ignore_case, &is_linear, &kept, &values) ||
-        join_pieces(&new.pieces, pieces_of))
+    int ignore_case;
+    if (!PyArg_ParseTuple(given, "O!O!ipOO:_prepare", &PyTuple_Type, &new.patterns, &PyTuple_Type, &pieces_of, &new.kind,
+                          &ignore_case, &kept, &values) || join_pieces(&new.pieces, pieces_of))
         return NULL;
     if (!has_one_each(new.patterns, new.pieces.count) || (values != Py_None && !has_one_each(values, new.pieces.count))) {
         free_pieces(&new.pieces);
@@ -418,10 +415,9 @@ static PyObject *search_prepare(PyObject *of, PyObject *given) {
         return NULL;
     }
     new.ignore_case = (char)ignore_case;
-    new.is_linear = (char)is_linear;
     if (PyTuple_GET_SIZE(new.patterns) > 0)
         new.takes = PyUnicode_Check(PyTuple_GET_ITEM(new.patterns, 0)) ? TAKES_STR : TAKES_BYTES;
-    new.prepared = kept == Py_None ? prepared_for(&new, &new.pieces, FOR_MATCHES) : checked(kept, new.pieces.count);
+    new.prepared = kept == Py_None ? prepared_for(&new, &new.pieces, false) : checked(kept, new.pieces.count);
     if (new.prepared && self->takes != NOT_PREPARED) {
         Py_CLEAR(new.prepared);
         PyErr_SetString(PyExc_RuntimeError, "a searcher never changes: make another one");
@@ -437,7 +433,6 @@ static PyObject *search_prepare(PyObject *of, PyObject *given) {
     self->prepared = new.prepared;
     self->kind = new.kind;
     self->ignore_case = new.ignore_case;
-    self->is_linear = new.is_linear;
     self->takes = new.takes;
     Py_RETURN_NONE;
 }
@@ -467,7 +462,6 @@ static void search_dealloc(PyObject *of) {
     Py_XDECREF(self->values);
     Py_XDECREF(self->prepared);
     Py_XDECREF(self->for_all);
-    Py_XDECREF(self->linear);
     free_pieces(&self->pieces);
     Py_TYPE(of)->tp_free(of);
 }
@@ -496,7 +490,6 @@ static PyMethodDef search_methods[] = {
 static PyMemberDef search_members[] = {
     {"patterns", T_OBJECT_EX, offsetof(Prepared, patterns), READONLY, "The patterns, as str or as bytes."},
     {"ignore_case", T_BOOL, offsetof(Prepared, ignore_case), READONLY, "Whether A to Z are the same as a to z."},
-    {"linear", T_BOOL, offsetof(Prepared, is_linear), READONLY, "Whether all matches are found in linear time."},
     {"_values", T_OBJECT, offsetof(Prepared, values), READONLY, NULL},
     {"_kind", T_INT, offsetof(Prepared, kind), READONLY, NULL},
     {"_prepared", T_OBJECT_EX, offsetof(Prepared, prepared), READONLY, NULL},

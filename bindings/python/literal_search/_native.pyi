@@ -38,8 +38,6 @@ class Prepared(Generic[AnyStr]):
     @property
     def ignore_case(self) -> bool: ...
     @property
-    def linear(self) -> bool: ...
-    @property
     def _kind(self) -> int: ...
     @property
     def _prepared(self) -> bytes: ...
@@ -130,7 +128,6 @@ class Prepared(Generic[AnyStr]):
         pieces: Tuple[bytes, ...],
         kind: int,
         ignore_case: bool,
-        linear: bool,
         kept: Optional[bytes],
         values: Optional[Tuple[Any, ...]],
         /,

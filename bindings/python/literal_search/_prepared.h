@@ -27,15 +27,11 @@ typedef struct {
     Pieces pieces;      /* the patterns */
     PyObject *prepared; /* the array of the library, as bytes */
     PyObject *for_all;  /* the one for all that occurs, once it was asked for */
-    PyObject *linear;   /* the one for all matches in linear time, once it was asked for */
     int kind;
-    char ignore_case, is_linear;
+    char ignore_case;
     bool leads_on; /* whether a pattern or a value may lead back to what holds it */
     Takes takes;
 } Prepared;
-
-/* What an array is for. */
-typedef enum { FOR_MATCHES, FOR_ALL, FOR_LINEAR } Purpose;
 
 /* Raises what a status other than success stands for. */
 static int refuse(int32_t status) {
@@ -94,16 +90,13 @@ static int join_pieces(Pieces *pieces, PyObject *of) {
     return 0;
 }
 
-static int32_t prepare(const Prepared *self, const Pieces *pieces, Purpose purpose, void *words, size_t len,
+static int32_t prepare(const Prepared *self, const Pieces *pieces, bool for_all, void *words, size_t len,
                        size_t *needed) {
     int32_t status;
     PyThreadState *state = PyEval_SaveThread();
-    if (purpose == FOR_ALL)
+    if (for_all)
         status = literal_prepare_overlapping(self->ignore_case, pieces->bytes, pieces->len, pieces->ends, pieces->count,
                                              words, len, needed);
-    else if (purpose == FOR_LINEAR)
-        status = literal_prepare_linear((uint32_t)self->kind, self->ignore_case, pieces->bytes, pieces->len,
-                                        pieces->ends, pieces->count, words, len, needed);
     else
         status = literal_prepare((uint32_t)self->kind, self->ignore_case, pieces->bytes, pieces->len, pieces->ends,
                                  pieces->count, words, len, needed);
@@ -126,7 +119,7 @@ static size_t likely_len(const Pieces *pieces) {
 
 /* The array of a search for some pieces. How long it is turns out when it is written, so it is written where there is
  * likely room, and once more where that was too little. */
-static PyObject *prepared_for(const Prepared *self, const Pieces *pieces, Purpose purpose) {
+static PyObject *prepared_for(const Prepared *self, const Pieces *pieces, bool for_all) {
     size_t needed = likely_len(pieces);
     PyObject *prepared = NULL;
     int32_t status;
@@ -136,7 +129,7 @@ static PyObject *prepared_for(const Prepared *self, const Pieces *pieces, Purpos
         prepared = PyBytes_FromStringAndSize(NULL, (Py_ssize_t)(room * sizeof(uint32_t)));
         if (!prepared)
             return NULL;
-        status = prepare(self, pieces, purpose, PyBytes_AS_STRING(prepared), room, &needed);
+        status = prepare(self, pieces, for_all, PyBytes_AS_STRING(prepared), room, &needed);
     } while (status == LITERAL_TOO_SHORT);
     if (status == LITERAL_OK) {
         _PyBytes_Resize(&prepared, (Py_ssize_t)(needed * sizeof(uint32_t)));
@@ -147,15 +140,14 @@ static PyObject *prepared_for(const Prepared *self, const Pieces *pieces, Purpos
     return prepared;
 }
 
-/* Makes one of the other two arrays, unless there is one: another thread may have made it in the meantime. */
-static int prepare_also(Prepared *self, Purpose purpose) {
-    PyObject **kept = purpose == FOR_ALL ? &self->for_all : &self->linear;
-    PyObject *made = *kept ? NULL : prepared_for(self, &self->pieces, purpose);
-    if (made && *kept)
+/* Makes the array for all that occurs, unless there is one: another thread may have made it in the meantime. */
+static int prepare_for_all(Prepared *self) {
+    PyObject *made = self->for_all ? NULL : prepared_for(self, &self->pieces, true);
+    if (made && self->for_all)
         Py_DECREF(made);
     else if (made)
-        *kept = made;
-    return *kept ? 0 : -1;
+        self->for_all = made;
+    return self->for_all ? 0 : -1;
 }
 
 static const uint32_t *words_of(PyObject *prepared, size_t *len) {

@@ -15,7 +15,6 @@ enum {
     PIECE = 1 << 20,      /* bytes of a piece, unless the longest pattern is much longer */
     FIRST_PAGE = 32,      /* room for so many matches at first */
     LARGEST_PAGE = 4096,  /* and for so many later */
-    MOST_LINEAR = 1 << 20, /* and where pages are as long as a good part of the longest pattern */
     READ_AHEAD = 1 << 22, /* bytes that the matches of a page may be looked at beyond their ends, all together */
     TAIL = 1 << 9,        /* so many bytes in front of a piece tell whether a long pattern may have begun */
     MOST_ROOM = 1 << 15   /* room for so many occurrences, unless a page would go back further than it goes on */
@@ -27,7 +26,6 @@ typedef struct {
     Prepared *search;
     Text text;
     bool for_all, is_done; /* (done: nothing is left to be searched) */
-    bool is_linear;        /* whether pages of matches are found in linear time */
     bool is_part, more;    /* whether the text is a part of one that is read; whether more may follow it */
     size_t before;         /* how much came before this part, as offsets count */
     size_t start, at, end;
@@ -61,14 +59,9 @@ static size_t cut_piece(const Prepared *search, size_t at, size_t end, size_t *p
 }
 
 /* How many matches to find at once. With a long pattern they are fewer, since behind each match the library may look as
- * far ahead; in linear time they are more, since behind each page it does. */
-static size_t most_matches(const Walk *walk, size_t wanted) {
-    size_t longest = walk->search->pieces.longest, most;
-    if (walk->is_linear) {
-        most = longest / 4 < MOST_LINEAR ? longest / 4 : MOST_LINEAR;
-        return wanted == FIRST_PAGE || most < wanted ? wanted : most;
-    }
-    most = READ_AHEAD / (longest + 1);
+ * far ahead. */
+static size_t most_matches(const Prepared *search, size_t wanted) {
+    size_t most = READ_AHEAD / (search->pieces.longest + 1);
     return most < 2 ? 1 : most < wanted ? most : wanted;
 }
 
@@ -143,20 +136,19 @@ static int find_earliest(const Prepared *search, const Text *text, size_t start,
 static int walk_begin(Walk *walk, Prepared *search, bool for_all, PyObject *const asked[3]) {
     if (hold(&walk->text, search->takes, asked[0]))
         return -1;
-    if ((for_all && prepare_also(search, FOR_ALL)) ||
+    if ((for_all && prepare_for_all(search)) ||
         bounds(&walk->text, asked[1], asked[2], &walk->place, &walk->end)) {
         give_back(&walk->text);
         return -1;
     }
     walk->search = (Prepared *)Py_NewRef((PyObject *)search);
     walk->for_all = for_all;
-    walk->is_linear = search->is_linear;
     walk->is_part = walk->more = false;
     walk->before = 0;
     walk->start = walk->at = walk->place.byte;
     walk->is_done = walk->at == walk->end;
     walk->matches = walk->first;
-    walk->room = walk->wanted = for_all ? FIRST_PAGE : most_matches(walk, FIRST_PAGE);
+    walk->room = walk->wanted = for_all ? FIRST_PAGE : most_matches(search, FIRST_PAGE);
     walk->written = walk->given = 0;
     return 0;
 }
@@ -192,7 +184,7 @@ static void take_matches(Walk *walk, size_t count, size_t at, bool is_done) {
     walk->written = count;
     walk->given = 0;
     if (count > 0 && walk->room < LARGEST_PAGE)
-        walk->wanted = most_matches(walk, LARGEST_PAGE);
+        walk->wanted = most_matches(walk->search, LARGEST_PAGE);
 }
 
 /* Takes over what the library wrote of a piece, up to the cut. */
@@ -215,15 +207,13 @@ static int take_page(Walk *walk, const literal_page *page, size_t cut, size_t pi
 
 /* Finds the matches of the next piece of a text, as many as there is room for, in one call. */
 static int matches_of_piece(Walk *walk) {
-    if (walk->is_linear && prepare_also(walk->search, FOR_LINEAR))
-        return -1;
     size_t words_len, piece_end, cut = cut_piece(walk->search, walk->at, walk->end, &piece_end);
-    const uint32_t *words = words_of(walk->is_linear ? walk->search->linear : walk->search->prepared, &words_len);
+    const uint32_t *words = words_of(walk->search->prepared, &words_len);
     const Text *text = &walk->text;
     literal_page page;
     PyThreadState *state = let_others_run(piece_end - walk->at);
-    int32_t status = (walk->is_linear ? literal_find_all_linear_in : literal_find_all_in)(
-        words, words_len, text->bytes, text->len, walk->at, piece_end, walk->matches, walk->room, &page);
+    int32_t status = literal_find_all_in(words, words_len, text->bytes, text->len, walk->at, piece_end, walk->matches,
+                                         walk->room, &page);
     come_back(state);
     return status == LITERAL_OK ? take_page(walk, &page, cut, piece_end) : refuse(status);
 }

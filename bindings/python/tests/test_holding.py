@@ -334,9 +334,9 @@ class Signals(unittest.TestCase):
                     self.assertLess(kibibytes_read(file.name), 2048)
 
     def test_a_long_text(self):
-        searcher, linear = Search([b"needle"]), Search([b"needle"], linear=True)
+        searcher = Search([b"needle"])
         for call in (searcher.find, searcher.findall, searcher.count, searcher.find_overlapping,
-                     lambda it: next(searcher.finditer(it)), linear.findall, linear.count):
+                     lambda it: next(searcher.finditer(it))):
             with zeros(LONG) as text:
                 self.assertLess(self.interrupted(call, text), LIMIT)
             # (the block ends by closing the text, which can be done since no call holds it)
@@ -345,15 +345,11 @@ class Signals(unittest.TestCase):
         """Behind each match the search looks as far ahead as a pattern is long."""
         for longest in (1000, 1 << 20):
             searcher, text = Search([b"a" * longest + b"b", b"a"]), bytearray(b"a" * (1 << 26))
-            for call in (searcher.findall, searcher.count, lambda it: sum(1 for _ in searcher.finditer(it))):
+            for call in (searcher.findall, searcher.count, lambda it: searcher.sub(b"", it),
+                         lambda it: sum(1 for _ in searcher.finditer(it))):
                 self.assertLess(self.interrupted(call, text), LIMIT)
                 text += b"a"  # (it is given back)
             self.assertEqual(searcher.find(text), Match(1, 0, 1))
-
-    def test_pages_in_linear_time(self):
-        searcher, text = Search([b"a" * (1 << 20) + b"b", b"a"], linear=True), b"a" * (1 << 27)
-        for call in (searcher.findall, searcher.count, lambda it: searcher.sub(b"", it)):
-            self.assertLess(self.interrupted(call, text), LIMIT)
 
 
 if __name__ == "__main__":

@@ -3,7 +3,6 @@ import array
 import copy
 import ctypes
 import doctest
-import io
 import json
 import os
 import pickle
@@ -224,7 +223,7 @@ class Matches(unittest.TestCase):
         self.assertEqual(Search(Changing(a=1)).find("xa").value, 1)
         for values in ((), (1, 2), [1]):
             with self.assertRaises(ValueError):
-                Search.__new__(Search)._prepare(("a",), (b"a",), 0, False, False, None, values)
+                Search.__new__(Search)._prepare(("a",), (b"a",), 0, False, None, values)
 
     def test_searchers_of_mappings(self):
         searcher = Search({b"a": 1, b"b": [2]}, LONGEST, True)
@@ -508,8 +507,7 @@ class Files(unittest.TestCase):
         whole = literal_search._written(searcher)
         places = len(whole) - 1, len(whole) - len(searcher._prepared)
         files = [whole[:at] + bytes([whole[at] ^ 1]) + whole[at + 1 :] for at in places]
-        flags = {"ignore_case": False, "linear": False}
-        mixed = SimpleNamespace(patterns=(b"ab",), _prepared=other._prepared, kind=FIRST, **flags)
+        mixed = SimpleNamespace(patterns=(b"ab",), _prepared=other._prepared, kind=FIRST, ignore_case=False)
         for damaged in (*files, literal_search._written(mixed)):
             self.path.write_bytes(damaged + literal_search._SUM.pack(literal_search.zlib.crc32(damaged)))
             with self.assertRaisesRegex(ValueError, "damaged"):
@@ -518,9 +516,9 @@ class Files(unittest.TestCase):
     def test_another_head_in_a_sound_file(self):
         whole, head = literal_search._written(Search([b"ab"])), literal_search._HEAD
         magic, *numbers = head.unpack_from(whole)
-        heads = [(b"LITERAL1", *numbers)]
+        heads = [(b"LITERAL0", *numbers)]
         heads.append((magic, 1 << 40, *numbers[1:]))  # (no kind)
-        for at in (4, 5, 6):  # (how many patterns there are, and how many bytes follow)
+        for at in (3, 4, 5):  # (how many patterns there are, and how many bytes follow)
             for more in (-1, 1, 1 << 40):
                 heads.append((magic, *numbers[:at], numbers[at] + more, *numbers[at + 1 :]))
         for it in heads:
@@ -677,8 +675,6 @@ class Random(unittest.TestCase):
             asked = (patterns, longest, ignore_case, haystack, start, end)
             self.assertEqual(searcher.find(haystack, start, end), plain.find(*asked), asked)
             self.assertEqual(searcher.findall(haystack, start, end), plain.find_all(*asked), asked)
-            linear = Search(patterns, Kind(longest), ignore_case, linear=True)
-            self.assertEqual(linear.findall(haystack, start, end), plain.find_all(*asked), asked)
             wanted = plain.find_overlapping(patterns, *asked[2:])
             self.assertEqual(searcher.find_overlapping(haystack, start, end), wanted, asked)
             self.assertEqual(searcher.find_earliest(haystack, start, end), (*wanted, None)[0], asked)
@@ -705,9 +701,8 @@ class Pieces(unittest.TestCase):
         either = "|".join(ordered) if isinstance(text, str) else b"|".join(ordered)
         wanted = [(words.index(it[0]), *it.span()) for it in re.finditer(either, text)]
         searcher = Search(words, kind)
-        linear = Search(words, kind, linear=True)
-        self.assertEqual((searcher.findall(text), linear.findall(text)), (wanted, wanted))
-        self.assertEqual((searcher.count(text), linear.count(text)), (len(wanted), len(wanted)))
+        self.assertEqual(searcher.findall(text), wanted)
+        self.assertEqual(searcher.count(text), len(wanted))
         self.assertEqual(searcher.find(text), (*wanted, None)[0])
         return wanted
 
@@ -732,6 +727,12 @@ class Pieces(unittest.TestCase):
         for words in (["🐍b"], ["b"], ["🐍", "b"]):
             self.assertGreater(len(self.compared(words, FIRST, text)), 0)
 
+    def test_a_long_word_that_breaks_off(self):
+        """At each match the long word could begin too. It stands behind the cut alone."""
+        for kind in Kind:
+            found = self.compared([b"a" * 100 + b"b", b"a"], kind, b"a" * (self.PIECE + 500) + b"b")
+            self.assertEqual((len(found), found[-1][0]), (self.PIECE + 401, 0))
+
     def test_a_pattern_longer_than_a_piece(self):
         pattern = b"x" * (self.PIECE + self.PIECE // 2)
         text = b"a" + b"x" * 100 + b"y" + b"\0" * self.PIECE + pattern + b"b"
@@ -743,43 +744,15 @@ class Pieces(unittest.TestCase):
 
 
 class Linear(unittest.TestCase):
-    def test_answers(self):
-        searcher = Search({"ab": 1, "abcd": 2}, LONGEST, True, linear=True)
-        self.assertEqual([(*it, it.value) for it in searcher.finditer("xABCDab")], [(1, 1, 5, 2), (0, 5, 7, 1)])
-        self.assertEqual((searcher.subn("-", "ab abcd b"), searcher.split("1ab2")), (("- - b", 2), ["1", "2"]))
-        self.assertEqual((searcher.find("xab"), searcher.count("xab", 2)), ((0, 1, 3), 0))
-        self.assertEqual(list(Search([b"a"], linear=True).finditer_stream(io.BytesIO(b"aba"))), [(0, 0, 1), (0, 2, 3)])
-        self.assertEqual(Search([], linear=True).findall(b"a"), [])
-
     def test_no_pattern_spoils_the_time(self):
-        """Else the search looks at 10,000 bytes behind each match, which takes some ten seconds."""
-        searcher, text = Search([b"a" * 10_000 + b"b", b"a"], linear=True), b"a" * (1 << 20)
-        searcher.count(b"a")
-        for call in (searcher.count, lambda it: len(searcher.findall(it)), lambda it: len(searcher.split(it)) - 1,
-                     lambda it: searcher.subn(b"", it)[1], lambda it: sum(1 for _ in searcher.finditer(it))):
-            began = time.process_time()
-            self.assertEqual(call(text), len(text))
-            self.assertLess(time.process_time() - began, 1)
-
-    def test_a_pattern_longer_than_a_piece(self):
-        text, long = b"x" * (3 * Pieces.PIECE + 1) + b"y", b"x" * (Pieces.PIECE + 9) + b"y"
-        for kind in Kind:
-            found = Search([long, b"xx", b"y"], kind, linear=True).findall(text)
-            self.assertEqual(found[-1], (0, len(text) - len(long), len(text)))
-            self.assertEqual([it.start for it in found], list(range(0, len(text) - len(long) + 1, 2)))
-
-    def test_copies(self):
-        for linear in (False, True):
-            searcher = Search(["a"], linear=linear)
-            copies = [copy.copy(searcher), pickle.loads(pickle.dumps(searcher)), eval(repr(searcher))]
-            with tempfile.TemporaryDirectory() as room:
-                searcher.save(Path(room, "a file"))
-                copies.append(Search.load(Path(room, "a file")))
-            self.assertEqual([it.linear for it in copies], 4 * [linear])
-            self.assertEqual([it.findall("ba") for it in copies], 4 * [[(0, 1, 2)]])
-        with self.assertRaises(AttributeError):
-            searcher.linear = False
-        self.assertEqual(literal_search._made(Search, ["a"], FIRST, False), Search(["a"]))
+        """One search after another looks up 1,000 bytes behind each match, some 10^9 in all."""
+        searcher = Search([b"a" * 1000 + b"b", b"a"])
+        for text in (b"a" * 10_000, b"a" * (1 << 20)):
+            for call in (searcher.count, lambda it: len(searcher.findall(it)), lambda it: len(searcher.split(it)) - 1,
+                         lambda it: searcher.subn(b"", it)[1], lambda it: sum(1 for _ in searcher.finditer(it))):
+                began = time.process_time()
+                self.assertEqual(call(text), len(text))
+                self.assertLess(time.process_time() - began, 1)
 
 
 class RefusedMemory(unittest.TestCase):

@@ -5,11 +5,13 @@ use crate::{Match, Span};
 use std::fmt;
 use std::iter::FusedIterator;
 
-/// For how many matches there is room at first, and then. Behind the last match of a page the library looks whether
-/// another is left, and the next page searches these bytes again. So larger pages search fewer bytes twice, and a small
-/// one is enough for short texts, and for whoever takes the first match and no more.
+/// For how many matches there is room at first, then, and at most in pages of matches that do not overlap. Behind the
+/// last match of a page the library looks up some 2,000 bytes or fewer, which the next page looks up again. So larger
+/// pages look up fewer bytes twice, and a small one is enough for short texts, and for whoever takes the first match
+/// and no more.
 const FEW: usize = 4;
 const MANY: usize = 64;
+const MOST: usize = 1024;
 
 /// For how many bytes all that occurs is asked for at once, first and later.
 const FIRST_PART: usize = 256;
@@ -111,9 +113,9 @@ impl<'a, 'h> Pages<'a, 'h> {
         found
     }
 
-    /// Takes the next page.
+    /// Takes the next page, with more room than one that was full.
     fn turn(&mut self) {
-        if self.written > 0 && self.room.many.is_empty() {
+        if self.written > 0 && self.room.many.len() < MOST {
             self.room.grow();
         }
         let page = self.prepared.page(self.haystack, self.rest, self.room.places());

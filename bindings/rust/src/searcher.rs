@@ -95,8 +95,8 @@ impl AhoCorasick {
 
     /// All matches that do not overlap: first that of [`AhoCorasick::find`], and then of what lies behind each.
     ///
-    /// By a leftmost kind it takes memory once, for 64 matches, and none if there are few. By the standard one all that
-    /// occurs is found, as [`AhoCorasick::find_overlapping_iter`] finds it, and what overlaps is passed over.
+    /// By a leftmost kind it takes memory for at most 1,024 matches, and none if there are few. By the standard one all
+    /// that occurs is found, as [`AhoCorasick::find_overlapping_iter`] finds it, and what overlaps is passed over.
     ///
     /// ```
     /// use literal_search::AhoCorasick;

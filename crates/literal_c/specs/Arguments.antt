@@ -3,10 +3,8 @@ use Rattle.std.specs.Prelude.{◌≡◌, ◌⊎◌, ◌↔◌, ◌==◌, ℕ, �
 use Rattle.literal_base.specs.declared.packed.MatchKind.{MatchKind}
 use Rattle.literal_base.specs.declared.packed.MatchKind.TheVariants.{LeftmostFirst, LeftmostLongest}
 use Rattle.literal_base.specs.Query.{Query}
-use Rattle.literal_base.specs.Kinds.{root_kind_of}
-use Rattle.literal_search.specs.SearchValue.{CanBeKept, NeedTooManyStates, SearchValue, search_by}
+use Rattle.literal_search.specs.SearchValue.{CanBeKept, NeedTooManyReversed, SearchValue, search_by}
 use Rattle.literal_search.specs.Prepared.{ForPrepared, HasAllParts}
-use Rattle.literal_search.specs.PreparedLinear.{ForLinear, HasLinearParts}
 use Rattle.literal_search.specs.PreparedOverlapping.{ForOverlapping, HasLists}
 use Rattle.literal_c.specs.declared.TheConstants.{LITERAL_BAD_ARGUMENTS, LITERAL_LEFTMOST_FIRST}
 use Rattle.literal_c.specs.declared.TheConstants.{LITERAL_LEFTMOST_LONGEST}
@@ -26,9 +24,9 @@ kind_of number = if number == LITERAL_LEFTMOST_FIRST then LeftmostFirst else Lef
 abbrev pub argument_query : ℕ → List ℕ → List ℕ → Query
 argument_query kind patterns ends = record { kind = kind_of kind; patterns = pieces patterns 0 ends }
 
--- the same, with case ignored or not, as a `Linear` has it
-abbrev pub linear_for_c : ℕ → Bool → List ℕ → List ℕ → SearchValue
-linear_for_c kind ignore_case patterns ends = search_by (kind_of kind) ignore_case (pieces patterns 0 ends)
+-- the search for it
+abbrev pub argument_search : ℕ → Bool → List ℕ → List ℕ → SearchValue
+argument_search kind ignore_case patterns ends = search_by (kind_of kind) ignore_case (pieces patterns 0 ends)
 
 -- the arguments agree: the number stands for a kind, and the buffer can be cut at the ends
 pub record Agree (kind : ℕ) (patterns ends : List ℕ) : Type 0 where
@@ -36,9 +34,8 @@ pub record Agree (kind : ℕ) (patterns ends : List ℕ) : Type 0 where
   pub are_ends : AreEnds (length patterns) 0 ends
 
 -- a search for the pieces of a buffer needs too many states
-abbrev pub NeedTooMany : ℕ → Bool → List ℕ → List ℕ → Type 0
-NeedTooMany kind ignore_case patterns ends =
-    NeedTooManyStates (root_kind_of (kind_of kind)) ignore_case (pieces patterns 0 ends)
+abbrev pub NeedTooMany : Bool → List ℕ → List ℕ → Type 0
+NeedTooMany ignore_case patterns ends = NeedTooManyReversed ignore_case (pieces patterns 0 ends)
 
 -- what the status says of a call that has to search for the patterns: it is `LITERAL_BAD_ARGUMENTS` exactly if the
 -- arguments do not agree, `LITERAL_NO_SEARCHER` exactly if they agree and the patterns can't be searched for, and one
@@ -64,12 +61,8 @@ pub record IsStatusOf (has_parts : Type 0) (IfPrepared : Type 0 → Type 0) (agr
 
 -- the same of an array by which leftmost matches are searched for
 abbrev pub IsStatusBy : List ℕ → Type 0 → (ℤ → Type 0) → ℤ → Type 0
-IsStatusBy array = IsStatusOf (HasAllParts array) (λ P. ForPrepared array (λ _ _. P))
+IsStatusBy array = IsStatusOf (HasAllParts array) (λ P. ForPrepared array (λ _. P))
 
 -- and of one by which everything that occurs is
 abbrev pub IsOverlappingStatusBy : List ℕ → Type 0 → (ℤ → Type 0) → ℤ → Type 0
 IsOverlappingStatusBy array = IsStatusOf (HasLists array) (λ P. ForOverlapping array (λ _. P))
-
--- and of one by which all leftmost matches are listed in linear time
-abbrev pub IsLinearStatusBy : List ℕ → Type 0 → (ℤ → Type 0) → ℤ → Type 0
-IsLinearStatusBy array = IsStatusOf (HasLinearParts array) (λ P. ForLinear array (λ _. P))

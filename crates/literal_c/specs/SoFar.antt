@@ -28,8 +28,8 @@ IsToldBy (NoneBefore place) status found next = (status ≡ LITERAL_NONE) × (ne
 -- what is known of the answer by an array: by one that is prepared it is right, whatever may follow; by any array it is
 -- told when its longest pattern says, and it lies in the haystack and names one of its patterns
 pub record IsRight (numbers : List ℕ) (haystack : List ℕ) (start : ℕ) (more : Bool) (answer : SoFar) : Type 0 where
-  pub prepared : ForPrepared numbers (λ query ignore_case. (behind : List ℕ) → MayFollow more behind
-      → AnswersSoFar query ignore_case (haystack ++ behind) start answer)
+  pub prepared : ForPrepared numbers (λ search. (behind : List ℕ) → MayFollow more behind
+      → AnswersSoFar search.query search.ignore_case (haystack ++ behind) start answer)
   pub told : IsTold more (longest_in numbers) (length haystack) start answer
   pub inside : MayBeKnown (slice_index numbers 3) start answer
 

@@ -10,7 +10,7 @@ ghost use Rattle.literal_search.specs.SearchValue.{SearchValue};
 ghost use Rattle.literal_c.specs.Inside.Given.{AreGiven};
 ghost use Rattle.literal_c.specs.Overlapping.{IsOverlappingPage};
 
-use crate::finder::{Finder, Matches, Occurrences};
+use crate::finder::{Finder, LeftmostMatches, Occurrences};
 use crate::pieces::Pieces;
 use crate::{LITERAL_NONE, LITERAL_OK, LiteralAnswer, LiteralMatch, LiteralPage};
 use literal_search::{Damaged, Match, Span};
@@ -48,7 +48,7 @@ fn answer_for_c(found: Option<Match>) -> LiteralAnswer
 
 /// Writes the matches of an iteration that begins at an offset, as many as there is room for, and says how many and
 /// what is left.
-pub fn write_page<M: Matches + Drop>(
+pub fn write_page<M: LeftmostMatches + Drop>(
     mut matches: M,
     start: usize,
     found: &mut [LiteralMatch],
@@ -132,7 +132,7 @@ pub fn answer_each<F: Finder>(
 }
 
 /// How many matches an iteration gives.
-pub fn count_matches<M: Matches + Drop>(mut matches: M) -> Result<usize, Damaged>
+pub fn count_matches<M: LeftmostMatches + Drop>(mut matches: M) -> Result<usize, Damaged>
     ensures count { (search : SearchValue) → M.is_for matches search → IsOkAnd result
         (IsCount search.query search.ignore_case (M.rest matches).haystack (M.rest matches).span) }
     ensures most { IfOk result (λ count. count ≤ (M.rest matches).span.end - (M.rest matches).span.start) }

@@ -1,9 +1,7 @@
 //! What C asks for: a kind of match by its number, and patterns.
 ghost use Rattle.std.specs.Prelude.{◌≡◌, ◌↔◌, IsTrue, MatchOption, MatchResult, length};
-ghost use Rattle.literal_base.specs.declared.search.MatchKind.TheVariants.{Standard};
-ghost use Rattle.literal_search.specs.Linear.{NeedTooManyReversed};
-ghost use Rattle.literal_search.specs.SearchValue.{CanBeKept, NeedTooManyStates, search_by};
-ghost use Rattle.literal_c.specs.Arguments.{Agree, IsKind, NeedTooMany, kind_of};
+ghost use Rattle.literal_search.specs.SearchValue.{CanBeKept, NeedTooManyStates};
+ghost use Rattle.literal_c.specs.Arguments.{Agree, IsKind, NeedTooMany, argument_search, kind_of};
 ghost use Rattle.literal_c.specs.Inside.Refusal.{IsRefused, status_of};
 ghost use Rattle.literal_c.specs.Overlapping.{overlapping_for};
 ghost use Rattle.literal_c.specs.Pieces.{AreEnds, pieces};
@@ -13,7 +11,7 @@ use crate::{
     LITERAL_BAD_ARGUMENTS, LITERAL_LEFTMOST_FIRST, LITERAL_LEFTMOST_LONGEST, LITERAL_NO_SEARCHER,
     LITERAL_OUT_OF_MEMORY, LITERAL_TOO_LARGE,
 };
-use literal_search::{BuildError, Linear, MatchKind, Overlapping, PatternID, Search};
+use literal_search::{BuildError, MatchKind, Overlapping, PatternID, Search};
 use std::alloc::Global;
 
 /// Why there is no search.
@@ -64,9 +62,9 @@ pub fn search_for(
 ) -> Result<Search, Refusal>
     ensures { MatchResult result
         (λ search. Agree kind patterns.now ends.now × CanBeKept (pieces patterns.now 0 ends.now)
-        × (search ≡ search_by (kind_of kind) ignore_case (pieces patterns.now 0 ends.now)))
+        × (search ≡ argument_search kind ignore_case patterns.now ends.now))
         (IsRefused (Agree kind patterns.now ends.now) (pieces patterns.now 0 ends.now)
-        (NeedTooMany kind ignore_case patterns.now ends.now)) }
+        (NeedTooMany ignore_case patterns.now ends.now)) }
 {
     let Some(kind) = match_kind(kind) else {
         return Err(Refusal::BadArguments);
@@ -95,7 +93,7 @@ pub fn search_for_all(
         (λ search. AreEnds (length patterns.now) 0 ends.now × CanBeKept (pieces patterns.now 0 ends.now)
         × (search ≡ overlapping_for (pieces patterns.now 0 ends.now) ignore_case))
         (IsRefused (AreEnds (length patterns.now) 0 ends.now) (pieces patterns.now 0 ends.now)
-        (NeedTooManyStates Standard ignore_case (pieces patterns.now 0 ends.now))) }
+        (NeedTooManyStates ignore_case (pieces patterns.now 0 ends.now))) }
 {
     if !are_ends(patterns.len(), ends) {
         return Err(Refusal::BadArguments);
@@ -104,36 +102,6 @@ pub fn search_for_all(
         return Err(Refusal::NoSearcher);
     }
     match Overlapping::new(alloc, ignore_case, Pieces::new(patterns, ends)) {
-        Ok(search) => Ok(search),
-        Err(BuildError::TooManyStates) => Err(Refusal::TooLarge),
-        Err(_) => Err(Refusal::OutOfMemory),
-    }
-}
-
-/// The same of a search for all leftmost matches in linear time.
-pub fn linear_for(
-    alloc: Global,
-    kind: u32,
-    ignore_case: bool,
-    patterns: &[u8],
-    ends: &[usize],
-) -> Result<Linear, Refusal>
-    ensures { MatchResult result
-        (λ search. Agree kind patterns.now ends.now × CanBeKept (pieces patterns.now 0 ends.now)
-        × (search ≡ search_by (kind_of kind) ignore_case (pieces patterns.now 0 ends.now)))
-        (IsRefused (Agree kind patterns.now ends.now) (pieces patterns.now 0 ends.now)
-        (NeedTooManyReversed ignore_case (pieces patterns.now 0 ends.now))) }
-{
-    let Some(kind) = match_kind(kind) else {
-        return Err(Refusal::BadArguments);
-    };
-    if !are_ends(patterns.len(), ends) {
-        return Err(Refusal::BadArguments);
-    }
-    if !can_be_searched(patterns, ends) {
-        return Err(Refusal::NoSearcher);
-    }
-    match Linear::new(alloc, kind, ignore_case, Pieces::new(patterns, ends)) {
         Ok(search) => Ok(search),
         Err(BuildError::TooManyStates) => Err(Refusal::TooLarge),
         Err(_) => Err(Refusal::OutOfMemory),

@@ -1,9 +1,8 @@
 //! What the calls for C search by: a search of their own, or numbers that C lends.
 ghost use Rattle.std.specs.Prelude.{◌≡◌};
-ghost use Rattle.literal_base.specs.Occurs.{IsValidSpan};
 
 use literal_search::{
-    Damaged, Match, OverlappingMatches, Prepared, PreparedLinearMatches,
+    Damaged, Match, Matches, OverlappingMatches, Prepared, PreparedMatches,
     PreparedOverlappingMatches, Search, Span,
 };
 
@@ -48,7 +47,8 @@ impl Finder for Prepared<'_> {
     ghost use Rattle.std.specs.Prelude.{slice_index};
     ghost use Rattle.literal_search.specs.Prepared.{IsPrepared};
 
-    ghost is_for = { λ numbers query ignore_case. IsPrepared query ignore_case numbers };
+    ghost is_for = { λ numbers query ignore_case.
+        IsPrepared (record { query = query; ignore_case = ignore_case }) numbers };
 
     ghost patterns = { λ numbers. slice_index numbers 3 };
 
@@ -58,9 +58,9 @@ impl Finder for Prepared<'_> {
     }
 }
 
-/// An iteration over leftmost matches, which may be by damaged numbers.
-pub trait Matches {
-    ghost use Rattle.std.specs.Prelude.{IfOk, IfSome};
+/// An iteration over all leftmost matches in a span, one after another, which may be by damaged numbers.
+pub trait LeftmostMatches {
+    ghost use Rattle.std.specs.Prelude.{◌≡◌, IfOk, IfSome};
     ghost use Rattle.std.specs.Result.{IsOkAnd};
     ghost use Rattle.literal_base.specs.Leftmost.{IsLeftmost};
     ghost use Rattle.literal_search.specs.SearchValue.{SearchValue};
@@ -84,50 +84,40 @@ pub trait Matches {
         ensures same { (search : SearchValue) → is_for self.old search → is_for self.new search };
 }
 
-/// All leftmost matches in a span of a haystack, one after another, each by a search of its own.
-#[derive(Drop)]
-pub struct FoundIn<'f, 'h, F> {
-    pub search: &'f F,
-    pub haystack: &'h [u8],
-    pub span: Span,
-    ghost valid: { IsValidSpan haystack.now span },
-}
+impl LeftmostMatches for Matches<'_, '_> {
+    ghost use Rattle.std.specs.Prelude.{length};
+    ghost use Rattle.literal_base.specs.Occurs.{between};
 
-impl<'f, 'h, F: Finder> Matches for FoundIn<'f, 'h, F> {
-    ghost is_for = { λ m search. F.is_for m.search.now search.query search.ignore_case };
+    ghost is_for = { λ matches search. search ≡ matches.search };
 
-    ghost rest = { λ m. record {
-      haystack = m.haystack.now;
-      span = m.span;
-      patterns = F.patterns m.search.now;
+    ghost rest = { λ matches. record {
+      haystack = matches.haystack;
+      span = between matches.at matches.span.end;
+      patterns = length matches.search.query.patterns;
     } };
 
     #[inline(always)]
     fn next_match(&mut self) -> Result<Option<Match>, Damaged> {
-        let Some(it) = self.search.find_in(self.haystack, self.span)? else {
-            return Ok(None);
-        };
-        self.span.start = it.end();
-        Ok(Some(it))
+        Ok(self.next())
     }
 }
 
-impl Matches for PreparedLinearMatches<'_, '_, '_> {
+impl LeftmostMatches for PreparedMatches<'_, '_, '_> {
     ghost use Rattle.std.specs.Prelude.{slice_index};
     ghost use Rattle.literal_base.specs.Occurs.{between};
-    ghost use Rattle.literal_search.specs.PreparedLinear.{IsPreparedLinear};
+    ghost use Rattle.literal_search.specs.Prepared.{IsPrepared};
 
-    ghost is_for = { λ m search. IsPreparedLinear search m.numbers };
+    ghost is_for = { λ matches search. IsPrepared search matches.numbers };
 
-    ghost rest = { λ m. record {
-      haystack = m.haystack;
-      span = between m.at m.span.end;
-      patterns = slice_index m.numbers 3;
+    ghost rest = { λ matches. record {
+      haystack = matches.haystack;
+      span = between matches.at matches.span.end;
+      patterns = slice_index matches.numbers 3;
     } };
 
     #[inline(always)]
     fn next_match(&mut self) -> Result<Option<Match>, Damaged> {
-        PreparedLinearMatches::next_match(self)
+        PreparedMatches::next_match(self)
     }
 }
 

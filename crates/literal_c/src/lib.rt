@@ -3,27 +3,22 @@
 //! Bytes cross as a pointer and a length. A list of byte strings crosses as one buffer and where each of its pieces
 //! ends: piece i is the bytes from `ends[i - 1]`, for the first from 0, up to and not including `ends[i]`. Each call
 //! answers a status, and keeps nothing when it returns. It builds its search anew, except for those whose names end in
-//! `_in`, which search by an array that [`literal_prepare`] filled, [`literal_prepare_overlapping`], or
-//! [`literal_prepare_linear`].
+//! `_in`, which search by an array that [`literal_prepare`] or [`literal_prepare_overlapping`] filled.
 #![tactic(auto)]
 
 ghost use Rattle.std.specs.Prelude.{◌≡◌, ◌⊎◌, ◌↔◌, ◌+◌, ◌-◌, ◌<◌, ◌≤◌, length, slice_index};
 ghost use Rattle.std.specs.List.{AllZip};
 ghost use Rattle.literal_base.specs.Leftmost.{IsLeftmostMatch};
 ghost use Rattle.literal_base.specs.Occurs.{IsValidSpan, NothingOccurs, between, rest_from};
-ghost use Rattle.literal_base.specs.declared.search.MatchKind.TheVariants.{Standard};
 ghost use Rattle.literal_search.specs.SearchValue.{CanBeKept, NeedTooManyStates};
-ghost use Rattle.literal_search.specs.Prepared.{AreShort, ForPrepared, IsWhole, RefusesToPrepare};
+ghost use Rattle.literal_search.specs.Prepared.{ForPrepared, IsWhole, RefusesToPrepare};
 ghost use Rattle.literal_search.specs.Prepared.{WritesPrepared};
-ghost use Rattle.literal_search.specs.Linear.{NeedTooManyReversed};
-ghost use Rattle.literal_search.specs.PreparedLinear.{ForLinear, IsWholeLinear, RefusesLinear, WritesLinear};
-ghost use Rattle.literal_search.specs.PreparedOverlapping.{ForOverlapping, HasLongLists, RefusesOverlapping};
+ghost use Rattle.literal_search.specs.PreparedOverlapping.{ForOverlapping, RefusesOverlapping};
 ghost use Rattle.literal_search.specs.PreparedOverlapping.{IsWholeOverlapping, WritesOverlapping};
-ghost use Rattle.literal_search.specs.declared.prepared.PrepareError.TheVariants.{ArrayTooShort};
 ghost use Rattle.literal_c.specs.Answers.{IsAnswerForC, IsCount, IsPage, MayBeFound, MayBeAnswer, MayBePage};
 ghost use Rattle.literal_c.specs.Answers.{match_of};
 ghost use Rattle.literal_c.specs.Arguments.{Agree, IsOverlappingStatusBy, IsStatus, IsStatusBy, NeedTooMany};
-ghost use Rattle.literal_c.specs.Arguments.{IsLinearStatusBy, argument_query, linear_for_c};
+ghost use Rattle.literal_c.specs.Arguments.{argument_query, argument_search};
 ghost use Rattle.literal_c.specs.Overlapping.{IsOverlappingPage, all_that_occurs, overlapping_for};
 ghost use Rattle.literal_c.specs.Pieces.{AreEnds, pieces};
 ghost use Rattle.literal_c.specs.SoFar.{TellsSoFar};
@@ -32,8 +27,6 @@ mod answers;
 mod arguments;
 mod finder;
 pub mod laws;
-#[cfg(test)]
-mod linear_tests;
 mod pieces;
 #[cfg(test)]
 mod prepared_tests;
@@ -42,9 +35,8 @@ mod so_far;
 mod tests;
 
 use answers::{answer_each, count_matches, match_for_c, write_overlapping, write_page};
-use arguments::{can_be_searched, linear_for, search_for, search_for_all};
-use finder::FoundIn;
-use literal_search::{Damaged, PrepareError, Prepared, PreparedLinear, PreparedOverlapping, Span};
+use arguments::{can_be_searched, search_for, search_for_all};
+use literal_search::{Damaged, Prepared, PreparedOverlapping, Span};
 use pieces::{Pieces, are_ends};
 use so_far::{find_so_far, tell_so_far};
 use std::alloc::Global;
@@ -153,7 +145,7 @@ pub extern "C" fn literal_find(
     found: &mut LiteralMatch,
 ) -> i32
     ensures status { IsStatus (Agree kind patterns.now ends.now × IsValidSpan haystack.now (between start end))
-        (pieces patterns.now 0 ends.now) (NeedTooMany kind ignore_case patterns.now ends.now) result }
+        (pieces patterns.now 0 ends.now) (NeedTooMany ignore_case patterns.now ends.now) result }
     ensures found { result ≡ LITERAL_OK → IsLeftmostMatch (argument_query kind patterns.now ends.now) ignore_case
         haystack.now (between start end) (match_of found.new) }
     ensures none { result ≡ LITERAL_NONE
@@ -177,7 +169,8 @@ pub extern "C" fn literal_find(
 
 /// All matches in the haystack from an offset on, as many as there is room for: first the leftmost match of the bytes
 /// from there on, and after each match the leftmost one of the bytes behind it. The page says how many were written,
-/// from which offset the next call goes on, and whether nothing is left. The rest of the array stays as it was.
+/// from which offset the next call goes on, and whether nothing is left. The rest of the array stays as it was. With
+/// patterns of at most 1,024 bytes a call looks up at most three times as many bytes as there are from that offset on.
 /// [`LITERAL_BAD_ARGUMENTS`] comes where the kind is none, the ends fall or pass the buffer, or the offset is above
 /// the haystack's length; else [`LITERAL_NO_SEARCHER`] where the patterns can't be searched for. After any status but
 /// [`LITERAL_OK`] what was lent is as it was.
@@ -194,7 +187,7 @@ pub extern "C" fn literal_find_all(
     page: &mut LiteralPage,
 ) -> i32
     ensures status { IsStatus (Agree kind patterns.now ends.now × (from ≤ length haystack.now))
-        (pieces patterns.now 0 ends.now) (NeedTooMany kind ignore_case patterns.now ends.now) result }
+        (pieces patterns.now 0 ends.now) (NeedTooMany ignore_case patterns.now ends.now) result }
     ensures page { result ≡ LITERAL_OK → IsPage (argument_query kind patterns.now ends.now) ignore_case haystack.now
         (rest_from haystack.now from) found.old found.new page.new }
     ensures as_before { (result ≡ LITERAL_OK) ⊎ ((found.new ≡ found.old) × (page.new ≡ page.old)) }
@@ -207,11 +200,7 @@ pub extern "C" fn literal_find_all(
     match search_for(alloc, kind, ignore_case, patterns, ends) {
         Err(refusal) => refusal.status(),
         Ok(search) => {
-            let matches = FoundIn {
-                search: &search,
-                haystack,
-                span: Span { start: from, end },
-            };
+            let matches = search.find_iter_in(haystack, Span { start: from, end });
             match write_page(matches, from, found) {
                 Err(Damaged) => LITERAL_DAMAGED,
                 Ok(written) => {
@@ -242,7 +231,7 @@ pub extern "C" fn literal_find_overlapping(
 ) -> i32
     ensures status { IsStatus (AreEnds (length patterns.now) 0 ends.now × IsValidSpan haystack.now (between start end))
         (pieces patterns.now 0 ends.now)
-        (NeedTooManyStates Standard ignore_case (pieces patterns.now 0 ends.now)) result }
+        (NeedTooManyStates ignore_case (pieces patterns.now 0 ends.now)) result }
     ensures page { result ≡ LITERAL_OK → IsOverlappingPage
         (all_that_occurs (overlapping_for (pieces patterns.now 0 ends.now) ignore_case) haystack.now
         (between start end)) found.old found.new page.new }
@@ -284,7 +273,7 @@ pub extern "C" fn literal_find_each(
 ) -> i32
     ensures status { IsStatus (Agree kind patterns.now ends.now × AreEnds (length haystacks.now) 0 haystack_ends.now
         × (length answers.old ≡ length haystack_ends.now)) (pieces patterns.now 0 ends.now)
-        (NeedTooMany kind ignore_case patterns.now ends.now) result }
+        (NeedTooMany ignore_case patterns.now ends.now) result }
     ensures answers { result ≡ LITERAL_OK → AllZip
         (IsAnswerForC (argument_query kind patterns.now ends.now) ignore_case)
         (pieces haystacks.now 0 haystack_ends.now) answers.new }
@@ -305,9 +294,8 @@ pub extern "C" fn literal_find_each(
 
 /// Writes a search for the patterns into the first places of an array, by which the calls whose names end in `_in`
 /// search as often as they are asked to. `needed` says how many places these are: for each byte of the patterns at most
-/// two more than they have different bytes, one for each pattern, and some hundreds. With [`LITERAL_TOO_SHORT`] it says
-/// so too, and the array is too short. The other statuses come as from [`literal_find`], and [`LITERAL_TOO_LARGE`] also
-/// only where a pattern has 2^32 bytes or more; there [`LITERAL_OUT_OF_MEMORY`] may come first. After any status but
+/// two more than they have different bytes, two for each pattern, and some hundreds. With [`LITERAL_TOO_SHORT`] it says
+/// so too, and the array is too short. The other statuses come as from [`literal_find`]. After any status but
 /// [`LITERAL_OK`] the array is as it was, and `needed` too, except after [`LITERAL_TOO_SHORT`].
 #[unsafe(no_mangle)]
 pub extern "C" fn literal_prepare(
@@ -320,13 +308,13 @@ pub extern "C" fn literal_prepare(
     needed: &mut usize,
 ) -> i32
     ensures status { IsStatus (Agree kind patterns.now ends.now) (pieces patterns.now 0 ends.now)
-        (NeedTooMany kind ignore_case patterns.now ends.now ⊎ ¬ AreShort (pieces patterns.now 0 ends.now)) result
+        (NeedTooMany ignore_case patterns.now ends.now) result
         ⊎ ((result ≡ LITERAL_TOO_SHORT) × Agree kind patterns.now ends.now
         × CanBeKept (pieces patterns.now 0 ends.now)) }
-    ensures ok { result ≡ LITERAL_OK → WritesPrepared (argument_query kind patterns.now ends.now) ignore_case
+    ensures ok { result ≡ LITERAL_OK → WritesPrepared (argument_search kind ignore_case patterns.now ends.now)
         prepared.old prepared.new needed.new }
-    ensures too_short { result ≡ LITERAL_TOO_SHORT → RefusesToPrepare (argument_query kind patterns.now ends.now)
-        ignore_case prepared.old (ArrayTooShort needed.new) }
+    ensures too_short { result ≡ LITERAL_TOO_SHORT → RefusesToPrepare
+        (argument_search kind ignore_case patterns.now ends.now) prepared.old (record { needed = needed.new }) }
     ensures as_before { (result ≡ LITERAL_OK) ⊎ (prepared.new ≡ prepared.old) }
     ensures needed { ((result ≡ LITERAL_OK) ⊎ (result ≡ LITERAL_TOO_SHORT)) ⊎ (needed.new ≡ needed.old) }
     ensures not_none { ¬ (result ≡ LITERAL_NONE) }
@@ -338,19 +326,18 @@ pub extern "C" fn literal_prepare(
                 *needed = places;
                 LITERAL_OK
             }
-            Err(PrepareError::ArrayTooShort(places)) => {
-                *needed = places;
+            Err(error) => {
+                *needed = error.needed;
                 LITERAL_TOO_SHORT
             }
-            Err(PrepareError::PatternTooLong | PrepareError::ListsTooLong) => LITERAL_TOO_LARGE,
         },
     }
 }
 
 /// The same for everything that occurs: a search by which [`literal_find_overlapping_in`] searches. The statuses come
-/// as from [`literal_prepare`], and [`LITERAL_TOO_LARGE`] also where the lists of the patterns that are a suffix of
-/// another have 2^32 numbers or more. The array takes one place more for each pattern, and in lists one for each that
-/// is a suffix of it.
+/// as from [`literal_prepare`], and [`LITERAL_OUT_OF_MEMORY`] also where the lists of the patterns that are a suffix of
+/// another have 2^32 numbers or more. The array takes one place more for each pattern, and in lists one for each other
+/// that is a suffix of it.
 #[unsafe(no_mangle)]
 pub extern "C" fn literal_prepare_overlapping(
     alloc: Global,
@@ -361,16 +348,14 @@ pub extern "C" fn literal_prepare_overlapping(
     needed: &mut usize,
 ) -> i32
     ensures status { IsStatus (AreEnds (length patterns.now) 0 ends.now) (pieces patterns.now 0 ends.now)
-        (NeedTooManyStates Standard ignore_case (pieces patterns.now 0 ends.now)
-        ⊎ (¬ AreShort (pieces patterns.now 0 ends.now)
-        ⊎ HasLongLists (overlapping_for (pieces patterns.now 0 ends.now) ignore_case))) result
+        (NeedTooManyStates ignore_case (pieces patterns.now 0 ends.now)) result
         ⊎ ((result ≡ LITERAL_TOO_SHORT) × AreEnds (length patterns.now) 0 ends.now
         × CanBeKept (pieces patterns.now 0 ends.now)) }
     ensures ok { result ≡ LITERAL_OK → WritesOverlapping (overlapping_for (pieces patterns.now 0 ends.now) ignore_case)
         prepared.old prepared.new needed.new }
     ensures too_short { result ≡ LITERAL_TOO_SHORT
         → RefusesOverlapping (overlapping_for (pieces patterns.now 0 ends.now) ignore_case) prepared.old
-        (ArrayTooShort needed.new) }
+        (record { needed = needed.new }) }
     ensures as_before { (result ≡ LITERAL_OK) ⊎ (prepared.new ≡ prepared.old) }
     ensures needed { ((result ≡ LITERAL_OK) ⊎ (result ≡ LITERAL_TOO_SHORT)) ⊎ (needed.new ≡ needed.old) }
     ensures not_none { ¬ (result ≡ LITERAL_NONE) }
@@ -382,53 +367,10 @@ pub extern "C" fn literal_prepare_overlapping(
                 *needed = places;
                 LITERAL_OK
             }
-            Err(PrepareError::ArrayTooShort(places)) => {
-                *needed = places;
+            Err(error) => {
+                *needed = error.needed;
                 LITERAL_TOO_SHORT
             }
-            Err(PrepareError::PatternTooLong | PrepareError::ListsTooLong) => LITERAL_TOO_LARGE,
-        },
-    }
-}
-
-/// The same for all leftmost matches in linear time: a search by which [`literal_find_all_linear_in`] and
-/// [`literal_count_linear_in`] search. The statuses come as from [`literal_prepare`]. The array takes one place more
-/// for each pattern.
-#[unsafe(no_mangle)]
-pub extern "C" fn literal_prepare_linear(
-    alloc: Global,
-    kind: u32,
-    ignore_case: bool,
-    patterns: &[u8],
-    ends: &[usize],
-    prepared: &mut [u32],
-    needed: &mut usize,
-) -> i32
-    ensures status { IsStatus (Agree kind patterns.now ends.now) (pieces patterns.now 0 ends.now)
-        (NeedTooManyReversed ignore_case (pieces patterns.now 0 ends.now)
-        ⊎ ¬ AreShort (pieces patterns.now 0 ends.now)) result
-        ⊎ ((result ≡ LITERAL_TOO_SHORT) × Agree kind patterns.now ends.now
-        × CanBeKept (pieces patterns.now 0 ends.now)) }
-    ensures ok { result ≡ LITERAL_OK → WritesLinear (linear_for_c kind ignore_case patterns.now ends.now)
-        prepared.old prepared.new needed.new }
-    ensures too_short { result ≡ LITERAL_TOO_SHORT → RefusesLinear
-        (linear_for_c kind ignore_case patterns.now ends.now) prepared.old (ArrayTooShort needed.new) }
-    ensures as_before { (result ≡ LITERAL_OK) ⊎ (prepared.new ≡ prepared.old) }
-    ensures needed { ((result ≡ LITERAL_OK) ⊎ (result ≡ LITERAL_TOO_SHORT)) ⊎ (needed.new ≡ needed.old) }
-    ensures not_none { ¬ (result ≡ LITERAL_NONE) }
-{
-    match linear_for(alloc, kind, ignore_case, patterns, ends) {
-        Err(refusal) => refusal.status(),
-        Ok(search) => match search.prepare(prepared) {
-            Ok(places) => {
-                *needed = places;
-                LITERAL_OK
-            }
-            Err(PrepareError::ArrayTooShort(places)) => {
-                *needed = places;
-                LITERAL_TOO_SHORT
-            }
-            Err(PrepareError::PatternTooLong | PrepareError::ListsTooLong) => LITERAL_TOO_LARGE,
         },
     }
 }
@@ -440,7 +382,7 @@ pub extern "C" fn literal_prepare_linear(
 pub extern "C" fn literal_check_prepared(prepared: &[u32]) -> i32
     ensures ok { (result ≡ LITERAL_OK) ↔ IsWhole prepared.now }
     ensures damaged { (result ≡ LITERAL_DAMAGED) ↔ ¬ IsWhole prepared.now }
-    ensures prepared { ForPrepared prepared.now (λ _ _. result ≡ LITERAL_OK) }
+    ensures prepared { ForPrepared prepared.now (λ _. result ≡ LITERAL_OK) }
 {
     match Prepared::new(prepared) {
         Ok(search) if search.is_whole() => LITERAL_OK,
@@ -461,19 +403,6 @@ pub extern "C" fn literal_check_overlapping(prepared: &[u32]) -> i32
     }
 }
 
-/// The same for an array that [`literal_prepare_linear`] wrote.
-#[unsafe(no_mangle)]
-pub extern "C" fn literal_check_linear(prepared: &[u32]) -> i32
-    ensures ok { (result ≡ LITERAL_OK) ↔ IsWholeLinear prepared.now }
-    ensures damaged { (result ≡ LITERAL_DAMAGED) ↔ ¬ IsWholeLinear prepared.now }
-    ensures prepared { ForLinear prepared.now (λ _. result ≡ LITERAL_OK) }
-{
-    match PreparedLinear::new(prepared) {
-        Ok(search) if search.is_whole() => LITERAL_OK,
-        _ => LITERAL_DAMAGED,
-    }
-}
-
 /// Answers as [`literal_find`], by a search that [`literal_prepare`] wrote. [`LITERAL_BAD_ARGUMENTS`] comes where
 /// `start` is above `end`, or `end` above the haystack's length, else [`LITERAL_DAMAGED`] where the array has not the
 /// parts of a search. Of an array that was changed otherwise it may say [`LITERAL_DAMAGED`], or find another match or
@@ -489,10 +418,10 @@ pub extern "C" fn literal_find_in(
 ) -> i32
     ensures status { IsStatusBy prepared.now (IsValidSpan haystack.now (between start end))
         (λ status. (status ≡ LITERAL_OK) ⊎ (status ≡ LITERAL_NONE)) result }
-    ensures found { ForPrepared prepared.now (λ query ignore_case. result ≡ LITERAL_OK
-        → IsLeftmostMatch query ignore_case haystack.now (between start end) (match_of found.new)) }
-    ensures none { ForPrepared prepared.now (λ query ignore_case. result ≡ LITERAL_NONE
-        → NothingOccurs query.patterns ignore_case haystack.now (between start end)) }
+    ensures found { ForPrepared prepared.now (λ search. result ≡ LITERAL_OK
+        → IsLeftmostMatch search.query search.ignore_case haystack.now (between start end) (match_of found.new)) }
+    ensures none { ForPrepared prepared.now (λ search. result ≡ LITERAL_NONE
+        → NothingOccurs search.query.patterns search.ignore_case haystack.now (between start end)) }
     ensures inside { result ≡ LITERAL_OK
         → MayBeFound (between start end) (slice_index prepared.now 3) (match_of found.new) }
     ensures as_before { (result ≡ LITERAL_OK) ⊎ (found.new ≡ found.old) }
@@ -554,7 +483,8 @@ pub extern "C" fn literal_find_so_far_in(
 /// `start` up to and not including `end`. [`LITERAL_BAD_ARGUMENTS`] and [`LITERAL_DAMAGED`] come as from
 /// [`literal_find_in`]. After any status but [`LITERAL_OK`] the page is as it was, and after [`LITERAL_BAD_ARGUMENTS`]
 /// the array of matches too; of a damaged search it may hold some matches. Whatever the array holds, a page is the last
-/// or full, and the next goes on at least one byte further for each match.
+/// or full, and the next goes on at least one byte further for each match; and if it says that no pattern has more than
+/// 1,024 bytes, a call looks up at most three times as many bytes as it was asked to search.
 #[unsafe(no_mangle)]
 pub extern "C" fn literal_find_all_in(
     prepared: &[u32],
@@ -566,8 +496,8 @@ pub extern "C" fn literal_find_all_in(
 ) -> i32
     ensures status { IsStatusBy prepared.now (IsValidSpan haystack.now (between start end))
         (λ status. status ≡ LITERAL_OK) result }
-    ensures page { ForPrepared prepared.now (λ query ignore_case. result ≡ LITERAL_OK
-        → IsPage query ignore_case haystack.now (between start end) found.old found.new page.new) }
+    ensures page { ForPrepared prepared.now (λ search. result ≡ LITERAL_OK
+        → IsPage search.query search.ignore_case haystack.now (between start end) found.old found.new page.new) }
     ensures inside { result ≡ LITERAL_OK
         → MayBePage (between start end) (slice_index prepared.now 3) found.new page.new }
     ensures goes_on { result ≡ LITERAL_OK → start + page.new.written ≤ page.new.next }
@@ -580,11 +510,7 @@ pub extern "C" fn literal_find_all_in(
     let Ok(search) = Prepared::new(prepared) else {
         return LITERAL_DAMAGED;
     };
-    let matches = FoundIn {
-        search: &search,
-        haystack,
-        span: Span { start, end },
-    };
+    let matches = search.find_iter_in(haystack, Span { start, end });
     match write_page(matches, start, found) {
         Err(Damaged) => LITERAL_DAMAGED,
         Ok(written) => {
@@ -606,8 +532,9 @@ pub extern "C" fn literal_find_each_in(
 ) -> i32
     ensures status { IsStatusBy prepared.now (AreEnds (length haystacks.now) 0 haystack_ends.now
         × (length answers.old ≡ length haystack_ends.now)) (λ status. status ≡ LITERAL_OK) result }
-    ensures answers { ForPrepared prepared.now (λ query ignore_case. result ≡ LITERAL_OK
-        → AllZip (IsAnswerForC query ignore_case) (pieces haystacks.now 0 haystack_ends.now) answers.new) }
+    ensures answers { ForPrepared prepared.now (λ search. result ≡ LITERAL_OK
+        → AllZip (IsAnswerForC search.query search.ignore_case) (pieces haystacks.now 0 haystack_ends.now)
+        answers.new) }
     ensures inside { result ≡ LITERAL_OK → AllZip (MayBeAnswer (slice_index prepared.now 3))
         (pieces haystacks.now 0 haystack_ends.now) answers.new }
     ensures refused { result ≡ LITERAL_BAD_ARGUMENTS → answers.new ≡ answers.old }
@@ -625,7 +552,8 @@ pub extern "C" fn literal_find_each_in(
 }
 
 /// How many matches [`literal_find_all_in`] finds, on one page after another: at most as many as there are bytes to
-/// search. The statuses are the same, and after any but [`LITERAL_OK`] the count is as it was.
+/// search. It looks up no more bytes than one long page. The statuses are the same, and after any but [`LITERAL_OK`]
+/// the count is as it was.
 #[unsafe(no_mangle)]
 pub extern "C" fn literal_count_in(
     prepared: &[u32],
@@ -636,8 +564,8 @@ pub extern "C" fn literal_count_in(
 ) -> i32
     ensures status { IsStatusBy prepared.now (IsValidSpan haystack.now (between start end))
         (λ status. status ≡ LITERAL_OK) result }
-    ensures count { ForPrepared prepared.now (λ query ignore_case. result ≡ LITERAL_OK
-        → IsCount query ignore_case haystack.now (between start end) count.new) }
+    ensures count { ForPrepared prepared.now (λ search. result ≡ LITERAL_OK
+        → IsCount search.query search.ignore_case haystack.now (between start end) count.new) }
     ensures most { result ≡ LITERAL_OK → count.new ≤ end - start }
     ensures as_before { (result ≡ LITERAL_OK) ⊎ (count.new ≡ count.old) }
 {
@@ -647,11 +575,7 @@ pub extern "C" fn literal_count_in(
     let Ok(search) = Prepared::new(prepared) else {
         return LITERAL_DAMAGED;
     };
-    let matches = FoundIn {
-        search: &search,
-        haystack,
-        span: Span { start, end },
-    };
+    let matches = search.find_iter_in(haystack, Span { start, end });
     match count_matches(matches) {
         Err(Damaged) => LITERAL_DAMAGED,
         Ok(matches) => {
@@ -693,89 +617,6 @@ pub extern "C" fn literal_find_overlapping_in(
         Err(Damaged) => LITERAL_DAMAGED,
         Ok(written) => {
             *page = written;
-            LITERAL_OK
-        }
-    }
-}
-
-/// Answers as [`literal_find_all_in`], by a search that [`literal_prepare_linear`] wrote. A call looks in sum at three
-/// bytes at most for each that it searches, whatever the patterns are. Behind its matches it looks for one more, and
-/// beyond that at most twice as far as the longest pattern is long, or some thousand bytes; the next page begins anew
-/// where that one begins. So pages with room for as many matches as that pattern has bytes take time in proportion to
-/// the haystack. Memory for marks of as many bytes as that pattern has, or 1,024, is asked for once:
-/// [`LITERAL_OUT_OF_MEMORY`] comes only where there is a byte to search, and what was lent is then as it was.
-#[unsafe(no_mangle)]
-pub extern "C" fn literal_find_all_linear_in(
-    alloc: Global,
-    prepared: &[u32],
-    haystack: &[u8],
-    start: usize,
-    end: usize,
-    found: &mut [LiteralMatch],
-    page: &mut LiteralPage,
-) -> i32
-    ensures status { IsLinearStatusBy prepared.now (IsValidSpan haystack.now (between start end))
-        (λ status. (status ≡ LITERAL_OK) ⊎ (status ≡ LITERAL_OUT_OF_MEMORY)) result }
-    ensures page { ForLinear prepared.now (λ search. result ≡ LITERAL_OK → IsPage search.query search.ignore_case
-        haystack.now (between start end) found.old found.new page.new) }
-    ensures inside { result ≡ LITERAL_OK
-        → MayBePage (between start end) (slice_index prepared.now 3) found.new page.new }
-    ensures goes_on { result ≡ LITERAL_OK → start + page.new.written ≤ page.new.next }
-    ensures no_memory { result ≡ LITERAL_OUT_OF_MEMORY → start < end }
-    ensures as_before { (result ≡ LITERAL_OK) ⊎ (page.new ≡ page.old) }
-    ensures refused { (result ≡ LITERAL_BAD_ARGUMENTS) ⊎ (result ≡ LITERAL_OUT_OF_MEMORY) → found.new ≡ found.old }
-{
-    if start > end || end > haystack.len() {
-        return LITERAL_BAD_ARGUMENTS;
-    }
-    let Ok(search) = PreparedLinear::new(prepared) else {
-        return LITERAL_DAMAGED;
-    };
-    let Ok(matches) = search.find_iter_in(alloc, haystack, Span { start, end }) else {
-        return LITERAL_OUT_OF_MEMORY;
-    };
-    match write_page(matches, start, found) {
-        Err(Damaged) => LITERAL_DAMAGED,
-        Ok(written) => {
-            *page = written;
-            LITERAL_OK
-        }
-    }
-}
-
-/// How many matches [`literal_find_all_linear_in`] finds, on one page after another: at most as many as there are bytes
-/// to search. The statuses are the same, and after any but [`LITERAL_OK`] the count is as it was. It looks in sum
-/// at three bytes at most for each that it searches.
-#[unsafe(no_mangle)]
-pub extern "C" fn literal_count_linear_in(
-    alloc: Global,
-    prepared: &[u32],
-    haystack: &[u8],
-    start: usize,
-    end: usize,
-    count: &mut usize,
-) -> i32
-    ensures status { IsLinearStatusBy prepared.now (IsValidSpan haystack.now (between start end))
-        (λ status. (status ≡ LITERAL_OK) ⊎ (status ≡ LITERAL_OUT_OF_MEMORY)) result }
-    ensures count { ForLinear prepared.now (λ search. result ≡ LITERAL_OK
-        → IsCount search.query search.ignore_case haystack.now (between start end) count.new) }
-    ensures most { result ≡ LITERAL_OK → count.new ≤ end - start }
-    ensures no_memory { result ≡ LITERAL_OUT_OF_MEMORY → start < end }
-    ensures as_before { (result ≡ LITERAL_OK) ⊎ (count.new ≡ count.old) }
-{
-    if start > end || end > haystack.len() {
-        return LITERAL_BAD_ARGUMENTS;
-    }
-    let Ok(search) = PreparedLinear::new(prepared) else {
-        return LITERAL_DAMAGED;
-    };
-    let Ok(matches) = search.find_iter_in(alloc, haystack, Span { start, end }) else {
-        return LITERAL_OUT_OF_MEMORY;
-    };
-    match count_matches(matches) {
-        Err(Damaged) => LITERAL_DAMAGED,
-        Ok(counted) => {
-            *count = counted;
             LITERAL_OK
         }
     }

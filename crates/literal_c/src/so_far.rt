@@ -18,8 +18,9 @@ pub fn find_so_far(
     more: bool,
 ) -> Result<SoFar, Damaged>
     requires { start ≤ length haystack.now }
-    ensures prepared { ForPrepared search.now (λ query ignore_case. (behind : List ℕ) → MayFollow more behind
-        → IsOkAnd result (AnswersSoFar query ignore_case (haystack.now ++ behind) start)) }
+    ensures prepared { ForPrepared search.now (λ prepared. (behind : List ℕ) → MayFollow more behind
+        → IsOkAnd result
+        (AnswersSoFar prepared.query prepared.ignore_case (haystack.now ++ behind) start)) }
     ensures told { IfOk result (IsTold more (longest_in search.now) (length haystack.now) start) }
     ensures inside { IfOk result (MayBeKnown (slice_index search.now 3) start) }
 {

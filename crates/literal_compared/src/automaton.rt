@@ -5,7 +5,7 @@ use crate::asserted::{assert_holds, assert_same};
 use crate::made::{Place, SPANS, place};
 use crate::plain::leftmost_plainly;
 use MatchKind::{LeftmostFirst, LeftmostLongest};
-use literal_search::{Linear, Match, MatchKind, Search, Span};
+use literal_search::{Match, MatchKind, Search, Span};
 use std::alloc::Global;
 use std::process::Abort;
 use std::test::Fail;
@@ -53,7 +53,7 @@ fn plainly(
 /// Compares in some spans of a haystack.
 fn compare_in(
     rt: &impl Abort,
-    (search, linear): (&Search, &Linear),
+    search: &Search,
     (list, kind, ignore_case): (&[&[u8]], MatchKind, bool),
     haystack: &[u8; 5],
 ) {
@@ -63,9 +63,6 @@ fn compare_in(
         let wanted = plainly(list, kind, ignore_case, haystack, span);
         let found = search.find_in(haystack, span).map(place);
         let note = format_args!("{list:?}: {haystack:?} in {span:?}");
-        assert_same(rt, found, wanted, note);
-        let found = linear.find_in(haystack, span).map(place);
-        let note = format_args!("from the right, {list:?}: {haystack:?} in {span:?}");
         assert_same(rt, found, wanted, note);
     }
 }
@@ -98,17 +95,15 @@ fn compare_all(
 /// Compares on all these haystacks, and returns how many there are.
 fn compare(
     rt: &impl Abort,
-    (search, linear): (&Search, &Linear),
+    search: &Search,
     of: (&[&[u8]], MatchKind, bool),
     digits: &[u8; 5],
 ) -> Result<u32, Fail> {
     let mut haystacks: u32 = 0;
     for number in 0..625 {
         let haystack = bytes_of(digits, number);
-        compare_in(rt, (search, linear), of, &haystack);
+        compare_in(rt, search, of, &haystack);
         let all = search.find_all(&haystack)?;
-        compare_all(rt, of, &haystack, all.as_slice());
-        let all = linear.find_all(&haystack)?;
         compare_all(rt, of, &haystack, all.as_slice());
         haystacks = haystacks.wrapping_add(1);
     }
@@ -122,9 +117,8 @@ fn assert_list(
     (list, kind, ignore_case): (&[&[u8]], MatchKind, bool),
 ) -> Result<(), Fail> {
     let search = Search::new(alloc, kind, ignore_case, list.iter().copied())?;
-    let linear = Linear::new(alloc, kind, ignore_case, list.iter().copied())?;
     for digits in [b"aA@[`", b"aA{\x80\xFF"] {
-        let haystacks = compare(rt, (&search, &linear), (list, kind, ignore_case), digits)?;
+        let haystacks = compare(rt, &search, (list, kind, ignore_case), digits)?;
         assert_same(rt, haystacks, 625, format_args!("{list:?}"));
     }
     Ok(())

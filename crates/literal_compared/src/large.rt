@@ -1,10 +1,12 @@
 //! A long pattern, many patterns, and long haystacks. What bounds the time of each search is what its contract says
 //! that it counts.
+ghost use Rattle.std.specs.Prelude.{◌+◌, ◌≤◌};
+
 use crate::asserted::assert_same;
 use crate::chosen::assert_confirms;
 use crate::made::{place, searcher};
 use literal_prefilters::packed::MatchKind;
-use literal_search::Search;
+use literal_search::{Match, Search, Span, Tally};
 use std::alloc::{AllocError, Global};
 use std::process::Abort;
 use std::test::Fail;
@@ -119,6 +121,55 @@ fn finds_each_of_many_patterns(rt: HostRuntime) -> Result<(), Fail> {
     for count in COUNTS {
         assert_finds_numbered(&rt, rt.alloc(), count)?;
     }
+    Ok(())
+}
+
+/// 10,000 times the byte with which each pattern of the next tests begins.
+static SAME: [u8; 10_000] = [b'a'; 10_000];
+
+/// The leftmost match in so many bytes. Whatever the patterns are, it looks up at most three times as many.
+fn find_counted(search: &Search, haystack: &[u8; 10_000], tally: &mut Tally) -> Option<Match>
+    ensures { tally.new.scanned ≤ tally.old.scanned + 30_000 }
+{
+    let (start, end) = (0, 10_000);
+    search.find_in_counted(haystack, Span { start, end }, tally)
+}
+
+/// All matches in so many bytes. However many there are, it looks up at most three times as many bytes.
+fn find_all_counted(
+    search: &Search,
+    haystack: &[u8; 10_000],
+    tally: &mut Tally,
+) -> Result<Vec<Match>, AllocError>
+    ensures { tally.new.scanned ≤ tally.old.scanned + 30_000 }
+{
+    let (start, end) = (0, 10_000);
+    search.find_all_in_counted(haystack, Span { start, end }, tally)
+}
+
+/// The last byte of a pattern of 1,001 bytes occurs nowhere, and the others at each place.
+#[test]
+fn looks_at_no_byte_again_for_a_pattern_that_nearly_occurs(rt: HostRuntime) -> Result<(), Fail> {
+    let mut pattern = vec![in rt.alloc(); b'a'; 1_000]?;
+    pattern.push(b'b')?;
+    let patterns = [pattern.as_slice()];
+    let search = Search::new(rt.alloc(), MatchKind::LeftmostFirst, false, patterns)?;
+    let found = find_counted(&search, &SAME, &mut Tally::new());
+    assert_same(&rt, found.map(place), None, "it does not occur");
+    Ok(())
+}
+
+/// Each place is a match.
+#[test]
+fn looks_at_no_byte_again_for_each_match(rt: HostRuntime) -> Result<(), Fail> {
+    let search = Search::new(
+        rt.alloc(),
+        MatchKind::LeftmostFirst,
+        false,
+        [b"a".as_slice()],
+    )?;
+    let all = find_all_counted(&search, &SAME, &mut Tally::new())?;
+    assert_same(&rt, all.len(), 10_000, "all places");
     Ok(())
 }
 

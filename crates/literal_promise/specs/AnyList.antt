@@ -1,16 +1,13 @@
 -- What is asked for where all that is promised of a search for any list of patterns is said at once.
 use Rattle.std.specs.Prelude.{◌≡◌, ◌⊎◌, ℕ, ◌<◌, List, MatchResult, Option, Result, length, map, take}
 use Rattle.std.specs.Borrow.{Bor}
-use Rattle.literal_base.specs.Kinds.{root_kind_of}
 use Rattle.literal_base.specs.Occurs.{NoneIsEmpty, pattern_at}
-use Rattle.literal_base.specs.declared.search.MatchKind.TheVariants.{Standard}
 use Rattle.literal_ids.specs.declared.primitives.pattern_id.TheConstants.PatternID
 use Rattle.literal_base.specs.MatchValue.{MatchValue}
-use Rattle.literal_search.specs.Linear.{NeedTooManyReversed}
 use Rattle.literal_search.specs.Prepared.{WritesPrepared}
-use Rattle.literal_search.specs.SearchValue.{NeedTooManyStates, SearchValue, search_by}
+use Rattle.literal_search.specs.SearchValue.{NeedTooManyReversed, NeedTooManyStates, SearchValue, search_by}
 use Rattle.literal_search.specs.declared.BuildError.{BuildError}
-use Rattle.literal_search.specs.declared.prepared.PrepareError.{PrepareError}
+use Rattle.literal_search.specs.declared.prepared.ArrayTooShort.{ArrayTooShort}
 use Rattle.literal_search.specs.declared.BuildError.TheVariants.{EmptyPattern, OutOfMemory, TooManyPatterns}
 use Rattle.literal_search.specs.declared.BuildError.TheVariants.{TooManyStates}
 use Rattle.literal_promise.specs.declared.any_list.AnySearch.{AnySearch}
@@ -29,18 +26,17 @@ RefusesPatterns NeedTooMany patterns OutOfMemory = 0 < length patterns
 RefusesPatterns NeedTooMany patterns TooManyPatterns = PatternID.LIMIT < length patterns
 RefusesPatterns NeedTooMany patterns TooManyStates = NeedTooMany patterns
 
--- the patterns need too many states for one of the three searches that are asked for
+-- the patterns need too many states for one of the two searches that are asked for
 abbrev pub NeedTooManyForAny : AnySearch → List (List ℕ) → Type 0
 NeedTooManyForAny asked patterns =
-    NeedTooManyStates (root_kind_of asked.kind) asked.ignore_case patterns
-    ⊎ NeedTooManyStates Standard asked.ignore_case patterns ⊎ NeedTooManyReversed asked.ignore_case patterns
+    NeedTooManyReversed asked.ignore_case patterns ⊎ NeedTooManyStates asked.ignore_case patterns
 
 -- why the list that is asked for is refused
 abbrev pub RefusesAnyList : AnySearch → BuildError → Type 0
 RefusesAnyList asked = RefusesPatterns (NeedTooManyForAny asked) (searched_for asked).query.patterns
 
 -- with an answer a search is written into an array, and else the array is as it was
-abbrev pub IsKeptOrWritten : SearchValue → List ℕ → List ℕ → Result (Option MatchValue) PrepareError → Type 0
+abbrev pub IsKeptOrWritten : SearchValue → List ℕ → List ℕ → Result (Option MatchValue) ArrayTooShort → Type 0
 IsKeptOrWritten search old new answer =
-    MatchResult answer (λ _. (needed : ℕ) × WritesPrepared search.query search.ignore_case old new needed)
+    MatchResult answer (λ _. (needed : ℕ) × WritesPrepared search old new needed)
     (λ _. new ≡ old)

@@ -2,11 +2,11 @@
 //!
 //! Want of memory and the size of the table aside, exactly the lists without an empty pattern build a
 //! `Search`, whose answer on every valid span is the leftmost whole occurrence under the tie rule;
-//! `find_iter` is the greedy list of these, and `Overlapping` gives each occurrence once; a search looks up
-//! at most three times the bytes of its span, and a whole iteration at most three times those of the
-//! haystack and for each match those of the longest pattern; `Linear` lists the same matches, looking up at
-//! most three times the bytes of the haystack; and a search by an array into which the `Search` is written answers
-//! as it does.
+//! `find_iter` is the greedy list of these, `find_all_in` lists the same matches, and `Overlapping` gives each
+//! occurrence once. A search, and a list, looks up at most three times the bytes of its span, whatever the
+//! patterns are and however many matches; an iteration too if no pattern has more than 1,024 bytes, and else
+//! at most eleven times, and for each match 36 times a first part. A search by an array into which the
+//! `Search` is written answers as it does.
 //!
 //! The contract of [`search_any_list`] says all of this.
 ghost use Rattle.std.specs.Prelude.{◌≡◌, ◌+◌, ◌<◌, ◌≤◌, IfErr, IfOk, MatchResult, OnErr, length};
@@ -14,16 +14,15 @@ ghost use Rattle.literal_base.specs.Greedy.{IsGreedy};
 ghost use Rattle.literal_base.specs.Leftmost.{IsLeftmost};
 ghost use Rattle.literal_base.specs.Occurs.{IsValidSpan, whole_of};
 ghost use Rattle.literal_search.specs.Earliest.{IsEarliestEnd};
-ghost use Rattle.literal_search.specs.Linear.{ScansThrice};
 ghost use Rattle.literal_search.specs.Overlapping.{IsOverlapping};
 ghost use Rattle.literal_search.specs.Prepared.{RefusesToPrepare};
-ghost use Rattle.literal_search.specs.SearchValue.{CanBeKept, ScansWithin, ScansListAtMost};
+ghost use Rattle.literal_search.specs.SearchValue.{CanBeKept, ScansListAtMost, ScansThrice, ScansWithin};
 ghost use Rattle.literal_promise.specs.AnyList.{IsKeptOrWritten, RefusesAnyList, searched_for};
 
 use literal_base::laws::greedy_is_unique;
 use literal_search::laws::{iterations_give_each_occurrence_once, iterations_scan_at_most};
 use literal_search::{
-    BuildError, Linear, Match, MatchKind, Overlapping, PrepareError, Prepared, Search, Span, Tally,
+    ArrayTooShort, BuildError, Match, MatchKind, Overlapping, Prepared, Search, Span, Tally,
 };
 use std::alloc::{AllocError, Global};
 
@@ -45,6 +44,8 @@ pub struct Searched {
     pub found: Option<Match>,
     /// By [`Search::find_iter`], up to its first `None`.
     pub all: Vec<Match>,
+    /// By [`Search::find_all_in_counted`], of the whole haystack.
+    pub list: Vec<Match>,
 }
 
 /// What an [`Overlapping`] finds in the span.
@@ -61,15 +62,13 @@ pub struct Occurring {
 pub struct AnyFound {
     pub searched: Searched,
     pub occurring: Occurring,
-    /// By [`Linear::find_all_in_counted`], of the whole haystack.
-    pub linear: Vec<Match>,
     /// By [`Prepared::find_in`], in the span, if the array is long enough.
-    pub by_array: Result<Option<Match>, PrepareError>,
+    pub by_array: Result<Option<Match>, ArrayTooShort>,
 }
 
-/// Searches for a list of patterns by a `Search`, an `Overlapping` and a `Linear`, each made for it. It refuses as they
-/// do. Memory is asked for only where there is a pattern. Of the tallies the first is for the search of the span, the
-/// second for the iteration, and the third for the list of `Linear`. Into the array the `Search` is written.
+/// Searches for a list of patterns by a `Search` and an `Overlapping`, both made for it. It refuses as they do. Memory
+/// is asked for only where there is a pattern. Of the tallies the first is for the search of the span, the second for
+/// the iteration, and the third for the list. Into the array the `Search` is written.
 pub fn search_any_list(
     alloc: Global,
     asked: &AnySearch<'_>,
@@ -95,25 +94,23 @@ pub fn search_any_list(
         (length haystack.now) (length any.searched.all.items) iterated.old iterated.new) }
     ensures overlapping { IfOk result (λ any. IsOverlapping (searched_for asked.now).query.patterns
         asked.now.ignore_case haystack.now span any.occurring.all.items) }
-    ensures same_list { IfOk result (λ any. any.linear.items ≡ any.searched.all.items) }
-    ensures thrice { IfOk result (λ _. ScansThrice (whole_of haystack.now) listed.old listed.new) }
+    ensures same_list { IfOk result (λ any. any.searched.list.items ≡ any.searched.all.items) }
+    ensures list { IfOk result (λ _. ScansThrice (whole_of haystack.now) listed.old listed.new) }
     ensures by_array { IfOk result (λ any. MatchResult any.by_array
         (IsLeftmost (searched_for asked.now).query asked.now.ignore_case haystack.now span)
-        (RefusesToPrepare (searched_for asked.now).query asked.now.ignore_case array.old)) }
+        (RefusesToPrepare (searched_for asked.now) array.old)) }
     ensures array { IfOk result (λ any. IsKeptOrWritten (searched_for asked.now) array.old array.new any.by_array) }
     ensures array_as_before { OnErr result (array.new ≡ array.old) }
     ensures listed_each { IfOk result (λ _. listed.old.scanned + length haystack.now ≤ listed.new.scanned) }
     ensures iterated_each { IfOk result (λ _. iterated.old.scanned + length haystack.now ≤ iterated.new.scanned) }
 {
     greedy_is_unique();
-    let searched = search(alloc, asked, haystack, span, once, iterated)?;
+    let searched = search(alloc, asked, haystack, span, once, iterated, listed)?;
     let occurring = all_that_occurs(alloc, asked, haystack, span)?;
-    let linear = list(alloc, asked, haystack, listed)?;
     let by_array = by_array(&search_for(alloc, asked)?, array, haystack, span);
     Ok(AnyFound {
         searched,
         occurring,
-        linear,
         by_array,
     })
 }
@@ -125,6 +122,7 @@ fn search(
     span: Span,
     once: &mut Tally,
     iterated: &mut Tally,
+    listed: &mut Tally,
 ) -> Result<Searched, BuildError>
     requires { IsValidSpan haystack.now span }
     ensures built { IfOk result (λ _. CanBeKept (searched_for asked.now).query.patterns) }
@@ -138,11 +136,17 @@ fn search(
     ensures iteration { IfOk result (λ searched. ScansListAtMost (searched_for asked.now).query.patterns
         (length haystack.now) (length searched.all.items) iterated.old iterated.new) }
     ensures each { IfOk result (λ _. iterated.old.scanned + length haystack.now ≤ iterated.new.scanned) }
+    ensures greedy_list { IfOk result (λ searched. IsGreedy (searched_for asked.now).query asked.now.ignore_case
+        haystack.now 0 searched.list.items) }
+    ensures list { IfOk result (λ _. ScansThrice (whole_of haystack.now) listed.old listed.new) }
+    ensures listed_each { IfOk result (λ _. listed.old.scanned + length haystack.now ≤ listed.new.scanned) }
 {
     let search = search_for(alloc, asked)?;
     let found = search.find_in_counted(haystack, span, once);
     let all = taken_in_turn(alloc, &search, haystack, iterated)?;
-    Ok(Searched { found, all })
+    let end = haystack.len();
+    let list = search.find_all_in_counted(haystack, Span { start: 0, end }, listed)?;
+    Ok(Searched { found, all, list })
 }
 
 fn search_for(alloc: Global, asked: &AnySearch<'_>) -> Result<Search, BuildError>
@@ -189,10 +193,10 @@ fn by_array(
     array: &mut [u32],
     haystack: &[u8],
     span: Span,
-) -> Result<Option<Match>, PrepareError>
+) -> Result<Option<Match>, ArrayTooShort>
     requires { IsValidSpan haystack.now span }
     ensures found { MatchResult result (IsLeftmost search.now.query search.now.ignore_case haystack.now span)
-        (RefusesToPrepare search.now.query search.now.ignore_case array.old) }
+        (RefusesToPrepare search.now array.old) }
     ensures array { IsKeptOrWritten search.now array.old array.new result }
 {
     let places = search.prepare(array)?;
@@ -243,22 +247,4 @@ fn taken_overlapping(
         all.push(found)?;
     }
     Ok(all)
-}
-
-fn list(
-    alloc: Global,
-    asked: &AnySearch<'_>,
-    haystack: &[u8],
-    listed: &mut Tally,
-) -> Result<Vec<Match>, BuildError>
-    ensures refused { IfErr result (RefusesAnyList asked.now) }
-    ensures greedy { IfOk result (λ all. IsGreedy (searched_for asked.now).query asked.now.ignore_case haystack.now
-        0 all.items) }
-    ensures thrice { IfOk result (λ _. ScansThrice (whole_of haystack.now) listed.old listed.new) }
-    ensures once { IfOk result (λ _. listed.old.scanned + length haystack.now ≤ listed.new.scanned) }
-{
-    let patterns = asked.patterns.iter().copied();
-    let linear = Linear::new(alloc, asked.kind, asked.ignore_case, patterns)?;
-    let end = haystack.len();
-    Ok(linear.find_all_in_counted(haystack, Span { start: 0, end }, listed)?)
 }

@@ -4,9 +4,7 @@ use Rattle.std.specs.Fmt.{decimal}
 use Rattle.literal_search.specs.declared.BuildError.{BuildError}
 use Rattle.literal_search.specs.declared.BuildError.TheVariants.{EmptyPattern, OutOfMemory, TooManyPatterns}
 use Rattle.literal_search.specs.declared.BuildError.TheVariants.{TooManyStates}
-use Rattle.literal_search.specs.declared.prepared.PrepareError.{PrepareError}
-use Rattle.literal_search.specs.declared.prepared.PrepareError.TheVariants.{ArrayTooShort, ListsTooLong}
-use Rattle.literal_search.specs.declared.prepared.PrepareError.TheVariants.{PatternTooLong}
+use Rattle.literal_search.specs.declared.prepared.ArrayTooShort.{ArrayTooShort}
 use Rattle.literal_search.specs.declared.replace.ReplaceError.{ReplaceError}
 use Rattle.literal_search.specs.declared.replace.ReplaceError.TheVariants as replace
 use Rattle.literal_search.specs.declared.replace_stream.ReplaceStreamError.{ReplaceStreamError}
@@ -19,11 +17,9 @@ build_error_text OutOfMemory = codes "out of memory"
 build_error_text TooManyPatterns = codes "too many patterns"
 build_error_text TooManyStates = codes "the patterns need too many states"
 
--- what is printed of why a search is not written into an array
-abbrev pub prepare_error_text : PrepareError → List ℕ
-prepare_error_text PatternTooLong = codes "a pattern is too long"
-prepare_error_text ListsTooLong = codes "too many patterns are a suffix of another"
-prepare_error_text (ArrayTooShort needed) = codes "the array needs " ++ decimal needed ++ codes " places"
+-- what is printed of an array that is too short for a search
+abbrev pub array_too_short_text : ArrayTooShort → List ℕ
+array_too_short_text error = codes "the array needs " ++ decimal error.needed ++ codes " places"
 
 -- what is printed of why matches are not replaced
 abbrev pub replace_error_text : ReplaceError → List ℕ

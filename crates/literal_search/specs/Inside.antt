@@ -9,12 +9,11 @@ pub mod Grown
 pub mod Leftmost
 pub mod Kept
 pub mod LentTables
-pub mod Linear
 pub mod Lists
 pub mod NextEnd
+pub mod Overlapping
 pub mod Packed
 pub mod Prepared
-pub mod PreparedLinear
 pub mod Rewriting
 pub mod Rows
 pub mod Scan

@@ -3,14 +3,11 @@ pub mod At
 pub mod Earliest
 pub mod ErrorText
 pub mod Inside
-pub mod Linear
-pub mod LinearMatchesValue
 pub mod MatchesValue
 pub mod Memory
 pub mod Overlapping
 pub mod OverlappingMatchesValue
 pub mod Prepared
-pub mod PreparedLinear
 pub mod PreparedOverlapping
 pub mod Replaced
 pub mod SearchBuilderValue

@@ -1,32 +1,47 @@
--- A search for all matches, one after another: `Matches`, as contracts see it.
-use Rattle.std.specs.Prelude.{◌≡◌, ℕ, ◌<◌, ◌-◌, List, length, Option, IfSome}
+-- All leftmost matches of a span, one after another: `Matches`, as contracts see it.
+use Rattle.std.specs.Prelude.{◌≡◌, ℕ, ◌<◌, ◌≤◌, ◌-◌, List, Option, None, Some, IfSome}
 use Rattle.std.specs.Iterator.{Count, at_most}
 use Rattle.literal_base.specs.Counts.{Counts}
-use Rattle.literal_base.specs.MatchValue.{MatchValue}
-use Rattle.literal_base.specs.Occurs.{rest_from}
 use Rattle.literal_base.specs.Leftmost.{IsLeftmost}
-use Rattle.literal_base.specs.Greedy.{place_after}
-use Rattle.literal_search.specs.SearchValue.{SearchValue, ScansWithin}
+use Rattle.literal_base.specs.MatchValue.{MatchValue}
+use Rattle.literal_base.specs.Occurs.{between}
+use Rattle.literal_base.specs.declared.search.Span.{Span}
+use Rattle.literal_search.specs.SearchValue.{ScansNext, looked_upto}
+use Rattle.literal_search.specs.SearchValue.{SearchValue, longest_of}
 
--- a `Matches` as contracts see it: what is searched for, where, and the place from which it goes on
+-- a `Matches` as contracts see it: what is searched for, where, the place from which it goes on, and up to which
+-- place it has looked
 pub record MatchesValue : Type 0 where
   pub search : SearchValue
   pub haystack : List ℕ
+  pub span : Span
   pub at : ℕ
+  pub known : ℕ
 
--- what `next` gives: the leftmost match of the rest, which is not empty, or None where nothing occurs in the rest; the
--- search goes on behind the match, or at the end of the haystack
-pub record GivesMatch (old : MatchesValue) (answer : Option MatchValue) (new : MatchesValue) : Type 0 where
-  pub leftmost : IsLeftmost old.search.query old.search.ignore_case old.haystack (rest_from old.haystack old.at) answer
-  pub not_empty : IfSome answer (λ found. found.start < found.end)
-  pub goes_on : new ≡ record old { at = place_after old.haystack answer }
+-- where it goes on: behind the match, or at the end of the span
+abbrev pub place_behind : Span → Option MatchValue → ℕ
+place_behind span None = span.end
+place_behind span (Some found) = found.end
 
--- a step of an iteration that counts: what `next` gives, and what its search of the rest scans
-pub record GivesCounted (old : MatchesValue × Counts) (answer : Option MatchValue) (new : MatchesValue × Counts)
+-- what `next` gives: the leftmost match of the rest of the span, which is not empty, or None where nothing occurs in
+-- it; it goes on behind that, has looked no less far than before, and not behind the span, and what stands before the
+-- place where it goes on was looked up
+pub record GivesMatch (old : MatchesValue) (answer : Option MatchValue) (new : MatchesValue)
     : Type 0 where
+  pub leftmost : IsLeftmost old.search.query old.search.ignore_case old.haystack (between old.at old.span.end) answer
+  pub not_empty : IfSome answer (λ found. found.start < found.end)
+  pub goes_on : new ≡ record old { at = place_behind old.span answer; known = new.known }
+  pub further : old.known ≤ new.known
+  pub inside : new.known ≤ old.span.end
+  pub looked : new.at ≤ looked_upto old.search.query.patterns old.span new.known
+
+-- a step of an iteration that counts: what `next` gives, and what it scans
+pub record GivesCounted (old : MatchesValue × Counts) (answer : Option MatchValue)
+    (new : MatchesValue × Counts) : Type 0 where
   pub gives : GivesMatch old.0 answer new.0
-  pub bounded : ScansWithin old.0.search.query.patterns (rest_from old.0.haystack old.0.at) answer old.1 new.1
+  pub scans : ScansNext (longest_of old.0.search.query.patterns) old.0.span old.0.at old.0.known new.0.known answer
+      old.1 new.1
 
 -- at most how many matches are to come: each takes a byte or more of the rest
 abbrev pub most_to_come : MatchesValue → Count
-most_to_come m = at_most (length m.haystack - m.at)
+most_to_come m = at_most (m.span.end - m.at)

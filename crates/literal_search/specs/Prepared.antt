@@ -3,23 +3,22 @@ use Rattle.std.specs.Prelude.{◌≡◌, ◌+◌, ◌*◌, ◌/◌, ◌%◌, ◌
 use Rattle.std.specs.Prelude.{slice_index, slice_range}
 use Rattle.std.specs.Int.Bits.{bit_xor}
 use Rattle.std.specs.List.{All}
-use Rattle.literal_base.specs.Kinds.{root_kind_of}
 use Rattle.literal_base.specs.MatchValue.{MatchValue}
-use Rattle.literal_base.specs.Query.{Query}
 use Rattle.literal_base.specs.declared.search.Span.{Span}
 use Rattle.literal_fingerprints.specs.FingerprintsValue.{AllPass, FingerprintsValue, fingerprints_in}
-use Rattle.literal_ids.specs.declared.primitives.pattern_id.TheConstants.PatternID
-use Rattle.literal_search.specs.SearchValue.{CanBeKept, HoldsInClasses, NoneIsShorter, longest_of}
+use Rattle.literal_search.specs.SearchValue.{CanBeKept, HoldsInClasses, longest_of, SearchValue}
+use Rattle.literal_search.specs.SearchValue.{reversed}
 use Rattle.literal_search.specs.Inside.Classes.{AreClasses, Tells, symbols_in}
 use Rattle.literal_search.specs.Inside.Packed.{unpacked}
 use Rattle.literal_search.specs.States.{IsRowsLength}
 use Rattle.literal_search.specs.Table.{Recognises}
 use Rattle.literal_search.specs.declared.classes.TheConstants.{CLASSES_LEN, PACKED_LEN}
-use Rattle.literal_search.specs.declared.prepared.PrepareError.{PrepareError}
-use Rattle.literal_search.specs.declared.prepared.PrepareError.TheVariants.{ArrayTooShort, ListsTooLong}
-use Rattle.literal_search.specs.declared.prepared.PrepareError.TheVariants.{PatternTooLong}
-use Rattle.literal_search.specs.declared.prepared.TheConstants.{FINGERPRINTS_LEN, LENGTHS_AT}
-use Rattle.literal_search.specs.declared.prepared.TheConstants.{PREPARED_VERSION}
+use Rattle.literal_search.specs.declared.prepared.ArrayTooShort.{ArrayTooShort}
+use Rattle.literal_search.specs.declared.prepared.TheConstants.{FINGERPRINTS_LEN, LENGTHS_AT, PREPARED_VERSION}
+use Rattle.literal_base.specs.declared.search.MatchKind.TheVariants.{Standard}
+use Rattle.literal_search.specs.Inside.Best.{AreBest}
+use Rattle.literal_search.specs.MatchesValue.{MatchesValue}
+use Rattle.literal_ids.specs.declared.primitives.pattern_id.TheConstants.PatternID
 
 -- how many classes of bytes there are, by the third number
 abbrev pub width_in : List ℕ → ℕ
@@ -53,14 +52,6 @@ classes_end numbers = rows_end numbers + CLASSES_LEN
 abbrev pub classes_in : List ℕ → List ℕ
 classes_in numbers = unpacked (slice_range numbers (rows_end numbers) (rows_end numbers + PACKED_LEN))
 
--- how many numbers are those of a search for the leftmost match: behind its classes stand those of its fingerprints
-abbrev pub prepared_len : List ℕ → ℕ
-prepared_len numbers = classes_end numbers + FINGERPRINTS_LEN
-
--- the numbers of its fingerprints
-abbrev pub fingerprints_part : List ℕ → List ℕ
-fingerprints_part numbers = slice_range numbers (classes_end numbers) (prepared_len numbers)
-
 -- the first of such numbers: where there are fingerprints a length that no pattern is below, and else 0
 abbrev pub shortest_by : List ℕ → ℕ
 shortest_by prints = slice_index prints 0
@@ -84,43 +75,6 @@ pub record HasParts (version : ℕ) (numbers : List ℕ) : Type 0 where
   pub few : slice_index numbers 3 ≤ PatternID.LIMIT
   pub fits : classes_end numbers ≤ length numbers
 
--- the array has the parts of a search for the leftmost match, and is long enough for fingerprints
-pub record HasAllParts (numbers : List ℕ) : Type 0 where
-  pub parts : HasParts PREPARED_VERSION numbers
-  pub long : prepared_len numbers ≤ length numbers
-
--- the array has the parts of a search for the leftmost match, and its second number is the check over those behind it
-pub record IsWhole (numbers : List ℕ) : Type 0 where
-  pub all : HasAllParts numbers
-  pub check : slice_index numbers 1 ≡ check_of (slice_range numbers 2 (prepared_len numbers))
-
--- the array begins with a whole search for the patterns: the length of the longest, classes that tell their bytes, the
--- length of each, rows that recognise their texts in these classes, and fingerprints that let all of them pass, if any
-pub record IsPrepared (query : Query) (ignore_case : Bool) (numbers : List ℕ) : Type 0 where
-  pub whole : IsWhole numbers
-  pub longest : longest_in numbers ≡ longest_of query.patterns
-  pub classes : AreClasses (classes_in numbers) (width_in numbers)
-  pub tells : Tells ignore_case (classes_in numbers) query.patterns
-  pub lengths : lengths_in numbers ≡ map (λ bytes. length bytes) query.patterns
-  pub recognises : Recognises (root_kind_of query.kind) (map (symbols_in (classes_in numbers)) query.patterns)
-      (width_in numbers) (rows_in numbers)
-  pub shortest : NoneIsShorter (shortest_by (fingerprints_part numbers)) query.patterns
-  pub fingerprints : 0 < shortest_by (fingerprints_part numbers)
-      → AllPass (fingerprints_by (fingerprints_part numbers)) ignore_case query.patterns
-  pub kept : CanBeKept query.patterns
-
--- what holds of whatever an array is prepared for
-abbrev pub ForPrepared : List ℕ → (Query → Bool → Type 0) → Type 0
-ForPrepared numbers P =
-    (query : Query) (ignore_case : Bool) → IsPrepared query ignore_case numbers → P query ignore_case
-
--- how many places a search takes: the header, one for each pattern, the rows of all states, the classes, and the
--- fingerprints
-unfoldable pub TakesPlaces : Query → Bool → ℕ → Type 0
-TakesPlaces query ignore_case needed =
-    HoldsInClasses (λ texts width. (rows : ℕ) × IsRowsLength (root_kind_of query.kind) texts width rows
-    × (needed ≡ LENGTHS_AT + length query.patterns + rows + CLASSES_LEN + FINGERPRINTS_LEN)) ignore_case query.patterns
-
 -- numbers that are for a search are written into the first places of an array, as many as it takes, and the others stay
 -- as they were
 pub record WritesNumbers (AreFor : List ℕ → Type 0) (Takes : ℕ → Type 0) (old new : List ℕ) (needed : ℕ) : Type 0 where
@@ -130,30 +84,122 @@ pub record WritesNumbers (AreFor : List ℕ → Type 0) (Takes : ℕ → Type 0)
   pub prepared : AreFor (take needed new)
   pub others : drop needed new ≡ drop needed old
 
--- the search for the leftmost match is written into an array
-abbrev pub WritesPrepared : Query → Bool → List ℕ → List ℕ → ℕ → Type 0
-WritesPrepared query ignore_case = WritesNumbers (IsPrepared query ignore_case) (TakesPlaces query ignore_case)
-
 -- the length of each pattern is below 2^32
 abbrev pub AreShort : List (List ℕ) → Type 0
 AreShort patterns = All (λ (bytes : List ℕ). length bytes < 2 ^ 32) patterns
-
--- why a search for patterns is not written into an array: not all patterns are short; or they are, and its lists are
--- too long, or the array has fewer places than it takes, which would be enough
-abbrev pub RefusesNumbers : List (List ℕ) → Type 0 → (List ℕ → Type 0) → (ℕ → Type 0) → List ℕ → PrepareError → Type 0
-RefusesNumbers patterns HasLongLists AreFor Takes array PatternTooLong = ¬ AreShort patterns
-RefusesNumbers patterns HasLongLists AreFor Takes array ListsTooLong = AreShort patterns × HasLongLists
-RefusesNumbers patterns HasLongLists AreFor Takes array (ArrayTooShort needed) =
-    AreShort patterns × (length array < needed) × Takes needed
-    × ((numbers : List ℕ) × AreFor numbers × (length numbers ≡ needed))
-
--- why the search for the leftmost match is not, which has no lists
-abbrev pub RefusesToPrepare : Query → Bool → List ℕ → PrepareError → Type 0
-RefusesToPrepare query ignore_case =
-    RefusesNumbers query.patterns ⊥ (IsPrepared query ignore_case) (TakesPlaces query ignore_case)
 
 -- a match lies in the span, and is not empty
 pub record LiesIn (span : Span) (found : MatchValue) : Type 0 where
   pub start : span.start ≤ found.start
   pub some : found.start < found.end
   pub end : found.end ≤ span.end
+
+-- what a search from the right reads: classes of bytes, rows, for each pattern the best of those that are prefixes of
+-- it, and how long the longest is
+pub record BackTables : Type 0 where
+  pub search : SearchValue
+  pub classes : List ℕ
+  pub width : ℕ
+  pub rows : List ℕ
+  pub best : List ℕ
+  pub longest : ℕ
+
+-- the classes of the patterns' bytes, read from their ends
+abbrev pub texts_back : BackTables → List (List ℕ)
+texts_back t = reversed (map (symbols_in t.classes) t.search.query.patterns)
+
+-- each byte has a class, by which those of the patterns are told from others; the rows are for all that occurs of the
+-- reversed texts, and for each of these the best suffix is known; none is empty
+pub record AreBackTables (t : BackTables) : Type 0 where
+  pub classes : AreClasses t.classes t.width
+  pub tells : Tells t.search.ignore_case t.classes t.search.query.patterns
+  pub recognises : Recognises Standard (texts_back t) t.width t.rows
+  pub best : AreBest t.search.query.kind (texts_back t) t.best (length t.search.query.patterns)
+  pub longest : t.longest ≡ longest_of t.search.query.patterns
+  pub kept : CanBeKept t.search.query.patterns
+
+-- where the numbers end that tell the best of its prefixes for each pattern, which stand behind the classes
+abbrev pub best_end : List ℕ → ℕ
+best_end numbers = classes_end numbers + slice_index numbers 3
+
+-- these numbers
+abbrev pub best_in : List ℕ → List ℕ
+best_in numbers = slice_range numbers (classes_end numbers) (best_end numbers)
+
+-- how many numbers are those of the search: behind these stand those of its fingerprints
+abbrev pub prepared_len : List ℕ → ℕ
+prepared_len numbers = best_end numbers + FINGERPRINTS_LEN
+
+-- the numbers of its fingerprints
+abbrev pub prints_in : List ℕ → List ℕ
+prints_in numbers = slice_range numbers (best_end numbers) (prepared_len numbers)
+
+-- the array has the parts of a search for all leftmost matches, and is as long as these are; there is a row
+pub record HasAllParts (numbers : List ℕ) : Type 0 where
+  pub parts : HasParts PREPARED_VERSION numbers
+  pub fits : prepared_len numbers ≤ length numbers
+  pub row : 0 < slice_index numbers 4
+
+-- the same, and the second number is the check over those of the search behind it
+pub record IsWhole (numbers : List ℕ) : Type 0 where
+  pub parts : HasAllParts numbers
+  pub check : slice_index numbers 1 ≡ check_of (slice_range numbers 2 (prepared_len numbers))
+
+-- the tables in an array
+abbrev pub back_tables_in : SearchValue → List ℕ → BackTables
+back_tables_in search numbers = record {
+  search = search;
+  classes = classes_in numbers;
+  width = width_in numbers;
+  rows = rows_in numbers;
+  best = best_in numbers;
+  longest = longest_in numbers;
+}
+
+-- such numbers let all of some patterns pass, if they are of fingerprints
+abbrev pub ArePrints : List (List ℕ) → Bool → List ℕ → Type 0
+ArePrints patterns ignore_case prints = 0 < shortest_by prints → AllPass (fingerprints_by prints) ignore_case patterns
+
+-- the array begins with a whole search for all leftmost matches: with its tables, the length of each pattern, and
+-- fingerprints that let all of them pass, if any
+pub record IsPrepared (search : SearchValue) (numbers : List ℕ) : Type 0 where
+  pub whole : IsWhole numbers
+  pub tables : AreBackTables (back_tables_in search numbers)
+  pub lengths : lengths_in numbers ≡ map (λ bytes. length bytes) search.query.patterns
+  pub prints : ArePrints search.query.patterns search.ignore_case (prints_in numbers)
+
+-- what holds of whatever search for all leftmost matches an array is prepared for
+abbrev pub ForPrepared : List ℕ → (SearchValue → Type 0) → Type 0
+ForPrepared numbers P = (search : SearchValue) → IsPrepared search numbers → P search
+
+-- how many places a search takes: those of the header, two for each pattern, the rows of all states, the classes, and
+-- the fingerprints
+unfoldable pub TakesPlaces : SearchValue → ℕ → Type 0
+TakesPlaces search needed =
+    HoldsInClasses (λ texts width. (rows : ℕ) × IsRowsLength Standard (reversed texts) width rows
+    × (needed ≡ LENGTHS_AT + length search.query.patterns + rows + CLASSES_LEN + length search.query.patterns
+    + FINGERPRINTS_LEN)) search.ignore_case search.query.patterns
+
+-- the search is written into the first places of an array
+abbrev pub WritesPrepared : SearchValue → List ℕ → List ℕ → ℕ → Type 0
+WritesPrepared search = WritesNumbers (IsPrepared search) (TakesPlaces search)
+
+-- why it is not: the array has fewer places than it takes, which would be enough
+abbrev pub RefusesToPrepare : SearchValue → List ℕ → ArrayTooShort → Type 0
+RefusesToPrepare search array error =
+    (length array < error.needed) × TakesPlaces search error.needed
+    × ((numbers : List ℕ) × IsPrepared search numbers × (length numbers ≡ error.needed))
+
+-- a `PreparedMatches` as contracts see it: by which array, where, from which place it goes on, and up to which
+-- place it has looked
+pub record PreparedMatchesValue : Type 0 where
+  pub numbers : List ℕ
+  pub haystack : List ℕ
+  pub span : Span
+  pub at : ℕ
+  pub known : ℕ
+
+-- the same for a search that the array is prepared for
+abbrev pub matches_for : SearchValue → PreparedMatchesValue → MatchesValue
+matches_for search m =
+    record { search = search; haystack = m.haystack; span = m.span; at = m.at; known = m.known }

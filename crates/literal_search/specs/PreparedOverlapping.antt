@@ -1,5 +1,5 @@
 -- A search for everything that occurs as numbers in an array that is lent.
-use Rattle.std.specs.Prelude.{◌≡◌, ◌⊎◌, ◌+◌, ◌<◌, ◌≤◌, ◌^◌, ℕ, Bool, List, length, map, slice_index, slice_range}
+use Rattle.std.specs.Prelude.{◌≡◌, ◌⊎◌, ◌+◌, ◌<◌, ◌≤◌, ℕ, Bool, List, length, map, slice_index, slice_range}
 use Rattle.literal_base.specs.declared.search.MatchKind.TheVariants.{Standard}
 use Rattle.literal_base.specs.declared.search.Span.{Span}
 use Rattle.literal_search.specs.SearchValue.{CanBeKept, HoldsInClasses, longest_of, width_for}
@@ -7,13 +7,15 @@ use Rattle.literal_search.specs.Inside.Classes.{AreClasses, Tells, symbols_in}
 use Rattle.literal_search.specs.Inside.Lists.{AreLists}
 use Rattle.literal_search.specs.Overlapping.{OverlappingValue}
 use Rattle.literal_search.specs.OverlappingMatchesValue.{OverlappingMatchesValue}
-use Rattle.literal_search.specs.Prepared.{HasParts, RefusesNumbers, WritesNumbers, check_of, classes_end}
-use Rattle.literal_search.specs.Prepared.{classes_in, lengths_in, longest_in, rows_in, width_in}
+use Rattle.literal_search.specs.Prepared.{HasParts, WritesNumbers, check_of, classes_end}
+use Rattle.literal_search.specs.Prepared.{ArePrints, classes_in, lengths_in, longest_in, rows_in}
+use Rattle.literal_search.specs.Prepared.{width_in}
 use Rattle.literal_search.specs.States.{IsRowsLength}
 use Rattle.literal_search.specs.Table.{Recognises}
 use Rattle.literal_search.specs.declared.classes.TheConstants.{CLASSES_LEN}
-use Rattle.literal_search.specs.declared.prepared.PrepareError.{PrepareError}
-use Rattle.literal_search.specs.declared.prepared.TheConstants.{LENGTHS_AT, OVERLAPPING_VERSION}
+use Rattle.literal_search.specs.declared.prepared.ArrayTooShort.{ArrayTooShort}
+use Rattle.literal_search.specs.declared.prepared.TheConstants.{FINGERPRINTS_LEN, LENGTHS_AT}
+use Rattle.literal_search.specs.declared.prepared.TheConstants.{OVERLAPPING_VERSION}
 
 -- what a search for everything that occurs of patterns reads: classes of bytes, rows, and lists of the patterns that
 -- are a suffix of each, one behind another, and where each begins
@@ -48,7 +50,7 @@ pub record AreSized (t : Tables) : Type 0 where
 abbrev pub ends_at : List ℕ → ℕ
 ends_at numbers = classes_end numbers + slice_index numbers 3 + 1
 
--- how many numbers are those of the search; the last of these says how long the lists are
+-- where the lists end; the last of the numbers before them says how long they are
 abbrev pub listed_len : List ℕ → ℕ
 listed_len numbers = ends_at numbers + slice_index numbers (classes_end numbers + slice_index numbers 3)
 
@@ -60,15 +62,24 @@ starts_in numbers = slice_range numbers (classes_end numbers) (ends_at numbers)
 abbrev pub ends_in : List ℕ → List ℕ
 ends_in numbers = slice_range numbers (ends_at numbers) (listed_len numbers)
 
--- the array has the parts of a search for everything that occurs, and is as long as these and its lists are
+-- how many numbers are those of the search: behind its lists stand those of its fingerprints
+abbrev pub overlapping_len : List ℕ → ℕ
+overlapping_len numbers = listed_len numbers + FINGERPRINTS_LEN
+
+-- the numbers of its fingerprints
+abbrev pub prints_behind : List ℕ → List ℕ
+prints_behind numbers = slice_range numbers (listed_len numbers) (overlapping_len numbers)
+
+-- the array has the parts of a search for everything that occurs, and is as long as these, its lists and its
+-- fingerprints are
 pub record HasLists (numbers : List ℕ) : Type 0 where
   pub parts : HasParts OVERLAPPING_VERSION numbers
-  pub fits : listed_len numbers ≤ length numbers
+  pub fits : overlapping_len numbers ≤ length numbers
 
 -- the same, and the second number is the check over those of the search behind it
 pub record IsWholeOverlapping (numbers : List ℕ) : Type 0 where
   pub lists : HasLists numbers
-  pub check : slice_index numbers 1 ≡ check_of (slice_range numbers 2 (listed_len numbers))
+  pub check : slice_index numbers 1 ≡ check_of (slice_range numbers 2 (overlapping_len numbers))
 
 -- the tables in an array
 abbrev pub tables_in : OverlappingValue → List ℕ → Tables
@@ -83,42 +94,36 @@ tables_in search numbers = record {
 }
 
 -- the array begins with a whole search for everything that occurs: with the length of the longest pattern, its tables,
--- and the length of each pattern
+-- the length of each pattern, and fingerprints that let all of them pass, if any
 pub record IsPreparedOverlapping (search : OverlappingValue) (numbers : List ℕ) : Type 0 where
   pub whole : IsWholeOverlapping numbers
   pub longest : longest_in numbers ≡ longest_of search.patterns
   pub tables : AreTables (tables_in search numbers)
   pub lengths : lengths_in numbers ≡ map (λ bytes. length bytes) search.patterns
+  pub prints : ArePrints search.patterns search.ignore_case (prints_behind numbers)
 
 -- what holds of whatever search for everything that occurs an array is prepared for
 abbrev pub ForOverlapping : List ℕ → (OverlappingValue → Type 0) → Type 0
 ForOverlapping numbers P = (search : OverlappingValue) → IsPreparedOverlapping search numbers → P search
 
--- in some classes there are rows for the patterns' texts, of so many numbers, and lists
-abbrev pub HaveTables : OverlappingValue → (ℕ → List ℕ → List ℕ → Type 0) → Type 0
-HaveTables search P =
-    HoldsInClasses (λ texts width. (rows : ℕ) × IsRowsLength Standard texts width rows
-    × (ends : List ℕ) × (starts : List ℕ) × AreLists texts ends starts (length search.patterns) × P rows ends starts)
-    search.ignore_case search.patterns
-
--- how many places a search takes: the header, one for each pattern, the rows of all states, the classes, and the lists
--- with the places where these begin
+-- how many places a search takes, in some classes, by rows for its patterns' texts, and lists: the header, one for each
+-- pattern, the rows of all states, the classes, the lists with the places where these begin, and the fingerprints
 unfoldable pub TakesListedPlaces : OverlappingValue → ℕ → Type 0
-TakesListedPlaces search needed = HaveTables search (λ rows ends starts. needed
-    ≡ LENGTHS_AT + length search.patterns + rows + CLASSES_LEN + length starts + length ends)
-
--- the lists have 2^32 numbers or more
-unfoldable pub HasLongLists : OverlappingValue → Type 0
-HasLongLists search = HaveTables search (λ rows ends starts. 2 ^ 32 ≤ length ends)
+TakesListedPlaces search needed =
+    HoldsInClasses (λ texts width. (rows : ℕ) × IsRowsLength Standard texts width rows
+    × (ends : List ℕ) × (starts : List ℕ) × AreLists texts ends starts (length search.patterns)
+    × (needed ≡ LENGTHS_AT + length search.patterns + rows + CLASSES_LEN + length starts + length ends
+    + FINGERPRINTS_LEN)) search.ignore_case search.patterns
 
 -- the search is written into the first places of an array
 abbrev pub WritesOverlapping : OverlappingValue → List ℕ → List ℕ → ℕ → Type 0
 WritesOverlapping search = WritesNumbers (IsPreparedOverlapping search) (TakesListedPlaces search)
 
--- why it is not
-abbrev pub RefusesOverlapping : OverlappingValue → List ℕ → PrepareError → Type 0
-RefusesOverlapping search =
-    RefusesNumbers search.patterns (HasLongLists search) (IsPreparedOverlapping search) (TakesListedPlaces search)
+-- why it is not: the array has fewer places than it takes, which would be enough
+abbrev pub RefusesOverlapping : OverlappingValue → List ℕ → ArrayTooShort → Type 0
+RefusesOverlapping search array error =
+    (length array < error.needed) × TakesListedPlaces search error.needed
+    × ((numbers : List ℕ) × IsPreparedOverlapping search numbers × (length numbers ≡ error.needed))
 
 -- a `PreparedOverlappingMatches` as contracts see it: by which array, where, and from which end and, at that one, from
 -- which identifier on it goes on

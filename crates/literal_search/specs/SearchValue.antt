@@ -1,29 +1,31 @@
--- An automaton as contracts see it, and what it is built from.
-use Rattle.std.specs.Prelude.{◌==◌, [], ◌∷◌, MatchOption, max, min}
-use Rattle.std.specs.Prelude.{◌≡◌, ◌+◌, ◌-◌, ◌*◌, ◌<◌, ◌≤◌, ◌⊎◌, ℕ, Bool, List, length, Option, Some, IfSome, map}
+-- A search as contracts see it, what it is built from, and what it scans.
+use Rattle.std.specs.Prelude.{◌==◌, [], ◌∷◌, max, min, ◌≡◌, ◌+◌, ◌-◌, ◌*◌, ◌<◌, ◌≤◌, ◌⊎◌, ℕ, Bool, List}
+use Rattle.std.specs.Prelude.{length, Option, Some, map, ◌/◌, None, reverse}
 use Rattle.std.specs.Borrow.{Bor}
 use Rattle.std.specs.Iterator.{Drains, Yields}
 use Rattle.std.specs.List.{count_by, list_any, range_with_len}
 use Rattle.literal_base.specs.Counts.{Counts}
 use Rattle.literal_base.specs.MatchValue.{MatchValue}
-use Rattle.literal_base.specs.Occurs.{NoneIsEmpty, pattern_at}
+use Rattle.literal_base.specs.Occurs.{NoneIsEmpty, pattern_at, NothingOccurs, between}
 use Rattle.literal_base.specs.Query.{Query}
 use Rattle.literal_base.specs.declared.packed.MatchKind.{MatchKind}
-use Rattle.literal_base.specs.declared.search.MatchKind as search
 use Rattle.literal_base.specs.declared.search.Span.{Span}
-use Rattle.literal_ids.specs.declared.primitives.pattern_id.TheConstants.PatternID
 use Rattle.literal_search.specs.Inside.Classes.{AreClasses, Tells, folded, symbols_in}
 use Rattle.literal_search.specs.States.{HasTooManyStates}
 use Rattle.literal_search.specs.declared.BuildError.{BuildError}
 use Rattle.literal_search.specs.declared.BuildError.TheVariants.{EmptyPattern, OutOfMemory, TooManyPatterns}
 use Rattle.literal_search.specs.declared.BuildError.TheVariants.{TooManyStates}
+use Rattle.literal_base.specs.declared.search.MatchKind.TheVariants.{Standard}
+use Rattle.literal_search.specs.declared.backward.TheConstants.{LEAST}
+use Rattle.literal_search.specs.declared.leftmost.TheConstants.{FIRST}
+use Rattle.literal_ids.specs.declared.primitives.pattern_id.TheConstants.PatternID
 
 -- a `Search` as contracts see it: the kind and the patterns, and whether ASCII case is ignored
 pub record SearchValue : Type 0 where
   pub query : Query
   pub ignore_case : Bool
 
--- the automaton for the patterns
+-- the search for the patterns
 abbrev pub search_by : MatchKind → Bool → List (List ℕ) → SearchValue
 search_by kind ignore_case patterns =
     record { query = record { kind = kind; patterns = patterns }; ignore_case = ignore_case }
@@ -53,7 +55,7 @@ module _ {U T : Type 0} (becomes : U → T → Type 0) (steps : T → Option (Bo
     pub next_is : next ≡ item.now
     pub can_be_kept : CanBeKept patterns
 
-  -- the answer is the automaton for all the items of an iterator, which can be kept
+  -- the answer is the search for all the items of an iterator, which can be kept
   abbrev pub BuildsSearch : MatchKind → Bool → SearchValue → Type 0
   BuildsSearch kind ignore_case answer =
       (patterns : List (List ℕ)) × GivesAll patterns × (answer ≡ search_by kind ignore_case patterns)
@@ -89,14 +91,14 @@ HoldsInClasses P ignore_case patterns =
     (classes : List ℕ) × AreClasses classes (width_for ignore_case patterns) × Tells ignore_case classes patterns
     × P (map (symbols_in classes) patterns) (width_for ignore_case patterns)
 
--- the automaton for the patterns has more states than the numbers in its rows reach
-unfoldable pub NeedTooManyStates : search.MatchKind → Bool → List (List ℕ) → Type 0
-NeedTooManyStates kind ignore_case patterns = HoldsInClasses (HasTooManyStates kind) ignore_case patterns
+-- the automaton for all that occurs of the patterns has more states than the numbers in its rows reach
+unfoldable pub NeedTooManyStates : Bool → List (List ℕ) → Type 0
+NeedTooManyStates ignore_case patterns = HoldsInClasses (HasTooManyStates Standard) ignore_case patterns
 
 -- the numbers in its rows reach all its states
-abbrev pub NeedFewStates : search.MatchKind → Bool → List (List ℕ) → Type 0
-NeedFewStates kind ignore_case patterns =
-    HoldsInClasses (λ texts width. ¬ HasTooManyStates kind texts width) ignore_case patterns
+abbrev pub NeedFewStates : Bool → List (List ℕ) → Type 0
+NeedFewStates ignore_case patterns =
+    HoldsInClasses (λ texts width. ¬ HasTooManyStates Standard texts width) ignore_case patterns
 
 -- how long the longest of some patterns is, and 0 where there is none
 abbrev pub longest_of : List (List ℕ) → ℕ
@@ -113,30 +115,75 @@ shortest_of [] = 0
 shortest_of (bytes ∷ []) = length bytes
 shortest_of (bytes ∷ more) = min (length bytes) (shortest_of more)
 
--- what a search in a span scans: at least as many bytes as it has, or with a match as there are up to its end; at most
--- three times its bytes, and with a match three times those up to its end, and once those of the longest pattern
+-- at most three times as many bytes are scanned as the span has
+pub record ScansThrice (span : Span) (old new : Counts) : Type 0 where
+  pub others : new ≡ record old { scanned = new.scanned }
+  pub most : new.scanned ≤ old.scanned + 3 * (span.end - span.start)
+
+-- up to where the bytes of a span are looked up once it is known what begins before a place: behind that place one
+-- fewer than the longest pattern has, but no more than stand before it in the span, and none behind the span
+abbrev pub looked_by : ℕ → Span → ℕ → ℕ
+looked_by longest span known = min (known + min (known - span.start) (longest - 1)) span.end
+
+-- the same for some patterns
+abbrev pub looked_upto : List (List ℕ) → Span → ℕ → ℕ
+looked_upto patterns = looked_by (longest_of patterns)
+
+-- each read from its end
+abbrev pub reversed : List (List ℕ) → List (List ℕ)
+reversed patterns = map (λ (pattern : List ℕ). reverse pattern) patterns
+
+-- the automaton for all that occurs of the reversed patterns has more states than the numbers in its rows reach
+unfoldable pub NeedTooManyReversed : Bool → List (List ℕ) → Type 0
+NeedTooManyReversed ignore_case patterns =
+    HoldsInClasses (λ texts width. HasTooManyStates Standard (reversed texts) width) ignore_case patterns
+
+-- the numbers in its rows reach all its states
+abbrev pub NeedFewReversed : Bool → List (List ℕ) → Type 0
+NeedFewReversed ignore_case patterns =
+    HoldsInClasses (λ texts width. ¬ HasTooManyStates Standard (reversed texts) width) ignore_case patterns
+
+-- the length of each of the four parts of the first block through which a search goes
+abbrev pub first_part : ℕ → ℕ
+first_part longest = max FIRST (longest / 2 + 3)
+
+-- how many bytes a search for the leftmost match looks up: at least those of the span where there is none, and else at
+-- least those up to its end, and at most eleven times those before it and 36 times the first part
+abbrev pub LooksFor : ℕ → Span → Option MatchValue → ℕ → ℕ → Type 0
+LooksFor longest span None old new = old + (span.end - span.start) ≤ new
+LooksFor longest span (Some found) old new =
+    (old + found.end ≤ new + span.start)
+    × (new + 11 * span.start ≤ old + 11 * found.start + 36 * first_part longest)
+
+-- the same of a tally: at most three times the bytes of the span are scanned
 pub record ScansWithin (patterns : List (List ℕ)) (span : Span) (answer : Option MatchValue) (old new : Counts)
     : Type 0 where
   pub others : new ≡ record old { scanned = new.scanned }
-  pub least : MatchOption answer (old.scanned + (span.end - span.start) ≤ new.scanned)
-      (λ found. old.scanned + found.end ≤ new.scanned + span.start)
   pub most : new.scanned ≤ old.scanned + 3 * (span.end - span.start)
-  pub near : IfSome answer (λ found. new.scanned + 3 * span.start
-      ≤ old.scanned + 3 * found.end + longest_of patterns)
+  pub counted : LooksFor (longest_of patterns) span answer old.scanned new.scanned
 
--- what a walk through a span scans: each of its bytes at most once, all where nothing is found; with a match at least
--- those up to its end, and at most, from the span's start on, one byte more than those before the match and those of
--- the longest pattern
-pub record ScansOnce (patterns : List (List ℕ)) (span : Span) (answer : Option MatchValue) (old new : Counts)
-    : Type 0 where
-  pub others : new ≡ record old { scanned = new.scanned }
-  pub once : new.scanned ≤ old.scanned + (span.end - span.start)
-  pub exact : MatchOption answer (new.scanned ≡ old.scanned + (span.end - span.start))
-      (λ found. (old.scanned + found.end ≤ new.scanned + span.start)
-      × (new.scanned + span.start ≤ old.scanned + found.start + longest_of patterns + 1))
-
--- what the searches for all matches in so many bytes scan, one after another: at most three times these bytes, and for
--- each match as many as the longest pattern has
+-- what the searches for all matches in so many bytes scan, one after another: at most three times these bytes by
+-- patterns that are no longer than a block, and else at most eleven times these, and for each match 36 times the first
+-- part
 pub record ScansListAtMost (patterns : List (List ℕ)) (bytes matches : ℕ) (old new : Counts) : Type 0 where
   pub others : new ≡ record old { scanned = new.scanned }
-  pub near : new.scanned ≤ old.scanned + 3 * bytes + matches * longest_of patterns
+  pub short : longest_of patterns ≤ LEAST → new.scanned ≤ old.scanned + 3 * bytes
+  pub long : new.scanned ≤ old.scanned + 11 * bytes + matches * (36 * first_part (longest_of patterns))
+
+-- what the search for the next match of a list scans, from a place on, where it is known up to another what begins, and
+-- then further: by patterns that are no longer than a block at most three times as many bytes as it is known further,
+-- and at least those that had not been looked up; by longer ones what the search of the rest scans
+pub record ScansNext (longest : ℕ) (span : Span) (at known further : ℕ) (answer : Option MatchValue) (old new : Counts)
+    : Type 0 where
+  pub others : new ≡ record old { scanned = new.scanned }
+  pub most : new.scanned ≤ old.scanned + 3 * (span.end - known)
+  pub marked : longest ≤ LEAST → new.scanned ≤ old.scanned + 3 * (further - known)
+  pub least : longest ≤ LEAST
+      → old.scanned + looked_by longest span further ≤ new.scanned + looked_by longest span known
+  pub found : LEAST < longest → (new.scanned ≤ old.scanned + 3 * (span.end - at))
+      × LooksFor longest (between at span.end) answer old.scanned new.scanned
+
+-- why there may be no memory for a list: something occurs in the span, or a pattern is longer than a block
+abbrev pub MayRefuseList : SearchValue → List ℕ → Span → Type 0
+MayRefuseList search haystack span = ¬ NothingOccurs search.query.patterns search.ignore_case haystack span
+    ⊎ (LEAST < longest_of search.query.patterns)

@@ -11,7 +11,7 @@ use Rattle.literal_base.specs.Leftmost.{IsLeftmost, IsLeftmostMatch}
 use Rattle.literal_base.specs.MatchValue.{MatchValue}
 use Rattle.literal_base.specs.Occurs.{Occurs, rest_from}
 use Rattle.literal_base.specs.Query.{Query}
-use Rattle.literal_search.specs.SearchValue.{SearchValue, longest_of}
+use Rattle.literal_search.specs.SearchValue.{SearchValue, first_part, longest_of}
 use Rattle.literal_search.specs.declared.stream.SoFar.{SoFar}
 use Rattle.literal_search.specs.declared.stream.SoFar.TheVariants.{Found, NoneBefore}
 
@@ -44,14 +44,15 @@ abbrev pub told_to : SoFar → ℕ
 told_to (Found found) = found.end
 told_to (NoneBefore place) = place
 
--- what it scans of so many bytes, from a place on: at least as many as there are up to where it is told; at most three
--- times as many as there are, and with a match three times those up to its end, and once those of the longest pattern
-pub record ScansSoFar (patterns : List (List ℕ)) (len at : ℕ) (answer : SoFar) (old new : Counts) : Type 0 where
+-- what it scans of so many bytes, from a place on, by how long the longest pattern is: at least as many as there are up
+-- to where it is told; at most three times as many as there are, and with a match at most eleven times those before it
+-- and 36 times the first part
+pub record ScansSoFar (longest len at : ℕ) (answer : SoFar) (old new : Counts) : Type 0 where
   pub others : new ≡ record old { scanned = new.scanned }
   pub least : old.scanned + told_to answer ≤ new.scanned + at
   pub most : new.scanned ≤ old.scanned + 3 * (len - at)
   pub near : (found : MatchValue) → answer ≡ Found found
-      → new.scanned + 3 * at ≤ old.scanned + 3 * found.end + longest_of patterns
+      → new.scanned + 11 * at ≤ old.scanned + 11 * found.start + 36 * first_part longest
 
 -- a `StreamMatches` as contracts see it: what is searched for, the bytes ahead that were read, those that are still to
 -- be read, where these are known, how many came before, of what kind the error is with which reading failed, if it did,

@@ -1,9 +1,8 @@
 //! What a search is built by, each of it set by its name.
 ghost use Rattle.std.specs.Prelude.{◌≡◌, IfErr, IfOk};
 ghost use Rattle.literal_base.specs.Given.{CanBeTaken};
-ghost use Rattle.literal_base.specs.Kinds.{root_kind_of};
 ghost use Rattle.literal_search.specs.SearchBuilderValue.{default_builder};
-ghost use Rattle.literal_search.specs.SearchValue.{BuildsSearch, NeedFewStates, NeedTooManyStates, RefusesSearch};
+ghost use Rattle.literal_search.specs.SearchValue.{BuildsSearch, NeedFewReversed, NeedTooManyReversed, RefusesSearch};
 
 use crate::{BuildError, MatchKind, Search};
 use std::alloc::Global;
@@ -82,9 +81,9 @@ impl SearchBuilder {
         ensures ok { IfOk result
             (BuildsSearch I.into_iter_gives I.IntoIter.next_gives patterns self.now.kind self.now.ignore_case) }
         ensures few { IfOk result
-            (λ built. NeedFewStates (root_kind_of self.now.kind) self.now.ignore_case built.query.patterns) }
+            (λ built. NeedFewReversed self.now.ignore_case built.query.patterns) }
         ensures error { IfErr result (RefusesSearch I.into_iter_gives I.IntoIter.next_gives patterns
-            (NeedTooManyStates (root_kind_of self.now.kind) self.now.ignore_case)) }
+            (NeedTooManyReversed self.now.ignore_case)) }
     {
         Search::new(alloc, self.kind, self.ignore_case, patterns)
     }

@@ -1,28 +1,34 @@
 //! From one end of patterns to the next by the numbers of an automaton for all that occurs: by one walk, and where that
 //! is back in the first state, by passing over bytes with which nothing begins.
-ghost use Rattle.std.specs.Prelude.{◌≡◌, ◌+◌, ◌-◌, ◌*◌, ◌<◌, ◌≤◌, ◌^◌, IfOk, IfSome, length};
+ghost use Rattle.std.specs.Prelude.{◌≡◌, ◌+◌, ◌-◌, ◌*◌, ◌<◌, ◌≤◌, ◌^◌, IfOk, IfSome, MatchOption, length};
 ghost use Rattle.literal_base.specs.Occurs.{IsValidSpan};
+ghost use Rattle.literal_search.specs.Prepared.{fingerprints_by, shortest_by};
 ghost use Rattle.literal_search.specs.Inside.NextEnd.{FindsNext, StepsToStop};
 
-use crate::prepared::Damaged;
+use crate::prepared::{Damaged, FINGERPRINTS_LEN, fingerprints_in};
+use crate::scan::farther;
 use crate::walk::{Reached, Stop, Table};
 use literal_base::Span;
 use literal_base::count::Tally;
+use literal_fingerprints::Fingerprints;
 
 impl<'t> Table<'t> {
     /// The first place in a span behind which a pattern ends, and the row there. The walk stands at a row as it begins
-    /// to read the span. What is read in vain is no more than twice what the walk before it read.
+    /// to read the span. Bytes are passed over by the fingerprints of these numbers, if there are any. What is read in
+    /// vain is no more than twice what the walk before it read.
     #[inline(always)]
     pub fn next_end(
         &self,
+        prints: &[u32],
         haystack: &[u8],
         from: usize,
         span: Span,
         tally: &mut Tally,
     ) -> Result<Option<Stop>, Damaged>
         requires classes { length self.now.classes.now ≡ 64 }
+        requires prints { length prints.now ≡ FINGERPRINTS_LEN }
         requires valid { IsValidSpan haystack.now span }
-        ensures next { FindsNext self.now haystack.now from span result }
+        ensures next { FindsNext self.now prints.now haystack.now from span result }
         ensures inside { IfOk result (λ answer. IfSome answer
             (λ stop. (span.start < stop.end) × (stop.end ≤ span.end) × (stop.place < 2 ^ 32))) }
         ensures others { tally.new ≡ record tally.old { scanned = tally.new.scanned } }
@@ -32,9 +38,11 @@ impl<'t> Table<'t> {
     {
         let end = span.end;
         let (mut from, mut start) = (from, span.start);
-        let nearest = self.nearest();
-        let mut near = nearest.later;
-        let passes = self.can_pass(end - start);
+        let by_fingerprints = prints[0] > 0;
+        let nearest = self.nearest(by_fingerprints);
+        let mut near = nearest;
+        let mut fingerprints = None;
+        let passes = self.can_pass(by_fingerprints, end - start);
         while passes && 3 * near <= end - start {
             let rest = Span { start, end };
             match self.reach(haystack, from, rest, start + near, tally)? {
@@ -42,8 +50,9 @@ impl<'t> Table<'t> {
                 Reached::Nowhere => return Ok(None),
                 Reached::Back(at) => {
                     let later = Span { start: at, end };
-                    start = self.pass_over(haystack, later, nearest.later, tally)?;
-                    near = nearest.next(near, start - at);
+                    fingerprints = kept_or_read(fingerprints, prints);
+                    start = self.pass_over(&fingerprints, haystack, later, nearest, tally)?;
+                    near = farther(nearest, near, start - at);
                     from = 0;
                 }
             }
@@ -54,5 +63,19 @@ impl<'t> Table<'t> {
             Reached::Nowhere => Ok(None),
             Reached::Back(_) => Ok(None), // (there is no such place)
         }
+    }
+}
+
+/// The fingerprints of these numbers, if there are any, which are read once.
+#[inline(always)]
+fn kept_or_read(kept: Option<Fingerprints>, prints: &[u32]) -> Option<Fingerprints>
+    requires prints { length prints.now ≡ FINGERPRINTS_LEN }
+    requires kept { IfSome kept (λ f. (0 < shortest_by prints.now) × (f ≡ fingerprints_by prints.now)) }
+    ensures { MatchOption result (shortest_by prints.now ≡ 0)
+        (λ f. (0 < shortest_by prints.now) × (f ≡ fingerprints_by prints.now)) }
+{
+    match kept {
+        Some(fingerprints) => Some(fingerprints),
+        None => fingerprints_in(prints),
     }
 }

@@ -1,6 +1,6 @@
 //! The states of an automaton, made from the shorter to the longer words, and their rows.
 ghost use Rattle.std.specs.Prelude.{◌≡◌, ◌+◌, ◌-◌, ◌*◌, ◌<◌, ◌≤◌, ◌^◌, ◌++◌, ◌∷◌, ◌==◌, ◌&&◌, [], ℕ, if◌then◌else◌};
-ghost use Rattle.std.specs.Prelude.{IfErr, IfOk, IfSome, List, None, Option, Some, false, length, map, slice_index};
+ghost use Rattle.std.specs.Prelude.{IfErr, IfOk, IfSome, List, None, Option, Some, false, length, map};
 ghost use Rattle.std.specs.Prelude.{slice_index_or, slice_range, true};
 ghost use Rattle.std.specs.List.{filter, find, range_with_len};
 ghost use Rattle.std.specs.Option.{unwrap_or};

@@ -12,72 +12,64 @@ ghost use Rattle.literal_base.specs.MatchValue.{MatchValue};
 ghost use Rattle.literal_base.specs.Occurs.{NoneIsEmpty, Occurs, between, pattern_at, rest_from};
 ghost use Rattle.literal_base.specs.Query.{Query};
 ghost use Rattle.literal_base.specs.Greedy.{IsGreedyIn};
-ghost use Rattle.literal_search.specs.Linear.{ScansThrice, looked_upto};
-ghost use Rattle.literal_search.specs.LinearMatchesValue.{GivesInSpan, GivesInSpanCounted, LinearMatchesValue};
+ghost use Rattle.literal_search.specs.SearchValue.{ScansThrice, looked_upto};
+ghost use Rattle.literal_search.specs.MatchesValue.{GivesMatch, GivesCounted, MatchesValue};
 ghost use Rattle.literal_search.specs.MatchesValue.{GivesCounted, GivesMatch, MatchesValue};
 ghost use Rattle.literal_search.specs.Overlapping.{IsOverlapping, OverlappingValue};
 ghost use Rattle.literal_search.specs.OverlappingMatchesValue.{GivesOverlapping, OverlappingMatchesValue};
-ghost use Rattle.literal_search.specs.Prepared.{AreShort, IsPrepared, IsWhole, RefusesToPrepare, TakesPlaces};
+ghost use Rattle.literal_search.specs.Prepared.{IsPrepared, IsWhole, RefusesToPrepare, TakesPlaces};
 ghost use Rattle.literal_search.specs.Prepared.{check_of, prepared_len};
-ghost use Rattle.literal_search.specs.PreparedLinear.{IsPreparedLinear, IsWholeLinear, linear_len};
-ghost use Rattle.literal_search.specs.PreparedOverlapping.{IsPreparedOverlapping, IsWholeOverlapping, listed_len};
+ghost use Rattle.literal_search.specs.Prepared.{IsPrepared, IsWhole, prepared_len};
+ghost use Rattle.literal_search.specs.PreparedOverlapping.{IsPreparedOverlapping, IsWholeOverlapping};
+ghost use Rattle.literal_search.specs.PreparedOverlapping.{overlapping_len};
 ghost use Rattle.literal_search.specs.Replaced.{replaced};
 ghost use Rattle.literal_search.specs.SearchValue.{ScansListAtMost, SearchValue, longest_of};
-ghost use Rattle.literal_search.specs.declared.prepared.PrepareError.{PrepareError};
+ghost use Rattle.literal_search.specs.declared.backward.TheConstants.{LEAST};
+ghost use Rattle.literal_search.specs.declared.prepared.ArrayTooShort.{ArrayTooShort};
 ghost use Rattle.literal_search.specs.Stream.{GivesStreamed, StreamValue, stream_of};
 
-/// An iterator that answers `None` stands at the end of the haystack then, and there it answers `None` and stays.
+/// An iterator that answers `None` stands at the end of its span then, and there it answers `None` and stays.
 pub fn none_is_for_good()
-    ensures ends { (old new : MatchesValue) → GivesMatch old None new → new.at ≡ length new.haystack }
-    ensures stays { (old new : MatchesValue) (answer : Option MatchValue) → old.at ≡ length old.haystack
-        → GivesMatch old answer new → IsNone answer × (new ≡ old) }
+    ensures ends { (old new : MatchesValue) → GivesMatch old None new → new.at ≡ new.span.end }
+    ensures stays { (old new : MatchesValue) (answer : Option MatchValue) → old.at ≡ old.span.end
+        → GivesMatch old answer new → IsNone answer × (new.at ≡ old.at) }
 {}
 
 /// What an iterator gives up to its first `None` is the greedy list from where it stood.
 pub fn iterations_are_greedy()
     ensures { (first last ended : MatchesValue) (all : List MatchValue) → Yields GivesMatch first all last
         → GivesMatch last None ended
-        → IsGreedy first.search.query first.search.ignore_case first.haystack first.at all }
+        → IsGreedyIn first.search.query first.search.ignore_case first.haystack (between first.at first.span.end) all }
 {}
 
-/// An iteration that counts gives up to its first `None` the greedy list too, and scans at most three times the bytes
-/// that were left, and for each match as many as the longest pattern has; and at least the bytes that were left
-/// (`each`). One match more leads it on (`more`).
+/// An iteration that counts gives up to its first `None` the greedy list too. By patterns of at most 1,024 bytes it
+/// scans at most three times the bytes up to which it had not looked (`bounded`), however many matches; and each of
+/// those that it had not looked up (`each`). One that has just begun scans each byte of its span, and at most three
+/// times these, or by longer patterns eleven times these and for each match 36 times the first part (`whole`). One
+/// match more leads it on (`more`).
 pub fn iterations_scan_at_most()
     ensures bounded { (first last ended : MatchesValue × Counts) (all : List MatchValue)
+        → longest_of first.0.search.query.patterns ≤ LEAST
         → Yields GivesCounted first all last → GivesCounted last None ended
-        → ScansListAtMost first.0.search.query.patterns (length first.0.haystack - first.0.at) (length all)
-        first.1 ended.1 }
+        → ScansThrice (between first.0.known first.0.span.end) first.1 ended.1 }
     ensures each { (first last ended : MatchesValue × Counts) (all : List MatchValue)
+        → longest_of first.0.search.query.patterns ≤ LEAST
         → Yields GivesCounted first all last → GivesCounted last None ended
-        → first.1.scanned + (length first.0.haystack - first.0.at) ≤ ended.1.scanned }
+        → first.1.scanned + first.0.span.end
+        ≤ ended.1.scanned + looked_upto first.0.search.query.patterns first.0.span first.0.known }
+    ensures whole { (first last ended : MatchesValue × Counts) (all : List MatchValue)
+        → first.0.at ≡ first.0.span.start → first.0.known ≡ first.0.span.start
+        → Yields GivesCounted first all last → GivesCounted last None ended
+        → (first.1.scanned + (first.0.span.end - first.0.span.start) ≤ ended.1.scanned)
+        × ScansListAtMost first.0.search.query.patterns (first.0.span.end - first.0.span.start) (length all) first.1
+        ended.1 }
     ensures greedy { (first last ended : MatchesValue × Counts) (all : List MatchValue)
         → Yields GivesCounted first all last → GivesCounted last None ended
-        → IsGreedy first.0.search.query first.0.search.ignore_case first.0.haystack first.0.at all }
+        → IsGreedyIn first.0.search.query first.0.search.ignore_case first.0.haystack
+        (between first.0.at first.0.span.end) all }
     ensures more { (first last next : MatchesValue × Counts) (all : List MatchValue) (found : MatchValue)
         → Yields GivesCounted first all last → GivesCounted last (Some found) next
         → Yields GivesCounted first (all ++ found ∷ []) next }
-{}
-
-/// What an iteration over all leftmost matches of a span gives up to its first `None` is the greedy list from where it
-/// stood. One that counts scans at most three times the bytes up to which it had not looked (`bounded`), whatever the
-/// patterns and however many matches; and each of those that it had not looked up (`each`), which as it begins are
-/// those of the span. One match more leads it on (`more`).
-pub fn iterations_in_spans_are_greedy()
-    ensures greedy { (first last ended : LinearMatchesValue) (all : List MatchValue)
-        → Yields GivesInSpan first all last → GivesInSpan last None ended
-        → IsGreedyIn first.search.query first.search.ignore_case first.haystack (between first.at first.span.end)
-        all }
-    ensures bounded { (first last ended : LinearMatchesValue × Counts) (all : List MatchValue)
-        → Yields GivesInSpanCounted first all last → GivesInSpanCounted last None ended
-        → ScansThrice (between first.0.known first.0.span.end) first.1 ended.1 }
-    ensures each { (first last ended : LinearMatchesValue × Counts) (all : List MatchValue)
-        → Yields GivesInSpanCounted first all last → GivesInSpanCounted last None ended
-        → first.1.scanned + first.0.span.end
-        ≤ ended.1.scanned + looked_upto first.0.search.query.patterns first.0.span first.0.known }
-    ensures more { (first last next : LinearMatchesValue × Counts) (all : List MatchValue) (found : MatchValue)
-        → Yields GivesInSpanCounted first all last → GivesInSpanCounted last (Some found) next
-        → Yields GivesInSpanCounted first (all ++ found ∷ []) next }
 {}
 
 /// What an iteration over the matches in what a reader gives, if these bytes are known, gave so far begins the greedy
@@ -135,31 +127,24 @@ pub fn matches_of_texts_lie_between_characters()
 /// An array begins with a prepared search if its first places do, and what it begins with stands in as many places as
 /// its numbers say, so that these may be copied.
 pub fn first_places_are_enough()
-    ensures longer { (query : Query) (ignore_case : Bool) (numbers : List ℕ) (n : ℕ)
-        → IsPrepared query ignore_case (take n numbers) → IsPrepared query ignore_case numbers }
-    ensures shorter { (query : Query) (ignore_case : Bool) (numbers : List ℕ) (n : ℕ)
-        → IsPrepared query ignore_case numbers → prepared_len numbers ≤ n
-        → IsPrepared query ignore_case (take n numbers) }
+    ensures longer { (search : SearchValue) (numbers : List ℕ) (n : ℕ)
+        → IsPrepared search (take n numbers) → IsPrepared search numbers }
+    ensures shorter { (search : SearchValue) (numbers : List ℕ) (n : ℕ)
+        → IsPrepared search numbers → prepared_len numbers ≤ n → IsPrepared search (take n numbers) }
     ensures longer_overlapping { (search : OverlappingValue) (numbers : List ℕ) (n : ℕ)
         → IsPreparedOverlapping search (take n numbers) → IsPreparedOverlapping search numbers }
     ensures shorter_overlapping { (search : OverlappingValue) (numbers : List ℕ) (n : ℕ)
-        → IsPreparedOverlapping search numbers → listed_len numbers ≤ n
+        → IsPreparedOverlapping search numbers → overlapping_len numbers ≤ n
         → IsPreparedOverlapping search (take n numbers) }
-    ensures longer_linear { (search : SearchValue) (numbers : List ℕ) (n : ℕ)
-        → IsPreparedLinear search (take n numbers) → IsPreparedLinear search numbers }
-    ensures shorter_linear { (search : SearchValue) (numbers : List ℕ) (n : ℕ)
-        → IsPreparedLinear search numbers → linear_len numbers ≤ n → IsPreparedLinear search (take n numbers) }
 {}
 
 /// The patterns alone tell how many places a search takes as numbers (`once`). So what
 /// [`Search::prepared_len`](crate::Search::prepared_len) answers is enough: no array is refused that has as many
 /// (`enough`).
 pub fn prepared_lengths_are_enough()
-    ensures once { (query : Query) (ignore_case : Bool) (n m : ℕ) → TakesPlaces query ignore_case n
-        → TakesPlaces query ignore_case m → n ≡ m }
-    ensures enough { (query : Query) (ignore_case : Bool) (n : ℕ) (array : List ℕ) (error : PrepareError)
-        → AreShort query.patterns → TakesPlaces query ignore_case n → n ≤ length array
-        → ¬ RefusesToPrepare query ignore_case array error }
+    ensures once { (search : SearchValue) (n m : ℕ) → TakesPlaces search n → TakesPlaces search m → n ≡ m }
+    ensures enough { (search : SearchValue) (n : ℕ) (array : List ℕ) (error : ArrayTooShort)
+        → TakesPlaces search n → n ≤ length array → ¬ RefusesToPrepare search array error }
 {}
 
 /// The check over numbers finds a change of one of them: if it is the same, so is that number.
@@ -174,8 +159,6 @@ pub fn zeros_are_refused()
         → ¬ IsWhole (version ∷ zeros) }
     ensures overlapping { (version : ℕ) (zeros : List ℕ) → All (λ number. number ≡ 0) zeros
         → ¬ IsWholeOverlapping (version ∷ zeros) }
-    ensures linear { (version : ℕ) (zeros : List ℕ) → All (λ number. number ≡ 0) zeros
-        → ¬ IsWholeLinear (version ∷ zeros) }
 {}
 
 /// An iterator over everything that occurs that answers `None` keeps doing so, and stays where it is.

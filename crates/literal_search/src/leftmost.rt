@@ -13,7 +13,7 @@ ghost use Rattle.literal_search.specs.Inside.Leftmost.{AreLanes, HasBytes, HaveR
 ghost use Rattle.literal_search.specs.Inside.Leftmost.{IsLane, IsLed};
 ghost use Rattle.literal_search.specs.Inside.Leftmost.{IsFront, IsLimit, IsPaid, IsPart, IsStep, LiesInPart, ReadsFor};
 ghost use Rattle.literal_search.specs.Inside.Leftmost.{AreFor, owed_by};
-ghost use Rattle.literal_search.specs.Linear.{LooksFor};
+ghost use Rattle.literal_search.specs.SearchValue.{LooksFor};
 
 use crate::backward::{Backward, Begun};
 use crate::prepared::{Damaged, fingerprints_in};
@@ -160,7 +160,7 @@ impl<'t> Backward<'t> {
     }
 
     /// Where a walk stands at an end, that began so far behind the end that it tells all that begins before it.
-    fn walk_back(
+    pub(crate) fn walk_back(
         &self,
         classes: &[u8; 256],
         haystack: &[u8],

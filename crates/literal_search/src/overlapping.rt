@@ -1,38 +1,38 @@
 //! A search for everything that occurs.
-ghost use Rattle.std.specs.Prelude.{◌≡◌, ◌+◌, ◌<◌, ◌≤◌, ◌^◌, length};
-ghost use Rattle.std.specs.Prelude.{IfErr, IfOk, IfSome, MatchOption, None, OnErr, Some};
+ghost use Rattle.std.specs.Prelude.{◌≡◌, ◌+◌, ◌-◌, ◌<◌, ◌≤◌, ◌^◌, ◌++◌, ◌∷◌, [], ℕ, length, map, slice_index};
+ghost use Rattle.std.specs.Prelude.{IfErr, IfOk, OnErr};
+ghost use Rattle.std.specs.List.{repeat};
 ghost use Rattle.std.specs.Option.{option_map};
-ghost use Rattle.literal_base.specs.MatchValue.{MatchValue};
 ghost use Rattle.literal_base.specs.Occurs.{IsValidSpan, between, whole_of};
 ghost use Rattle.literal_base.specs.declared.search.MatchKind.TheVariants.{Standard};
 ghost use Rattle.literal_base.specs.Given.{CanBeTaken};
 ghost use Rattle.literal_search.specs.SearchValue.{CanBeKept, NeedFewStates, NeedTooManyStates, RefusesSearch};
-ghost use Rattle.literal_fingerprints.specs.FingerprintsValue.{AllPass};
 ghost use Rattle.literal_search.specs.Earliest.{IsEarliestEnd, ScansToEndWithin};
-ghost use Rattle.literal_search.specs.Inside.Scan.{IsTableFor};
-ghost use Rattle.literal_search.specs.Inside.NextEnd.{IsNextStop, Stands};
-ghost use Rattle.literal_search.specs.Inside.Walk.{classes_by, rows_by};
 ghost use Rattle.literal_search.specs.Memory.{TakesListedBytes};
 ghost use Rattle.literal_search.specs.Overlapping.{BuildsOverlapping};
-ghost use Rattle.literal_search.specs.OverlappingMatchesValue.{GivesOverlapping, IsNextToCome, IsToCome};
-ghost use Rattle.literal_search.specs.OverlappingMatchesValue.{gone_on, most_overlapping};
-ghost use Rattle.literal_search.specs.PreparedOverlapping.{AreTables, RefusesOverlapping, WritesOverlapping};
-ghost use Rattle.literal_search.specs.declared.standing.Standing.{Standing};
-ghost use Rattle.literal_search.specs.Inside.Standing.{HaveSameToCome, IsStanding, PassesBy, longest_at};
-ghost use Rattle.literal_search.specs.Inside.Standing.{overlapping_value, standing_at, standing_value, tables_of};
+ghost use Rattle.literal_search.specs.OverlappingMatchesValue.{GivesOverlapping, most_overlapping};
+ghost use Rattle.literal_search.specs.Prepared.{AreShort};
+ghost use Rattle.literal_search.specs.PreparedOverlapping.{RefusesOverlapping, TakesListedPlaces, WritesOverlapping};
+ghost use Rattle.literal_search.specs.Inside.LentTables.{AreFor, AreLent};
+ghost use Rattle.literal_search.specs.Inside.Overlapping.{AreParts, overlapping_of};
+ghost use Rattle.literal_search.specs.Inside.Prepared.{numbers_for};
+ghost use Rattle.literal_search.specs.Inside.Rows.{rows_value};
 
 use crate::classes::classes_for;
-use crate::prepared::{OVERLAPPING_VERSION, PrepareError, write};
+use crate::prepared::{
+    ArrayTooShort, FINGERPRINTS_LEN, LENGTHS_AT, NO_LISTED, OVERLAPPING_VERSION,
+    fingerprint_numbers, put_numbers, write,
+};
+use crate::prepared_overlapping::{LentTables, lent_in};
 use crate::rows::{Rows, rows_for};
 use crate::standing::Standing;
-use crate::suffixes::{Lists, Recognised};
-use crate::walk::{Stop, Table};
-use crate::{BuildError, copies, longest_len, total_bytes};
+use crate::suffixes::Recognised;
+use crate::{BuildError, copies, shortest_len, total_bytes};
 use literal_base::count::Tally;
 use literal_base::search::MatchKind;
 use literal_base::{Match, Span};
 use literal_fingerprints::Fingerprints;
-use std::alloc::Global;
+use std::alloc::{AllocError, Global};
 use std::fmt;
 use std::marker::Model;
 
@@ -58,30 +58,41 @@ pub struct Overlapping {
 struct Parts {
     ignore_case: bool,
     patterns: Vec<Vec<u8>>,
-    /// How many classes of bytes there are.
-    width: usize,
-    rows: Rows,
-    lists: Lists,
-    longest: usize,
-    fingerprints: Option<Fingerprints>,
+    numbers: Numbers,
+}
+
+/// The numbers of a search, as [`Overlapping::prepare`] writes them. Contracts see them.
+#[derive(Drop)]
+struct Numbers {
+    /// Empty where there is no pattern.
+    kept: Vec<u32>,
+}
+
+impl Model for Numbers {
+    ghost use Rattle.std.specs.Prelude.{List, ℕ};
+    ghost use Rattle.literal_search.specs.Inside.Kept.{listed_kept};
+
+    ghost Value = { List ℕ };
+
+    ghost view = { λ n. listed_kept n.kept.items };
 }
 
 impl Model for Overlapping {
     ghost use Rattle.literal_search.specs.Overlapping.{OverlappingValue};
-    ghost use Rattle.literal_search.specs.PreparedOverlapping.{AreSized, AreTables};
-    ghost use Rattle.literal_search.specs.Inside.Standing.{PassesBy, overlapping_value, tables_of};
+    ghost use Rattle.literal_search.specs.Inside.Overlapping.{AreParts, overlapping_of};
 
     ghost Value = { OverlappingValue };
 
-    ghost view = { λ o. overlapping_value (tables_of o.parts) };
+    ghost view = { λ o. overlapping_of o.parts };
 
-    ghost invariant = { λ o. AreTables (tables_of o.parts) × AreSized (tables_of o.parts) × PassesBy o.parts };
+    ghost invariant = { λ o. AreParts o.parts };
 }
 
 impl Overlapping {
     /// The search for the patterns that the iterator gives, with ASCII case ignored or not. The iterator has to end.
     /// There may be no pattern: then nothing is found, and no memory is asked for. Else it is asked for only for a
-    /// pattern that is kept, and behind the last of them.
+    /// pattern that is kept, and behind the last of them. Lists of the patterns that are a suffix of another, of 2^32
+    /// numbers or more, are refused as [`BuildError::OutOfMemory`].
     pub fn new<'a, I: IntoIterator<Item = &'a [u8]>>(
         alloc: Global,
         ignore_case: bool,
@@ -90,9 +101,9 @@ impl Overlapping {
         requires { CanBeTaken I.into_iter_gives I.IntoIter.can_next I.IntoIter.remaining patterns }
         ensures ok { IfOk result
             (BuildsOverlapping I.into_iter_gives I.IntoIter.next_gives patterns ignore_case) }
-        ensures few { IfOk result (λ search. NeedFewStates Standard ignore_case search.patterns) }
+        ensures few { IfOk result (λ search. NeedFewStates ignore_case search.patterns) }
         ensures error { IfErr result (RefusesSearch I.into_iter_gives I.IntoIter.next_gives patterns
-            (NeedTooManyStates Standard ignore_case)) }
+            (NeedTooManyStates ignore_case)) }
     {
         let patterns = copies(alloc, patterns)?;
         let classes = classes_for(ignore_case, &patterns);
@@ -104,16 +115,14 @@ impl Overlapping {
             patterns: &patterns,
         };
         let lists = recognised.lists(alloc)?;
-        let longest = longest_len(&patterns);
         let fingerprints = Fingerprints::new(ignore_case, &patterns);
+        let prints = fingerprint_numbers(shortest_len(&patterns), fingerprints.as_ref());
+        let (width, starts) = (classes.width, lists.starts());
+        let numbers = numbers_for(alloc, width, &patterns, &rows, starts, &lists.ends, &prints)?;
         let parts = Parts {
             ignore_case,
             patterns,
-            width: classes.width,
-            rows,
-            lists,
-            longest,
-            fingerprints,
+            numbers,
         };
         Ok(Overlapping { parts })
     }
@@ -150,11 +159,14 @@ impl Overlapping {
           pattern = 0;
         } }
     {
+        let lent = self.parts.lent();
+        let standing = lent.before_all(haystack, span);
         OverlappingMatches {
             parts: &self.parts,
+            lent,
             haystack,
             span,
-            standing: self.parts.before_all(haystack, span),
+            standing,
         }
     }
 
@@ -180,54 +192,42 @@ impl Overlapping {
         ensures end { IsEarliestEnd self.now.patterns self.now.ignore_case haystack.now span result }
         ensures bounded { ScansToEndWithin span result tally.old tally.new }
     {
-        let first = Stop {
-            place: 0,
-            end: span.start,
-        };
-        let stop = self.parts.next_stop(haystack, span, first, tally)?;
-        Some(stop.end)
+        let mut matches = self.find_overlapping_in(haystack, span);
+        let first = matches.next_counted(tally)?;
+        Some(first.end())
     }
 
     /// Writes the search into the first places of an array, and answers how many these are: about as many as the
     /// automaton has numbers. [`PreparedOverlapping`](crate::PreparedOverlapping) searches by them. After an error the
     /// array is as it was.
-    pub fn prepare(&self, array: &mut [u32]) -> Result<usize, PrepareError>
+    pub fn prepare(&self, array: &mut [u32]) -> Result<usize, ArrayTooShort>
         ensures ok { IfOk result (WritesOverlapping self.now array.old array.new) }
         ensures error { IfErr result (RefusesOverlapping self.now array.old) }
         ensures as_before { OnErr result (array.new ≡ array.old) }
     {
-        let Parts {
-            width,
-            patterns,
-            rows,
-            lists,
-            ..
-        } = &self.parts;
-        write(
-            OVERLAPPING_VERSION,
-            *width,
-            patterns,
-            rows.as_slice(),
-            lists.starts(),
-            &lists.ends,
-            array,
-        )
+        let numbers = self.parts.numbers.as_slice();
+        let needed = numbers.len();
+        if array.len() < needed {
+            return Err(ArrayTooShort { needed });
+        }
+        put_numbers(array, 0, numbers);
+        Ok(needed)
     }
 
-    /// How many bytes its table and its patterns take: 4 for each number in the rows of all states and in the lists, 8
-    /// for each place where a list begins, or the last ends, and one for each byte of a pattern. It leaves out what
-    /// that of a [`Search`](crate::Search) does.
+    /// How many places [`Overlapping::prepare`] writes: an array of as many, or more, is long enough for it.
+    pub fn prepared_len(&self) -> usize
+        ensures { TakesListedPlaces self.now result }
+    {
+        self.parts.numbers.as_slice().len()
+    }
+
+    /// How many bytes its numbers and its patterns take: 4 for each place that [`Overlapping::prepare`] writes, and one
+    /// for each byte of a pattern. It leaves out what the allocator rounds up, and where each pattern lies.
     pub fn memory_usage(&self) -> u128
         ensures { TakesListedBytes self.now result }
     {
-        let Parts {
-            patterns,
-            rows,
-            lists,
-            ..
-        } = &self.parts;
-        let numbers = rows.without_classes().len() as u128 + lists.ends.len() as u128;
-        numbers * 4 + lists.starts().len() as u128 * 8 + total_bytes(patterns)
+        let numbers = self.parts.numbers.as_slice();
+        numbers.len() as u128 * 4 + total_bytes(&self.parts.patterns)
     }
 
     /// How many patterns there are, none of them empty.
@@ -252,183 +252,77 @@ impl fmt::Debug for Overlapping {
 }
 
 impl Parts {
-    /// Where the next occurrence ends: here, as long as the list has more, or else at the next end of a pattern.
-    fn next_end(
-        &self,
-        haystack: &[u8],
-        span: Span,
-        standing: Standing,
-        tally: &mut Tally,
-    ) -> Option<Standing>
-        requires parts { AreTables (tables_of self.now) }
-        requires passes { PassesBy self.now }
-        requires valid { IsValidSpan haystack.now span }
-        requires standing { IsStanding (tables_of self.now) haystack.now span standing }
-        ensures stands { IfSome result (IsStanding (tables_of self.now) haystack.now span) }
-        ensures more { IfSome result (λ here. here.next < here.end) }
-        ensures to_come { MatchOption result
-            ((found : MatchValue) → ¬ IsToCome (standing_value (tables_of self.now) haystack.now span standing) found)
-            (λ here. HaveSameToCome (standing_value (tables_of self.now) haystack.now span standing)
-            (standing_value (tables_of self.now) haystack.now span here)) }
-        ensures bounded { ScansToEndWithin (between standing.at span.end) (option_map (λ here. here.at) result)
-            tally.old tally.new }
+    /// The parts of its numbers, by which it searches.
+    fn lent(&self) -> LentTables<'_>
+        requires { AreParts self.now }
+        ensures lent { AreLent result }
+        ensures is_for { AreFor (overlapping_of self.now) result }
     {
-        if standing.next < standing.end {
-            return Some(standing);
-        }
-        if standing.at == span.end {
-            return None;
-        }
-        let from = Stop {
-            place: standing.place,
-            end: standing.at,
-        };
-        let stop = self.next_stop(haystack, span, from, tally)?;
-        Some(self.standing_at(stop))
-    }
-
-    /// Where a pattern ends next in a span, and the row there, for a walk that stands at a row and has read up to a
-    /// place.
-    fn next_stop(&self, haystack: &[u8], span: Span, from: Stop, tally: &mut Tally) -> Option<Stop>
-        requires parts { AreTables (tables_of self.now) }
-        requires passes { PassesBy self.now }
-        requires valid { IsValidSpan haystack.now span }
-        requires inside { from.end ≤ span.end }
-        requires stands { Stands (tables_of self.now).patterns self.now.ignore_case self.now.rows.classes
-            self.now.width self.now.rows.rows haystack.now span from.end from }
-        ensures next { IsNextStop (tables_of self.now).patterns self.now.ignore_case self.now.rows.classes
-            self.now.width self.now.rows.rows haystack.now span from.end result }
-        ensures inside { IfSome result
-            (λ stop. (from.end < stop.end) × (stop.end ≤ span.end) × (stop.place < 2 ^ 32)) }
-        ensures bounded { ScansToEndWithin (between from.end span.end) (option_map (λ stop. stop.end) result)
-            tally.old tally.new }
-    {
-        let rest = Span {
-            start: from.end,
-            end: span.end,
-        };
-        let answer = self.table().next_end(haystack, from.place, rest, tally);
-        answer.unwrap_or(None)
-    }
-
-    /// What a walk reads of them.
-    #[inline(always)]
-    fn table(&self) -> Table<'_>
-        requires parts { AreTables (tables_of self.now) }
-        requires passes { PassesBy self.now }
-        ensures table { IsTableFor result Standard (tables_of self.now).patterns self.now.ignore_case }
-        ensures each { length result.classes.now ≡ 64 }
-        ensures classes { classes_by result ≡ self.now.rows.classes }
-        ensures width { result.width ≡ self.now.width }
-        ensures rows { rows_by result ≡ self.now.rows.rows }
-    {
-        Table {
-            classes: self.rows.classes(),
-            width: self.width,
-            rows: self.rows.as_slice(),
-            longest: self.longest,
-            shortest: 0, // (not asked for where each end of a pattern is)
-            fingerprints: self.fingerprints(),
+        match lent_in(self.numbers.as_slice()) {
+            Ok(lent) => lent,
+            Err(_) => unreachable!(),
         }
     }
+}
 
-    /// The fingerprints of the patterns, if there are any.
-    fn fingerprints(&self) -> Option<&Fingerprints>
-        requires { PassesBy self.now }
-        ensures { IfSome result (λ f. AllPass f.now self.now.ignore_case (tables_of self.now).patterns) }
+impl Numbers {
+    /// The numbers.
+    fn as_slice(&self) -> &[u32]
+        ensures { result.now ≡ self.now }
     {
-        self.fingerprints.as_ref()
-    }
-
-    /// Where a walk stands that stopped where a pattern ends: before all patterns that end there.
-    fn standing_at(&self, stop: Stop) -> Standing
-        requires row { stop.place + self.now.width < length self.now.rows.rows }
-        requires listed { longest_at (tables_of self.now) stop + 1 < length (tables_of self.now).starts }
-        ensures { result ≡ standing_at (tables_of self.now) stop }
-    {
-        let longest = self.rows.without_classes()[stop.place + self.width] as usize;
-        let starts = self.lists.starts();
-        Standing {
-            at: stop.end,
-            place: stop.place,
-            pattern: 0,
-            next: starts[longest],
-            end: starts[longest + 1],
+        if self.kept.is_empty() {
+            return &NO_LISTED;
         }
+        &self.kept
     }
+}
 
-    /// The next occurrence of those that end where a search stands, and where it then stands.
-    fn first_of(&self, haystack: &[u8], span: Span, here: Standing) -> (Match, Standing)
-        requires parts { AreTables (tables_of self.now) }
-        requires valid { IsValidSpan haystack.now span }
-        requires standing { IsStanding (tables_of self.now) haystack.now span here }
-        requires left { here.next < here.end }
-        ensures stands { IsStanding (tables_of self.now) haystack.now span result.1 }
-        ensures next { IsNextToCome (standing_value (tables_of self.now) haystack.now span here) result.0 }
-        ensures goes_on { standing_value (tables_of self.now) haystack.now span result.1
-            ≡ gone_on (standing_value (tables_of self.now) haystack.now span here) (Some result.0) }
-        ensures end { result.0.end ≡ here.at }
-    {
-        prove!(here.at <= span.end && span.end <= haystack.len());
-        let pattern = self.lists.ends[here.next] as usize;
-        let start = here.at - self.patterns[pattern].len();
-        let standing = Standing {
-            at: here.at,
-            place: here.place,
-            pattern: pattern + 1,
-            next: here.next + 1,
-            end: here.end,
-        };
-        let found = Match::must(
-            pattern,
-            Span {
-                start,
-                end: here.at,
-            },
-        );
-        (found, standing)
+/// The numbers for patterns, by their rows and lists. Memory is asked for only where there is a pattern. Lists of 2^32
+/// numbers or more are refused, too.
+fn numbers_for(
+    alloc: Global,
+    width: usize,
+    patterns: &[Vec<u8>],
+    rows: &Rows,
+    starts: &[usize],
+    ends: &[u32],
+    prints: &[u32; FINGERPRINTS_LEN],
+) -> Result<Numbers, AllocError>
+    requires width { width ≤ 256 }
+    requires patterns { length patterns.now ≤ 2 ^ 31 - 1 }
+    requires short { AreShort (map (λ pattern. pattern.items) patterns.now) }
+    requires rows { length rows.now.rows ≤ 2 ^ 31 - 1 }
+    requires starts { length starts.now ≡ length patterns.now + 1 }
+    requires inside { (i : ℕ) → slice_index starts.now i ≤ length ends.now }
+    requires none { patterns.now ≡ [] → (width ≡ 1) × (rows.now ≡ rows_value []) × (starts.now ≡ 0 ∷ [])
+        × (ends.now ≡ []) × (prints.now ≡ repeat FINGERPRINTS_LEN (0 ∷ [])) }
+    ensures numbers { IfOk result (λ numbers. numbers ≡ numbers_for OVERLAPPING_VERSION rows.now.classes width
+        (map (λ pattern. pattern.items) patterns.now) rows.now.rows starts.now (ends.now ++ prints.now)) }
+    ensures no_memory { OnErr result (0 < length patterns.now) }
+{
+    if patterns.is_empty() {
+        return Ok(Numbers {
+            kept: Vec::new(alloc),
+        });
     }
-
-    /// Where a search stands behind all that occurs in the span.
-    fn behind_all(&self, haystack: &[u8], span: Span) -> Standing
-        requires parts { AreTables (tables_of self.now) }
-        requires valid { IsValidSpan haystack.now span }
-        ensures stands { IsStanding (tables_of self.now) haystack.now span result }
-        ensures goes_on { (s : Standing) → standing_value (tables_of self.now) haystack.now span result
-            ≡ gone_on (standing_value (tables_of self.now) haystack.now span s) None }
-    {
-        prove!(span.end <= haystack.len());
-        Standing {
-            at: span.end,
-            place: 0,
-            pattern: self.patterns.len(),
-            next: 0,
-            end: 0,
-        }
+    if ends.len() > u32::MAX as usize {
+        return Err(AllocError);
     }
-
-    /// Where a search stands before all that occurs in the span.
-    fn before_all(&self, haystack: &[u8], span: Span) -> Standing
-        requires parts { AreTables (tables_of self.now) }
-        requires valid { IsValidSpan haystack.now span }
-        ensures stands { IsStanding (tables_of self.now) haystack.now span result }
-        ensures from_start { standing_value (tables_of self.now) haystack.now span result ≡ record {
-          search = overlapping_value (tables_of self.now);
-          haystack = haystack.now;
-          span = span;
-          end = span.start;
-          pattern = 0;
-        } }
-    {
-        prove!(span.end <= haystack.len());
-        Standing {
-            at: span.start,
-            place: 0,
-            pattern: 0,
-            next: 0,
-            end: 0,
-        }
-    }
+    let rows = rows.as_slice();
+    let lists_at = LENGTHS_AT + patterns.len() + rows.len();
+    let needed = lists_at + starts.len() + ends.len() + FINGERPRINTS_LEN;
+    let mut kept = vec![in alloc; 0u32; needed]?;
+    write(
+        OVERLAPPING_VERSION,
+        width,
+        patterns,
+        rows,
+        starts,
+        ends,
+        prints,
+        &mut kept,
+    );
+    Ok(Numbers { kept })
 }
 
 /// What [`Overlapping::find_overlapping_in`] goes over. Contracts see the search, the haystack, the span, and from
@@ -437,6 +331,7 @@ impl Parts {
 #[derive(Drop)]
 pub struct OverlappingMatches<'s, 'h> {
     parts: &'s Parts,
+    lent: LentTables<'s>,
     haystack: &'h [u8],
     span: Span,
     standing: Standing,
@@ -444,16 +339,24 @@ pub struct OverlappingMatches<'s, 'h> {
 
 impl<'s, 'h> Model for OverlappingMatches<'s, 'h> {
     ghost use Rattle.literal_search.specs.OverlappingMatchesValue.{OverlappingMatchesValue};
-    ghost use Rattle.literal_search.specs.PreparedOverlapping.{AreTables};
-    ghost use Rattle.literal_search.specs.Inside.Standing.{IsStanding, PassesBy, standing_value, tables_of};
+    ghost use Rattle.literal_search.specs.Inside.LentTables.{AreFor, AreLent, LiesAt, tables_by};
+    ghost use Rattle.literal_search.specs.Inside.Overlapping.{overlapping_of};
+    ghost use Rattle.literal_search.specs.Inside.Standing.{IsStanding};
     ghost use Rattle.literal_base.specs.Occurs.{IsValidSpan};
 
     ghost Value = { OverlappingMatchesValue };
 
-    ghost view = { λ m. standing_value (tables_of m.parts.now) m.haystack.now m.span m.standing };
+    ghost view = { λ m. record {
+      search = overlapping_of m.parts.now;
+      haystack = m.haystack.now;
+      span = m.span;
+      end = m.standing.at;
+      pattern = m.standing.pattern;
+    } };
 
-    ghost invariant = { λ m. AreTables (tables_of m.parts.now) × IsValidSpan m.haystack.now m.span
-        × IsStanding (tables_of m.parts.now) m.haystack.now m.span m.standing × PassesBy m.parts.now };
+    ghost invariant = { λ m. AreLent m.lent × AreFor (overlapping_of m.parts.now) m.lent
+        × IsValidSpan m.haystack.now m.span × LiesAt m.span m.standing
+        × IsStanding (tables_by (overlapping_of m.parts.now) m.lent) m.haystack.now m.span m.standing };
 }
 
 impl<'s, 'h> OverlappingMatches<'s, 'h> {
@@ -465,16 +368,15 @@ impl<'s, 'h> OverlappingMatches<'s, 'h> {
         ensures bounded { ScansToEndWithin (between self.old.end self.old.span.end)
             (option_map (λ found. found.end) result) tally.old tally.new }
     {
-        let next_end = self
-            .parts
-            .next_end(self.haystack, self.span, self.standing, tally);
-        let Some(here) = next_end else {
-            self.standing = self.parts.behind_all(self.haystack, self.span);
+        let next = self
+            .lent
+            .next_from(self.haystack, self.span, self.standing, tally);
+        let Some(next) = next.unwrap_or(None) else {
+            self.standing = self.lent.behind_all(self.haystack, self.span);
             return None;
         };
-        let (found, standing) = self.parts.first_of(self.haystack, self.span, here);
-        self.standing = standing;
-        Some(found)
+        self.standing = next.1;
+        Some(next.0)
     }
 }
 

@@ -1,20 +1,15 @@
 //! A search as numbers in an array that its caller lends: written once, and then searched by, with no memory of its
 //! own. A search does not trust the array: where a number leads out of it, the search says so.
-ghost use Rattle.std.specs.Prelude.{◌≡◌, ◌+◌, ◌-◌, ◌*◌, ◌<◌, ◌≤◌, ◌^◌, ◌↔◌, [], ◌∷◌, length, map};
-ghost use Rattle.std.specs.Prelude.{ℕ, IfErr, IfOk, IfSome, IsTrue, MatchOption, MatchResult, OnErr};
+ghost use Rattle.std.specs.Prelude.{◌≡◌, ◌+◌, ◌-◌, ◌*◌, ◌<◌, ◌≤◌, ◌^◌, ◌↔◌, ◌++◌, [], ◌∷◌, length, map};
+ghost use Rattle.std.specs.Prelude.{ℕ, IsTrue, MatchOption, MatchResult};
 ghost use Rattle.std.specs.Prelude.{min, slice_index, slice_range};
 ghost use Rattle.std.specs.Int.{from_le_bytes, w32};
 ghost use Rattle.std.specs.List.{repeat};
-ghost use Rattle.std.specs.Result.{IsOkAnd};
-ghost use Rattle.literal_base.specs.Occurs.{IsValidSpan};
-ghost use Rattle.literal_base.specs.Leftmost.{IsLeftmost};
-ghost use Rattle.literal_search.specs.Prepared.{AreShort, ForPrepared, HasAllParts, HasParts, IsWhole, LiesIn};
-ghost use Rattle.literal_search.specs.Prepared.{check_of, fingerprints_by, longest_in, shortest_by};
-ghost use Rattle.literal_search.specs.SearchValue.{ScansWithin};
-ghost use Rattle.literal_search.specs.Inside.Prepared.{IsHeader, Puts, RefusesArray, numbers_for, header_table};
+ghost use Rattle.literal_search.specs.Prepared.{AreShort, HasParts};
+ghost use Rattle.literal_search.specs.Prepared.{check_of, fingerprints_by, shortest_by};
+ghost use Rattle.literal_search.specs.Inside.Prepared.{IsHeader, Puts, numbers_for, header_table};
 ghost use Rattle.literal_search.specs.Inside.Packed.{packed, unpacked};
 ghost use Rattle.literal_search.specs.Inside.Rows.{ArePacked, classes_of, rows_of};
-ghost use Rattle.literal_search.specs.Inside.Scan.{IsTableOf};
 
 use crate::classes::{CLASSES_LEN, PACKED_LEN};
 use crate::longest_len;
@@ -27,14 +22,11 @@ use std::error::Error;
 use std::fmt;
 use std::marker::Model;
 
-/// What the first number of a prepared search for the leftmost match is.
-pub const PREPARED_VERSION: u32 = 0x4C50_0006;
+/// What the first number of a prepared search for leftmost matches is.
+pub const PREPARED_VERSION: u32 = 0x4C50_0007;
 
 /// What that of one for everything that occurs is.
-pub const OVERLAPPING_VERSION: u32 = 0x4C4F_0005;
-
-/// What that of one for all leftmost matches in linear time is.
-pub const LINEAR_VERSION: u32 = 0x4C4C_0003;
+pub const OVERLAPPING_VERSION: u32 = 0x4C4F_0006;
 
 /// Where the lengths of the patterns begin, behind the version, the check, the width, how many patterns and places in
 /// the rows there are, and how long the longest pattern is. Behind them stand the rows, and the class of each byte.
@@ -44,11 +36,11 @@ pub const LENGTHS_AT: usize = 6;
 /// fingerprints, and one for four of their bytes each.
 pub const FINGERPRINTS_LEN: usize = 1 + BYTES / 4;
 
-/// The prepared search for all leftmost matches of no pattern: [`LINEAR_VERSION`], its check, one class, no pattern,
+/// The prepared search for leftmost matches of no pattern: [`PREPARED_VERSION`], its check, one class, no pattern,
 /// two places, and no longest pattern; then the row of its one state, of which its one class leads to itself, and with
 /// which nothing ends, this class for each byte, and no fingerprints.
 pub const NO_PATTERN: [u32; 297] = [
-    0x4C4C0003, 0xC04A77C6, 1, 0, 2, 0, 0, NOTHING, 0, 0, 0, 0, 0, 0, 0, 0, 0, 0, 0, 0, 0, 0, 0, 0,
+    0x4C500007, 0xC04A77C6, 1, 0, 2, 0, 0, NOTHING, 0, 0, 0, 0, 0, 0, 0, 0, 0, 0, 0, 0, 0, 0, 0, 0,
     0, 0, 0, 0, 0, 0, 0, 0, 0, 0, 0, 0, 0, 0, 0, 0, 0, 0, 0, 0, 0, 0, 0, 0, 0, 0, 0, 0, 0, 0, 0, 0,
     0, 0, 0, 0, 0, 0, 0, 0, 0, 0, 0, 0, 0, 0, 0, 0, 0, 0, 0, 0, 0, 0, 0, 0, 0, 0, 0, 0, 0, 0, 0, 0,
     0, 0, 0, 0, 0, 0, 0, 0, 0, 0, 0, 0, 0, 0, 0, 0, 0, 0, 0, 0, 0, 0, 0, 0, 0, 0, 0, 0, 0, 0, 0, 0,
@@ -60,40 +52,47 @@ pub const NO_PATTERN: [u32; 297] = [
     0, 0, 0, 0, 0, 0, 0, 0, 0, 0, 0, 0, 0, 0, 0, 0, 0,
 ];
 
+/// The prepared search for everything that occurs of no pattern: [`OVERLAPPING_VERSION`], its check, and the numbers of
+/// [`NO_PATTERN`] with that of where the last of no lists ends.
+pub const NO_LISTED: [u32; 298] = [
+    0x4C4F0006, 0x419EF164, 1, 0, 2, 0, 0, NOTHING, 0, 0, 0, 0, 0, 0, 0, 0, 0, 0, 0, 0, 0, 0, 0, 0,
+    0, 0, 0, 0, 0, 0, 0, 0, 0, 0, 0, 0, 0, 0, 0, 0, 0, 0, 0, 0, 0, 0, 0, 0, 0, 0, 0, 0, 0, 0, 0, 0,
+    0, 0, 0, 0, 0, 0, 0, 0, 0, 0, 0, 0, 0, 0, 0, 0, 0, 0, 0, 0, 0, 0, 0, 0, 0, 0, 0, 0, 0, 0, 0, 0,
+    0, 0, 0, 0, 0, 0, 0, 0, 0, 0, 0, 0, 0, 0, 0, 0, 0, 0, 0, 0, 0, 0, 0, 0, 0, 0, 0, 0, 0, 0, 0, 0,
+    0, 0, 0, 0, 0, 0, 0, 0, 0, 0, 0, 0, 0, 0, 0, 0, 0, 0, 0, 0, 0, 0, 0, 0, 0, 0, 0, 0, 0, 0, 0, 0,
+    0, 0, 0, 0, 0, 0, 0, 0, 0, 0, 0, 0, 0, 0, 0, 0, 0, 0, 0, 0, 0, 0, 0, 0, 0, 0, 0, 0, 0, 0, 0, 0,
+    0, 0, 0, 0, 0, 0, 0, 0, 0, 0, 0, 0, 0, 0, 0, 0, 0, 0, 0, 0, 0, 0, 0, 0, 0, 0, 0, 0, 0, 0, 0, 0,
+    0, 0, 0, 0, 0, 0, 0, 0, 0, 0, 0, 0, 0, 0, 0, 0, 0, 0, 0, 0, 0, 0, 0, 0, 0, 0, 0, 0, 0, 0, 0, 0,
+    0, 0, 0, 0, 0, 0, 0, 0, 0, 0, 0, 0, 0, 0, 0, 0, 0, 0, 0, 0, 0, 0, 0, 0, 0, 0, 0, 0, 0, 0, 0, 0,
+    0, 0, 0, 0, 0, 0, 0, 0, 0, 0, 0, 0, 0, 0, 0, 0, 0, 0,
+];
+
 /// What a check over no numbers is. It is not zero, so that no zeros lead to a check of zero.
 const CHECK_START: u32 = 2_166_136_261;
 
 /// By what each sum of a check is multiplied. It is odd, so that no two sums become the same.
 const CHECK_FACTOR: u32 = 16_777_619;
 
-/// Why a search is not written into an array, which then stays as it was.
+/// An array is too short for a search to be written into it, and stays as it was.
 #[derive(Clone, Copy, Debug, PartialEq, Eq, Drop)]
-pub enum PrepareError {
-    /// A pattern has 2^32 bytes or more.
-    PatternTooLong,
-    /// The lists of the patterns that are a suffix of another have 2^32 numbers or more.
-    ListsTooLong,
-    /// The array has to have this many places.
-    ArrayTooShort(usize),
+pub struct ArrayTooShort {
+    /// How many places it has to have.
+    pub needed: usize,
 }
 
 /// What is wrong, in a few words.
-impl fmt::Display for PrepareError {
+impl fmt::Display for ArrayTooShort {
     ghost use Rattle.std.specs.Prelude.{Some};
-    ghost use Rattle.literal_search.specs.ErrorText.{prepare_error_text};
+    ghost use Rattle.literal_search.specs.ErrorText.{array_too_short_text};
 
-    ghost output = { λ error. Some (prepare_error_text error) };
+    ghost output = { λ error. Some (array_too_short_text error) };
 
     fn fmt<W: fmt::Write>(&self, f: &mut fmt::Formatter<W>) -> fmt::Result {
-        match self {
-            PrepareError::PatternTooLong => write!(f, "a pattern is too long"),
-            PrepareError::ListsTooLong => write!(f, "too many patterns are a suffix of another"),
-            PrepareError::ArrayTooShort(needed) => write!(f, "the array needs {needed} places"),
-        }
+        write!(f, "the array needs {} places", self.needed)
     }
 }
 
-impl Error for PrepareError {}
+impl Error for ArrayTooShort {}
 
 /// The numbers that were lent are not those of a prepared search.
 #[derive(Clone, Copy, Debug, PartialEq, Eq, Drop)]
@@ -125,18 +124,16 @@ pub struct Header<'p> {
 }
 
 impl<'p> Header<'p> {
-    /// What a walk reads of them. By fingerprints go searches for the leftmost match alone.
+    /// What a walk reads of them.
     #[inline(always)]
-    pub fn table<'t>(&'t self, shortest: usize, fingerprints: Option<&'t Fingerprints>) -> Table<'t>
-        ensures { result ≡ record (header_table self.now) { shortest = shortest; fingerprints = fingerprints.entry } }
+    pub fn table(&self) -> Table<'p>
+        ensures { result ≡ header_table self.now }
     {
         Table {
             classes: self.classes,
             width: self.width,
             rows: self.rows,
             longest: self.longest,
-            shortest,
-            fingerprints,
         }
     }
 }
@@ -175,136 +172,6 @@ pub fn is_checked(numbers: &[u32], end: usize) -> bool
     ensures { IsTrue result ↔ (slice_index numbers.now 1 ≡ check_of (slice_range numbers.now 2 end)) }
 {
     numbers[1] == check_over(&numbers[2..end])
-}
-
-/// A search by numbers that [`Search::prepare`](crate::Search::prepare) wrote into an array, which may be longer.
-/// Contracts see the array.
-#[derive(Drop)]
-pub struct Prepared<'p> {
-    header: Header<'p>,
-    shortest: usize,
-    fingerprints: Option<Fingerprints>,
-}
-
-impl<'p> Model for Prepared<'p> {
-    ghost use Rattle.std.specs.Prelude.{List, ℕ};
-    ghost use Rattle.literal_search.specs.Inside.Prepared.{IsLent};
-
-    ghost Value = { List ℕ };
-
-    ghost view = { λ p. p.header.numbers.now };
-
-    ghost invariant = { IsLent };
-}
-
-impl<'p> Prepared<'p> {
-    /// The search by the numbers in an array, where its first numbers say that it is one and as long as it has to be.
-    /// Its fingerprints are read, and no more of it: [`Prepared::is_whole`] goes over all of it.
-    pub fn new(numbers: &'p [u32]) -> Result<Prepared<'p>, Damaged>
-        ensures { MatchResult result (λ prepared. (prepared ≡ numbers.now) × HasAllParts numbers.now)
-            (λ _. ¬ HasAllParts numbers.now) }
-    {
-        let header = split(numbers, PREPARED_VERSION)?;
-        let end = LENGTHS_AT + header.lengths.len() + header.rows.len();
-        if numbers.len() - end < FINGERPRINTS_LEN {
-            return Err(Damaged);
-        }
-        let prints = &numbers[end..end + FINGERPRINTS_LEN];
-        let shortest = prints[0] as usize;
-        let fingerprints = if shortest > 0 {
-            Some(fingerprints_by(prints))
-        } else {
-            None
-        };
-        Ok(Prepared {
-            header,
-            shortest,
-            fingerprints,
-        })
-    }
-
-    /// What a walk reads.
-    #[inline(always)]
-    fn table(&self) -> Table<'_>
-        ensures classes { length result.classes.now ≡ 64 }
-        ensures prepared { ForPrepared self.now (λ query ignore_case. IsTableOf result query ignore_case) }
-    {
-        self.header.table(self.shortest, self.fingerprints.as_ref())
-    }
-
-    /// Whether the check over all numbers of the search is right. It finds each change of one number, unless that
-    /// says how many numbers there are ([`changed_number_is_found`](crate::laws::changed_number_is_found)), an array
-    /// of zeros ([`zeros_are_refused`](crate::laws::zeros_are_refused)), and most other changes, but none that is made
-    /// to pass.
-    pub fn is_whole(&self) -> bool
-        ensures { IsTrue result ↔ IsWhole self.now }
-    {
-        let end = LENGTHS_AT
-            + self.header.lengths.len()
-            + self.header.rows.len()
-            + FINGERPRINTS_LEN;
-        is_checked(self.header.numbers, end)
-    }
-
-    /// How many bytes the longest pattern has, by the numbers.
-    pub fn max_pattern_len(&self) -> usize
-        ensures { result ≡ longest_in self.now }
-    {
-        self.header.longest
-    }
-
-    /// The leftmost match in a span of the haystack, for which the same holds as for
-    /// [`Search::find_in`](crate::Search::find_in). With numbers that were changed it may be another, or [`Damaged`];
-    /// but it lies in the span, is not empty, and names one of the patterns.
-    #[inline(always)]
-    pub fn find_in(&self, haystack: &[u8], span: Span) -> Result<Option<Match>, Damaged>
-        requires { IsValidSpan haystack.now span }
-        ensures prepared { ForPrepared self.now (λ query ignore_case. IsOkAnd result
-            (IsLeftmost query ignore_case haystack.now span)) }
-        ensures inside { IfOk result (λ answer. IfSome answer (LiesIn span)) }
-        ensures pattern { IfOk result (λ answer. IfSome answer
-            (λ found. found.pattern < slice_index self.now 3)) }
-    {
-        self.find_in_counted(haystack, span, &mut Tally::new())
-    }
-
-    /// Answers as [`Prepared::find_in`], and adds each byte that it looks up to a tally, as scanned: at most three
-    /// times the bytes of the span, whatever the numbers are, and with those that were prepared as
-    /// [`Search::find_in_counted`](crate::Search::find_in_counted).
-    #[inline(always)]
-    pub fn find_in_counted(
-        &self,
-        haystack: &[u8],
-        span: Span,
-        tally: &mut Tally,
-    ) -> Result<Option<Match>, Damaged>
-        requires { IsValidSpan haystack.now span }
-        ensures prepared { ForPrepared self.now (λ query ignore_case. IsOkAnd result
-            (IsLeftmost query ignore_case haystack.now span)) }
-        ensures near { ForPrepared self.now (λ query ignore_case. IfOk result
-            (λ answer. ScansWithin query.patterns span answer tally.old tally.new)) }
-        ensures inside { IfOk result (λ answer. IfSome answer (LiesIn span)) }
-        ensures pattern { IfOk result (λ answer. IfSome answer
-            (λ found. found.pattern < slice_index self.now 3)) }
-        ensures others { tally.new ≡ record tally.old { scanned = tally.new.scanned } }
-        ensures most { tally.new.scanned ≤ tally.old.scanned + 3 * (span.end - span.start) }
-    {
-        let header = &self.header;
-        let ended = self.table().search(haystack, span, false, tally)?;
-        let Some(ended) = ended else {
-            return Ok(None);
-        };
-        let pattern = ended.pattern as usize;
-        if pattern >= header.lengths.len() {
-            return Err(Damaged);
-        }
-        let len = header.lengths[pattern] as usize;
-        if len == 0 || len > ended.end - span.start {
-            return Err(Damaged);
-        }
-        let (start, end) = (ended.end - len, ended.end);
-        Ok(Some(Match::must(pattern, Span { start, end })))
-    }
 }
 
 /// The numbers of fingerprints, if there are any.
@@ -375,9 +242,8 @@ pub(crate) fn unpack(numbers: &[u32], bytes: &mut [u8])
     }
 }
 
-/// Writes a search of a version into the first places of an array, and answers how many these are. Behind its rows and
-/// the classes behind these may stand lists, of which `starts` says where each begins, or the numbers of fingerprints
-/// alone.
+/// Writes a search of a version into the first places of an array. Behind its rows and the classes behind these may
+/// stand lists, of which `starts` says where each begins, and behind all others the numbers of its fingerprints.
 pub fn write(
     version: u32,
     width: usize,
@@ -385,38 +251,28 @@ pub fn write(
     rows: &[u32],
     starts: &[usize],
     ends: &[u32],
+    prints: &[u32; FINGERPRINTS_LEN],
     array: &mut [u32],
-) -> Result<usize, PrepareError>
+)
     requires classes { ArePacked rows.now }
     requires width { width < 2 ^ 32 }
     requires patterns { length patterns.now < 2 ^ 32 }
     requires rows { length (rows_of rows.now) < 2 ^ 32 }
     requires starts { length starts.now ≤ 2 ^ 32 }
+    requires ends { length ends.now < 2 ^ 32 }
     requires inside { (i : ℕ) → slice_index starts.now i ≤ length ends.now }
-    ensures ok { IfOk result (λ needed. (needed ≤ length array.old) × (length ends.now < 2 ^ 32)
-        × Puts 0 (numbers_for version (classes_of rows.now) width (map (λ pattern. pattern.items) patterns.now)
-        (rows_of rows.now) starts.now ends.now) array.old array.new
-        × (needed ≡ length (numbers_for version (classes_of rows.now) width
-        (map (λ pattern. pattern.items) patterns.now) (rows_of rows.now) starts.now ends.now))) }
-    ensures error { IfErr result (RefusesArray (map (λ pattern. pattern.items) patterns.now) ends.now
-        (numbers_for version (classes_of rows.now) width (map (λ pattern. pattern.items) patterns.now)
-        (rows_of rows.now) starts.now ends.now) array.old) }
-    ensures as_before { OnErr result (array.new ≡ array.old) }
+    requires short { AreShort (map (λ pattern. pattern.items) patterns.now) }
+    requires room { LENGTHS_AT + length patterns.now + length rows.now + length starts.now + length ends.now
+        + FINGERPRINTS_LEN ≤ length array.old }
+    ensures { Puts 0 (numbers_for version (classes_of rows.now) width (map (λ pattern. pattern.items) patterns.now)
+        (rows_of rows.now) starts.now (ends.now ++ prints.now)) array.old array.new }
 {
     let longest = longest_len(patterns);
-    if longest > u32::MAX as usize {
-        return Err(PrepareError::PatternTooLong);
-    }
-    if ends.len() > u32::MAX as usize {
-        return Err(PrepareError::ListsTooLong);
-    }
     let rows_at = LENGTHS_AT + patterns.len();
     let starts_at = rows_at + rows.len();
     let ends_at = starts_at + starts.len();
-    let needed = ends_at + ends.len();
-    if array.len() < needed {
-        return Err(PrepareError::ArrayTooShort(needed));
-    }
+    let prints_at = ends_at + ends.len();
+    let end = prints_at + FINGERPRINTS_LEN;
     let width = width as u32;
     let (count, places) = (patterns.len() as u32, (rows.len() - CLASSES_LEN) as u32);
     put_numbers(
@@ -428,8 +284,8 @@ pub fn write(
     put_numbers(array, rows_at, rows);
     put_starts(array, starts_at, starts);
     put_numbers(array, ends_at, ends);
-    array[1] = check_over(&array[2..needed]);
-    Ok(needed)
+    put_numbers(array, prints_at, prints);
+    array[1] = check_over(&array[2..end]);
 }
 
 /// Writes numbers into an array, from a place on.

@@ -2,9 +2,10 @@
 //! either.
 ghost use Rattle.std.specs.Prelude.{◌≡◌, ◌+◌, ◌-◌, ◌*◌, ◌<◌, ◌≤◌, ◌^◌, ◌↔◌, length, slice_index, List, ℕ};
 ghost use Rattle.std.specs.Prelude.{IfOk, IfSome, IsTrue, MatchOption, MatchResult, None, ⊤};
+ghost use Rattle.std.specs.Option.{option_map};
 ghost use Rattle.std.specs.Result.{IsOkAnd};
 ghost use Rattle.literal_base.specs.MatchValue.{MatchValue};
-ghost use Rattle.literal_base.specs.Occurs.{IsValidSpan};
+ghost use Rattle.literal_base.specs.Occurs.{IsValidSpan, between};
 ghost use Rattle.literal_search.specs.Earliest.{IsEarliestEnd, ScansToEndWithin};
 ghost use Rattle.literal_search.specs.Overlapping.{OverlappingValue};
 ghost use Rattle.literal_search.specs.OverlappingMatchesValue.{GivesOverlapping, IsToCome};
@@ -13,13 +14,19 @@ ghost use Rattle.literal_search.specs.PreparedOverlapping.{ForOverlapping, HasEn
 ghost use Rattle.literal_search.specs.PreparedOverlapping.{IsWholeOverlapping, matches_for};
 ghost use Rattle.literal_search.specs.Inside.LentTables.{AreFor, AreLent, EndsAt, IsNextBy, IsNextEnd, LiesAt};
 ghost use Rattle.literal_search.specs.Inside.LentTables.{StandsBy, tables_by};
+ghost use Rattle.literal_search.specs.Inside.Packed.{unpacked};
 ghost use Rattle.literal_search.specs.Inside.Rows.{rows_of};
+ghost use Rattle.literal_search.specs.Inside.Scan.{IsTableFor};
 ghost use Rattle.literal_search.specs.Inside.Standing.{IsStanding, longest_at, standing_at, standing_value};
+ghost use Rattle.literal_search.specs.Inside.Walk.{classes_by, rows_by};
 ghost use Rattle.literal_search.specs.declared.standing.Standing.{Standing};
 
-use crate::prepared::{Damaged, Header, LENGTHS_AT, OVERLAPPING_VERSION, is_checked, split};
+use crate::prepared::{
+    Damaged, FINGERPRINTS_LEN, Header, LENGTHS_AT, OVERLAPPING_VERSION, fingerprints_in,
+    is_checked, split,
+};
 use crate::standing::Standing;
-use crate::walk::Stop;
+use crate::walk::{Stop, Table};
 use literal_base::count::Tally;
 use literal_base::{Match, Span};
 use std::marker::Model;
@@ -31,13 +38,15 @@ pub struct PreparedOverlapping<'p> {
     lent: LentTables<'p>,
 }
 
-/// The numbers in an array, in their parts.
+/// The numbers in an array, in their parts: by these an [`Overlapping`](crate::Overlapping) searches, too.
 #[derive(Clone, Copy)]
-struct LentTables<'p> {
+pub struct LentTables<'p> {
     header: Header<'p>,
     /// Where the list of each pattern begins, and the last ends.
     starts: &'p [u32],
     ends: &'p [u32],
+    /// The numbers of the fingerprints, by which a search passes over bytes, if there are any.
+    prints: &'p [u32],
 }
 
 impl<'p> Model for PreparedOverlapping<'p> {
@@ -58,20 +67,8 @@ impl<'p> PreparedOverlapping<'p> {
         ensures { MatchResult result (λ prepared. (prepared ≡ numbers.now) × HasLists numbers.now)
             (λ _. ¬ HasLists numbers.now) }
     {
-        let header = split(numbers, OVERLAPPING_VERSION)?;
-        let starts_at = LENGTHS_AT + header.lengths.len() + header.rows.len();
-        let last = starts_at + header.lengths.len();
-        if numbers.len() <= last {
+        let Ok(lent) = lent_in(numbers) else {
             return Err(Damaged);
-        }
-        let (ends_at, listed) = (last + 1, numbers[last] as usize);
-        if numbers.len() - ends_at < listed {
-            return Err(Damaged);
-        }
-        let lent = LentTables {
-            header,
-            starts: &numbers[starts_at..ends_at],
-            ends: &numbers[ends_at..ends_at + listed],
         };
         Ok(PreparedOverlapping { lent })
     }
@@ -85,8 +82,10 @@ impl<'p> PreparedOverlapping<'p> {
             header,
             starts,
             ends,
+            ..
         } = &self.lent;
-        let end = LENGTHS_AT + header.lengths.len() + header.rows.len() + starts.len() + ends.len();
+        let lists_at = LENGTHS_AT + header.lengths.len() + header.rows.len();
+        let end = lists_at + starts.len() + ends.len() + FINGERPRINTS_LEN;
         is_checked(header.numbers, end)
     }
 
@@ -119,8 +118,11 @@ impl<'p> PreparedOverlapping<'p> {
         ensures others { tally.new ≡ record tally.old { scanned = tally.new.scanned } }
         ensures most { tally.new.scanned ≤ tally.old.scanned + 3 * (span.end - span.start) }
     {
-        let table = self.lent.header.table(0, None);
-        match table.next_end(haystack, 0, span, tally)? {
+        match self
+            .lent
+            .table()
+            .next_end(self.lent.prints, haystack, 0, span, tally)?
+        {
             Some(stop) => Ok(Some(stop.end)),
             None => Ok(None),
         }
@@ -153,9 +155,48 @@ impl<'p> PreparedOverlapping<'p> {
     }
 }
 
+/// The parts of an array, where its first numbers say that it is such a search, and it is as long as they and its lists
+/// say.
+pub fn lent_in(numbers: &[u32]) -> Result<LentTables<'_>, Damaged>
+    ensures { MatchResult result (λ lent. (lent.header.numbers.now ≡ numbers.now) × AreLent lent)
+        (λ _. ¬ HasLists numbers.now) }
+{
+    let header = split(numbers, OVERLAPPING_VERSION)?;
+    let starts_at = LENGTHS_AT + header.lengths.len() + header.rows.len();
+    let last = starts_at + header.lengths.len();
+    if numbers.len() <= last {
+        return Err(Damaged);
+    }
+    let (ends_at, listed) = (last + 1, numbers[last] as usize);
+    if numbers.len() - ends_at < listed + FINGERPRINTS_LEN {
+        return Err(Damaged);
+    }
+    let prints_at = ends_at + listed;
+    Ok(LentTables {
+        header,
+        starts: &numbers[starts_at..ends_at],
+        ends: &numbers[ends_at..prints_at],
+        prints: &numbers[prints_at..prints_at + FINGERPRINTS_LEN],
+    })
+}
+
 impl<'p> LentTables<'p> {
+    /// What a walk reads of them.
+    #[inline(always)]
+    fn table(&self) -> Table<'_>
+        requires { AreLent self.now }
+        ensures each { length result.classes.now ≡ 64 }
+        ensures table { (search : OverlappingValue) → AreFor search self.now
+            → IsTableFor result search.patterns search.ignore_case }
+        ensures classes { classes_by result ≡ unpacked self.now.header.classes.now }
+        ensures width { result.width ≡ self.now.header.width }
+        ensures rows { rows_by result ≡ rows_of self.now.header.rows.now }
+    {
+        self.header.table()
+    }
+
     /// Where a search stands before all that occurs in the span.
-    fn before_all(&self, haystack: &[u8], span: Span) -> Standing
+    pub fn before_all(&self, haystack: &[u8], span: Span) -> Standing
         requires { IsValidSpan haystack.now span }
         ensures at { (result.at ≡ span.start) × (result.pattern ≡ 0) }
         ensures lies { LiesAt span result }
@@ -172,7 +213,7 @@ impl<'p> LentTables<'p> {
     }
 
     /// Where a search stands behind all that occurs in the span.
-    fn behind_all(&self, haystack: &[u8], span: Span) -> Standing
+    pub fn behind_all(&self, haystack: &[u8], span: Span) -> Standing
         requires lent { AreLent self.now }
         requires valid { IsValidSpan haystack.now span }
         ensures at { result.at ≡ span.end }
@@ -200,7 +241,7 @@ impl<'p> LentTables<'p> {
             → IsOkAnd result (λ s. s ≡ standing_at (tables_by search self.now) stop) }
         ensures at { IfOk result (λ s. (s.at ≡ stop.end) × (s.place ≡ stop.place)) }
     {
-        let table = self.header.table(0, None);
+        let table = self.header.table();
         let longest = table.ending_at(stop.place)? as usize;
         let next = *self.starts.get(longest).ok_or(Damaged)? as usize;
         let end = *self.starts.get(longest + 1).ok_or(Damaged)? as usize;
@@ -232,8 +273,8 @@ impl<'p> LentTables<'p> {
             IsNotBefore here.at here.pattern standing.at standing.pattern)) }
         ensures others { tally.new ≡ record tally.old { scanned = tally.new.scanned } }
         ensures most { tally.new.scanned + 3 * standing.at ≤ tally.old.scanned + 3 * span.end }
-        ensures near { IfOk result (λ next. IfSome next (λ here.
-            tally.new.scanned + 3 * standing.at ≤ tally.old.scanned + 3 * here.at)) }
+        ensures bounded { IfOk result (λ next. ScansToEndWithin (between standing.at span.end)
+            (option_map (λ here. here.at) next) tally.old tally.new) }
     {
         if standing.next < standing.end {
             return Ok(Some(standing));
@@ -245,8 +286,10 @@ impl<'p> LentTables<'p> {
             start: standing.at,
             end: span.end,
         };
-        let table = self.header.table(0, None);
-        let Some(stop) = table.next_end(haystack, standing.place, rest, tally)? else {
+        let found = self
+            .table()
+            .next_end(self.prints, haystack, standing.place, rest, tally)?;
+        let Some(stop) = found else {
             return Ok(None);
         };
         Ok(Some(self.standing_at(stop)?))
@@ -290,7 +333,7 @@ impl<'p> LentTables<'p> {
     }
 
     /// The next occurrence behind where a search stands, and where it then stands.
-    fn next_from(
+    pub fn next_from(
         &self,
         haystack: &[u8],
         span: Span,
@@ -313,8 +356,8 @@ impl<'p> LentTables<'p> {
             × (r.1.pattern ≡ r.0.pattern + 1))) }
         ensures others { tally.new ≡ record tally.old { scanned = tally.new.scanned } }
         ensures most { tally.new.scanned + 3 * standing.at ≤ tally.old.scanned + 3 * span.end }
-        ensures near { IfOk result (λ answer. IfSome answer (λ r.
-            tally.new.scanned + 3 * standing.at ≤ tally.old.scanned + 3 * r.0.end)) }
+        ensures bounded { IfOk result (λ answer. ScansToEndWithin (between standing.at span.end)
+            (option_map (λ r. r.0.end) answer) tally.old tally.new) }
     {
         let Some(here) = self.next_end(haystack, span, standing, tally)? else {
             return Ok(None);

@@ -4,7 +4,8 @@ ghost use Rattle.std.specs.Result.{IsOkAnd};
 ghost use Rattle.literal_search.specs.Prepared.{ForPrepared, longest_in};
 ghost use Rattle.literal_search.specs.Stream.{AnswersSoFar, IsKnownBy, MayBeKnown, ScansSoFar};
 
-use crate::prepared::{Damaged, Prepared};
+use crate::prepared::Damaged;
+use crate::prepared_search::Prepared;
 use crate::stream::{SoFar, so_far};
 use literal_base::Span;
 use literal_base::count::Tally;
@@ -17,8 +18,8 @@ impl<'p> Prepared<'p> {
     /// haystack's length.
     pub fn find_so_far(&self, haystack: &[u8], at: usize) -> Result<SoFar, Damaged>
         requires { at ≤ length haystack.now }
-        ensures whatever_follows { ForPrepared self.now (λ query ignore_case. (more : List ℕ) → IsOkAnd result
-            (AnswersSoFar query ignore_case (haystack.now ++ more) at)) }
+        ensures whatever_follows { ForPrepared self.now (λ search. (more : List ℕ) → IsOkAnd result
+            (AnswersSoFar search.query search.ignore_case (haystack.now ++ more) at)) }
         ensures known { IfOk result (IsKnownBy (longest_in self.now) (length haystack.now) at) }
         ensures inside { IfOk result (MayBeKnown (slice_index self.now 3) at) }
     {
@@ -28,8 +29,8 @@ impl<'p> Prepared<'p> {
     }
 
     /// Answers as [`Prepared::find_so_far`], and adds each byte that it looks up to a tally, as scanned: at most three
-    /// times as many as there are from where it begins, whatever the numbers are, and with those that were prepared as
-    /// [`Search::find_so_far_counted`](crate::Search::find_so_far_counted).
+    /// times as many as there are from where it begins, and the rest as
+    /// [`Search::find_so_far_counted`](crate::Search::find_so_far_counted), whatever the numbers are.
     pub fn find_so_far_counted(
         &self,
         haystack: &[u8],
@@ -37,12 +38,12 @@ impl<'p> Prepared<'p> {
         tally: &mut Tally,
     ) -> Result<SoFar, Damaged>
         requires { at ≤ length haystack.now }
-        ensures whatever_follows { ForPrepared self.now (λ query ignore_case. (more : List ℕ) → IsOkAnd result
-            (AnswersSoFar query ignore_case (haystack.now ++ more) at)) }
+        ensures whatever_follows { ForPrepared self.now (λ search. (more : List ℕ) → IsOkAnd result
+            (AnswersSoFar search.query search.ignore_case (haystack.now ++ more) at)) }
         ensures known { IfOk result (IsKnownBy (longest_in self.now) (length haystack.now) at) }
         ensures inside { IfOk result (MayBeKnown (slice_index self.now 3) at) }
-        ensures bounded { ForPrepared self.now (λ query ignore_case. IfOk result
-            (λ answer. ScansSoFar query.patterns (length haystack.now) at answer tally.old tally.new)) }
+        ensures bounded { IfOk result (λ answer.
+            ScansSoFar (longest_in self.now) (length haystack.now) at answer tally.old tally.new) }
         ensures others { tally.new ≡ record tally.old { scanned = tally.new.scanned } }
         ensures most { tally.new.scanned ≤ tally.old.scanned + 3 * (length haystack.now - at) }
     {

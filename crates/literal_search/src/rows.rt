@@ -111,22 +111,3 @@ fn push_classes(numbers: &mut Vec<u32>, classes: &[u8; 256]) -> Result<(), Alloc
     numbers.extend_from_slice(&packed)?;
     Ok(())
 }
-
-/// A copy of the rows of some patterns, and those of no pattern where there is none. Memory is asked for only where
-/// there is a pattern.
-#[tactic(auto, unfolding(crate::specs::Inside::Rows::AreKeptRows))]
-pub(crate) fn copy_of_rows(
-    alloc: Global,
-    patterns: &[Vec<u8>],
-    rows: &Rows,
-) -> Result<Rows, AllocError>
-    ensures same { 0 < length patterns.now → IfOk result (λ copy. copy ≡ rows.now) }
-    ensures none { length patterns.now ≡ 0 → IfOk result (λ copy. copy ≡ rows_value []) }
-    ensures no_memory { OnErr result (0 < length patterns.now) }
-{
-    let mut numbers = Vec::new(alloc);
-    if !patterns.is_empty() {
-        numbers.extend_from_slice(&rows.numbers)?;
-    }
-    Ok(Rows { numbers })
-}

@@ -1,19 +1,19 @@
-//! Searches by the numbers of an automaton: by one walk, which stops where bytes can be passed over, by fingerprints of
-//! few patterns, or else by four walks at once. Which, is decided in `Table::pass_over` and `Table::can_pass`.
-ghost use Rattle.std.specs.Prelude.{◌≡◌, ◌⊎◌, ◌+◌, ◌-◌, ◌*◌, ◌<◌, ◌≤◌, ◌^◌};
+//! Bytes with which nothing begins are passed over: by fingerprints of few patterns, or else by four walks at once.
+//! Which, is decided in `Table::pass_over` and `Table::can_pass`.
+ghost use Rattle.std.specs.Prelude.{◌≡◌, ◌+◌, ◌-◌, ◌*◌, ◌<◌, ◌≤◌, ◌^◌};
 ghost use Rattle.std.specs.Prelude.{IfOk, IfSome, None, false, length, true};
 ghost use Rattle.std.specs.Result.{IsOkAnd};
 ghost use Rattle.literal_base.specs.Occurs.{IsValidSpan, between};
-ghost use Rattle.literal_search.specs.Inside.Scan.{Answers, AreNear, ForPatterns, ForTable};
-ghost use Rattle.literal_search.specs.Inside.Scan.{NoneBefore, SearchesTo, StepsToEnd};
-ghost use Rattle.literal_search.specs.Inside.Scan.{WalksTo};
+ghost use Rattle.literal_fingerprints.specs.FingerprintsValue.{AllPass};
+ghost use Rattle.literal_search.specs.Inside.Scan.{ForPatterns, IsNear, NoneBefore};
 ghost use Rattle.literal_search.specs.Inside.Walk.{classes_by};
 
 use crate::classes::CLASSES_LEN;
 use crate::prepared::Damaged;
-use crate::walk::{Ended, Table, Walked};
+use crate::walk::Table;
 use literal_base::Span;
 use literal_base::count::Tally;
+use literal_fingerprints::Fingerprints;
 
 /// How long the first blocks are through which four walks go, if no pattern is longer than half of this, and the last.
 const FIRST_BLOCK: usize = 128;
@@ -34,128 +34,28 @@ const FEW: usize = 8;
 
 const FARTHEST: usize = 4096;
 
-/// How many bytes one walk reads at least before bytes are passed over, the first time and later.
-#[derive(Clone, Copy)]
-pub struct Nearest {
-    pub first: usize,
-    pub later: usize,
-}
-
-impl Nearest {
-    /// How many these are the next time, where they were so many, and then so many bytes were passed over.
-    pub fn next(self, near: usize, passed: usize) -> usize
-        ensures least { self.later ≤ result }
-        ensures short { near ≤ 6 * LONGEST → self.later ≤ 6 * LONGEST → result ≤ 6 * LONGEST }
-    {
-        let farther = if passed < FEW {
-            FARTHEST.min(near.saturating_mul(2))
-        } else {
-            near / 2
-        };
-        self.later.max(farther)
-    }
-}
-
 impl<'t> Table<'t> {
-    /// The leftmost match in a span of the haystack, or where `is_earliest` one that ends first. One walk begins; where
-    /// it is back in the first state and has gone far enough, bytes are passed over with which nothing begins, and then
-    /// one walk goes on. What is read in vain is no more than twice what the walk before it read.
-    #[inline(always)]
-    pub fn search(
-        &self,
-        haystack: &[u8],
-        span: Span,
-        is_earliest: bool,
-        tally: &mut Tally,
-    ) -> Result<Option<Ended>, Damaged>
-        requires classes { length self.now.classes.now ≡ 64 }
-        requires valid { IsValidSpan haystack.now span }
-        ensures found { ForTable self.now (λ query ignore_case. IsOkAnd result
-            (Answers is_earliest query ignore_case haystack.now span)) }
-        ensures near { is_earliest ≡ false → ForTable self.now (λ query ignore_case. IsOkAnd result (SearchesTo
-            query.patterns span (tally.new.scanned - tally.old.scanned))) }
-        ensures inside { IfOk result (λ answer. IfSome answer (λ e. (span.start < e.end) × (e.end ≤ span.end))) }
-        ensures others { tally.new ≡ record tally.old { scanned = tally.new.scanned } }
-        ensures grows { tally.old.scanned ≤ tally.new.scanned }
-        ensures most { tally.new.scanned ≤ tally.old.scanned + 3 * (span.end - span.start) }
-        ensures first { is_earliest ≡ true → ForTable self.now (λ query ignore_case. IsOkAnd result (StepsToEnd span
-            (tally.new.scanned - tally.old.scanned))) }
-    {
-        let (end, classes) = (span.end, &self.class_bytes());
-        let (mut start, nearest) = (span.start, self.nearest());
-        let mut near = nearest.first;
-        let passes = self.can_pass(end - start);
-        while passes && 3 * near <= end - start {
-            let rest = Span { start, end };
-            match self.walk(classes, haystack, rest, start + near, is_earliest, tally)? {
-                Walked::Known(answer) => return Ok(answer),
-                Walked::Anew(at) => {
-                    let later = Span { start: at, end };
-                    start = self.pass_over(haystack, later, nearest.later, tally)?;
-                    near = nearest.next(near, start - at);
-                }
-            }
-        }
-        self.search_once(classes, haystack, Span { start, end }, is_earliest, tally)
-    }
-
-    /// The same by one walk.
-    #[inline(always)]
-    pub fn search_once(
-        &self,
-        classes: &[u8; 256],
-        haystack: &[u8],
-        span: Span,
-        is_earliest: bool,
-        tally: &mut Tally,
-    ) -> Result<Option<Ended>, Damaged>
-        requires same { classes.now ≡ classes_by self.now }
-        requires valid { IsValidSpan haystack.now span }
-        ensures found { ForTable self.now (λ query ignore_case. IsOkAnd result
-            (Answers is_earliest query ignore_case haystack.now span)) }
-        ensures near { ForTable self.now (λ query ignore_case. IsOkAnd result (WalksTo
-            query.patterns span (tally.new.scanned - tally.old.scanned))) }
-        ensures inside { IfOk result (λ answer. IfSome answer (λ e. (span.start < e.end) × (e.end ≤ span.end))) }
-        ensures others { tally.new ≡ record tally.old { scanned = tally.new.scanned } }
-        ensures once { tally.new.scanned ≤ tally.old.scanned + (span.end - span.start) }
-        ensures grows { tally.old.scanned ≤ tally.new.scanned }
-        ensures first { IfOk result (λ answer. IfSome answer (λ e. is_earliest ≡ true
-            → tally.new.scanned + span.start ≡ tally.old.scanned + e.end)) }
-    {
-        match self.walk(classes, haystack, span, usize::MAX, is_earliest, tally)? {
-            Walked::Known(answer) => Ok(answer),
-            Walked::Anew(_) => Ok(None),
-        }
-    }
-
     /// Whether bytes can be passed over: by fingerprints, or by four walks if the bytes are many enough, and no pattern
     /// is too long.
-    pub fn can_pass(&self, bytes: usize) -> bool
-        ensures { result ≡ true → self.now.fingerprints ≡ None → self.now.longest ≤ LONGEST }
+    pub fn can_pass(&self, by_fingerprints: bool, bytes: usize) -> bool
+        ensures { result ≡ true → by_fingerprints ≡ false → self.now.longest ≤ LONGEST }
     {
-        self.fingerprints.is_some()
-            || (self.longest <= LONGEST && bytes >= 3 * BLOCKS_NEAR * FIRST_BLOCK)
+        by_fingerprints || (self.longest <= LONGEST && bytes >= 3 * BLOCKS_NEAR * FIRST_BLOCK)
     }
 
-    /// How far one walk goes before bytes are passed over.
-    pub fn nearest(&self) -> Nearest
-        ensures { AreNear self.now result }
+    /// How far one walk goes at least before bytes are passed over, by fingerprints or not.
+    pub fn nearest(&self, by_fingerprints: bool) -> usize
+        ensures { IsNear self.now by_fingerprints result }
     {
-        if self.fingerprints.is_some() {
-            let later = NEAR;
-            let first = later - self.shortest.min(later);
-            return Nearest { first, later };
+        if by_fingerprints {
+            return NEAR;
         }
         let longest = if self.longest <= LONGEST {
             self.longest
         } else {
             0
         };
-        let later = BLOCKS_NEAR * FIRST_BLOCK.max(2 * longest);
-        Nearest {
-            first: later,
-            later,
-        }
+        BLOCKS_NEAR * FIRST_BLOCK.max(2 * longest)
     }
 
     /// A place in a span before which nothing begins. It is called, and not put in its place, so that what calls it
@@ -163,6 +63,7 @@ impl<'t> Table<'t> {
     #[inline(never)]
     pub fn pass_over(
         &self,
+        fingerprints: &Option<Fingerprints>,
         haystack: &[u8],
         span: Span,
         near: usize,
@@ -171,10 +72,11 @@ impl<'t> Table<'t> {
         requires classes { length self.now.classes.now ≡ 64 }
         requires valid { IsValidSpan haystack.now span }
         requires some { 8 ≤ near }
-        requires long { self.now.fingerprints ≡ None → 6 * self.now.longest ≤ near }
+        requires long { fingerprints.now ≡ None → 6 * self.now.longest ≤ near }
         requires short { near ≤ 6 * LONGEST }
-        ensures none { ForPatterns self.now (λ patterns ignore_case. IsOkAnd result
-            (NoneBefore patterns ignore_case haystack.now span)) }
+        ensures none { ForPatterns self.now (λ patterns ignore_case.
+            IfSome fingerprints.now (λ f. AllPass f ignore_case patterns)
+            → IsOkAnd result (NoneBefore patterns ignore_case haystack.now span)) }
         ensures inside { IfOk result (λ at. (span.start ≤ at) × (at ≤ span.end)) }
         ensures others { tally.new ≡ record tally.old { scanned = tally.new.scanned } }
         ensures most { tally.new.scanned ≤ tally.old.scanned + 2 * near + 3 * (span.end - span.start) }
@@ -182,10 +84,8 @@ impl<'t> Table<'t> {
             + 3 * (at - span.start)) }
         ensures grows { tally.old.scanned ≤ tally.new.scanned }
         ensures least { IfOk result (λ at. tally.old.scanned + at ≤ tally.new.scanned + span.start) }
-        ensures once { self.now.fingerprints ≡ None
-            ⊎ (tally.new.scanned ≤ tally.old.scanned + (span.end - span.start)) }
     {
-        match self.fingerprints {
+        match fingerprints {
             Some(fingerprints) => Ok(fingerprints.next(haystack, span, tally)),
             None => self.pass_blocks(haystack, span, near, tally),
         }
@@ -251,4 +151,18 @@ impl<'t> Table<'t> {
     {
         self.none_in_four(classes, haystack, at, block, limit, tally)
     }
+}
+
+/// How far one walk goes the next time before bytes are passed over, where it went so far, and then so many bytes were
+/// passed over.
+pub fn farther(nearest: usize, near: usize, passed: usize) -> usize
+    ensures least { nearest ≤ result }
+    ensures short { near ≤ 6 * LONGEST → nearest ≤ 6 * LONGEST → result ≤ 6 * LONGEST }
+{
+    let farther = if passed < FEW {
+        FARTHEST.min(near.saturating_mul(2))
+    } else {
+        near / 2
+    };
+    nearest.max(farther)
 }

@@ -49,13 +49,14 @@ impl Search {
 
     /// Answers as [`Search::find_so_far`], and adds each byte that it looks up to a tally, as scanned: at least as many
     /// as there are up to the match's end, or up to that place; at most three times as many as there are from where it
-    /// begins, and with a match three times those up to its end, and once those of the longest pattern.
+    /// begins, and with a match also no more than [`Search::find_in_counted`] does.
     pub fn find_so_far_counted(&self, haystack: &[u8], at: usize, tally: &mut Tally) -> SoFar
         requires { at ≤ length haystack.now }
         ensures whatever_follows { (more : List ℕ)
             → AnswersSoFar self.now.query self.now.ignore_case (haystack.now ++ more) at result }
         ensures known { IsKnownSoFar self.now.query.patterns (length haystack.now) at result }
-        ensures bounded { ScansSoFar self.now.query.patterns (length haystack.now) at result tally.old tally.new }
+        ensures bounded { ScansSoFar (longest_of self.now.query.patterns) (length haystack.now) at result tally.old
+            tally.new }
     {
         let end = haystack.len();
         let found = self.find_in_counted(haystack, Span { start: at, end }, tally);

@@ -108,6 +108,8 @@ impl<'p> Recognised<'p> {
         requires { Recognise self.now }
         ensures lists { IfOk result (λ lists. AreLists (symbols_of self.now) lists.ends.items
             (starts_of lists.starts.items) (length self.now.patterns.now)) }
+        ensures none { self.now.patterns.now ≡ [] → IfOk result
+            (λ lists. (lists.starts.items ≡ []) × (lists.ends.items ≡ [])) }
         ensures not_empty { OnErr result (0 < length self.now.patterns.now) }
     {
         if self.patterns.is_empty() {

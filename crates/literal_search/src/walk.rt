@@ -1,41 +1,23 @@
 //! Walks through the rows of an automaton. The numbers may be lent, and so any: they are damaged where one leads out of
 //! the rows.
 ghost use Rattle.std.specs.Prelude.{◌≡◌, ◌⊎◌, ◌+◌, ◌-◌, ◌*◌, ◌<◌, ◌≤◌, ◌^◌, ◌↔◌};
-ghost use Rattle.std.specs.Prelude.{IfOk, IfSome, IsTrue, MatchResult, length, min, slice_index, true};
+ghost use Rattle.std.specs.Prelude.{IfOk, MatchResult, length, min, slice_index, true};
 ghost use Rattle.std.specs.Result.{IsOkAnd};
 ghost use Rattle.literal_base.specs.Occurs.{IsValidSpan};
 ghost use Rattle.literal_search.specs.Inside.Classes.{AreClasses};
-ghost use Rattle.literal_search.specs.Inside.Walk.{IsTable, LiesWithin, NoneInFour, Reaches, ReachesWithin};
+ghost use Rattle.literal_search.specs.Inside.Walk.{NoneInFour, Reaches, ReachesWithin};
 ghost use Rattle.literal_search.specs.Inside.Walk.{ReadsTo, classes_by, rows_by};
-ghost use Rattle.literal_search.specs.Inside.Walk.{StopsBy, Walks, WalksFar};
 
 use crate::classes::{CLASSES_LEN, PACKED_LEN};
 use crate::prepared::{Damaged, unpack};
 use literal_base::Span;
 use literal_base::count::Tally;
-use literal_fingerprints::Fingerprints;
 
 /// What stands in a row where there is no state, or no pattern.
 pub const NOTHING: u32 = u32::MAX;
 
 /// What a row's number for a state has more where a match ends with the state's word.
 pub const ENDS: u32 = 1 << 31;
-
-/// A pattern, and where it ends in the haystack.
-#[derive(Clone, Copy)]
-pub struct Ended {
-    pub pattern: u32,
-    pub end: usize,
-}
-
-/// Where a walk from the first state on ends.
-#[derive(Clone, Copy)]
-pub enum Walked {
-    /// The match is known, or that there is none.
-    Known(Option<Ended>),
-    /// Behind this place the walk is back in the first state: nothing that it read matters any more.
-    Anew(usize),
-}
 
 /// Where a walk stands: at which row, and how far it has read.
 #[derive(Clone, Copy)]
@@ -66,10 +48,6 @@ pub struct Table<'t> {
     pub rows: &'t [u32],
     /// How long the longest pattern is.
     pub longest: usize,
-    /// No pattern is shorter.
-    pub shortest: usize,
-    /// By which a search passes over places, if there are any.
-    pub fingerprints: Option<&'t Fingerprints>,
 }
 
 impl<'t> Table<'t> {
@@ -114,58 +92,6 @@ impl<'t> Table<'t> {
         let at = place.saturating_add(self.width);
         let pattern = self.rows.get(at).ok_or(Damaged)?;
         Ok(*pattern)
-    }
-
-    /// The leftmost match in a span of the haystack, or where `is_earliest` the match that ends first: the walk goes
-    /// from state to state until no more bytes matter, and answers the last pattern that ended. It ends too where it
-    /// comes back to the first state, from the least place on.
-    #[inline(never)]
-    pub fn walk(
-        &self,
-        classes: &[u8; 256],
-        haystack: &[u8],
-        span: Span,
-        least: usize,
-        is_earliest: bool,
-        tally: &mut Tally,
-    ) -> Result<Walked, Damaged>
-        requires same { classes.now ≡ classes_by self.now }
-        requires valid { IsValidSpan haystack.now span }
-        ensures found { AreClasses (classes_by self.now) self.now.width → IsTable self.now.width (rows_by self.now)
-            → IsOkAnd result (Walks self.now haystack.now span is_earliest) }
-        ensures near { AreClasses (classes_by self.now) self.now.width → IsTable self.now.width (rows_by self.now)
-            → IsOkAnd result (StopsBy self.now span (tally.new.scanned - tally.old.scanned)) }
-        ensures inside { IfOk result (LiesWithin span least) }
-        ensures others { tally.new ≡ record tally.old { scanned = tally.new.scanned } }
-        ensures grows { tally.old.scanned ≤ tally.new.scanned }
-        ensures once { tally.new.scanned ≤ tally.old.scanned + (span.end - span.start) }
-        ensures counted { IfOk result (WalksFar span is_earliest (tally.new.scanned - tally.old.scanned)) }
-    {
-        let limit = self.limit()?;
-        let mut last = None;
-        let mut place = 0;
-        for at in span.start..span.end {
-            let code = self.code_by(classes, place, haystack, at, tally);
-            if at >= least && code == 0 {
-                return Ok(Walked::Anew(at + 1));
-            }
-            if (code as usize) < limit {
-                place = code as usize;
-            } else if code == NOTHING {
-                return Ok(Walked::Known(last));
-            } else {
-                place = behind_end(code, limit)?;
-                let pattern = self.ending_at(place)?;
-                last = Some(Ended {
-                    pattern,
-                    end: at + 1,
-                });
-                if is_earliest {
-                    return Ok(Walked::Known(last));
-                }
-            }
-        }
-        Ok(Walked::Known(last))
     }
 
     /// Walks from a row on through a span until a pattern ends, or, from the least place on, the walk is back in the

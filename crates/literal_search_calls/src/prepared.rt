@@ -2,8 +2,7 @@
 use crate::made::first_of;
 use literal_base::count::Tally;
 use literal_search::{
-    Linear, Match, MatchKind, Overlapping, PrepareError, Prepared, PreparedLinear,
-    PreparedOverlapping, SoFar, Span,
+    ArrayTooShort, Match, Overlapping, Prepared, PreparedOverlapping, SoFar, Span,
 };
 use std::alloc::Global;
 use std::test::Fail;
@@ -20,7 +19,7 @@ fn second() -> Option<Match> {
 /// The search for these words with case ignored, in an array that it fills.
 fn filled(alloc: Global) -> Result<Vec<u32>, Fail> {
     let search = first_of(alloc, &WORDS)?;
-    let mut array = vec![in alloc; 0; search.prepared_len()?]?;
+    let mut array = vec![in alloc; 0; search.prepared_len()]?;
     search.prepare(&mut array)?;
     Ok(array)
 }
@@ -28,13 +27,13 @@ fn filled(alloc: Global) -> Result<Vec<u32>, Fail> {
 #[test]
 fn fills_as_many_places_as_it_tells(rt: HostRuntime) -> Result<(), Fail> {
     let search = first_of(rt.alloc(), &WORDS)?;
-    let needed = search.prepared_len()?;
+    let needed = search.prepared_len();
     let mut array = vec![in rt.alloc(); 0; needed]?;
     assert!(rt; search.prepare(&mut array) == Ok(needed));
     // (the number in front of the fingerprints is how long the shortest word is: there are some)
     assert!(rt; array[needed - 33] == 6);
     assert!(rt; array.pop().is_some());
-    assert!(rt; search.prepare(&mut array) == Err(PrepareError::ArrayTooShort(needed)));
+    assert!(rt; search.prepare(&mut array) == Err(ArrayTooShort { needed }));
     Ok(())
 }
 
@@ -54,7 +53,25 @@ fn counts_by_an_array(rt: HostRuntime) -> Result<(), Fail> {
     Ok(())
 }
 
-/// The check finds two flipped top bits, which a product alone would let cancel, and refuses zeros.
+/// What the iterations by the array give first, in the same part.
+fn iterated(array: &[u32]) -> Result<[Option<Match>; 2], Fail> {
+    let (prepared, span) = (Prepared::new(array)?, Span { start: 3, end: 18 });
+    Ok([
+        prepared.find_iter_in(HAYSTACK, span).next_match()?,
+        prepared
+            .find_iter_in(HAYSTACK, span)
+            .next_counted(&mut Tally::new())?,
+    ])
+}
+
+#[test]
+fn finds_one_after_another_by_an_array(rt: HostRuntime) -> Result<(), Fail> {
+    let array = filled(rt.alloc())?;
+    assert!(rt; iterated(&array)? == [second(); 2]);
+    Ok(())
+}
+
+/// The check finds two flipped top bits, which a product alone would let cancel. Zeros are refused before.
 #[test]
 fn damaged_arrays_are_not_whole(rt: HostRuntime) -> Result<(), Fail> {
     let mut array = filled(rt.alloc())?;
@@ -67,39 +84,15 @@ fn damaged_arrays_are_not_whole(rt: HostRuntime) -> Result<(), Fail> {
     if let (Some(first), Some(version)) = (array.first_mut(), version) {
         *first = version;
     }
-    assert!(rt; !Prepared::new(&array)?.is_whole());
+    assert!(rt; Prepared::new(&array).is_err());
     Ok(())
-}
-
-/// The array that a `Linear` fills.
-fn filled_by_linear(alloc: Global) -> Result<Vec<u32>, Fail> {
-    let search = Linear::new(alloc, MatchKind::LeftmostFirst, true, WORDS)?;
-    let mut array = vec![in alloc; 0; search.prepared_len()]?;
-    search.prepare(&mut array)?;
-    Ok(array)
-}
-
-/// The first match by it behind that of the haystack.
-fn found_by_linear(alloc: Global, array: &[u32]) -> Result<Option<Match>, Fail> {
-    let prepared = PreparedLinear::new(array)?;
-    let mut matches = prepared.find_iter_in(alloc, HAYSTACK, Span { start: 3, end: 18 })?;
-    Ok(matches.next_counted(&mut Tally::new())?)
-}
-
-/// The same without an iteration, by both calls.
-fn found_once_by_linear(array: &[u32]) -> Result<[Option<Match>; 2], Fail> {
-    let (span, tally) = (Span { start: 3, end: 18 }, &mut Tally::new());
-    let prepared = PreparedLinear::new(array)?;
-    let found = prepared.find_in(HAYSTACK, span)?;
-    Ok([found, prepared.find_in_counted(HAYSTACK, span, tally)?])
 }
 
 /// The array that an `Overlapping` fills, of as many places as it takes.
 fn filled_by_overlapping(alloc: Global) -> Result<Vec<u32>, Fail> {
     let search = Overlapping::new(alloc, true, WORDS)?;
-    let mut array = vec![in alloc; 0; 10_000]?;
-    let filled = search.prepare(&mut array)?;
-    array.truncate(filled);
+    let mut array = vec![in alloc; 0; search.prepared_len()]?;
+    search.prepare(&mut array)?;
     Ok(array)
 }
 
@@ -121,10 +114,7 @@ fn earliest_ends(array: &[u32]) -> Result<[Option<usize>; 2], Fail> {
 }
 
 #[test]
-fn counts_by_other_arrays(rt: HostRuntime) -> Result<(), Fail> {
-    let array = filled_by_linear(rt.alloc())?;
-    assert!(rt; found_by_linear(rt.alloc(), &array)? == second());
-    assert!(rt; found_once_by_linear(&array)? == [second(); 2]);
+fn counts_by_an_array_for_all(rt: HostRuntime) -> Result<(), Fail> {
     let array = filled_by_overlapping(rt.alloc())?;
     assert!(rt; found_by_overlapping(&array)? == second());
     assert!(rt; earliest_ends(&array)? == [Some(18); 2]);

@@ -1,7 +1,7 @@
-//! `Search`, `Linear` and `Overlapping`.
+//! `Search` and `Overlapping`.
 use crate::made::{first_of, longest_of};
 use literal_base::count::Tally;
-use literal_search::{BuildError, Linear, Match, MatchKind, Overlapping, PatternID, Search, Span};
+use literal_search::{BuildError, Match, MatchKind, Overlapping, PatternID, Search, Span};
 use std::alloc::{AllocError, Global};
 use std::fmt::Debug;
 use std::process::Abort;
@@ -74,58 +74,32 @@ fn tells_what_it_was_built_of(rt: HostRuntime) -> Result<(), Fail> {
     Ok(())
 }
 
-/// There are three states, and a row has a number for each of two bytes, and two more: 48 bytes, and those of the
-/// pattern.
+/// It has 6 numbers, one for the pattern, 12 in the rows, 256 for classes, one more for the pattern, and 33 for
+/// fingerprints.
 #[test]
 fn tells_how_many_bytes_it_takes(rt: HostRuntime) -> Result<(), Fail> {
     let search = longest_of(rt.alloc(), &[b"ab"])?;
-    assert!(rt; search.memory_usage() == 50);
+    assert!(rt; search.memory_usage() == 4 * 309 + 2);
     let wanted = "Search { kind: LeftmostLongest, ignore_case: false, patterns: 1 }";
     assert_prints_as(&rt, rt.alloc(), &search, wanted)?;
     Ok(())
 }
 
-/// Of the 309 numbers 12 are in rows of three states, 256 behind the rows, and 33 for fingerprints.
-#[test]
-fn linear_tells_how_many_bytes_it_takes(rt: HostRuntime) -> Result<(), Fail> {
-    let search = Linear::new(
-        rt.alloc(),
-        MatchKind::LeftmostLongest,
-        true,
-        [b"ab".as_slice()],
-    )?;
-    assert!(rt; search.memory_usage() == 1238);
-    let wanted = "Linear { kind: LeftmostLongest, ignore_case: true, patterns: 1 }";
-    assert_prints_as(&rt, rt.alloc(), &search, wanted)?;
-    Ok(())
-}
-
-/// The list of the pattern has one number, and two places tell where it begins and ends.
+/// It has 6 numbers, one for the pattern, 12 in the rows, 256 for classes, two where its list begins and ends, one in
+/// this, and 33 for fingerprints.
 #[test]
 fn overlapping_tells_how_many_bytes_it_takes(rt: HostRuntime) -> Result<(), Fail> {
     let search = Overlapping::new(rt.alloc(), false, [b"ab".as_slice()])?;
-    assert!(rt; search.memory_usage() == 70);
+    assert!(rt; search.memory_usage() == 4 * 311 + 2);
     let wanted = "Overlapping { ignore_case: false, patterns: 1 }";
     assert_prints_as(&rt, rt.alloc(), &search, wanted)?;
     Ok(())
 }
 
-#[test]
-fn example_of_linear(rt: HostRuntime) -> Result<(), Fail> {
-    let alloc = rt.alloc();
-    let words = [b"aaaab".as_slice(), b"a"];
-    let search = Linear::new(alloc, MatchKind::LeftmostLongest, false, words)?;
-    let all = search.find_all(b"aaaaaab")?;
-    assert!(rt; all.len() == 3 && all[2].pattern().as_usize() == 0 && all[2].range() == (2..7));
-    Ok(())
-}
-
-/// What else is found first, by the iterations that count.
-fn counted_of_others(linear: &Linear, all: &Overlapping) -> Result<[Option<Match>; 2], AllocError> {
-    let (span, tally) = (Span { start: 3, end: 18 }, &mut Tally::new());
-    let mut matches = linear.find_iter_in(HAYSTACK, span)?;
-    let mut overlapping = all.find_overlapping_in(HAYSTACK, span);
-    Ok([matches.next_counted(tally), overlapping.next_counted(tally)])
+/// What occurs first in a part of the haystack, by the iteration that counts.
+fn counted_of_all(all: &Overlapping) -> Option<Match> {
+    let mut overlapping = all.find_overlapping_in(HAYSTACK, Span { start: 3, end: 18 });
+    overlapping.next_counted(&mut Tally::new())
 }
 
 /// The earliest end in a part of the haystack, by both calls.
@@ -138,25 +112,11 @@ fn earliest_ends(all: &Overlapping) -> [Option<usize>; 2] {
 }
 
 #[test]
-fn linear_finds_the_first_match_and_that_at_a_place(rt: HostRuntime) -> Result<(), Fail> {
+fn overlapping_counts_what_it_looks_up(rt: HostRuntime) -> Result<(), Fail> {
     let words = [b"password".as_slice(), b"secret"];
-    let linear = Linear::new(rt.alloc(), MatchKind::LeftmostFirst, true, words)?;
-    let (span, tally) = (Span { start: 3, end: 18 }, &mut Tally::new());
-    let second = Some(Match::must(1, Span { start: 12, end: 18 }));
-    assert!(rt; linear.find_in(HAYSTACK, span) == second);
-    assert!(rt; linear.find_in_counted(HAYSTACK, span, tally) == second);
-    assert!(rt; linear.match_at(HAYSTACK, 12) == second);
-    assert!(rt; linear.match_at_counted(HAYSTACK, 11, tally) == None);
-    Ok(())
-}
-
-#[test]
-fn others_count_what_they_look_up(rt: HostRuntime) -> Result<(), Fail> {
-    let words = [b"password".as_slice(), b"secret"];
-    let linear = Linear::new(rt.alloc(), MatchKind::LeftmostFirst, true, words)?;
     let all = Overlapping::new(rt.alloc(), true, words)?;
     let second = Some(Match::must(1, Span { start: 12, end: 18 }));
-    assert!(rt; counted_of_others(&linear, &all)? == [second; 2]);
+    assert!(rt; counted_of_all(&all) == second);
     assert!(rt; earliest_ends(&all) == [Some(18); 2]);
     Ok(())
 }

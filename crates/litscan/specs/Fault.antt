@@ -7,9 +7,8 @@ use Rattle.std.specs.Option.{option_map}
 use Rattle.std.specs.declared.io.ErrorKind.{ErrorKind}
 use Rattle.std.specs.declared.io.ErrorKind.TheVariants as kind
 use Rattle.literal_base.specs.Occurs.{NoneIsEmpty, pattern_at}
-use Rattle.literal_base.specs.declared.search.MatchKind.TheVariants.{LeftmostLongest}
 use Rattle.literal_ids.specs.declared.primitives.pattern_id.TheConstants.PatternID
-use Rattle.literal_search.specs.SearchValue.{NeedTooManyStates}
+use Rattle.literal_search.specs.SearchValue.{NeedTooManyReversed}
 use Rattle.literal_search.specs.declared.BuildError.{BuildError}
 use Rattle.literal_search.specs.declared.BuildError.TheVariants as build
 use Rattle.litscan.specs.declared.fault.Fault.{Fault}
@@ -49,7 +48,7 @@ RefusesWords ignore_case words (EmptyWord number) =
     (number < length words) × (pattern_at words number ≡ []) × NoneIsEmpty (take number words)
 RefusesWords ignore_case words OutOfMemory = 0 < length words
 RefusesWords ignore_case words TooManyWords =
-    (PatternID.LIMIT < length words) ⊎ NeedTooManyStates LeftmostLongest ignore_case words
+    (PatternID.LIMIT < length words) ⊎ NeedTooManyReversed ignore_case words
 RefusesWords ignore_case words _ = ⊥
 
 -- the letter of an option as it is told: a question mark where it is none that can be seen

@@ -1,9 +1,7 @@
-//! Calls of `Search`, `Linear` and `Overlapping`.
+//! Calls of `Search` and `Overlapping`.
 use crate::made::{assert_place, words_with_a_table, words_without_a_table};
 use literal_base::count::Tally;
-use literal_search::{
-    BuildError, Linear, Match, MatchKind, Overlapping, PreparedLinear, Search, Span,
-};
+use literal_search::{BuildError, Match, MatchKind, Overlapping, Search, Span};
 use std::alloc::{AllocError, Global};
 use std::process::Abort;
 
@@ -68,7 +66,7 @@ fn list(search: &Search, call: usize) -> Result<Vec<Match>, AllocError> {
     match call {
         0 => search.find_all(haystack),
         1 => search.find_all_in(haystack, Span { start: 1, end: 7 }),
-        _ => search.find_all_counted(haystack, &mut Tally::new()),
+        _ => search.find_all_in_counted(haystack, Span { start: 1, end: 7 }, &mut Tally::new()),
     }
 }
 
@@ -86,6 +84,40 @@ fn find_all_of_a_search(rt: HostRuntime) -> Result<(), AllocError> {
         assert_place(&rt, all.first().copied(), 1, (2, 5));
         assert!(rt; all.len() == 2);
     }
+    Ok(())
+}
+
+/// One byte more than those of a block.
+static LONG: [u8; 1_025] = [b'a'; 1_025];
+
+/// The search for so many bytes.
+fn build_long(alloc: Global) -> Result<Search, BuildError> {
+    Search::new(alloc, MatchKind::LeftmostFirst, false, [LONG.as_slice()])
+}
+
+/// The list of nothing, which takes memory if a pattern has more bytes than a block, and else none.
+fn list_nothing(search: &Search) -> Result<Vec<Match>, AllocError> {
+    search.find_all(b"qq")
+}
+
+#[test]
+fn find_all_of_a_long_pattern(rt: HostRuntime) -> Result<(), AllocError> {
+    let built = build_long(rt.alloc()).or(Err(AllocError));
+    let search = built?;
+    let none = match list_nothing(&search) {
+        Ok(none) => none,
+        Err(_) => list_nothing(&search).expect(&rt, "it was refused again"),
+    };
+    assert!(rt; none.is_empty());
+    Ok(())
+}
+
+#[test]
+fn find_all_of_nothing(rt: HostRuntime) -> Result<(), AllocError> {
+    let built = build(rt.alloc(), false, true).or(Err(AllocError));
+    let search = built?;
+    let none = list_nothing(&search).expect(&rt, "it takes no memory");
+    assert!(rt; none.is_empty());
     Ok(())
 }
 
@@ -113,102 +145,6 @@ fn new_of_overlapping(rt: HostRuntime) {
         }
     };
     assert_overlaps(&rt, &search);
-}
-
-/// A search for all matches of patterns, of which one is a front of another.
-fn build_linear(alloc: Global) -> Result<Linear, BuildError> {
-    let words = [b"ab".as_slice(), b"a", b"b"];
-    Linear::new(alloc, MatchKind::LeftmostFirst, true, words)
-}
-
-/// It finds nothing, for which it takes no memory.
-fn assert_finds_nothing(rt: &impl Abort, search: &Linear) {
-    let none = search.find_all(b"qq").expect(rt, "it takes no memory");
-    assert!(rt; none.is_empty() && search.patterns_len() == 3);
-}
-
-#[test]
-fn new_of_linear(rt: HostRuntime) {
-    let search = match build_linear(rt.alloc()) {
-        Ok(search) => search,
-        Err(error) => {
-            assert!(rt; error == BuildError::OutOfMemory);
-            build_linear(rt.alloc()).expect(&rt, "it was refused again")
-        }
-    };
-    assert_finds_nothing(&rt, &search);
-}
-
-/// Two matches, by the call of this number that lists them.
-fn list_by_linear(search: &Linear, call: usize) -> Result<Vec<Match>, AllocError> {
-    let (haystack, span) = (b"qqABqb", Span { start: 1, end: 6 });
-    match call {
-        0 => search.find_all(haystack),
-        1 => search.find_all_in(haystack, span),
-        _ => search.find_all_in_counted(haystack, span, &mut Tally::new()),
-    }
-}
-
-#[test]
-fn find_all_of_linear(rt: HostRuntime) -> Result<(), AllocError> {
-    let search = build_linear(rt.alloc()).or(Err(AllocError))?;
-    for call in 0..3 {
-        let all = match list_by_linear(&search, call) {
-            Ok(all) => all,
-            Err(_) => {
-                assert_finds_nothing(&rt, &search);
-                list_by_linear(&search, call).expect(&rt, "it was refused again")
-            }
-        };
-        assert_place(&rt, all.first().copied(), 0, (2, 4));
-        assert!(rt; all.len() == 2);
-    }
-    Ok(())
-}
-
-/// The matches of four bytes, one after another.
-fn iterate(alloc: Global, search: &Linear) -> Result<Vec<Match>, AllocError> {
-    let matches = search.find_iter_in(b"ABqb", Span { start: 0, end: 4 })?;
-    matches.collect(alloc)
-}
-
-#[test]
-fn find_iter_of_linear(rt: HostRuntime) -> Result<(), AllocError> {
-    let built = build_linear(rt.alloc()).or(Err(AllocError));
-    let search = built?;
-    let all = match iterate(rt.alloc(), &search) {
-        Ok(all) => all,
-        Err(_) => {
-            assert_finds_nothing(&rt, &search);
-            iterate(rt.alloc(), &search).expect(&rt, "it was refused again")
-        }
-    };
-    assert_place(&rt, all.first().copied(), 0, (0, 2));
-    assert!(rt; all.len() == 2);
-    Ok(())
-}
-
-/// The first of them by an array that is prepared.
-fn first_by(alloc: Global, array: &[u32]) -> Result<Option<Match>, AllocError> {
-    let prepared = PreparedLinear::new(array).or(Err(AllocError))?;
-    let mut matches = prepared.find_iter_in(alloc, b"ABqb", Span { start: 0, end: 4 })?;
-    matches.next_match().or(Err(AllocError))
-}
-
-#[test]
-fn find_iter_of_prepared_linear(rt: HostRuntime) -> Result<(), AllocError> {
-    let built = build_linear(rt.alloc()).or(Err(AllocError));
-    let (search, mut array) = (built?, [0; 1024]);
-    assert!(rt; search.prepare(&mut array).is_ok());
-    let first = match first_by(rt.alloc(), &array) {
-        Ok(first) => first,
-        Err(_) => {
-            assert_finds_nothing(&rt, &search);
-            first_by(rt.alloc(), &array).expect(&rt, "it was refused again")
-        }
-    };
-    assert_place(&rt, first, 0, (0, 2));
-    Ok(())
 }
 
 /// How many matches there are in what a reader gives.

@@ -3,8 +3,8 @@ use crate::case::Case;
 use crate::refusal::Refusal;
 use crate::told::push_also;
 use crate::{
-    classes, identifiers, linear, numbers, overlapping, packed_search, pattern_lists, prefilters,
-    searches, spans, tables,
+    classes, identifiers, numbers, overlapping, packed_search, pattern_lists, prefilters, searches,
+    spans, tables,
 };
 use std::alloc::{AllocError, Global};
 
@@ -54,8 +54,7 @@ fn answer_of_kinds(text: &mut String, alloc: Global, case: Case<'_>) -> Result<(
 fn answer(text: &mut String, alloc: Global, case: &Case<'_>) -> Result<(), Refusal> {
     match case.call() {
         "find_in" | "find_iter" | "builder" => packed_search::packed(text, alloc, case),
-        "search" | "search_in" => searches::search(text, alloc, case),
-        "linear" | "linear_in" => linear::linear(text, alloc, case),
+        "search" | "search_in" | "search_all_in" => searches::search(text, alloc, case),
         "overlapping" | "overlapping_in" | "earliest_end" => overlapping::overlapping(
             text, alloc, case,
         ),

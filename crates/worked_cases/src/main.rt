@@ -27,7 +27,6 @@ mod bytes;
 mod case;
 mod classes;
 mod identifiers;
-mod linear;
 mod numbers;
 mod overlapping;
 mod packed_search;

@@ -45,7 +45,7 @@ fn search_for(alloc: Global, case: &Case<'_>) -> Result<Option<Search>, Refusal>
     build(alloc, &query)
 }
 
-/// All matches, by all calls of a `Search`, or the leftmost one in a span.
+/// All matches, by all calls of a `Search`, or in a span the leftmost one or all.
 pub fn search(text: &mut String, alloc: Global, case: &Case<'_>) -> Result<(), Refusal> {
     match search_for(alloc, case)? {
         Some(search) => push_answer(text, alloc, case, &search),
@@ -63,7 +63,8 @@ fn push_answer(
     let asked = case.text(alloc)?;
     match case.call() {
         "search" => push_matches(text, alloc, asked.haystack.as_slice(), search)?,
-        _ => push_leftmost(text, &asked, search)?,
+        "search_in" => push_leftmost(text, &asked, search)?,
+        _ => push_all_in(text, alloc, &asked, search)?,
     }
     Ok(())
 }
@@ -89,6 +90,21 @@ fn push_matches(
 /// Writes the leftmost match in a span.
 fn push_leftmost(text: &mut String, asked: &Text, search: &Search) -> Result<(), AllocError> {
     push_found(text, search.find_in(asked.haystack.as_slice(), asked.span))
+}
+
+/// Writes all matches in a span, by a list and one after another.
+fn push_all_in(
+    text: &mut String,
+    alloc: Global,
+    asked: &Text,
+    search: &Search,
+) -> Result<(), AllocError> {
+    let haystack = asked.haystack.as_slice();
+    let all = search.find_all_in(haystack, asked.span)?;
+    let given = search
+        .find_iter_in(haystack, asked.span)
+        .collect::<Vec<Match>>(alloc)?;
+    push_lists(text, all.as_slice(), given.as_slice())
 }
 
 /// The confirming search for the patterns.

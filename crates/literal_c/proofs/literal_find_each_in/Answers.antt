@@ -14,7 +14,7 @@ answer_each-requires c = omega (
 
 pub returns-in-Err-clause-status : goal.returns-in-Err-clause-status
 returns-in-Err-clause-status c =
-    damaged _ (λ P. ForPrepared c.args.prepared.now (λ _ _. P)) _ _
+    damaged _ (λ P. ForPrepared c.args.prepared.now (λ _. P)) _ _
     (c.are_ends.ensures.0 c.if-not-are_ends.false, c.if-answers-haystack_ends.false)
-    (λ query ignore_case is _. c.in-Err.ensures.answers query ignore_case
-    (subst (IsPrepared query ignore_case) (sym c.in-Ok.ensures.0) is))
+    (λ search is _. c.in-Err.ensures.answers search.query search.ignore_case
+    (subst (IsPrepared search) (sym c.in-Ok.ensures.0) is))

@@ -7,9 +7,9 @@ use Rattle.literal_c.proofs.literal_find_so_far_in.Goals as goal
 
 pub returns-in-Err-clause-status : goal.returns-in-Err-clause-status
 returns-in-Err-clause-status c =
-    damaged _ (λ P. ForPrepared c.args.prepared.now (λ _ _. P)) _ _ (omega (arith, c.if-start-haystack.false))
-    (λ query ignore_case is _. c.in-Err.ensures.prepared query ignore_case
-    (subst (IsPrepared query ignore_case) (sym c.in-Ok.ensures.0) is) [] (may_be_all c.args.more))
+    damaged _ (λ P. ForPrepared c.args.prepared.now (λ _. P)) _ _ (omega (arith, c.if-start-haystack.false))
+    (λ search is _. c.in-Err.ensures.prepared search
+    (subst (IsPrepared search) (sym c.in-Ok.ensures.0) is) [] (may_be_all c.args.more))
 
 pub returns-in-Ok-find_so_far-clause-told : goal.returns-in-Ok-find_so_far-clause-told
 returns-in-Ok-find_so_far-clause-told c _ =
@@ -22,7 +22,7 @@ returns-in-Ok-find_so_far-clause-told c _ =
           (sym (crosses answer c.tell_so_far.result c.tell_so_far.new.found c.tell_so_far.new.next told)) told,
       subst (λ (numbers : List ℕ). IsRight numbers c.args.haystack.now c.args.start c.args.more answer) array
           (record {
-            prepared = λ query ignore_case is behind may. known.prepared query ignore_case is behind may;
+            prepared = λ search is behind may. known.prepared search is behind may;
             told = known.told;
             inside = known.inside;
           }),

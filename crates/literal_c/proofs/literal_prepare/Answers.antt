@@ -1,4 +1,7 @@
-use Rattle.std.proofs.Common.{inl, refl}
+use Rattle.std.proofs.Common.{inl, refl, subst}
+use Rattle.literal_search.specs.Prepared.{RefusesToPrepare}
+use Rattle.literal_search.specs.SearchValue.{SearchValue}
+use Rattle.literal_c.specs.Arguments.{argument_search}
 use Rattle.literal_c.proofs.literal_prepare.Goals as goal
 
 pub returns-in-Ok-prepare-clause-status : goal.returns-in-Ok-prepare-clause-status
@@ -9,3 +12,8 @@ returns-in-Ok-prepare-clause-status c = inl (record {
   out_of_memory = λ is. absurd (cc);
   too_large = λ is. absurd (cc);
 })
+
+pub returns-clause-too_short : goal.returns-clause-too_short
+returns-clause-too_short c = λ _.
+    subst (λ (s : SearchValue). RefusesToPrepare s c.args.prepared.now c.in-Err-prepare.error)
+    c.in-Ok.ensures.2 c.in-Err-prepare.ensures.error

@@ -1,7 +1,6 @@
 use Rattle.std.proofs.Common.{inl, refl, subst}
 use Rattle.literal_search.specs.Overlapping.{OverlappingValue}
 use Rattle.literal_search.specs.PreparedOverlapping.{RefusesOverlapping}
-use Rattle.literal_search.specs.declared.prepared.PrepareError.{PrepareError}
 use Rattle.literal_c.specs.Overlapping.{overlapping_for}
 use Rattle.literal_c.specs.Pieces.{pieces}
 use Rattle.literal_c.proofs.literal_prepare_overlapping.Goals as goal
@@ -15,10 +14,7 @@ returns-in-Ok-prepare-clause-status c = inl (record {
   out_of_memory = λ is. absurd (cc);
 })
 
-pub returns-in-Err-ArrayTooShort-clause-too_short : goal.returns-in-Err-ArrayTooShort-clause-too_short
-returns-in-Err-ArrayTooShort-clause-too_short c = λ _.
-    subst (λ (e : PrepareError). RefusesOverlapping
-    (overlapping_for (pieces c.args.patterns.now 0 c.args.ends.now) c.args.ignore_case) c.args.prepared.now e)
-    c.in-Err-ArrayTooShort.field-0-is
-    (subst (λ (s : OverlappingValue). RefusesOverlapping s c.args.prepared.now c.in-Err-ArrayTooShort.field-0)
-    c.in-Ok.ensures.2 c.in-Err-ArrayTooShort.ensures.error)
+pub returns-clause-too_short : goal.returns-clause-too_short
+returns-clause-too_short c = λ _.
+    subst (λ (s : OverlappingValue). RefusesOverlapping s c.args.prepared.now c.in-Err-prepare.error)
+    c.in-Ok.ensures.2 c.in-Err-prepare.ensures.error

@@ -34,7 +34,7 @@ fn searches_for_any_list(rt: HostRuntime) -> Result<(), Fail> {
     let apple = Match::must(0, Span { start: 28, end: 33 });
     assert!(rt; any.searched.found == Some(apple) && any.occurring.earliest == Some(31));
     assert!(rt; any.by_array == Ok(Some(Match::must(0, Span { start: 28, end: 33 }))));
-    assert!(rt; any.searched.all.len() == 3 && any.linear.len() == 3);
+    assert!(rt; any.searched.all.len() == 3 && any.searched.list.len() == 3);
     assert!(rt; any.occurring.all.len() == 5);
     Ok(())
 }

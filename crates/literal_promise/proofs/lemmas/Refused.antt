@@ -1,5 +1,5 @@
 -- Why there is no search for a list that is given as a slice.
--- For `search_for`, `all_that_occurs` and `list`.
+-- For `search_for`, `all_that_occurs` and `search`.
 use Rattle.std.proofs.Common.{◌≡◌, ◌<◌, ℕ, Bool, List, [], ◌∷◌, length, take, Option}
 use Rattle.std.proofs.Common.{Result, Ok, Err, IfErr}
 use Rattle.std.proofs.Common.{sym, ap, ◌∙◌, arith, subst, inl, inr}
@@ -8,7 +8,7 @@ use Rattle.std.specs.Result.{IsErrAnd}
 use Rattle.literal_base.specs.Occurs.{NoneIsEmpty, NothingOccurs, pattern_at}
 use Rattle.literal_base.specs.declared.search.Span.{Span}
 use Rattle.literal_base.proofs.lemmas.Callers.{GivesList}
-use Rattle.literal_search.specs.SearchValue.{RefusesSearch}
+use Rattle.literal_search.specs.SearchValue.{MayRefuseList, RefusesSearch, SearchValue, longest_of}
 use Rattle.literal_search.proofs.lemmas.Callers.{GivesBytes, all_given, list_gives_bytes, next_given}
 use Rattle.literal_search.specs.declared.BuildError.{BuildError}
 use Rattle.literal_search.specs.declared.BuildError.TheVariants.{EmptyPattern, OutOfMemory, TooManyPatterns}
@@ -66,3 +66,14 @@ pub some_if_occurs : (patterns : List (List ℕ)) (ignore_case : Bool) (haystack
     → ¬ NothingOccurs patterns ignore_case haystack span → 0 < length patterns
 some_if_occurs [] ignore_case haystack span not = absurd (not (λ i at occurs. omega (arith, occurs.is_pattern)))
 some_if_occurs (bytes ∷ more) ignore_case haystack span not = omega arith
+
+-- so is one that is longer than so many bytes
+some_if_longer : (n : ℕ) (patterns : List (List ℕ)) → n < longest_of patterns → 0 < length patterns
+some_if_longer n [] longer = absurd (omega arith)
+some_if_longer n (bytes ∷ more) longer = omega arith
+
+-- memory for a list is refused only where there is a pattern
+pub some_if_refused : (search : SearchValue) (haystack : List ℕ) (span : Span) → MayRefuseList search haystack span
+    → 0 < length search.query.patterns
+some_if_refused search haystack span (inl occurs) = some_if_occurs _ _ _ _ occurs
+some_if_refused search haystack span (inr long) = some_if_longer _ search.query.patterns long

@@ -1,4 +1,4 @@
--- The tables of a search from the right, in a `Linear` and in an array that is lent.
+-- The tables of a search from the right, in a `Search` and in an array that is lent.
 use Rattle.std.proofs.Common.{◌≡◌, ◌∙◌, ◌+◌, ◌++◌, ◌∷◌, ◌≤◌, ◌^◌, ℕ, List, [], ap, append-nil, append_assoc, arith}
 use Rattle.std.proofs.Common.{length, refl, subst, sym}
 use Rattle.std.specs.List.{slice_range}
@@ -10,18 +10,18 @@ use Rattle.std.proofs.Common.{◌*◌, get_or, inl, inr, map}
 use Rattle.literal_base.specs.Occurs.{pattern_at}
 use Rattle.literal_search.specs.Inside.Classes.{symbols_in}
 use Rattle.literal_search.specs.Inside.Rows.{packed_classes}
-use Rattle.literal_search.specs.Inside.Linear.{AreKept}
+use Rattle.literal_search.specs.Inside.Search.{AreKept}
 use Rattle.literal_search.specs.Inside.Prepared.{checked, numbers_for}
-use Rattle.literal_search.specs.Linear.{reversed}
+use Rattle.literal_search.specs.SearchValue.{reversed}
 use Rattle.literal_search.specs.Prepared.{AreShort, classes_end, classes_in, rows_at, rows_end, rows_in}
 use Rattle.literal_search.specs.SearchValue.{longest_of, width_for}
 use Rattle.literal_search.specs.Table.{stride_of}
-use Rattle.literal_search.specs.PreparedLinear.{AreBackTables, BackTables, IsPreparedLinear, back_tables_in}
-use Rattle.literal_search.specs.PreparedLinear.{ArePrints, TakesLinearPlaces, best_end, best_in, linear_len, prints_in}
-use Rattle.literal_search.specs.PreparedLinear.{texts_back}
+use Rattle.literal_search.specs.Prepared.{AreBackTables, BackTables, IsPrepared, back_tables_in}
+use Rattle.literal_search.specs.Prepared.{ArePrints, TakesPlaces, best_end, best_in, prepared_len, prints_in}
+use Rattle.literal_search.specs.Prepared.{texts_back}
 use Rattle.literal_search.specs.SearchValue.{SearchValue}
 use Rattle.literal_search.specs.States.{HasTooManyStates, IsRowsLength}
-use Rattle.literal_search.specs.declared.prepared.TheConstants.{FINGERPRINTS_LEN, LINEAR_VERSION}
+use Rattle.literal_search.specs.declared.prepared.TheConstants.{FINGERPRINTS_LEN, PREPARED_VERSION}
 use Rattle.literal_search.proofs.lemmas.Numbers.{check_written, classes_written, ends_written, lengths_written}
 use Rattle.literal_search.proofs.lemmas.Numbers.{starts_written}
 use Rattle.literal_search.proofs.lemmas.Numbers.{numbers_long, rows_written}
@@ -75,32 +75,32 @@ both_behind version width classes rows one two patterns =
 
 -- what is written for tables is prepared for their search, with fingerprints
 module _ (t : BackTables) (are : AreBackTables t) (prints : List ℕ) (long : length prints ≡ FINGERPRINTS_LEN)
-    (pass : ArePrints t.search prints)
+    (pass : ArePrints t.search.query.patterns t.search.ignore_case prints)
   where
     abbrev pub all_of : List ℕ
-    all_of = numbers_for LINEAR_VERSION t.classes t.width t.search.query.patterns t.rows t.best prints
+    all_of = numbers_for PREPARED_VERSION t.classes t.width t.search.query.patterns t.rows t.best prints
 
     size : length all_of ≡ 6 + length t.search.query.patterns + length t.rows + 256 + length t.best + length prints
-    size = numbers_long LINEAR_VERSION t.classes t.width t.search.query.patterns t.rows t.best prints
+    size = numbers_long PREPARED_VERSION t.classes t.width t.search.query.patterns t.rows t.best prints
 
     best_are : best_in all_of ≡ t.best
     best_are =
         let to : best_end all_of ≡ classes_end all_of + length t.best = omega (arith, are.best.long) in
         ap (slice_range all_of (classes_end all_of)) to
-        ∙ starts_written LINEAR_VERSION t.classes t.width t.search.query.patterns t.rows t.best prints
+        ∙ starts_written PREPARED_VERSION t.classes t.width t.search.query.patterns t.rows t.best prints
 
     prints_are : prints_in all_of ≡ prints
     prints_are =
         let from : best_end all_of ≡ classes_end all_of + length t.best = omega (arith, are.best.long) in
-        let to : linear_len all_of ≡ classes_end all_of + length t.best + length prints =
+        let to : prepared_len all_of ≡ classes_end all_of + length t.best + length prints =
         omega (arith, are.best.long, long) in
-        ap (λ k. slice_range all_of k (linear_len all_of)) from
+        ap (λ k. slice_range all_of k (prepared_len all_of)) from
         ∙ (ap (slice_range all_of (classes_end all_of + length t.best)) to
-        ∙ ends_written LINEAR_VERSION t.classes t.width t.search.query.patterns t.rows t.best prints)
+        ∙ ends_written PREPARED_VERSION t.classes t.width t.search.query.patterns t.rows t.best prints)
 
-    pub prepared_all : IsPreparedLinear t.search all_of
+    pub prepared_all : IsPrepared t.search all_of
     prepared_all =
-        let classes = classes_written LINEAR_VERSION t.classes t.width t.search.query.patterns t.rows t.best
+        let classes = classes_written PREPARED_VERSION t.classes t.width t.search.query.patterns t.rows t.best
         prints are.classes in
         let table = rows_are_table Standard (texts_back t) t.width t.rows are.recognises in
         record {
@@ -110,25 +110,25 @@ module _ (t : BackTables) (are : AreBackTables t) (prints : List ℕ) (long : le
               fits = omega (arith, size, are.best.long, long);
               row = omega (arith, table.some.fits);
             };
-            check = check_written LINEAR_VERSION t.classes t.width t.search.query.patterns t.rows t.best prints
-                (linear_len all_of) (omega (arith, size, are.best.long, long));
+            check = check_written PREPARED_VERSION t.classes t.width t.search.query.patterns t.rows t.best prints
+                (prepared_len all_of) (omega (arith, size, are.best.long, long));
           };
           tables = subst (λ (b : BackTables). AreBackTables b) (same_tables t.search t.classes _ t.width _ t.rows _
               t.best _ t.longest _ (sym classes) refl
-              (sym (rows_written LINEAR_VERSION t.classes t.width t.search.query.patterns t.rows t.best prints))
+              (sym (rows_written PREPARED_VERSION t.classes t.width t.search.query.patterns t.rows t.best prints))
               (sym best_are) are.longest) are;
-          lengths = lengths_written LINEAR_VERSION t.classes t.width t.search.query.patterns t.rows t.best
+          lengths = lengths_written PREPARED_VERSION t.classes t.width t.search.query.patterns t.rows t.best
               prints;
-          prints = subst (ArePrints t.search) (sym prints_are) pass;
+          prints = subst (ArePrints t.search.query.patterns t.search.ignore_case) (sym prints_are) pass;
         }
 
-    -- they are what a `Linear` keeps
+    -- they are what a `Search` keeps
     pub kept_all : t.width ≡ width_for t.search.ignore_case t.search.query.patterns
         → IsRowsLength Standard (texts_back t) t.width (length t.rows) → AreKept t.search all_of
     kept_all width rows =
-        let classes = classes_written LINEAR_VERSION t.classes t.width t.search.query.patterns t.rows t.best
+        let classes = classes_written PREPARED_VERSION t.classes t.width t.search.query.patterns t.rows t.best
         prints are.classes in
-        let rows_are = rows_written LINEAR_VERSION t.classes t.width t.search.query.patterns t.rows t.best
+        let rows_are = rows_written PREPARED_VERSION t.classes t.width t.search.query.patterns t.rows t.best
         prints in
         record {
           prepared = prepared_all;
@@ -152,8 +152,8 @@ module _ {search : SearchValue} {numbers : List ℕ} (kept : AreKept search numb
       omega (arith, kept.long, places, lengths, many)
 
   -- and so many places are enough for them
-  pub takes_kept : TakesLinearPlaces search (length numbers)
-  unfolding TakesLinearPlaces
+  pub takes_kept : TakesPlaces search (length numbers)
+  unfolding TakesPlaces
   takes_kept = (
     classes_in numbers,
     subst (AreClasses (classes_in numbers)) kept.width kept.prepared.tables.classes,
@@ -173,6 +173,23 @@ short_by classes width patterns few i d below =
     let texts = reversed (map (symbols_in classes) patterns) in
     let count = back_count (map (symbols_in classes) patterns) ∙ length-map patterns (symbols_in classes) in
     let long = back_long (map (symbols_in classes) patterns) i ∙ symbols_length classes patterns i in
+    let read = ap (λ (l : List ℕ). length l) (get_or_default patterns i d [] below) in
+    elim (cases_lt (length (get_or patterns i [])) (2 ^ 32)) [
+      | inl small ↦ omega (arith, small, read)
+      | inr large ↦
+          let n = length (pattern_at texts i) + 1 in
+          let most : n ≤ n * stride_of width = grind arith in
+          absurd (few (too_many_prefixes Standard texts i (omega (arith, count, below))
+          (λ is. let never : ⊥ = cc in absurd never) width (omega (arith, large, long, most))))
+    ]
+
+-- and so are those whose texts, as they are, have few
+pub short_forward : (classes : List ℕ) (width : ℕ) (patterns : List (List ℕ))
+    → ¬ HasTooManyStates Standard (map (symbols_in classes) patterns) width → AreShort patterns
+short_forward classes width patterns few i d below =
+    let texts = map (symbols_in classes) patterns in
+    let count = length-map patterns (symbols_in classes) in
+    let long = symbols_length classes patterns i in
     let read = ap (λ (l : List ℕ). length l) (get_or_default patterns i d [] below) in
     elim (cases_lt (length (get_or patterns i [])) (2 ^ 32)) [
       | inl small ↦ omega (arith, small, read)

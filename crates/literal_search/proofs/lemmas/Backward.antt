@@ -21,8 +21,8 @@ use Rattle.literal_search.specs.Inside.Suffixes.{IsSuffix}
 use Rattle.literal_search.specs.Inside.Backward.{AreBackFor, BeginsBest, IsMark, IsRead, StandsDown, back_tables_by}
 use Rattle.literal_search.specs.Inside.Backward.{best_by, named_by}
 use Rattle.literal_search.specs.Inside.Walk.{IsAt, text_of}
-use Rattle.literal_search.specs.Linear.{reversed}
-use Rattle.literal_search.specs.PreparedLinear.{AreBackTables, BackTables, texts_back}
+use Rattle.literal_search.specs.SearchValue.{reversed}
+use Rattle.literal_search.specs.Prepared.{AreBackTables, BackTables, texts_back}
 use Rattle.literal_search.specs.SearchValue.{SearchValue}
 use Rattle.literal_search.specs.Table.{Recognises, nothing}
 use Rattle.literal_search.specs.Words.{ending}
@@ -66,7 +66,7 @@ some_back texts some i d below =
     omega (arith, long, ap (λ (l : List ℕ). length l) read, length-reverse (get_or texts i []))
 
 -- the texts of reversed patterns
-map_reversed : (classes : List ℕ) (patterns : List (List ℕ))
+pub map_reversed : (classes : List ℕ) (patterns : List (List ℕ))
     → map (symbols_in classes) (reversed patterns) ≡ reversed (map (symbols_in classes) patterns)
 map_reversed classes [] = refl
 map_reversed classes (bytes ∷ more) =

@@ -6,9 +6,6 @@ use Rattle.std.specs.Borrow.{Bor}
 use Rattle.std.specs.Global.{Global}
 use Rattle.std.specs.Result.{IsErrAnd}
 use Rattle.std.specs.declared.vec.Vec.{Vec}
-use Rattle.literal_base.specs.declared.packed.MatchKind as packed
-use Rattle.literal_base.specs.declared.search.MatchKind.{MatchKind}
-use Rattle.literal_base.specs.Kinds.{root_kind_of}
 use Rattle.literal_search.specs.SearchValue.{GivesAll, HoldsInClasses, RefusesSearch, width_for}
 use Rattle.literal_search.specs.Inside.Classes.{AreClasses, Tells, symbols_in}
 use Rattle.literal_search.specs.Inside.Search.{IsErrorOf}
@@ -24,15 +21,6 @@ pub same_texts : (classes : List ℕ) (lent patterns : List (Vec ℕ Global)) �
 same_texts classes lent patterns same =
     ap (map (λ (pattern : Vec ℕ Global). symbols_in classes pattern.items)) same
     ∙ sym (map-map (symbols_in classes) (λ (pattern : Vec ℕ Global). pattern.items) patterns)
-
--- so what holds of these holds of those
-pub holds_of : (P : MatchKind → List (List ℕ) → Type 0) (kind : packed.MatchKind) (root : MatchKind) (classes : List ℕ)
-    (lent patterns : List (Vec ℕ Global)) → root ≡ root_kind_of kind → lent ≡ patterns
-    → P root (map (λ (pattern : Vec ℕ Global). symbols_in classes pattern.items) lent)
-    → P (root_kind_of kind) (map (symbols_in classes) (map (λ (pattern : Vec ℕ Global). pattern.items) patterns))
-holds_of P kind root classes lent patterns kind_is same holds =
-    subst (λ k. P k (map (symbols_in classes) (map (λ (pattern : Vec ℕ Global). pattern.items) patterns))) kind_is
-    (subst (P root) (same_texts classes lent patterns same) holds)
 
 -- what holds in the classes that were made for the patterns that were lent
 pub holds_in : (P : List (List ℕ) → ℕ → Type 0) (ignore_case : Bool) (classes : List ℕ) (width : ℕ)

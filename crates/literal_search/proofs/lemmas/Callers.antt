@@ -19,15 +19,14 @@ use Rattle.std.proofs.lemmas.Iterator.Consumers.{YieldsList-so_far, YieldsList-t
 use Rattle.std.proofs.lemmas.List.{get_or_default, length-map}
 use denote.Param.Members.{Mut}
 use Rattle.literal_base.specs.declared.packed.MatchKind.{MatchKind}
-use Rattle.literal_base.specs.declared.search.MatchKind as search
 use Rattle.literal_base.specs.declared.search.MatchKind.TheVariants.{Standard}
-use Rattle.literal_base.specs.Greedy.{IsGreedy}
+use Rattle.literal_base.specs.Greedy.{IsGreedy, IsGreedyIn}
 use Rattle.literal_base.specs.MatchValue.{MatchValue}
-use Rattle.literal_base.specs.Occurs.{pattern_at}
+use Rattle.literal_base.specs.Occurs.{between, pattern_at, whole_of}
 use Rattle.literal_base.proofs.lemmas.Callers.{GivesList}
 use Rattle.literal_search.specs.SearchValue.{BuildsSearch, SearchValue, GivesAll, GivesNext, NeedTooManyStates}
 use Rattle.literal_search.specs.SearchValue.{search_by}
-use Rattle.literal_search.specs.Linear.{NeedTooManyReversed}
+use Rattle.literal_search.specs.SearchValue.{NeedTooManyReversed}
 use Rattle.literal_search.specs.MatchesValue.{GivesMatch, MatchesValue}
 use Rattle.literal_search.specs.Overlapping.{BuildsOverlapping, OverlappingValue}
 use Rattle.literal_search.specs.Replaced.{IsReplaced, IsWritten, WritesMatch, WritingValue, replaced}
@@ -125,37 +124,44 @@ module _ {U T : Type 0} {becomes : U → T → Type 0} {steps : T → Option (Bo
 
 -- what an iteration gave, and behind it the greedy list of what is left, is the greedy list from where it stood
 pub greedy_behind : (m : MatchesValue) (all more : List MatchValue) (n : MatchesValue) → Yields GivesMatch m all n
-    → IsGreedy n.search.query n.search.ignore_case n.haystack n.at more
-    → IsGreedy m.search.query m.search.ignore_case m.haystack m.at (all ++ more)
+    → IsGreedyIn n.search.query n.search.ignore_case n.haystack (between n.at n.span.end) more
+    → IsGreedyIn m.search.query m.search.ignore_case m.haystack (between m.at m.span.end) (all ++ more)
 greedy_behind m [] more n stays greedy =
-    subst (λ (it : MatchesValue). IsGreedy it.search.query it.search.ignore_case it.haystack it.at more) (sym stays)
-    greedy
+    subst (λ (it : MatchesValue). IsGreedyIn it.search.query it.search.ignore_case it.haystack
+    (between it.at it.span.end) more) (sym stays) greedy
 greedy_behind m (found ∷ rest) more n run greedy = (
   run.1.leftmost,
-  subst (λ (it : MatchesValue). IsGreedy it.search.query it.search.ignore_case it.haystack it.at (rest ++ more))
+  subst (λ (it : MatchesValue). IsGreedyIn it.search.query it.search.ignore_case it.haystack
+      (between it.at it.span.end) (rest ++ more))
       run.1.goes_on (greedy_behind run.0 rest more n run.2 greedy),
 )
 
 -- so what it gives up to its end is the greedy list
 pub greedy_from_yields : (m : MatchesValue) (all : List MatchValue) (n o : MatchesValue) → Yields GivesMatch m all n
-    → GivesMatch n None o → IsGreedy m.search.query m.search.ignore_case m.haystack m.at all
+    → GivesMatch n None o
+    → IsGreedyIn m.search.query m.search.ignore_case m.haystack (between m.at m.span.end) all
 greedy_from_yields m all n o run nothing =
-    subst (IsGreedy m.search.query m.search.ignore_case m.haystack m.at) (append-nil all)
+    subst (IsGreedyIn m.search.query m.search.ignore_case m.haystack (between m.at m.span.end)) (append-nil all)
     (greedy_behind m all [] n run nothing.leftmost)
 
--- the same of one that began at the start of a haystack
+-- an iteration that began at the start of a haystack
+abbrev pub matches_of : SearchValue → List ℕ → MatchesValue
+matches_of searched haystack =
+    record { search = searched; haystack = haystack; span = whole_of haystack; at = 0; known = 0 }
+
+-- the same of such a one
 pub greedy_from_matches : (searched : SearchValue) (haystack : List ℕ) (m : MatchesValue) (all : List MatchValue)
-    (n o : MatchesValue) → m ≡ record { search = searched; haystack = haystack; at = 0 } → Yields GivesMatch m all n
+    (n o : MatchesValue) → m ≡ matches_of searched haystack → Yields GivesMatch m all n
     → GivesMatch n None o → IsGreedy searched.query searched.ignore_case haystack 0 all
 greedy_from_matches searched haystack m all n o start run nothing =
-    subst (λ (it : MatchesValue). IsGreedy it.search.query it.search.ignore_case it.haystack it.at all) start
-    (greedy_from_yields m all n o run nothing)
+    subst (λ (it : MatchesValue). IsGreedyIn it.search.query it.search.ignore_case it.haystack
+    (between it.at it.span.end) all) start (greedy_from_yields m all n o run nothing)
 
 -- where there is no pattern the states are not too many
-pub none_need_few : (kind : search.MatchKind) (ignore_case : Bool) → ¬ NeedTooManyStates kind ignore_case []
+pub none_need_few : (ignore_case : Bool) → ¬ NeedTooManyStates ignore_case []
 unfolding NeedTooManyStates
-none_need_few kind ignore_case (classes, are, tells, many) =
-    none_few kind (subst (HasTooManyStates kind []) (one_class ignore_case) many)
+none_need_few ignore_case (classes, are, tells, many) =
+    none_few Standard (subst (HasTooManyStates Standard []) (one_class ignore_case) many)
 
 -- nor are those of the reversed patterns
 pub none_need_few_reversed : (ignore_case : Bool) → ¬ NeedTooManyReversed ignore_case []

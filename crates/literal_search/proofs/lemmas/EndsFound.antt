@@ -1,6 +1,6 @@
 -- Patterns that end where a walk was told of an end, as occurrences in the haystack.
 use Rattle.std.proofs.Common.{◌≡◌, ℕ, ◌+◌, ◌-◌, ◌<◌, ◌≤◌, Bool, true, false, List, [], ◌∷◌, ◌++◌, length, get_or, map}
-use Rattle.std.proofs.Common.{Some, None, append-nil, drop, take, nat_eq, refl, sym, ap, ◌∙◌, arith}
+use Rattle.std.proofs.Common.{Some, append-nil, drop, take, nat_eq, refl, sym, ap, ◌∙◌, arith}
 use Rattle.std.proofs.Common.{inl, inr, length-append, zero, suc}
 use Rattle.std.proofs.Math.Seq.{drop-append_seam}
 use Rattle.std.proofs.lemmas.Bool.{cases_lt, cond-false, cond-true, false≢true}
@@ -9,23 +9,19 @@ use Rattle.std.proofs.lemmas.List.{drop-append-le, length-drop, length-map, take
 use Rattle.std.proofs.lemmas.List.Folds.{list_any_at}
 use Rattle.std.proofs.lemmas.Slice.Eq.{starts_is}
 use Rattle.std.specs.List.{starts_with}
-use Rattle.literal_base.specs.Kinds.{root_kind_of}
 use Rattle.literal_base.specs.Occurs.{IsValidSpan, NoneIsEmpty, NothingOccurs, Occurs, between, pattern_at}
-use Rattle.literal_base.specs.declared.packed.MatchKind.{MatchKind}
-use Rattle.literal_base.specs.declared.packed.MatchKind.TheVariants as leftmost
-use Rattle.literal_base.specs.declared.search.MatchKind as search
-use Rattle.literal_base.specs.declared.search.MatchKind.TheVariants.{LeftmostFirst, LeftmostLongest, Standard}
+use Rattle.literal_base.specs.declared.search.MatchKind.TheVariants.{Standard}
 use Rattle.literal_base.specs.declared.search.Span.{Span}
 use Rattle.literal_search.specs.Inside.Classes.{Tells, symbols_in}
 use Rattle.literal_search.specs.Inside.Suffixes.{IsSuffix}
-use Rattle.literal_search.specs.Inside.Walk.{NoneEnds, from_match, text_of}
-use Rattle.literal_search.specs.Words.{begins_one, ending, live_suffix}
+use Rattle.literal_search.specs.Inside.Walk.{NoneEnds, text_of}
+use Rattle.literal_search.specs.Words.{begins_one, live_suffix}
 use Rattle.literal_search.proofs.lemmas.Ends.{whole_if_long}
-use Rattle.literal_search.proofs.lemmas.Found.{nothing_found, occurs_where, some_symbols, stands_where}
+use Rattle.literal_search.proofs.lemmas.Found.{occurs_where, some_symbols, stands_where}
 use Rattle.literal_search.proofs.lemmas.Found.{symbols_length, text_long}
 use Rattle.literal_search.proofs.lemmas.Live.{stands_or_begins}
 use Rattle.literal_search.proofs.lemmas.Standard.{ends_length, none_ends}
-use Rattle.literal_search.proofs.lemmas.Walk.{found_push, text_halves, text_length, text_push}
+use Rattle.literal_search.proofs.lemmas.Walk.{text_halves, text_length}
 
 -- where the live suffix is empty no pattern begins with any of the suffixes
 nothing_begun : (patterns : List (List ℕ)) (text : List ℕ) → live_suffix Standard patterns text ≡ Some []
@@ -180,46 +176,13 @@ module _ (ignore_case : Bool) (classes : List ℕ) (patterns : List (List ℕ)) 
           ]
     ]
 
-    -- where a walk from the first state on was told of no end, no pattern stands in what it read
-    none_stands : (kind : MatchKind) → NoneEnds (root_kind_of kind) words [] classes haystack span.start span.end
-        → (n : ℕ) → span.start + n ≤ span.end
-        → from_match words (text_of classes haystack (between span.start (span.start + n))) ≡ []
-    none_stands kind none zero inside =
-        let same : span.start + 0 ≡ span.start = omega arith in
-        ap (λ e. from_match words (text_of classes haystack (between span.start e))) same
-        ∙ ap (from_match words) (nothing_read classes haystack span.start)
-    none_stands kind none (suc n) inside =
-        let at = span.start + n in
-        let next : at + 1 ≡ span.start + suc n = omega arith in
-        let all = valid.in_haystack in
-        let push = text_push classes haystack span.start at (omega arith) (omega arith) in
-        let symbol = get_or classes (get_or haystack at 0) 0 in
-        ap (λ e. from_match words (text_of classes haystack (between span.start e))) (sym next)
-        ∙ (ap (from_match words) push
-        ∙ found_push kind words (some_symbols classes patterns some) span.start
-        (text_of classes haystack (between span.start at)) symbol None
-        (ap (ending (root_kind_of kind) words) (sym push) ∙ none (at + 1) (omega arith) (omega arith))
-        (none_stands kind none n (omega arith)))
-
-    nothing_by_kind : (kind : MatchKind)
-        → NoneEnds (root_kind_of kind) words [] classes haystack span.start span.end
+    -- where a walk from the first state on was told of no end, nothing occurs
+    pub nothing_ends : NoneEnds Standard words [] classes haystack span.start span.end
         → NothingOccurs patterns ignore_case haystack span
-    nothing_by_kind kind none =
-        let ordered = valid.ordered in
-        let all : span.start + (span.end - span.start) ≡ span.end = omega arith in
-        nothing_found ignore_case classes patterns tells haystack bytes span valid some kind
-        (ap (λ e. from_match words (text_of classes haystack (between span.start e))) (sym all)
-        ∙ none_stands kind none (span.end - span.start) (omega arith))
-
-    -- and nothing occurs
-    pub nothing_ends : (kind : search.MatchKind) → NoneEnds kind words [] classes haystack span.start span.end
-        → NothingOccurs patterns ignore_case haystack span
-    nothing_ends Standard none = λ i at o.
+    nothing_ends none = λ i at o.
         let long = some i [] o.is_pattern in
         let last = o.before_end in
         let after = o.after_start in
         let end = at + length (pattern_at patterns i) in
         none_ends words (some_symbols classes patterns some) (text_of classes haystack (between span.start end))
         (none end (omega arith) (omega arith)) i (occurrence_ends span.start i at end after refl o)
-    nothing_ends LeftmostFirst none = nothing_by_kind leftmost.LeftmostFirst none
-    nothing_ends LeftmostLongest none = nothing_by_kind leftmost.LeftmostLongest none

@@ -1,8 +1,8 @@
 -- The best match in the classes of a span's bytes is the leftmost match in the span.
 use Rattle.std.proofs.Common.{◌≡◌, ℕ, ◌+◌, ◌-◌, ◌<◌, ◌≤◌, Bool, true, false, List, [], ◌++◌, length, get_or}
-use Rattle.std.proofs.Common.{None, drop, take, map, refl, sym, ap, ◌∙◌, arith, inl, inr, nat_eq}
+use Rattle.std.proofs.Common.{drop, take, map, refl, sym, ap, ◌∙◌, arith, inl, inr, nat_eq}
 use Rattle.std.proofs.Common.{length-append}
-use Rattle.std.proofs.lemmas.Bool.{cases_lt, false≢true}
+use Rattle.std.proofs.lemmas.Bool.{cases_lt}
 use Rattle.std.proofs.lemmas.Bool.Decides.{Decides-eqb}
 use Rattle.std.proofs.lemmas.List.{drop-drop, drop-map, drop-take, ext_get_or, get_or-drop, get_or-map, get_or-take}
 use Rattle.std.proofs.lemmas.List.{get_or_past}
@@ -10,15 +10,10 @@ use Rattle.std.proofs.lemmas.List.{length-drop, length-map, length-take, map-id,
 use Rattle.std.proofs.lemmas.Grind.{common_steps}
 use Rattle.std.proofs.lemmas.Slice.Eq.{starts_is}
 use Rattle.std.specs.List.{slice_range, starts_with}
-use Rattle.literal_base.specs.declared.packed.MatchKind.{MatchKind}
-use Rattle.literal_base.specs.declared.packed.MatchKind.TheVariants.{LeftmostFirst, LeftmostLongest}
 use Rattle.literal_base.specs.declared.search.Span.{Span}
-use Rattle.literal_base.specs.Leftmost.{IsBetter, IsLeftmostMatch}
-use Rattle.literal_base.specs.Occurs.{IsValidSpan, NoneIsEmpty, NothingOccurs, Occurs, case_folded, pattern_at}
+use Rattle.literal_base.specs.Occurs.{IsValidSpan, NoneIsEmpty, Occurs, case_folded, pattern_at}
 use Rattle.literal_search.specs.Inside.Classes.{Tells, folded, symbols_in}
-use Rattle.literal_search.specs.Inside.Walk.{IsFirstBest, IsFound, from_match, text_of}
-use Rattle.literal_search.specs.declared.walk.Ended.{Ended}
-use Rattle.literal_search.proofs.lemmas.Ends.{from_match_at, from_match_short}
+use Rattle.literal_search.specs.Inside.Walk.{text_of}
 
 -- lists that one function makes equal, another makes equal too, where it does so byte for byte
 map_same : (f g : ℕ → ℕ) (a p : List ℕ)
@@ -170,13 +165,6 @@ module _ (ignore_case : Bool) (classes : List ℕ) (patterns : List (List ℕ)) 
           same = folded_is ignore_case a ∙ (same ∙ sym (folded_is ignore_case p));
         }
 
-    -- a better pattern is better by its classes
-    better_where : (kind : MatchKind) (j i : ℕ) → IsBetter kind patterns j i
-        → IsBetter kind (map (symbols_in classes) patterns) j i
-    better_where LeftmostFirst j i better = better
-    better_where LeftmostLongest j i (inl longer) = inl (omega (arith, same_length i, same_length j))
-    better_where LeftmostLongest j i (inr same) = inr (omega (arith, same_length i, same_length j, same.0), same.1)
-
 -- no text of classes of a pattern is empty if no pattern is
 pub some_symbols : (classes : List ℕ) (patterns : List (List ℕ)) → NoneIsEmpty patterns
     → NoneIsEmpty (map (symbols_in classes) patterns)
@@ -186,78 +174,3 @@ some_symbols classes patterns some i d below =
     let size = length-map (get_or patterns i []) (λ b. get_or classes b 0) in
     let long = some i [] inside in
     omega (arith, ap (λ (l : List ℕ). length l) read, size, long)
-
-module _ (ignore_case : Bool) (classes : List ℕ) (patterns : List (List ℕ)) (tells : Tells ignore_case classes patterns)
-    (haystack : List ℕ) (bytes : (i : ℕ) → get_or haystack i 0 < 256) (span : Span) (valid : IsValidSpan haystack span)
-    (some : NoneIsEmpty patterns) (kind : MatchKind)
-  where
-    -- where no pattern stands in the classes nothing occurs
-    pub nothing_found : IsFound kind (map (symbols_in classes) patterns) span.start (text_of classes haystack span) None
-        → NothingOccurs patterns ignore_case haystack span
-    nothing_found none i at o =
-        let words = map (symbols_in classes) patterns in
-        let text = text_of classes haystack span in
-        let stands = stands_where ignore_case classes patterns tells haystack bytes span valid i at o in
-        let long = text_long ignore_case classes patterns tells haystack bytes span valid in
-        let one = some i [] o.is_pattern in
-        let before = o.before_end in
-        let after = o.after_start in
-        let below : i < length words = omega (arith, o.is_pattern, length-map patterns (symbols_in classes)) in
-        let all : at - span.start < length text - length (from_match words text) =
-        omega (arith, ap (λ (l : List ℕ). length l) none, long, one) in
-        false≢true (sym ((from_match_at words text).1 (at - span.start) i all below) ∙ stands)
-
-    module _ (e : Ended)
-        (found : IsFirstBest kind (map (symbols_in classes) patterns) span.start (text_of classes haystack span) e)
-      where
-        pub found_pattern : e.pattern < length patterns
-        found_pattern =
-            let below = found.best.is_pattern in omega (arith, length-map patterns (symbols_in classes))
-
-        -- where the match begins
-        pub found_start : e.end ≡ span.start + (length (text_of classes haystack span)
-            - length (from_match (map (symbols_in classes) patterns) (text_of classes haystack span)))
-            + length (pattern_at patterns e.pattern)
-        found_start =
-            let size = same_length ignore_case classes patterns tells haystack bytes span valid e.pattern in
-            let short = from_match_short kind (map (symbols_in classes) patterns) (text_of classes haystack span) in
-            omega (arith, found.end, size, short)
-
-        pub leftmost_found : IsLeftmostMatch (record { kind = kind; patterns = patterns }) ignore_case haystack span
-            (record { pattern = e.pattern; start = e.end - length (pattern_at patterns e.pattern); end = e.end })
-        leftmost_found =
-            let words = map (symbols_in classes) patterns in
-            let text = text_of classes haystack span in
-            let u = from_match words text in
-            let place = length text - length u in
-            let at = e.end - length (pattern_at patterns e.pattern) in
-            let first = from_match_at words text in
-            let long = text_long ignore_case classes patterns tells haystack bytes span valid in
-            let begins : at - span.start ≡ place = omega (arith, found_start) in
-            let here : drop (at - span.start) text ≡ u = ap (λ n. drop n text) begins ∙ sym first.0 in
-            record {
-              occurs = occurs_where ignore_case classes patterns tells haystack bytes span valid e.pattern at
-                  found_pattern
-                  (omega (arith, found_start)) (omega (arith, found_start, long))
-                  (ap (λ (t : List ℕ). starts_with nat_eq t (pattern_at words e.pattern)) here ∙ found.best.stands);
-              whole = omega (arith, found_start);
-              earliest = λ i before early o.
-                  let below : i < length words = omega (
-                    arith,
-                    o.is_pattern,
-                    length-map patterns (symbols_in classes),
-                  ) in
-                  let sooner : before - span.start < place = omega (arith, begins, o.after_start) in
-                  false≢true (sym (first.1 (before - span.start) i sooner below)
-                  ∙ stands_where ignore_case classes patterns tells haystack bytes span valid i before o);
-              best = λ i better o.
-                  let below : i < length words = omega (
-                    arith,
-                    o.is_pattern,
-                    length-map patterns (symbols_in classes),
-                  ) in
-                  false≢true (sym (found.best.best i below
-                  (better_where ignore_case classes patterns tells haystack bytes span valid kind i e.pattern better))
-                  ∙ (ap (λ (t : List ℕ). starts_with nat_eq t (pattern_at words i)) (sym here)
-                  ∙ stands_where ignore_case classes patterns tells haystack bytes span valid i at o));
-            }

@@ -1,26 +1,18 @@
 -- The list of all matches of a span, taken from the left.
-use Rattle.std.proofs.Common.{ℕ, ◌≤◌, List, [], ◌∷◌, ◌++◌, append-nil, append_assoc, arith, sym}
+use Rattle.std.proofs.Common.{ℕ, ◌≤◌, List, [], ◌∷◌, ◌++◌, append-nil, append_assoc, arith}
 use Rattle.std.proofs.Common.{Bool, length, subst}
-use Rattle.std.proofs.Common.{Err, IfOk, None, Ok, OnErr, Result}
+use Rattle.std.proofs.Common.{Err, IfOk, Ok, OnErr, Result}
 use Rattle.std.specs.Global.{Vec}
-use Rattle.std.specs.Iterator.{Yields}
 use Rattle.std.specs.declared.alloc.AllocError.{AllocError}
 use Rattle.literal_base.specs.declared.search.Span.{Span}
 use Rattle.literal_base.specs.Greedy.{IsGreedy}
 use Rattle.literal_base.specs.Leftmost.{IsLeftmostMatch}
 use Rattle.literal_base.specs.MatchValue.{MatchValue}
-use Rattle.literal_base.specs.Occurs.{NothingOccurs, Occurs, between}
+use Rattle.literal_base.specs.Occurs.{NothingOccurs, between}
 use Rattle.literal_base.specs.Query.{Query}
-use Rattle.literal_search.specs.Inside.Linear.{IsGreedyUpTo}
+use Rattle.literal_search.specs.Inside.Search.{IsGreedyUpTo}
 use Rattle.literal_base.specs.Greedy.{IsGreedyIn}
-use Rattle.literal_search.specs.LinearMatchesValue.{GivesInSpan, LinearMatchesValue}
 use Rattle.literal_search.specs.SearchValue.{SearchValue}
-
--- the list of a rest of the haystack
-pub greedy_rest : (query : Query) (ignore_case : Bool) (haystack : List ℕ) (at : ℕ) (all : List MatchValue)
-    → IsGreedyIn query ignore_case haystack (between at (length haystack)) all
-    → IsGreedy query ignore_case haystack at all
-greedy_rest query ignore_case haystack at all greedy = greedy
 
 -- what holds, holds at an Err
 pub on_err : {T E : Type 0} (r : Result T E) (Q : Type 0) → Q → OnErr r Q
@@ -34,34 +26,7 @@ pub greedy_whole : (query : Query) (ignore_case : Bool) (haystack : List ℕ)
     → IfOk result (λ all. IsGreedy query ignore_case haystack 0 all.items)
 greedy_whole query ignore_case haystack result greedy = greedy
 
--- what an iteration gives up to its first `None`
-pub greedy_in_from_yields : (m : LinearMatchesValue) (all : List MatchValue) (n o : LinearMatchesValue)
-    → Yields GivesInSpan m all n → GivesInSpan n None o
-    → IsGreedyIn m.search.query m.search.ignore_case m.haystack (between m.at m.span.end) all
-greedy_in_from_yields m [] n o stays nothing =
-    subst (λ (it : LinearMatchesValue). NothingOccurs it.search.query.patterns it.search.ignore_case it.haystack
-    (between it.at it.span.end)) (sym stays) nothing.leftmost
-greedy_in_from_yields m (found ∷ more) n o run nothing = (
-  run.1.leftmost,
-  subst (λ (it : LinearMatchesValue). IsGreedyIn it.search.query it.search.ignore_case it.haystack
-      (between it.at it.span.end) more) run.1.goes_on
-      (greedy_in_from_yields run.0 more n o run.2 nothing),
-)
-
 module _ (search : SearchValue) (haystack : List ℕ) where
-  -- what occurs from a place on occurs from an earlier one on
-  pub occurs_earlier : (end from to : ℕ) → from ≤ to
-      → ¬ NothingOccurs search.query.patterns search.ignore_case haystack (between to end)
-      → ¬ NothingOccurs search.query.patterns search.ignore_case haystack (between from end)
-  occurs_earlier end from to before one nothing = one (λ i at occurs.
-      let begins = occurs.after_start in
-      nothing i at (record {
-        is_pattern = occurs.is_pattern;
-        after_start = omega arith;
-        before_end = occurs.before_end;
-        same = occurs.same;
-      }))
-
   module _ (span : Span) where
     -- where nothing is left that is all
     pub up_to_all : (done : List MatchValue) (at : ℕ) → IsGreedyUpTo search haystack span done at
@@ -85,17 +50,6 @@ module _ (search : SearchValue) (haystack : List ℕ) where
           inside = omega (arith, inside, whole);
           goes_on = λ more greedy. rw append_assoc (so_far.goes_on (found ∷ more) (leftmost, greedy));
         }
-
-    -- what begins in the span occurs there
-    pub occurs_in : (at i : ℕ) → span.start ≤ at
-        → Occurs search.query.patterns search.ignore_case haystack (between at span.end) i at
-        → ¬ NothingOccurs search.query.patterns search.ignore_case haystack span
-    occurs_in at i after occurs nothing = nothing i at (record {
-      is_pattern = occurs.is_pattern;
-      after_start = after;
-      before_end = occurs.before_end;
-      same = occurs.same;
-    })
 
     pub leftmost_occurs : (at : ℕ) (found : MatchValue) → span.start ≤ at
         → IsLeftmostMatch search.query search.ignore_case haystack (between at span.end) found

@@ -1,17 +1,14 @@
 -- Searches for all matches, one after another.
-use Rattle.std.proofs.Common.{◌≡◌, ℕ, ◌+◌, ◌*◌, ◌<◌, ◌≤◌, List, [], ◌∷◌, ◌++◌, length, Some, None, ap, ◌∙◌, arith}
-use Rattle.std.proofs.Common.{Bool, ◌-◌, refl, sym, subst, length-append}
+use Rattle.std.proofs.Common.{◌≡◌, ◌+◌, ◌-◌, ◌*◌, ◌<◌, ◌≤◌, ℕ, List, [], ◌∷◌, None, ap, ◌∙◌, arith, inl, inr, length}
+use Rattle.std.proofs.Common.{sym, subst}
+use Rattle.std.proofs.lemmas.Bool.{cases_lt}
 use Rattle.std.specs.Iterator.{Yields}
-use Rattle.literal_base.specs.declared.search.Span.{Span}
 use Rattle.literal_base.specs.Counts.{Counts}
 use Rattle.literal_base.specs.MatchValue.{MatchValue}
-use Rattle.literal_base.specs.Greedy.{IsGreedy, RefusesList}
-use Rattle.literal_base.specs.Occurs.{NothingOccurs, rest_from, whole_of}
-use Rattle.literal_base.specs.Query.{Query}
-use Rattle.literal_base.proofs.lemmas.GreedyLists.{found_occurs}
-use Rattle.literal_search.specs.SearchValue.{ScansWithin, ScansListAtMost, longest_of}
-use Rattle.literal_search.specs.Inside.Search.{ScansTo}
+use Rattle.literal_base.specs.Occurs.{between}
 use Rattle.literal_search.specs.MatchesValue.{GivesCounted, GivesMatch, MatchesValue}
+use Rattle.literal_search.specs.SearchValue.{ScansListAtMost, ScansThrice, first_part, longest_of, looked_upto}
+use Rattle.literal_search.specs.declared.backward.TheConstants.{LEAST}
 
 -- only one count changes
 pub scanned_on : (old now new : Counts) → now ≡ record old { scanned = now.scanned }
@@ -19,102 +16,126 @@ pub scanned_on : (old now new : Counts) → now ≡ record old { scanned = now.s
 scanned_on old now new before is =
     is ∙ ap (λ (t : Counts). let t' : Counts = record t { scanned = new.scanned } in t') before
 
-one_more : (n longest : ℕ) → (n + 1) * longest ≡ n * longest + longest
-one_more n longest = grind arith
-
--- after one match more
-pub scans_more : (patterns : List (List ℕ)) (done : List MatchValue) (old now new : Counts) (rest : Span)
-    (found : MatchValue) → ScansTo patterns rest.start (length done) old now
-    → ScansWithin patterns rest (Some found) now new → found.start < found.end
-    → ScansTo patterns found.end (length (done ++ found ∷ [])) old new
-scans_more patterns done old now new rest found before more some = record {
-  others = scanned_on old now new before.others more.others;
-  least = omega (arith, before.least, more.least);
-  near =
-      let longest = longest_of patterns in
-      let last = before.near in
-      let next = more.near in
-      let count = length-append done (found ∷ []) in
-      let product : length (done ++ found ∷ []) * longest ≡ length done * longest + longest =
-      ap (λ n. n * longest) count ∙ one_more (length done) longest in
-      omega (arith, last, next, product);
-}
-
--- the searches for the matches so far scan as those of a list
-pub scans_found : (patterns : List (List ℕ)) (haystack : List ℕ) (matches at : ℕ) (old new : Counts)
-    → at ≤ length haystack → ScansTo patterns at matches old new
-    → ScansListAtMost patterns (length haystack) matches old new
-scans_found patterns haystack matches at old new within before = record {
-  others = before.others;
-  near = omega (arith, before.near);
-}
-
--- where memory is refused for the list a pattern occurs
-first_occurs : (query : Query) (ignore_case : Bool) (haystack : List ℕ) (all : List MatchValue) → 0 < length all
-    → IsGreedy query ignore_case haystack 0 all
-    → ¬ NothingOccurs query.patterns ignore_case haystack (whole_of haystack)
-first_occurs query ignore_case haystack [] some greedy = λ nothing. omega (arith, some)
-first_occurs query ignore_case haystack (found ∷ more) some greedy =
-    found_occurs query ignore_case haystack (rest_from haystack 0) found refl greedy.0
-
-pub refused_occurs : (query : Query) (ignore_case : Bool) (haystack : List ℕ) (Counted : List MatchValue → Type 0)
-    → RefusesList query ignore_case haystack Counted
-    → ¬ NothingOccurs query.patterns ignore_case haystack (whole_of haystack)
-refused_occurs query ignore_case haystack Counted refused =
-    first_occurs query ignore_case haystack (refused.found ++ refused.more)
-    (omega (arith, length-append refused.found refused.more, refused.some)) refused.are_first
-
--- and behind the last one
-pub scans_all : (patterns : List (List ℕ)) (haystack : List ℕ) (matches : ℕ) (old now new : Counts) (rest : Span)
-    → rest.start ≤ length haystack → rest.end ≡ length haystack → ScansTo patterns rest.start matches old now
-    → ScansWithin patterns rest None now new → ScansListAtMost patterns (length haystack) matches old new
-scans_all patterns haystack matches old now new rest within to_end before more = record {
-  others = scanned_on old now new before.others more.others;
-  near =
-      let last = before.near in
-      let most = more.most in
-      omega (arith, last, most);
-}
-
--- what an iteration that counts scans, up to its end
-pub scans_from_yields : (m : MatchesValue × Counts) (all : List MatchValue) (n o : MatchesValue × Counts)
+-- by patterns that are no longer than a block at most three times what it had not looked at, up to its end
+pub scans_thrice_from_yields : (m : MatchesValue × Counts) (all : List MatchValue)
+    (n o : MatchesValue × Counts) → longest_of m.0.search.query.patterns ≤ LEAST
     → Yields GivesCounted m all n → GivesCounted n None o
-    → ScansListAtMost m.0.search.query.patterns (length m.0.haystack - m.0.at) (length all) m.1 o.1
-scans_from_yields m [] n o stays last =
-    subst (λ (it : MatchesValue × Counts). ScansListAtMost it.0.search.query.patterns
-    (length it.0.haystack - it.0.at) 0 it.1 o.1) (sym stays)
-    (record { others = last.bounded.others; near = omega (arith, last.bounded.most) })
-scans_from_yields m (found ∷ more) n o run last =
+    → ScansThrice (between m.0.known m.0.span.end) m.1 o.1
+scans_thrice_from_yields m [] n o short stays last =
+    let short_here = subst (λ (it : MatchesValue × Counts). longest_of it.0.search.query.patterns ≤ LEAST) stays
+    short in
+    subst (λ (it : MatchesValue × Counts). ScansThrice (between it.0.known it.0.span.end) it.1 o.1) (sym stays)
+    (record {
+      others = last.scans.others;
+      most = omega (arith, last.scans.marked short_here, last.gives.further, last.gives.inside);
+    })
+scans_thrice_from_yields m (found ∷ more) n o short run last =
     let step = run.1 in
-    let longest = longest_of m.0.search.query.patterns in
-    let rest : ScansListAtMost m.0.search.query.patterns (length m.0.haystack - found.end) (length more) run.0.1 o.1 =
-    subst (λ (it : MatchesValue). ScansListAtMost it.search.query.patterns (length it.haystack - it.at) (length more)
-    run.0.1 o.1) step.gives.goes_on (scans_from_yields run.0 more n o run.2 last) in
+    let short_then = subst (λ (it : MatchesValue). longest_of it.search.query.patterns ≤ LEAST)
+    (sym step.gives.goes_on) short in
+    let rest : ScansThrice (between run.0.0.known m.0.span.end) run.0.1 o.1 =
+    subst (λ (it : MatchesValue). ScansThrice (between run.0.0.known it.span.end) run.0.1 o.1) step.gives.goes_on
+    (scans_thrice_from_yields run.0 more n o short_then run.2 last) in
     record {
-      others = scanned_on m.1 run.0.1 o.1 step.bounded.others rest.others;
-      near =
-          let before = step.bounded.near in
-          let behind = rest.near in
-          let some = step.gives.not_empty in
-          let start = step.gives.leftmost.occurs.after_start in
-          let end = step.gives.leftmost.occurs.before_end in
-          let product = one_more (length more) longest in
-          omega (arith, before, behind, some, start, end, product);
+      others = scanned_on m.1 run.0.1 o.1 step.scans.others rest.others;
+      most = omega (arith, step.scans.marked short, rest.most, step.gives.further, step.gives.inside);
     }
 
--- and that it scans each of the bytes that were left
-pub scans_each_from_yields : (m : MatchesValue × Counts) (all : List MatchValue) (n o : MatchesValue × Counts)
+-- and at least each byte that it had not looked up
+pub scans_each_from_yields : (m : MatchesValue × Counts) (all : List MatchValue)
+    (n o : MatchesValue × Counts) → longest_of m.0.search.query.patterns ≤ LEAST
     → Yields GivesCounted m all n → GivesCounted n None o
-    → m.1.scanned + (length m.0.haystack - m.0.at) ≤ o.1.scanned
-scans_each_from_yields m [] n o stays last =
-    subst (λ (it : MatchesValue × Counts). it.1.scanned + (length it.0.haystack - it.0.at) ≤ o.1.scanned) (sym stays)
-    last.bounded.least
-scans_each_from_yields m (found ∷ more) n o run last =
+    → m.1.scanned + m.0.span.end ≤ o.1.scanned + looked_upto m.0.search.query.patterns m.0.span m.0.known
+scans_each_from_yields m [] n o short stays last =
+    let short_here = subst (λ (it : MatchesValue × Counts). longest_of it.0.search.query.patterns ≤ LEAST) stays
+    short in
+    subst (λ (it : MatchesValue × Counts). it.1.scanned + it.0.span.end
+    ≤ o.1.scanned + looked_upto it.0.search.query.patterns it.0.span it.0.known) (sym stays) (
+    let at_end : n.0.span.end ≤ looked_upto n.0.search.query.patterns n.0.span o.0.known =
+    subst (λ (it : MatchesValue). it.at ≤ looked_upto n.0.search.query.patterns n.0.span o.0.known)
+    last.gives.goes_on last.gives.looked in
+    omega (arith, last.scans.least short_here, at_end)
+    )
+scans_each_from_yields m (found ∷ more) n o short run last =
     let step = run.1 in
-    let rest : run.0.1.scanned + (length m.0.haystack - found.end) ≤ o.1.scanned =
-    subst (λ (it : MatchesValue). run.0.1.scanned + (length it.haystack - it.at) ≤ o.1.scanned) step.gives.goes_on
-    (scans_each_from_yields run.0 more n o run.2 last) in
-    omega (arith, step.bounded.least, rest, step.gives.leftmost.occurs.before_end, step.gives.leftmost.whole)
+    let short_then = subst (λ (it : MatchesValue). longest_of it.search.query.patterns ≤ LEAST)
+    (sym step.gives.goes_on) short in
+    let rest : run.0.1.scanned + m.0.span.end
+    ≤ o.1.scanned + looked_upto m.0.search.query.patterns m.0.span run.0.0.known =
+    subst (λ (it : MatchesValue). run.0.1.scanned + it.span.end
+    ≤ o.1.scanned + looked_upto it.search.query.patterns it.span run.0.0.known) step.gives.goes_on
+    (scans_each_from_yields run.0 more n o short_then run.2 last) in
+    omega (arith, step.scans.least short, rest)
+
+one_more : (n part : ℕ) → (n + 1) * part ≡ n * part + part
+one_more n part = grind arith
+
+-- by longer patterns at most eleven times what was left, and 36 first parts a match
+scans_list_from_yields : (m : MatchesValue × Counts) (all : List MatchValue) (n o : MatchesValue × Counts)
+    → LEAST < longest_of m.0.search.query.patterns → Yields GivesCounted m all n → GivesCounted n None o
+    → (m.1.scanned + (m.0.span.end - m.0.at) ≤ o.1.scanned)
+    × ScansListAtMost m.0.search.query.patterns (m.0.span.end - m.0.at) (length all) m.1 o.1
+scans_list_from_yields m [] n o long stays last =
+    let long_here = subst (λ (it : MatchesValue × Counts). LEAST < longest_of it.0.search.query.patterns) stays long in
+    let scans = last.scans.found long_here in
+    subst (λ (it : MatchesValue × Counts). (it.1.scanned + (it.0.span.end - it.0.at) ≤ o.1.scanned)
+    × ScansListAtMost it.0.search.query.patterns (it.0.span.end - it.0.at) 0 it.1 o.1) (sym stays) (
+      scans.1,
+      record {
+        others = last.scans.others;
+        short = λ short. omega (arith, short, long_here);
+        long = omega (arith, scans.0);
+      },
+    )
+scans_list_from_yields m (found ∷ more) n o long run last =
+    let step = run.1 in
+    let long_then = subst (λ (it : MatchesValue). LEAST < longest_of it.search.query.patterns) (sym step.gives.goes_on)
+    long in
+    let rest : (run.0.1.scanned + (m.0.span.end - found.end) ≤ o.1.scanned)
+    × ScansListAtMost m.0.search.query.patterns (m.0.span.end - found.end) (length more) run.0.1 o.1 =
+    subst (λ (it : MatchesValue). (run.0.1.scanned + (it.span.end - it.at) ≤ o.1.scanned)
+    × ScansListAtMost it.search.query.patterns (it.span.end - it.at) (length more) run.0.1 o.1) step.gives.goes_on
+    (scans_list_from_yields run.0 more n o long_then run.2 last) in
+    let scans = (step.scans.found long).1 in
+    let occurs = step.gives.leftmost.occurs in
+    let part = 36 * first_part (longest_of m.0.search.query.patterns) in
+    let inside : found.end ≤ m.0.span.end = omega (arith, step.gives.leftmost.whole, occurs.before_end) in (
+      omega (arith, scans.0, rest.0, occurs.after_start, inside),
+      record {
+        others = scanned_on m.1 run.0.1 o.1 step.scans.others rest.1.others;
+        short = λ short. omega (arith, short, long);
+        long = omega (
+          arith,
+          scans.1,
+          rest.1.long,
+          step.gives.not_empty,
+          occurs.after_start,
+          inside,
+          one_more (length more) part,
+        );
+      },
+    )
+
+-- and by any patterns, where it has just begun
+pub scans_whole_from_yields : (m : MatchesValue × Counts) (all : List MatchValue) (n o : MatchesValue × Counts)
+    → m.0.at ≡ m.0.span.start → m.0.known ≡ m.0.span.start → Yields GivesCounted m all n → GivesCounted n None o
+    → (m.1.scanned + (m.0.span.end - m.0.span.start) ≤ o.1.scanned)
+    × ScansListAtMost m.0.search.query.patterns (m.0.span.end - m.0.span.start) (length all) m.1 o.1
+scans_whole_from_yields m all n o at known run last = elim (cases_lt LEAST (longest_of m.0.search.query.patterns)) [
+  | inl long ↦ subst (λ place. (m.1.scanned + (m.0.span.end - place) ≤ o.1.scanned)
+      × ScansListAtMost m.0.search.query.patterns (m.0.span.end - place) (length all) m.1 o.1) at
+      (scans_list_from_yields m all n o long run last)
+  | inr short ↦
+      let most = scans_thrice_from_yields m all n o short run last in
+      let each = scans_each_from_yields m all n o short run last in (
+        omega (arith, each, known),
+        record {
+          others = most.others;
+          short = λ short. omega (arith, most.most, known);
+          long = omega (arith, most.most, known);
+        },
+      )
+]
 
 -- without its counts it is an iteration over matches
 pub gives_from_counted : (m : MatchesValue × Counts) (all : List MatchValue) (n : MatchesValue × Counts)

@@ -1,5 +1,5 @@
 -- What walks through parts of a span tell of the places of the parts.
-use Rattle.std.proofs.Common.{◌≡◌, ℕ, ◌+◌, ◌-◌, ◌*◌, ◌<◌, ◌≤◌, ◌⊎◌, ◌^◌, ◌%◌, List, Option, Some, None, arith}
+use Rattle.std.proofs.Common.{◌≡◌, ℕ, ◌+◌, ◌-◌, ◌<◌, ◌≤◌, ◌⊎◌, ◌^◌, ◌%◌, List, Option, Some, None, arith}
 use Rattle.std.proofs.Common.{◌∙◌, ◌≢◌, IfSome, Err, Ok, Result, ap, false, is_some, get_or, inl, inr, length, set}
 use Rattle.std.proofs.Common.{subst, sym, true}
 use Rattle.std.proofs.lemmas.Bool.{cases_lt, false≢true}
@@ -12,9 +12,9 @@ use Rattle.literal_base.specs.Occurs.{between}
 use Rattle.literal_base.specs.declared.search.Span.{Span}
 use Rattle.literal_search.specs.Inside.Backward.{AreBackFor, AreMarks, IsMark, NoneBeginsAt, NoneFrom, StandsDown}
 use Rattle.literal_search.specs.Inside.Backward.{back_tables_by, best_by}
-use Rattle.literal_search.specs.Inside.Leftmost.{IsFirstBegun, IsLane, IsLimit, IsStep, LiesInPart, NoneBehind}
+use Rattle.literal_search.specs.Inside.Leftmost.{IsFirstBegun, IsLane, IsLimit, IsStep}
 use Rattle.literal_search.specs.Inside.Leftmost.{ReadsFor}
-use Rattle.literal_search.specs.PreparedLinear.{AreBackTables, BackTables}
+use Rattle.literal_search.specs.Prepared.{AreBackTables, BackTables}
 use Rattle.literal_search.specs.SearchValue.{SearchValue}
 use Rattle.literal_search.specs.declared.backward.Backward.{Backward}
 use Rattle.literal_search.specs.declared.backward.Begun.{Begun}
@@ -120,21 +120,6 @@ module _ (p : BackTables) (haystack : List ℕ) (span : Span) (end at code : ℕ
           (step.mark before, λ k after less. absurd (omega (arith, after, less)))
     ]
 
-lies_earlier : (first : Option Begun) (next at end : ℕ) → at ≤ next → LiesInPart next end first → LiesInPart at end
-    first
-lies_earlier None next at end less is = tt
-lies_earlier (Some begun) next at end less is = (omega (arith, is.0, less), is.1, is.2)
-
--- where that lies
-pub lies_on : (at end code next : ℕ) → next ≡ at + 1 → at < end → (first result : Option Begun)
-    → (2 ^ 31 ≤ code → result ≡ Some (record { at = at; code = code })) → (code < 2 ^ 31 → result ≡ first)
-    → LiesInPart next end first → LiesInPart at end result
-lies_on at end code next next_is inside first result begins none behind = elim (cases_lt code (2 ^ 31)) [
-  | inl small ↦
-      subst (LiesInPart at end) (sym (none small)) (lies_earlier first next at end (omega (arith, next_is)) behind)
-  | inr large ↦ subst (LiesInPart at end) (sym (begins large)) (omega arith, inside, large)
-]
-
 -- where nothing begins before a place, the match that begins there is the leftmost
 pub leftmost_from : (p : BackTables) (haystack : List ℕ) (span : Span) (at : ℕ) (found : MatchValue)
     → span.start ≤ at → NoneFrom p haystack span.end span.start at → found.start ≡ at
@@ -212,20 +197,6 @@ pub one_more : (a b : Counts) → a ≡ b
     → (let t : Counts = record a { scanned = a.scanned + 1 } in t)
     ≡ (let t : Counts = record b { scanned = b.scanned + 1 } in t)
 one_more a b same = ap (λ (n : Counts). let n' : Counts = record n { scanned = n.scanned + 1 } in n') same
-
--- where nothing is left of the parts nothing begins in them
-pub none_left : (p : BackTables) (haystack : List ℕ) (end at part left : ℕ) → left ≡ 0
-    → NoneBehind p haystack end at part left → NoneFrom p haystack end at (at + 4 * part)
-none_left p haystack end at part left zero none = λ k after before. elim (cases_lt k (at + part)) [
-  | inl first ↦ none.first k (omega (arith, zero, after)) first
-  | inr past ↦ elim (cases_lt k (at + 2 * part)) [
-    | inl second ↦ none.second k (omega (arith, zero, past)) second
-    | inr past' ↦ elim (cases_lt k (at + 3 * part)) [
-      | inl third ↦ none.third k (omega (arith, zero, past')) third
-      | inr past'' ↦ none.fourth k (omega (arith, zero, past'')) before
-    ]
-  ]
-]
 
 -- a mark in another place stays
 pub marks_kept : (p : BackTables) (haystack : List ℕ) (end : ℕ) (marks : List ℕ) (at from upto slot code : ℕ)

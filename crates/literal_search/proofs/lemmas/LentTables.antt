@@ -1,39 +1,43 @@
 -- Searches for everything that occurs by an array that is lent.
-use Rattle.std.proofs.Common.{◌≡◌, ℕ, ◌+◌, ◌-◌, ◌<◌, ◌≤◌, ◌^◌, List, [], drop, length, get_or}
-use Rattle.std.proofs.Common.{Err, IfErr, IfOk, Ok, None, Result, Some, refl, sym, ap, subst, ◌∙◌, arith}
-use Rattle.std.proofs.lemmas.List.{get_or-drop, get_or-map, get_or-take, length-map}
-use Rattle.std.proofs.Common.{Option}
+use Rattle.std.proofs.Common.{◌≡◌, ℕ, ◌+◌, ◌++◌, ◌-◌, ◌<◌, ◌≤◌, List, [], drop, length, get_or, take}
+use Rattle.std.proofs.Common.{None, Result, Some, refl, sym, ap, subst}
+use Rattle.std.proofs.Common.{◌∙◌, Option, append-nil, append_assoc, arith, length-append}
+use Rattle.std.proofs.lemmas.List.{get_or-drop, get_or-map, get_or-take, length-drop, length-map, length-take-le}
+use Rattle.std.proofs.lemmas.List.{take-append-drop, take_all}
 use Rattle.std.specs.List.{slice_range}
 use Rattle.std.specs.Result.{IsOkAnd}
 use Rattle.literal_base.specs.MatchValue.{MatchValue}
 use Rattle.literal_base.specs.Occurs.{IsValidSpan, between, pattern_at}
 use Rattle.literal_base.specs.declared.search.MatchKind.TheVariants.{Standard}
 use Rattle.literal_base.specs.declared.search.Span.{Span}
+use Rattle.literal_fingerprints.specs.FingerprintsValue.{AllPass}
 use Rattle.literal_search.specs.Inside.Classes.{AreClasses}
+use Rattle.literal_search.specs.Inside.Overlapping.{AreListed}
 use Rattle.literal_search.specs.Inside.Packed.{unpacked}
 use Rattle.literal_search.specs.Inside.LentTables.{AreFor, AreLent, IsNextBy, IsNextEnd, tables_by}
-use Rattle.literal_search.specs.Inside.Prepared.{IsHeader, Puts, RefusesArray, header_table, numbers_for}
+use Rattle.literal_search.specs.Inside.Prepared.{IsHeader, header_table, numbers_for}
 use Rattle.literal_search.specs.Inside.Rows.{rows_of}
 use Rattle.literal_search.specs.Inside.Scan.{IsTableFor}
 use Rattle.literal_search.specs.Inside.Standing.{IsStanding, longest_at, overlapping_value, standing_at}
-use Rattle.literal_search.specs.Inside.NextEnd.{FindsNext, IsNextStop, StandsNext}
+use Rattle.literal_search.specs.Inside.NextEnd.{FindsNext, IsNextStop, Stands, StandsNext}
+use Rattle.literal_search.specs.Inside.Walk.{classes_by, rows_by}
 use Rattle.literal_search.specs.Overlapping.{OverlappingValue}
-use Rattle.literal_search.specs.PreparedOverlapping.{AreSized, AreTables, HasLongLists, HaveTables}
-use Rattle.literal_search.specs.PreparedOverlapping.{IsPreparedOverlapping, RefusesOverlapping, Tables}
-use Rattle.literal_search.specs.PreparedOverlapping.{TakesListedPlaces, WritesOverlapping, ends_at, ends_in}
-use Rattle.literal_search.specs.PreparedOverlapping.{listed_len, starts_in, texts_in}
-use Rattle.literal_search.specs.Prepared.{classes_end, rows_at}
+use Rattle.literal_search.specs.PreparedOverlapping.{AreSized, AreTables}
+use Rattle.literal_search.specs.PreparedOverlapping.{IsPreparedOverlapping, Tables, tables_in}
+use Rattle.literal_search.specs.PreparedOverlapping.{TakesListedPlaces, ends_at, ends_in}
+use Rattle.literal_search.specs.PreparedOverlapping.{listed_len, overlapping_len, prints_behind, starts_in, texts_in}
+use Rattle.literal_search.specs.Prepared.{ArePrints, classes_end, fingerprints_by, rows_at, rows_end, shortest_by}
 use Rattle.literal_search.specs.States.{IsRowsLength}
 use Rattle.literal_search.specs.declared.prepared.Header.{Header}
 use Rattle.literal_search.specs.declared.prepared.Damaged.{Damaged}
-use Rattle.literal_search.specs.declared.prepared.PrepareError.{PrepareError}
-use Rattle.literal_search.specs.declared.prepared.TheConstants.{OVERLAPPING_VERSION}
+use Rattle.literal_search.specs.declared.prepared.TheConstants.{FINGERPRINTS_LEN, OVERLAPPING_VERSION}
 use Rattle.literal_search.specs.declared.prepared_overlapping.LentTables.{LentTables}
 use Rattle.literal_search.specs.declared.standing.Standing.{Standing}
 use Rattle.literal_search.specs.declared.walk.Stop.{Stop}
+use Rattle.literal_search.specs.declared.walk.Table.{Table}
 use Rattle.literal_search.proofs.lemmas.Numbers.{check_written, classes_written, ends_written, lengths_written}
-use Rattle.literal_search.proofs.lemmas.Numbers.{numbers_long, numbers_refused, numbers_written, rows_written}
-use Rattle.literal_search.proofs.lemmas.Numbers.{starts_written}
+use Rattle.literal_search.proofs.lemmas.Numbers.{numbers_long, rows_written}
+use Rattle.literal_search.proofs.lemmas.Numbers.{part_at, starts_written}
 use Rattle.literal_search.proofs.lemmas.Prepared.{length_part, rows_are}
 use Rattle.literal_search.proofs.lemmas.Standing.{is_pattern, longest_below, next_is, none_to_come, nothing_to_come}
 use Rattle.literal_search.proofs.lemmas.Standing.{row_inside, same_to_come, some_left, stands_next, stands_there}
@@ -41,7 +45,7 @@ use Rattle.literal_search.proofs.lemmas.Standing.{row_inside, same_to_come, some
 -- tables of a search whose parts are equal
 pub same_tables : (search : OverlappingValue) (classes classes' : List ℕ) (width width' : ℕ)
     (rows rows' ends ends' starts starts' : List ℕ) → classes ≡ classes' → width ≡ width' → rows ≡ rows'
-    → ends ≡ ends' → starts ≡ starts' → AreTables (record {
+    → ends ≡ ends' → starts ≡ starts' → (let t : Tables = record {
       patterns = search.patterns;
       ignore_case = search.ignore_case;
       classes = classes;
@@ -49,7 +53,7 @@ pub same_tables : (search : OverlappingValue) (classes classes' : List ℕ) (wid
       rows = rows;
       ends = ends;
       starts = starts;
-    }) → AreTables (record {
+    } in t) ≡ record {
       patterns = search.patterns;
       ignore_case = search.ignore_case;
       classes = classes';
@@ -57,8 +61,8 @@ pub same_tables : (search : OverlappingValue) (classes classes' : List ℕ) (wid
       rows = rows';
       ends = ends';
       starts = starts';
-    })
-same_tables search classes classes' width width' rows rows' ends ends' starts starts' a b c d e tables =
+    }
+same_tables search classes classes' width width' rows rows' ends ends' starts starts' a b c d e =
     let of = λ (k : List ℕ) (w : ℕ) (r n s : List ℕ). let t : Tables = record {
       patterns = search.patterns;
       ignore_case = search.ignore_case;
@@ -68,35 +72,34 @@ same_tables search classes classes' width width' rows rows' ends ends' starts st
       ends = n;
       starts = s;
     } in t in
-    subst (λ s. AreTables (of classes' width' rows' ends' s)) e
-    (subst (λ n. AreTables (of classes' width' rows' n starts)) d
-    (subst (λ r. AreTables (of classes' width' r ends starts)) c
-    (subst (λ w. AreTables (of classes' w rows ends starts)) b
-    (subst (λ k. AreTables (of k width rows ends starts)) a tables))))
+    ap (λ k. of k width rows ends starts) a
+    ∙ (ap (λ w. of classes' w rows ends starts) b
+    ∙ (ap (λ r. of classes' width' r ends starts) c
+    ∙ (ap (λ n. of classes' width' rows' n starts) d
+    ∙ ap (λ s. of classes' width' rows' ends' s) e)))
 
 -- the parts of an array that is prepared for a search are for it
 pub are_for : (p : LentTables) → AreLent p → (search : OverlappingValue)
     → IsPreparedOverlapping search p.header.numbers.now → AreFor search p
 are_for p lent search prepared = record {
-  tables = same_tables search _ (unpacked p.header.classes.now) _ p.header.width _ (rows_of p.header.rows.now) _
-      p.ends.now _ p.starts.now
+  tables = subst AreTables (same_tables search _ (unpacked p.header.classes.now) _ p.header.width _
+      (rows_of p.header.rows.now) _ p.ends.now _ p.starts.now
       (ap unpacked (sym lent.header.classes_are)) (sym lent.header.width_is) (sym (rows_are lent.header))
-      (sym lent.ends_are) (sym lent.starts_are) prepared.tables;
+      (sym lent.ends_are) (sym lent.starts_are)) prepared.tables;
   lengths = lent.header.lengths_are ∙ prepared.lengths;
   longest = lent.header.longest_is ∙ prepared.longest;
+  prints = subst (ArePrints search.patterns search.ignore_case) (sym lent.prints_are) prepared.prints;
 }
 
 -- so they are those by which a walk goes for it
 pub lent_table : (p : LentTables) (search : OverlappingValue) → AreFor search p
-    → IsTableFor (header_table p.header) Standard search.patterns search.ignore_case
+    → IsTableFor (header_table p.header) search.patterns search.ignore_case
 lent_table p search are = record {
   classes = are.tables.classes;
   tells = are.tables.tells;
   recognises = are.tables.recognises;
   some = are.tables.kept.some;
   longest = are.longest;
-  shortest = λ i below. omega arith;
-  fingerprints = tt;
 }
 
 -- where the classes end, and how many lengths there are, by the parts of an array
@@ -140,11 +143,19 @@ module _ {search : OverlappingValue} {p : LentTables} (are : AreFor search p) (h
     }
 
     -- what a walk by it finds from there on
-    pub finds_there : s.at < span.end → (result : Result (Option Stop) Damaged)
-        → FindsNext (header_table p.header) haystack s.place (between s.at span.end) result
+    pub finds_there : s.at < span.end → (table : Table)
+        → IsTableFor table search.patterns search.ignore_case → classes_by table ≡ t.classes
+        → table.width ≡ t.width → rows_by table ≡ t.rows → (result : Result (Option Stop) Damaged)
+        → FindsNext table p.prints.now haystack s.place (between s.at span.end) result
         → IsOkAnd result (IsNextStop search.patterns search.ignore_case t.classes t.width t.rows haystack span s.at)
-    finds_there more result finds =
-        finds search.patterns search.ignore_case (lent_table p search are) span.start (standing.stands more)
+    finds_there more table is classes width rows result finds =
+        let Finds : List ℕ → ℕ → List ℕ → Type 0 = λ c w r.
+        Stands search.patterns search.ignore_case c w r haystack span s.at (record { place = s.place; end = s.at })
+        → IsOkAnd result (IsNextStop search.patterns search.ignore_case c w r haystack span s.at) in
+        subst (λ r. Finds t.classes t.width r) rows
+        (subst (λ w. Finds t.classes w (rows_by table)) width
+        (subst (λ c. Finds c table.width (rows_by table)) classes
+        (finds search.patterns search.ignore_case is are.prints span.start))) (standing.stands more)
 
     module _ (empty : s.end ≤ s.next) where
       -- where it finds no end, there is none
@@ -222,105 +233,136 @@ module _ {search : OverlappingValue} {p : LentTables} (are : AreFor search p) (h
           }))
 
 -- what is written of tables is prepared for their search
-module _ (t : Tables) (tables : AreTables t) where
-  abbrev pub all_of : List ℕ
-  all_of = numbers_for OVERLAPPING_VERSION t.classes t.width t.patterns t.rows t.starts t.ends
+module _ (t : Tables) (tables : AreTables t) (prints : List ℕ) (prints_long : length prints ≡ FINGERPRINTS_LEN)
+    (pass : 0 < shortest_by prints → AllPass (fingerprints_by prints) t.ignore_case t.patterns)
+  where
+    abbrev pub all_of : List ℕ
+    all_of = numbers_for OVERLAPPING_VERSION t.classes t.width t.patterns t.rows t.starts (t.ends ++ prints)
 
-  long : length t.starts ≡ length t.patterns + 1
-  long = tables.lists.long
+    long : length t.starts ≡ length t.patterns + 1
+    long = tables.lists.long
 
-  size : length all_of ≡ 6 + length t.patterns + length t.rows + 256 + length t.starts + length t.ends
-  size = numbers_long OVERLAPPING_VERSION t.classes t.width t.patterns t.rows t.starts t.ends
+    size : length all_of ≡ 6 + length t.patterns + length t.rows + 256 + length t.starts + length (t.ends ++ prints)
+    size = numbers_long OVERLAPPING_VERSION t.classes t.width t.patterns t.rows t.starts (t.ends ++ prints)
 
-  ends_at_is : ends_at all_of ≡ classes_end all_of + length t.starts
-  ends_at_is = omega (arith, long)
+    ends_at_is : ends_at all_of ≡ classes_end all_of + length t.starts
+    ends_at_is = omega (arith, long)
 
-  starts_are : starts_in all_of ≡ t.starts
-  starts_are =
-      ap (slice_range all_of (classes_end all_of)) ends_at_is
-      ∙ starts_written OVERLAPPING_VERSION t.classes t.width t.patterns t.rows t.starts t.ends
+    starts_are : starts_in all_of ≡ t.starts
+    starts_are =
+        ap (slice_range all_of (classes_end all_of)) ends_at_is
+        ∙ starts_written OVERLAPPING_VERSION t.classes t.width t.patterns t.rows t.starts (t.ends ++ prints)
 
-  -- the last of the numbers that say where lists begin is how many numbers are in these
-  last_is : get_or all_of (classes_end all_of + length t.patterns) 0 ≡ length t.ends
-  last_is =
-      sym (get_or-drop (classes_end all_of) all_of (length t.patterns) 0)
-      ∙ (sym (get_or-take (ends_at all_of - classes_end all_of) (drop (classes_end all_of) all_of)
-      (length t.patterns) 0 (omega arith))
-      ∙ (ap (λ (l : List ℕ). get_or l (length t.patterns) 0) starts_are ∙ tables.lists.last))
+    -- the last of the numbers that say where lists begin is how many numbers are in these
+    last_is : get_or all_of (classes_end all_of + get_or all_of 3 0) 0 ≡ length t.ends
+    last_is =
+        sym (get_or-drop (classes_end all_of) all_of (length t.patterns) 0)
+        ∙ (sym (get_or-take (ends_at all_of - classes_end all_of) (drop (classes_end all_of) all_of)
+        (length t.patterns) 0 (omega arith))
+        ∙ (ap (λ (l : List ℕ). get_or l (length t.patterns) 0) starts_are ∙ tables.lists.last))
 
-  listed_is : listed_len all_of ≡ classes_end all_of + length t.starts + length t.ends
-  listed_is = omega (arith, last_is, ends_at_is)
+    listed_is : listed_len all_of ≡ classes_end all_of + length t.starts + length t.ends
+    listed_is = ap (λ n. ends_at all_of + n) last_is ∙ ap (λ n. n + length t.ends) ends_at_is
 
-  ends_are : ends_in all_of ≡ t.ends
-  ends_are =
-      ap (λ from. slice_range all_of from (listed_len all_of)) ends_at_is
-      ∙ (ap (slice_range all_of (classes_end all_of + length t.starts)) listed_is
-      ∙ ends_written OVERLAPPING_VERSION t.classes t.width t.patterns t.rows t.starts t.ends)
+    -- behind the numbers that say where lists begin stand these, and then the fingerprints
+    abbrev start : List ℕ
+    start = take (classes_end all_of + length t.starts) all_of
 
-  pub prepared_all : IsPreparedOverlapping (overlapping_value t) all_of
-  prepared_all = record {
-    whole = record {
-      lists = record {
-        parts = record {
-          version_is = refl;
-          few = tables.kept.few;
-          fits = omega (arith, size);
-        };
-        fits = omega (arith, size, listed_is);
-      };
-      check = check_written OVERLAPPING_VERSION t.classes t.width t.patterns t.rows t.starts t.ends
-          (listed_len all_of) (omega (arith, size, listed_is));
-    };
-    longest = refl;
-    tables = same_tables (overlapping_value t) t.classes _ t.width _ t.rows _ t.ends _ t.starts _
-        (sym (classes_written OVERLAPPING_VERSION t.classes t.width t.patterns t.rows t.starts t.ends
+    start_long : length start ≡ classes_end all_of + length t.starts
+    start_long = length-take-le (classes_end all_of + length t.starts) all_of (omega (arith, size))
+
+    rest_is : drop (classes_end all_of + length t.starts) all_of ≡ t.ends ++ prints
+    rest_is =
+        sym (take_all (length (t.ends ++ prints)) (drop (classes_end all_of + length t.starts) all_of)
+        (omega (arith, length-drop (classes_end all_of + length t.starts) all_of, size)))
+        ∙ (ap (λ n. take n (drop (classes_end all_of + length t.starts) all_of)) (omega arith)
+        ∙ ends_written OVERLAPPING_VERSION t.classes t.width t.patterns t.rows t.starts (t.ends ++ prints))
+
+    all_is : all_of ≡ start ++ (t.ends ++ prints)
+    all_is = sym (take-append-drop (classes_end all_of + length t.starts) all_of) ∙ ap (λ l. start ++ l) rest_is
+
+    ends_are : ends_in all_of ≡ t.ends
+    ends_are =
+        part_at all_of start t.ends prints (ends_at all_of) (listed_len all_of) all_is
+        (ends_at_is ∙ sym start_long) (ap (λ n. ends_at all_of + n) last_is)
+
+    prints_are : prints_behind all_of ≡ prints
+    prints_are =
+        part_at all_of (start ++ t.ends) prints [] (listed_len all_of) (overlapping_len all_of)
+        (all_is ∙ (sym (append_assoc start t.ends prints) ∙ ap (λ l. (start ++ t.ends) ++ l) (sym (append-nil prints))))
+        (listed_is ∙ (ap (λ n. n + length t.ends) (sym start_long) ∙ sym (length-append start t.ends)))
+        (ap (λ n. listed_len all_of + n) (sym prints_long))
+
+    whole : overlapping_len all_of ≡ length all_of
+    whole =
+        let size : 6 + length t.patterns + length t.rows + 256 + length t.starts + length t.ends + 33 ≡ length all_of =
+        omega (arith, size, prints_long, length-append t.ends prints) in
+        ap (λ n. n + 33) listed_is ∙ size
+
+    tables_are : t ≡ tables_in (overlapping_value t) all_of
+    tables_are = same_tables (overlapping_value t) t.classes _ t.width _ t.rows _ t.ends _ t.starts _
+        (sym (classes_written OVERLAPPING_VERSION t.classes t.width t.patterns t.rows t.starts (t.ends ++ prints)
         tables.classes)) refl
-        (sym (rows_written OVERLAPPING_VERSION t.classes t.width t.patterns t.rows t.starts t.ends))
-        (sym ends_are) (sym starts_are) tables;
-    lengths = lengths_written OVERLAPPING_VERSION t.classes t.width t.patterns t.rows t.starts t.ends;
-  }
+        (sym (rows_written OVERLAPPING_VERSION t.classes t.width t.patterns t.rows t.starts (t.ends ++ prints)))
+        (sym ends_are) (sym starts_are)
 
-  module _ (sized : AreSized t) where
-    pub have_tables : (P : ℕ → List ℕ → List ℕ → Type 0) → P (length t.rows) t.ends t.starts
-        → HaveTables (overlapping_value t) P
-    have_tables P holds = (
-      t.classes,
-      subst (AreClasses t.classes) sized.width tables.classes,
-      tables.tells,
-      (
-        length t.rows,
-        subst (λ width. IsRowsLength Standard (texts_in t) width (length t.rows)) sized.width sized.rows,
-        t.ends,
-        t.starts,
-        tables.lists,
-        holds,
-      ),
-    )
+    -- they are what an `Overlapping` keeps
+    pub listed_all : AreSized t → AreListed (overlapping_value t) all_of
+    listed_all sized = record {
+      prepared = record {
+        whole = record {
+          lists = record {
+            parts = record {
+              version_is = refl;
+              few = tables.kept.few;
+              fits = omega (arith, size);
+            };
+            fits = omega (arith, whole);
+          };
+          check = check_written OVERLAPPING_VERSION t.classes t.width t.patterns t.rows t.starts (t.ends ++ prints)
+              (overlapping_len all_of) whole;
+        };
+        longest = refl;
+        tables = subst AreTables tables_are tables;
+        lengths = lengths_written OVERLAPPING_VERSION t.classes t.width t.patterns t.rows t.starts (t.ends ++ prints);
+        prints = subst (λ (p : List ℕ). 0 < shortest_by p → AllPass (fingerprints_by p) t.ignore_case t.patterns)
+            (sym prints_are) pass;
+      };
+      long = sym whole;
+      sized = subst AreSized tables_are sized;
+    }
 
-    takes_all : TakesListedPlaces (overlapping_value t) (length all_of)
-    unfolding TakesListedPlaces
-    takes_all =
-        have_tables (λ rows ends starts. length all_of
-        ≡ 6 + length t.patterns + rows + 256 + length starts + length ends) size
+module _ {search : OverlappingValue} {numbers : List ℕ} (listed : AreListed search numbers) where
+  abbrev inside : Tables
+  inside = tables_in search numbers
 
-    long_lists : 2 ^ 32 ≤ length t.ends → HasLongLists (overlapping_value t)
-    unfolding HasLongLists
-    long_lists long = have_tables (λ rows ends starts. 2 ^ 32 ≤ length ends) long
+  -- so many numbers these are
+  listed_long : length numbers ≡ 6 + length search.patterns + length inside.rows + 256 + length inside.starts
+      + length inside.ends + FINGERPRINTS_LEN
+  listed_long =
+      let fits = listed.prepared.whole.lists.fits in
+      let lengths = length_part numbers 6 (rows_at numbers) (omega arith) (omega arith) in
+      let rows = length_part numbers (rows_at numbers) (rows_end numbers) (omega arith) (omega arith) in
+      let starts = length_part numbers (classes_end numbers) (ends_at numbers) (omega arith) (omega arith) in
+      let ends = length_part numbers (ends_at numbers) (listed_len numbers) (omega arith) (omega arith) in
+      let many = ap (λ (l : List ℕ). length l) listed.prepared.lengths
+      ∙ length-map search.patterns (λ (bytes : List ℕ). length bytes) in
+      omega (arith, listed.long, lengths, rows, starts, ends, many)
 
-    module _ (old new : List ℕ) where
-      pub prepare_ok : (result : Result ℕ PrepareError)
-          → IfOk result (λ needed. (needed ≤ length old) × (length t.ends < 2 ^ 32) × Puts 0 all_of old new
-          × (needed ≡ length all_of))
-          → IfOk result (WritesOverlapping (overlapping_value t) old new)
-      prepare_ok (Err error) ok = tt
-      prepare_ok (Ok needed) ok =
-          numbers_written (IsPreparedOverlapping (overlapping_value t)) (TakesListedPlaces (overlapping_value t)) all_of
-          old new needed prepared_all takes_all ok.0 ok.2 ok.3
-
-      pub prepare_refused : (result : Result ℕ PrepareError)
-          → IfErr result (RefusesArray t.patterns t.ends all_of old)
-          → IfErr result (RefusesOverlapping (overlapping_value t) old)
-      prepare_refused (Ok needed) refused = tt
-      prepare_refused (Err error) refused =
-          numbers_refused t.patterns (HasLongLists (overlapping_value t)) (IsPreparedOverlapping (overlapping_value t))
-          (TakesListedPlaces (overlapping_value t)) t.ends all_of old prepared_all takes_all long_lists error refused
+  -- and so many places are enough for them
+  pub takes_listed : TakesListedPlaces search (length numbers)
+  unfolding TakesListedPlaces
+  takes_listed = (
+    inside.classes,
+    subst (AreClasses inside.classes) listed.sized.width listed.prepared.tables.classes,
+    listed.prepared.tables.tells,
+    (
+      length inside.rows,
+      subst (λ width. IsRowsLength Standard (texts_in inside) width (length inside.rows)) listed.sized.width
+          listed.sized.rows,
+      inside.ends,
+      inside.starts,
+      listed.prepared.tables.lists,
+      listed_long,
+    ),
+  )

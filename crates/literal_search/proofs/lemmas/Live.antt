@@ -6,7 +6,6 @@ use Rattle.std.proofs.lemmas.Bool.{cases_lt, lt-ltb, cond-false, cond-true, fals
 use Rattle.std.proofs.lemmas.Bool.Decides.{Decides-eqb}
 use Rattle.std.proofs.lemmas.List.{get_or-take, get_or_default, length-take}
 use Rattle.std.proofs.lemmas.List.Folds.{Any-from_list_any, list_any_at}
-use Rattle.std.proofs.lemmas.List.Quantifiers.{position-Some}
 use Rattle.std.proofs.lemmas.List.Sums.{fails_before_first, passes_at_first}
 use Rattle.std.proofs.lemmas.Slice.Eq.{starts_is}
 use Rattle.std.specs.List.{list_any, position, position_or_len, starts_with}
@@ -79,20 +78,6 @@ up_to_any_at p q xs d i inside is none =
       | inr later ↦ list_any_at p (take most xs) i d (omega (arith, length-take most xs))
           (ap p (get_or-take most xs i d (omega arith)) ∙ is)
     ]
-
--- the first that passes a test of them: it passes, and no earlier one passes either test
-up_to_position : {X : Type 0} (p q : X → Bool) (xs : List X) (d : X) (i : ℕ) → position p (up_to_first q xs) ≡ Some i
-    → (i < length xs) × (p (get_or xs i d) ≡ true) × ((j : ℕ) → j < i → p (get_or xs j d) ≡ false)
-    × ((j : ℕ) → j < i → q (get_or xs j d) ≡ false)
-up_to_position p q xs d i is =
-    let most = position_or_len q xs + 1 in
-    let first = position-Some p (take most xs) i d is in
-    let early : i < most = omega (arith, first.0, length-take most xs) in (
-      omega (arith, first.0, length-take most xs),
-      ap p (sym (get_or-take most xs i d early)) ∙ first.1,
-      λ j before. ap p (sym (get_or-take most xs j d (omega arith))) ∙ first.2 j before,
-      λ j before. fails_before_first q xs j d (omega arith),
-    )
 
 -- where no element passes a test, each fails it
 pub none_any : {X : Type 0} (p : X → Bool) (xs : List X) (d : X) (i : ℕ) → list_any p xs ≡ false → i < length xs
@@ -271,17 +256,3 @@ live_push kind patterns (symbol ∷ text) more =
         ≡ live_suffix kind patterns ((symbol ∷ text) ++ more)
     by_begun true begun further = ap (λ o. live_on kind patterns o more) (cond-true _ _ _ begun)
     by_begun false unbegun further = by_matched unbegun further
-
--- the number of the first pattern that may be the match and passes a test
-pub first_in_question : (p : List ℕ → Bool) (kind : MatchKind) (patterns : List (List ℕ)) (text : List ℕ) (i : ℕ)
-    → position p (in_question kind (λ pattern. pattern) text patterns) ≡ Some i
-    → OneInQuestion p kind patterns text i × ((j : ℕ) → j < i → p (pattern_at patterns j) ≡ false)
-first_in_question p Standard patterns text i is =
-    let one = position-Some p patterns i [] is in
-    (record { below = one.0; passes = one.1; in_question = tt }, one.2)
-first_in_question p LeftmostFirst patterns text i is =
-    let one = up_to_position p (λ e. starts_with nat_eq text e) patterns [] i is in
-    (record { below = one.0; passes = one.1; in_question = one.3 }, one.2)
-first_in_question p LeftmostLongest patterns text i is =
-    let one = position-Some p patterns i [] is in
-    (record { below = one.0; passes = one.1; in_question = tt }, one.2)

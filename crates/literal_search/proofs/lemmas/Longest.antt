@@ -10,14 +10,6 @@ longest_is [] i = omega arith
 longest_is (bytes ∷ more) zero = omega arith
 longest_is (bytes ∷ more) (suc i) = omega (arith, longest_is more i)
 
--- all are shorter than so many bytes exactly if it is
-pub all_short : (patterns : List (List ℕ)) (n : ℕ) → longest_of patterns < n
-    → All (λ (bytes : List ℕ). length bytes < n) patterns
-all_short [] n short i d below = absurd (omega arith)
-all_short (bytes ∷ more) n short zero d below = omega arith
-all_short (bytes ∷ more) n short (suc i) d below =
-    all_short more n (omega (arith, short)) i d (omega (arith, below))
-
 pub longest_short : (patterns : List (List ℕ)) (n : ℕ) → 0 < n → All (λ (bytes : List ℕ). length bytes < n) patterns
     → longest_of patterns < n
 longest_short [] n some all = some

@@ -1,17 +1,18 @@
 -- A walk from one end of patterns to the next.
 use Rattle.std.proofs.Common.{◌≡◌, ℕ, ◌+◌, ◌-◌, ◌*◌, ◌<◌, ◌≤◌, Bool, List, [], Some, get_or, length, map}
 use Rattle.std.proofs.Common.{ap, arith, inl, inr, refl, subst, suc, sym, zero, ◌∙◌}
-use Rattle.std.proofs.Common.{◌^◌, IfOk, IfSome, IsSome, None, Option, Result}
+use Rattle.std.proofs.Common.{◌^◌, IfOk, IfSome, IsSome, MatchOption, None, Option, Result}
 use Rattle.std.specs.Result.{IsOkAnd}
 use Rattle.std.specs.Option.{option_map}
 use Rattle.std.proofs.lemmas.Bool.{cases_lt}
-use Rattle.literal_base.specs.Counts.{Counts}
 use Rattle.literal_base.specs.Occurs.{IsValidSpan, NoneIsEmpty, Occurs, between, pattern_at}
 use Rattle.literal_base.specs.declared.search.MatchKind.TheVariants.{Standard}
 use Rattle.literal_base.specs.declared.search.Span.{Span}
-use Rattle.literal_search.specs.Earliest.{IsEarliestEnd, ScansToEndWithin}
+use Rattle.literal_fingerprints.specs.FingerprintsValue.{AllPass, FingerprintsValue}
+use Rattle.literal_search.specs.Prepared.{ArePrints, fingerprints_by, shortest_by}
+use Rattle.literal_search.specs.Earliest.{IsEarliestEnd}
 use Rattle.literal_search.specs.Inside.Classes.{Tells, symbols_in}
-use Rattle.literal_search.specs.Inside.NextEnd.{FindsNext, IsNextStop, Stands, StandsNext, StepsToStop}
+use Rattle.literal_search.specs.Inside.NextEnd.{FindsNext, IsNextStop, Stands, StandsNext}
 use Rattle.literal_search.specs.Inside.Scan.{IsTableFor, NoneBefore}
 use Rattle.literal_search.specs.Inside.Walk.{IsAt, IsFirstEnd, NoneEnds, classes_by, read_to, rows_by, text_of}
 use Rattle.literal_search.specs.Table.{Recognises, stride_of}
@@ -49,7 +50,7 @@ stands_first patterns ignore_case classes width rows haystack span = record {
   begins = λ i place o further. o.after_start;
 }
 
-module _ (t : Table) (patterns : List (List ℕ)) (ignore_case : Bool) (is : IsTableFor t Standard patterns ignore_case)
+module _ (t : Table) (patterns : List (List ℕ)) (ignore_case : Bool) (is : IsTableFor t patterns ignore_case)
     (haystack : List ℕ) (bytes : (i : ℕ) → get_or haystack i 0 < 256) (span : Span) (valid : IsValidSpan haystack span)
     (s : Stop) (inside : s.end ≤ span.end)
     (stands : Stands patterns ignore_case (classes_by t) t.width (rows_by t) haystack span s.end s) (behind : ℕ)
@@ -192,24 +193,24 @@ module _ (patterns : List (List ℕ)) (ignore_case : Bool) (classes : List ℕ) 
         some_is None is = cc
         some_is (Some v) is = (v, refl)
 
-pub finds_earliest : (t : Table) (patterns : List (List ℕ)) (ignore_case : Bool)
-    → IsTableFor t Standard patterns ignore_case → (haystack : List ℕ) → ((i : ℕ) → get_or haystack i 0 < 256)
+pub finds_earliest : (t : Table) (patterns : List (List ℕ)) (ignore_case : Bool) (prints : List ℕ)
+    → IsTableFor t patterns ignore_case → ArePrints patterns ignore_case prints → (haystack : List ℕ) → ((i : ℕ)
+    → get_or haystack i 0 < 256)
     → (span : Span) → IsValidSpan haystack span → (result : Result (Option Stop) Damaged)
-    → FindsNext t haystack 0 span result → IfOk result (λ answer. IfSome answer
+    → FindsNext t prints haystack 0 span result → IfOk result (λ answer. IfSome answer
     (λ stop. (span.start < stop.end) × (stop.end ≤ span.end) × (stop.place < 2 ^ 32)))
     → IsOkAnd result (λ answer. IsEarliestEnd patterns ignore_case haystack span (option_map (λ stop. stop.end) answer))
-finds_earliest t patterns ignore_case is haystack bytes span valid result finds inside =
+finds_earliest t patterns ignore_case prints is pass haystack bytes span valid result finds inside =
     also_ok result _ _ _ (λ answer next lies. earliest_is patterns ignore_case (classes_by t) t.width (rows_by t)
     is.tells
     is.some haystack bytes span valid answer next lies)
-    (finds patterns ignore_case is span.start
+    (finds patterns ignore_case is pass span.start
     (stands_first patterns ignore_case (classes_by t) t.width (rows_by t) haystack span)) inside
 
--- what is scanned up to there
-pub scans_to_end : (span : Span) (old new : Counts) → new ≡ record old { scanned = new.scanned }
-    → old.scanned ≤ new.scanned → (answer : Option Stop) → StepsToStop span (new.scanned - old.scanned) answer
-    → ScansToEndWithin span (option_map (λ stop. stop.end) answer) old new
-scans_to_end span old new others grows None steps =
-    record { others = others; least = omega (arith, steps.0); scanned = omega (arith, steps.1) }
-scans_to_end span old new others grows (Some stop) steps =
-    record { others = others; least = omega (arith, steps.0); scanned = omega (arith, steps.1) }
+-- the fingerprints of numbers that let all patterns pass let them pass, too
+pub kept_pass : (patterns : List (List ℕ)) (ignore_case : Bool) (prints : List ℕ) (kept : Option FingerprintsValue)
+    → MatchOption kept (shortest_by prints ≡ 0) (λ f. (0 < shortest_by prints) × (f ≡ fingerprints_by prints))
+    → ArePrints patterns ignore_case prints → IfSome kept (λ f. AllPass f ignore_case patterns)
+kept_pass patterns ignore_case prints None are pass = tt
+kept_pass patterns ignore_case prints (Some f) are pass =
+    subst (λ f. AllPass f ignore_case patterns) (sym are.1) (pass are.0)

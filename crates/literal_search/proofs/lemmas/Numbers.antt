@@ -1,5 +1,5 @@
 -- The numbers that are written for a search: where its parts stand in them, and that they are written.
-use Rattle.std.proofs.Common.{◌≡◌, ℕ, ◌+◌, ◌-◌, ◌≤◌, ◌^◌, List, [], ◌∷◌, ◌++◌, drop, length, get_or, map, take}
+use Rattle.std.proofs.Common.{◌≡◌, ℕ, ◌+◌, ◌-◌, ◌≤◌, List, [], ◌∷◌, ◌++◌, drop, length, get_or, map, take}
 use Rattle.std.proofs.Common.{append-nil, append_assoc, length-append, refl, sym, ap, subst, ◌∙◌, arith}
 use Rattle.std.proofs.Math.Seq.{drop-append_seam, take-append_seam}
 use Rattle.std.proofs.lemmas.List.{length-drop, length-map, length-take, take-append-drop}
@@ -7,13 +7,10 @@ use Rattle.std.specs.List.{slice_range}
 use Rattle.literal_search.specs.Inside.Classes.{AreClasses}
 use Rattle.literal_search.specs.Inside.Packed.{unpacked}
 use Rattle.literal_search.specs.Inside.Rows.{packed_classes}
-use Rattle.literal_search.specs.Inside.Prepared.{Puts, RefusesArray, numbers_for}
+use Rattle.literal_search.specs.Inside.Prepared.{Puts, numbers_for}
 use Rattle.literal_search.specs.SearchValue.{longest_of}
-use Rattle.literal_search.specs.Prepared.{RefusesNumbers, WritesNumbers, check_of, classes_in, lengths_in}
+use Rattle.literal_search.specs.Prepared.{WritesNumbers, check_of, classes_in, lengths_in}
 use Rattle.literal_search.specs.Prepared.{classes_end, rows_end, rows_in}
-use Rattle.literal_search.specs.declared.prepared.PrepareError.{PrepareError}
-use Rattle.literal_search.specs.declared.prepared.PrepareError.TheVariants.{ArrayTooShort, ListsTooLong}
-use Rattle.literal_search.specs.declared.prepared.PrepareError.TheVariants.{PatternTooLong}
 use Rattle.literal_search.proofs.lemmas.Packed.{packed_long, unpacked_again}
 
 -- a part of a list that is known
@@ -162,14 +159,3 @@ module _ (AreFor : List ℕ → Type 0) (Takes : ℕ → Type 0) (numbers old ne
           others = ap (λ k. drop k new) needed_is
               ∙ (ap (drop (length numbers)) new_is ∙ drop-append_seam numbers (drop needed old));
         }
-
--- and why it writes none
-pub numbers_refused : (patterns : List (List ℕ)) (HasLongLists : Type 0) (AreFor : List ℕ → Type 0) (Takes : ℕ → Type 0)
-    (ends all old : List ℕ) → AreFor all → Takes (length all)
-    → (2 ^ 32 ≤ length ends → HasLongLists) → (error : PrepareError) → RefusesArray patterns ends all old error
-    → RefusesNumbers patterns HasLongLists AreFor Takes old error
-numbers_refused patterns HasLongLists AreFor Takes ends all old are takes long PatternTooLong refused = refused
-numbers_refused patterns HasLongLists AreFor Takes ends all old are takes long ListsTooLong refused =
-    (refused.0, long refused.1)
-numbers_refused patterns HasLongLists AreFor Takes ends all old are takes long (ArrayTooShort needed) refused =
-    (refused.0, refused.2, subst Takes (sym refused.3) takes, (all, are, sym refused.3))

@@ -1,26 +1,24 @@
 -- How many places a search takes does not depend on the numbers of the classes.
-use Rattle.std.proofs.Common.{◌≡◌, ℕ, ◌*◌, ◌<◌, ◌≤◌, ◌⊎◌, Bool, true, List, [], ◌∷◌, ◌++◌, eqb, nat_eq}
+use Rattle.std.proofs.Common.{◌≡◌, ◌↔◌, ◌-◌, ℕ, ◌*◌, ◌<◌, ◌≤◌, ◌⊎◌, Bool, true, List, [], ◌∷◌, ◌++◌, eqb, nat_eq}
 use Rattle.std.proofs.Common.{ap, arith, drop, get_or, inl, inr, length, map, refl, subst, suc, sym, ◌∙◌}
 use Rattle.std.proofs.lemmas.Bool.{cases_lt, eqb-true, false_from_ne_true, false≢true}
 use Rattle.std.proofs.lemmas.Bool.Decides.{Decides-eqb, eqb_tells}
-use Rattle.std.proofs.lemmas.List.{get_or-map, get_or_past, length-map}
+use Rattle.std.proofs.lemmas.List.{get_or-map, get_or-reverse, get_or_past, length-map}
 use Rattle.std.proofs.lemmas.List.Sums.{fails_before_first, passes_at_first}
 use Rattle.std.proofs.lemmas.Simd.{map-map}
 use Rattle.std.proofs.lemmas.Slice.Eq.{starts_is}
 use Rattle.std.specs.List.{position_or_len, starts_with}
-use Rattle.literal_base.specs.Kinds.{root_kind_of}
 use Rattle.literal_base.specs.Occurs.{pattern_at}
-use Rattle.literal_base.specs.Query.{Query}
 use Rattle.literal_base.specs.declared.search.MatchKind.{MatchKind}
 use Rattle.literal_base.specs.declared.search.MatchKind.TheVariants.{LeftmostFirst, LeftmostLongest, Standard}
-use Rattle.literal_search.specs.Inside.Classes.{Tells, symbols_in}
-use Rattle.literal_search.specs.Prepared.{AreShort, RefusesToPrepare, TakesPlaces}
-use Rattle.literal_search.specs.SearchValue.{width_for}
+use Rattle.literal_search.specs.Inside.Classes.{Tells, folded, symbols_in}
+use Rattle.literal_search.specs.Prepared.{RefusesToPrepare, TakesPlaces}
+use Rattle.literal_search.specs.SearchValue.{SearchValue, reversed, width_for}
 use Rattle.literal_search.specs.States.{AreStates, IsRowsLength, IsStateCount}
 use Rattle.literal_search.specs.Table.{stride_of}
 use Rattle.literal_search.specs.Words.{begins_one}
-use Rattle.literal_search.specs.declared.prepared.PrepareError.{PrepareError}
-use Rattle.literal_search.specs.declared.prepared.PrepareError.TheVariants.{ArrayTooShort, ListsTooLong, PatternTooLong}
+use Rattle.literal_search.specs.declared.prepared.ArrayTooShort.{ArrayTooShort}
+use Rattle.literal_search.proofs.lemmas.Backward.{back_at, back_count, back_long, map_reversed}
 use Rattle.literal_search.proofs.lemmas.Live.{NoEarlierPrefix, any_in_question, any_in_question_at}
 
 eqb_same : (n : ℕ) → eqb n n ≡ true
@@ -199,26 +197,41 @@ module _ (kind : MatchKind) (ignore_case : Bool) (patterns : List (List ℕ)) (o
       let fits = second.most (map (map on) first.texts) (states_on first.texts first.are_states) in
       omega (arith, fits, first.count_is, length-map first.texts (λ (text : List ℕ). map on text))
 
+-- classes that tell the bytes of patterns tell those of the reversed ones
+tells_back : (ignore_case : Bool) (classes : List ℕ) (patterns : List (List ℕ)) → Tells ignore_case classes patterns
+    → Tells ignore_case classes (reversed patterns)
+tells_back ignore_case classes patterns tells i k byte below inside is_byte =
+    let bytes = pattern_at patterns i in
+    let at = back_at patterns i in
+    let here : k < length bytes = omega (arith, inside, back_long patterns i) in
+    let there : i < length patterns = omega (arith, below, back_count patterns) in
+    let same : get_or (pattern_at (reversed patterns) i) k 0 ≡ get_or bytes (length bytes - 1 - k) 0 =
+    ap (λ (l : List ℕ). get_or l k 0) at ∙ get_or-reverse bytes k 0 here in
+    subst (λ b. (get_or classes byte 0 ≡ get_or classes b 0) ↔ (folded ignore_case byte ≡ folded ignore_case b))
+    (sym same) (tells i (length bytes - 1 - k) byte there (omega (arith, here)) is_byte)
+
 -- the places that a search takes are told by its patterns
-pub places_once : (query : Query) (ignore_case : Bool) (n m : ℕ) → TakesPlaces query ignore_case n
-    → TakesPlaces query ignore_case m → n ≡ m
+pub places_once : (search : SearchValue) (n m : ℕ) → TakesPlaces search n → TakesPlaces search m → n ≡ m
 unfolding TakesPlaces IsRowsLength
-places_once query ignore_case n m (one, are_one, tells_one, first) (other, are_other, tells_other, second) =
-    let kind = root_kind_of query.kind in
-    let up = no_more kind ignore_case query.patterns one other tells_one tells_other are_one.each are_other.each
-    first.1.0 second.1.0 first.1.1 second.1.1 in
-    let down = no_more kind ignore_case query.patterns other one tells_other tells_one are_other.each are_one.each
-    second.1.0 first.1.0 second.1.1 first.1.1 in
+places_once search n m (one, are_one, tells_one, first) (other, are_other, tells_other, second) =
+    let patterns = search.query.patterns in
+    let on_one = subst (λ (texts : List (List ℕ)). IsStateCount Standard texts first.1.0)
+    (sym (map_reversed one patterns)) first.1.1 in
+    let on_other = subst (λ (texts : List (List ℕ)). IsStateCount Standard texts second.1.0)
+    (sym (map_reversed other patterns)) second.1.1 in
+    let back_one = tells_back search.ignore_case one patterns tells_one in
+    let back_other = tells_back search.ignore_case other patterns tells_other in
+    let up = no_more Standard search.ignore_case (reversed patterns) one other back_one back_other are_one.each
+    are_other.each first.1.0 second.1.0 on_one on_other in
+    let down = no_more Standard search.ignore_case (reversed patterns) other one back_other back_one are_other.each
+    are_one.each second.1.0 first.1.0 on_other on_one in
     let same : first.1.0 ≡ second.1.0 = omega (arith, up, down) in
-    let rows = ap (λ k. k * stride_of (width_for ignore_case query.patterns)) same in
+    let rows = ap (λ k. k * stride_of (width_for search.ignore_case patterns)) same in
     omega (arith, first.2, second.2, first.1.2, second.1.2, rows)
 
 -- so no array that is as long is refused
-pub long_enough : (query : Query) (ignore_case : Bool) (n : ℕ) (array : List ℕ) (error : PrepareError)
-    → AreShort query.patterns → TakesPlaces query ignore_case n → n ≤ length array
-    → ¬ RefusesToPrepare query ignore_case array error
-long_enough query ignore_case n array PatternTooLong short takes fits refused = refused short
-long_enough query ignore_case n array ListsTooLong short takes fits refused = refused.1
-long_enough query ignore_case n array (ArrayTooShort needed) short takes fits refused =
-    let same = places_once query ignore_case n needed takes refused.2 in
-    omega (arith, same, fits, refused.1)
+pub long_enough : (search : SearchValue) (n : ℕ) (array : List ℕ) (error : ArrayTooShort) → TakesPlaces search n
+    → n ≤ length array → ¬ RefusesToPrepare search array error
+long_enough search n array error takes fits refused =
+    let same = places_once search n error.needed takes refused.1 in
+    omega (arith, same, fits, refused.0)

@@ -1,35 +1,55 @@
 -- Matches that are replaced, one after another.
 -- For `Search::replace_all`, and the law on it.
 use Rattle.std.proofs.Common.{◌≡◌, ℕ, ◌+◌, ◌-◌, ◌<◌, ◌≤◌, Bool, false, List, [], ◌∷◌, ◌++◌, Some, drop, length, sum_by}
-use Rattle.std.proofs.Common.{◌∙◌, ap, arith, length-append, refl, slice_range, subst, sym}
+use Rattle.std.proofs.Common.{◌∙◌, ap, append_assoc, arith, length-append, refl, slice_range, subst, sym}
 use Rattle.std.proofs.lemmas.List.{length-drop, length-take-le, take_rest}
 use Rattle.std.proofs.lemmas.List.Folds.{drop_split}
 use Rattle.std.proofs.lemmas.List.Sums.{sum_by-cons}
 use Rattle.std.specs.Iterator.{Yields}
-use Rattle.literal_base.specs.Greedy.{IsGreedy}
+use Rattle.literal_base.specs.Greedy.{IsGreedy, IsGreedyIn}
 use Rattle.literal_base.specs.MatchValue.{MatchValue}
-use Rattle.literal_base.specs.Occurs.{NoneIsEmpty, pattern_at}
+use Rattle.literal_base.specs.Occurs.{NoneIsEmpty, between, pattern_at}
 use Rattle.literal_base.specs.Query.{Query}
 use Rattle.literal_base.proofs.lemmas.Exists.{greedy_exists_lem}
-use Rattle.literal_search.proofs.lemmas.Callers.{greedy_behind}
+use Rattle.literal_search.proofs.lemmas.Callers.{greedy_behind, matches_of}
 use Rattle.literal_search.specs.MatchesValue.{GivesMatch, MatchesValue}
 use Rattle.literal_search.specs.Replaced.{RefusesToReplace, replaced}
 use Rattle.literal_search.specs.SearchValue.{SearchValue}
 use Rattle.literal_search.specs.declared.replace.ReplaceError.TheVariants.{OutOfMemory}
 
 -- the matches from one that was found on
-pub greedy_found : (n o : MatchesValue) (found : MatchValue) → NoneIsEmpty n.search.query.patterns
-    → GivesMatch n (Some found) o
-    → (more : List MatchValue) × IsGreedy n.search.query n.search.ignore_case n.haystack n.at (found ∷ more)
-greedy_found n o found not_empty step =
-    let rest = greedy_exists_lem n.search.query n.search.ignore_case n.haystack found.end not_empty in
-    (rest.0, (step.leftmost, rest.1))
+pub greedy_found : (n o : MatchesValue) (found : MatchValue) → n.span.end ≡ length n.haystack
+    → NoneIsEmpty n.search.query.patterns → GivesMatch n (Some found) o → (more : List MatchValue)
+    × IsGreedyIn n.search.query n.search.ignore_case n.haystack (between n.at n.span.end) (found ∷ more)
+greedy_found n o found to_end not_empty step =
+    let rest = greedy_exists_lem n.search.query n.search.ignore_case n.haystack found.end not_empty in (
+      rest.0,
+      (
+        step.leftmost,
+        subst (λ end. IsGreedyIn n.search.query n.search.ignore_case n.haystack (between found.end end) rest.0)
+            (sym to_end) rest.1,
+      ),
+    )
+
+-- a text goes on with the bytes before a match, and its replacement
+pub goes_on : (haystack : List ℕ) (given : List (List ℕ)) (prefix now all between replacement : List ℕ) (at end : ℕ)
+    (found : MatchValue) (more : List MatchValue) → now ≡ prefix ++ between → all ≡ now ++ replacement
+    → between ≡ slice_range haystack at found.start → replacement ≡ pattern_at given found.pattern → end ≡ found.end
+    → all ++ replaced haystack given end more ≡ prefix ++ replaced haystack given at (found ∷ more)
+goes_on haystack given prefix now all between replacement at end found more now_is all_is between_is replacement_is
+    end_is =
+    let rest = replaced haystack given found.end more in
+    ap (λ k. all ++ replaced haystack given k more) end_is
+    ∙ (ap (λ l. l ++ rest) (all_is ∙ ap (λ l. l ++ replacement) now_is)
+    ∙ (append_assoc (prefix ++ between) replacement rest ∙ (append_assoc prefix between (replacement ++ rest)
+    ∙ (ap (λ l. prefix ++ (l ++ (replacement ++ rest))) between_is
+    ∙ ap (λ l. prefix ++ (slice_range haystack at found.start ++ (l ++ rest))) replacement_is))))
 
 -- memory was refused for some bytes of the text, which has more matches to come
 pub refused_text : (searched : SearchValue) (haystack : List ℕ) (replacements : List (List ℕ)) (m n : MatchesValue)
     (done more : List MatchValue) (bytes : ℕ) → length replacements ≡ length searched.query.patterns
-    → m ≡ record { search = searched; haystack = haystack; at = 0 } → Yields GivesMatch m done n
-    → IsGreedy n.search.query n.search.ignore_case n.haystack n.at more → 0 < bytes
+    → m ≡ matches_of searched haystack → Yields GivesMatch m done n
+    → IsGreedyIn n.search.query n.search.ignore_case n.haystack (between n.at n.span.end) more → 0 < bytes
     → bytes ≤ length (replaced haystack replacements 0 (done ++ more))
     → RefusesToReplace searched haystack replacements OutOfMemory
 refused_text searched haystack replacements m n done more bytes one_for_each start run greedy some fits = (
@@ -38,8 +58,8 @@ refused_text searched haystack replacements m n done more bytes one_for_each sta
     one_for_each = one_for_each;
     matches = done ++ more;
     are_greedy =
-        subst (λ (it : MatchesValue). IsGreedy it.search.query it.search.ignore_case it.haystack it.at (done ++ more))
-        start (greedy_behind m done more n run greedy);
+        subst (λ (it : MatchesValue). IsGreedyIn it.search.query it.search.ignore_case it.haystack
+        (between it.at it.span.end) (done ++ more)) start (greedy_behind m done more n run greedy);
     is_replaced = refl;
   },
   omega (arith, some, fits),

@@ -13,7 +13,7 @@ use Rattle.std.specs.List.{All, slice_range}
 use Rattle.std.proofs.Math.Utf8.{encode, encodes, scalar, scalars}
 use Rattle.literal_base.specs.Leftmost.{IsLeftmostMatch}
 use Rattle.literal_base.specs.MatchValue.{MatchValue}
-use Rattle.literal_base.specs.Occurs.{NoneIsEmpty, Occurs, case_folded, pattern_at, rest_from}
+use Rattle.literal_base.specs.Occurs.{NoneIsEmpty, Occurs, case_folded, pattern_at, rest_from, between}
 use Rattle.literal_base.specs.declared.search.Span.{Span}
 use Rattle.literal_search.specs.MatchesValue.{GivesMatch, MatchesValue}
 use Rattle.literal_search.specs.SearchValue.{SearchValue}
@@ -166,14 +166,16 @@ occurs_between patterns ignore_case text span i at texts not_empty is_text insid
 
 -- and of one that an iteration gives
 pub found_between : (search : SearchValue) (haystack : List ℕ) (m n : MatchesValue) (found : MatchValue)
-    → m.search ≡ search → m.haystack ≡ haystack → GivesMatch m (Some found) n → All IsUtf8 search.query.patterns
-    → NoneIsEmpty search.query.patterns → IsUtf8 haystack
+    → m.search ≡ search → m.haystack ≡ haystack → m.span.end ≡ length m.haystack → GivesMatch m (Some found) n
+    → All IsUtf8 search.query.patterns → NoneIsEmpty search.query.patterns → IsUtf8 haystack
     → IsCharBoundary haystack found.start × IsCharBoundary haystack found.end
-found_between search haystack m n found search_is haystack_is step texts not_empty is_text =
+found_between search haystack m n found search_is haystack_is to_end step texts not_empty is_text =
     let here : IsLeftmostMatch search.query search.ignore_case haystack (rest_from haystack m.at) found =
     subst (λ (h : List ℕ). IsLeftmostMatch search.query search.ignore_case h (rest_from h m.at) found) haystack_is
     (subst (λ (s : SearchValue). IsLeftmostMatch s.query s.ignore_case m.haystack (rest_from m.haystack m.at) found)
-    search_is step.leftmost) in
+    search_is
+    (subst (λ end. IsLeftmostMatch m.search.query m.search.ignore_case m.haystack (between m.at end) found) to_end
+    step.leftmost)) in
     let both = occurs_between search.query.patterns search.ignore_case haystack (rest_from haystack m.at) found.pattern
     found.start texts not_empty is_text (omega arith) here.occurs in
     (both.0, subst (IsCharBoundary haystack) (sym here.whole) both.1)

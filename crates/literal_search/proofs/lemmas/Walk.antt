@@ -1,120 +1,28 @@
 -- A walk through rows that recognise patterns.
 use Rattle.std.proofs.Common.{◌≡◌, ℕ, ◌+◌, ◌*◌, ◌-◌, ◌<◌, ◌≤◌, ◌^◌, List, [], ◌∷◌, ◌++◌, length, get_or}
-use Rattle.std.proofs.Common.{Option, Some, None, IfSome, MatchOption, inl, inr, ◌⊎◌, take, drop}
+use Rattle.std.proofs.Common.{Option, Some, None, MatchOption, inl, inr, ◌⊎◌, take, drop}
 use Rattle.std.proofs.Common.{Bool, IsSome, append-nil, false, true}
-use Rattle.std.proofs.Common.{append_assoc, length-append, mul-le-mul_right, refl, sym, ap, subst, ◌∙◌, arith}
+use Rattle.std.proofs.Common.{append_assoc, mul-le-mul_right, refl, sym, ap, subst, ◌∙◌, arith}
 use Rattle.std.proofs.lemmas.Bool.{cases_lt, cond-false, cond-true, le-ltb, lt-ltb}
-use Rattle.std.proofs.lemmas.Bool.Decides.{Decides-eqb}
 use Rattle.std.proofs.lemmas.List.{drop-drop, drop-take, get_or-drop, length-drop, length-map, length-take, map-append}
 use Rattle.std.proofs.lemmas.List.{take-append-drop, take-take, take_more}
-use Rattle.std.proofs.lemmas.Slice.Eq.{starts_is}
 use Rattle.std.specs.List.{slice_range}
 use Rattle.std.specs.Borrow.{Bor}
 use Rattle.std.specs.Option.{option_map, unwrap_or}
 use Rattle.std.specs.Slice.{IsItemAt}
-use Rattle.literal_base.specs.declared.packed.MatchKind.{MatchKind}
 use Rattle.literal_base.specs.declared.search.MatchKind as search
 use Rattle.literal_base.specs.declared.search.MatchKind.TheVariants.{Standard}
-use Rattle.literal_base.specs.Kinds.{root_kind_of}
-use Rattle.literal_base.specs.declared.search.Span.{Span}
-use Rattle.literal_base.specs.Occurs.{NoneIsEmpty, between, pattern_at}
-use Rattle.literal_search.specs.Inside.Classes.{AreClasses, symbols_in}
+use Rattle.literal_base.specs.Occurs.{between}
+use Rattle.literal_search.specs.Inside.Classes.{symbols_in}
 use Rattle.literal_search.specs.Inside.Grown.{ending_live}
-use Rattle.literal_search.specs.Inside.Walk.{FindsIn, IsAt, IsBehind, IsBest, IsFirstBest, IsFound, IsRow, IsTable}
-use Rattle.literal_search.specs.Inside.Walk.{HasRead}
-use Rattle.literal_search.specs.Inside.Walk.{Finds, FindsEarliest, IsFirstEnd, NoneEnds}
-use Rattle.literal_search.specs.Inside.Walk.{WalksAll, WalksOn, StopsBy}
-use Rattle.literal_search.specs.Inside.Walk.{StopsNear, from_match, place_of, read_to, rows_by, text_in, text_of}
+use Rattle.literal_search.specs.Inside.Walk.{IsAt, IsRow, IsTable}
+use Rattle.literal_search.specs.Inside.Walk.{IsFirstEnd, NoneEnds}
+use Rattle.literal_search.specs.Inside.Walk.{WalksOn}
+use Rattle.literal_search.specs.Inside.Walk.{place_of, read_to, text_of}
 use Rattle.literal_search.specs.Table.{LeadsTo, Leads, Recognises, code_of, nothing, stride_of}
-use Rattle.literal_search.specs.Words.{begins_one, ending, first_equal, live_suffix, word_of}
-use Rattle.literal_search.specs.declared.walk.Ended.{Ended}
-use Rattle.literal_search.specs.declared.walk.Table.{Table}
-use Rattle.literal_search.specs.declared.walk.Walked.TheVariants.{Known}
+use Rattle.literal_search.specs.Words.{begins_one, ending, live_suffix, word_of}
 use Rattle.literal_search.proofs.lemmas.Behind.{ending_by_live}
-use Rattle.literal_search.proofs.lemmas.Ends.{ending_is, from_match_dead, from_match_live}
-use Rattle.literal_search.proofs.lemmas.Ends.{from_match_push, from_match_short, live_is_short, pushed}
-use Rattle.literal_search.proofs.lemmas.Ends.{whole_is_best, first_whole}
-use Rattle.literal_search.proofs.lemmas.Ends.{stays_best, stays_best_for_good}
 use Rattle.literal_search.proofs.lemmas.Live.{live_on, live_push}
-
-pushed_is : (text : List ℕ) (symbol : ℕ) → 0 < length text → pushed text symbol ≡ text ++ symbol ∷ []
-pushed_is [] symbol some = absurd (omega arith)
-pushed_is (first ∷ more) symbol some = refl
-
-whole_is : (kind : MatchKind) (patterns : List (List ℕ)) (text : List ℕ) (symbol : ℕ)
-    → first_whole kind patterns (text ++ symbol ∷ [])
-    ≡ first_equal (root_kind_of kind) patterns (text ++ symbol ∷ [])
-whole_is kind patterns [] symbol = refl
-whole_is kind patterns (first ∷ more) symbol = refl
-
-module _ (kind : MatchKind) (patterns : List (List ℕ)) (some : NoneIsEmpty patterns) (start : ℕ) where
-  -- a text in front of which a pattern stands is not empty
-  best_is_some : (text : List ℕ) (i : ℕ) → IsBest kind patterns text i → 0 < length text
-  best_is_some text i best =
-      let split = (starts_is Decides-eqb text (pattern_at patterns i) _ refl).0 best.stands in
-      let long = some i [] best.is_pattern in
-      omega (
-        arith,
-        long,
-        ap (λ (l : List ℕ). length l) split,
-        length-append (pattern_at patterns i) (drop (length (pattern_at patterns i)) text),
-      )
-
-  -- one symbol more with which no match ends
-  pub found_push : (text : List ℕ) (symbol : ℕ) (answer : Option Ended)
-      → ending (root_kind_of kind) patterns (text ++ symbol ∷ []) ≡ None → IsFound kind patterns start text answer
-      → IsFound kind patterns start (text ++ symbol ∷ []) answer
-  found_push text symbol None ends found =
-      from_match_push kind patterns some text symbol (sym (ending_is kind patterns (text ++ symbol ∷ [])) ∙ ends)
-      ∙ ap (λ u. pushed u symbol) found
-  found_push text symbol (Some last) ends found =
-      let u = from_match patterns text in
-      let whole = sym (ending_is kind patterns (text ++ symbol ∷ [])) ∙ ends in
-      let split : from_match patterns (text ++ symbol ∷ []) ≡ u ++ symbol ∷ [] =
-      from_match_push kind patterns some text symbol whole ∙ pushed_is u symbol
-      (best_is_some u last.pattern found.best) in
-      let unended : first_equal (root_kind_of kind) patterns (u ++ symbol ∷ []) ≡ None =
-      sym (whole_is kind patterns u symbol) ∙ (ap (first_whole kind patterns) (sym split) ∙ whole) in
-      record {
-        best = subst (λ (u : List ℕ). IsBest kind patterns u last.pattern) (sym split)
-            (stays_best kind patterns u symbol last.pattern found.best unended);
-        end = omega (
-          arith,
-          found.end,
-          ap (λ (l : List ℕ). length l) split,
-          length-append u (symbol ∷ []),
-          length-append text (symbol ∷ []),
-        );
-      }
-
-  -- a text with which a match ends
-  pub found_end : (text : List ℕ) (i end : ℕ) → ending (root_kind_of kind) patterns text ≡ Some i
-      → end ≡ start + length text → IsFirstBest kind patterns start text (record { pattern = i; end = end })
-  found_end text i end ends end_is =
-      let whole = whole_is_best kind patterns (from_match patterns text) i
-      (sym (ending_is kind patterns text) ∙ ends) in
-      record { best = whole.0; end = omega (arith, end_is, ap (λ (l : List ℕ). length l) whole.1) }
-
-  -- more of a text where nothing is live any more
-  pub found_dead : (text more : List ℕ) (answer : Option Ended) → live_suffix (root_kind_of kind) patterns text ≡ None
-      → IsFound kind patterns start text answer → IsFound kind patterns start (text ++ more) answer
-  found_dead text more None dead found =
-      let is = from_match_dead kind patterns text more dead in
-      absurd (omega (arith, is.2, ap (λ (l : List ℕ). length l) found))
-  found_dead text more (Some last) dead found =
-      let u = from_match patterns text in
-      let is = from_match_dead kind patterns text more dead in
-      record {
-        best = subst (λ (u : List ℕ). IsBest kind patterns u last.pattern) (sym is.0)
-            (stays_best_for_good kind patterns u more last.pattern found.best is.1);
-        end = omega (
-          arith,
-          found.end,
-          ap (λ (l : List ℕ). length l) is.0,
-          length-append u more,
-          length-append text more,
-        );
-      }
 
 -- each row lies in the rows
 pub row_fits : (kind : search.MatchKind) (patterns : List (List ℕ)) (width : ℕ) (rows : List ℕ)
@@ -294,50 +202,6 @@ module _ (kind : search.MatchKind) (patterns : List (List ℕ)) (width : ℕ) (r
                 let code_is = to.code_is ∙ ap (code_of (to.state * stride_of width)) ends in
                 absurd (omega (arith, code_is, small to.state to.is_state))
 
--- the same for a walk that keeps the best match
-module _ (kind : MatchKind) (patterns : List (List ℕ)) (some : NoneIsEmpty patterns) (width : ℕ) (rows : List ℕ)
-    (recognises : Recognises (root_kind_of kind) patterns width rows) (start : ℕ) (text : List ℕ) (place : ℕ)
-    (last : Option Ended) (behind : IsBehind kind patterns width rows recognises start text place last) (symbol : ℕ)
-    (below : symbol < width) (code : ℕ) (code_is : code ≡ get_or rows (place + symbol) 0)
-  where
-    pub on_without_end : code < 2 ^ 31
-        → IsBehind kind patterns width rows recognises start (text ++ symbol ∷ []) code last
-    on_without_end is_small =
-        let on = at_without_end (root_kind_of kind) patterns width rows recognises text place behind.at symbol below
-        code code_is is_small in
-        record { at = on.0; found = found_push kind patterns some start text symbol last on.1 behind.found }
-
-    pub on_with_end : 2 ^ 31 ≤ code → ¬ (code ≡ nothing) → (end : ℕ) → end ≡ start + length text + 1
-        → IsBehind kind patterns width rows recognises start (text ++ symbol ∷ []) (code - 2 ^ 31)
-        (Some (record { pattern = get_or rows (code - 2 ^ 31 + width) 0; end = end }))
-    on_with_end is_large alive end end_is =
-        let on = at_with_end (root_kind_of kind) patterns width rows recognises text place behind.at symbol below code
-        code_is is_large alive in
-        record {
-          at = on.0;
-          found = found_end kind patterns some start (text ++ symbol ∷ []) (get_or rows (code - 2 ^ 31 + width) 0) end
-              on.1 (omega (arith, end_is, length-append text (symbol ∷ [])));
-        }
-
-    -- where it leads to none there is a match
-    pub dead_has_one : code ≡ nothing → ¬ (last ≡ None)
-    dead_has_one is_dead none =
-        let on = at_dead (root_kind_of kind) patterns width rows recognises text place behind.at symbol below code
-        code_is is_dead in
-        let found = subst (λ (o : Option Ended). IsFound kind patterns start (text ++ symbol ∷ []) o) none
-        (found_push kind patterns some start text symbol last on.1 behind.found) in
-        let is = from_match_dead kind patterns (text ++ symbol ∷ []) [] on.0 in
-        omega (arith, is.2, ap (λ (l : List ℕ). length l) found)
-
-    -- where it leads to none the last match is that of the text, however it goes on
-    pub dead_on : code ≡ nothing → (more : List ℕ) → IsFound kind patterns start (text ++ symbol ∷ more) last
-    dead_on is_dead more =
-        let on = at_dead (root_kind_of kind) patterns width rows recognises text place behind.at symbol below code
-        code_is is_dead in
-        subst (λ t. IsFound kind patterns start t last) (append_assoc text (symbol ∷ []) more)
-        (found_dead kind patterns some start (text ++ symbol ∷ []) more last on.0
-        (found_push kind patterns some start text symbol last on.1 behind.found))
-
 -- a part of a text in two
 pub slice_halves : (text : List ℕ) (from at to : ℕ) → from ≤ at → at ≤ to
     → slice_range text from to ≡ slice_range text from at ++ slice_range text at to
@@ -413,49 +277,6 @@ row_at kind patterns width rows recognises text place at = record {
   fits = omega (arith, at.place_is, row_fits kind patterns width rows recognises at.state at.is_state);
 }
 
-module _ (width : ℕ) (rows : List ℕ) (table : IsTable width rows) (start : ℕ) where
-  module _ (text : List ℕ) (place : ℕ) (last : Option Ended) (reads : HasRead width rows start text place last)
-      (symbol : ℕ) (below : symbol < width) (code : ℕ) (code_is : code ≡ get_or rows (place + symbol) 0)
-    where
-      row_on : ¬ (code ≡ nothing) → IsRow width rows (place_of code)
-      row_on alive = elim (table.leads place symbol reads.row below) [
-        | inl dead ↦ absurd (alive (code_is ∙ dead))
-        | inr row ↦ subst (λ n. IsRow width rows (place_of n)) (sym code_is) row
-      ]
-
-      -- behind one byte more: no match ends there, one does, or no more bytes matter
-      pub reads_on : code < 2 ^ 31 → HasRead width rows start (text ++ symbol ∷ []) code last
-      reads_on small = record {
-        row = subst (IsRow width rows) (cond-true _ _ _ (lt-ltb code (2 ^ 31) small)) (row_on (λ is. omega arith));
-        behind = λ kind patterns recognises some. on_without_end kind patterns some width rows recognises start text
-            place
-            last (reads.behind kind patterns recognises some) symbol below code code_is small;
-      }
-
-      pub reads_end : 2 ^ 31 ≤ code → ¬ (code ≡ nothing) → (end : ℕ) → end ≡ start + length text + 1
-          → HasRead width rows start (text ++ symbol ∷ []) (code - 2 ^ 31)
-          (Some (record { pattern = get_or rows (code - 2 ^ 31 + width) 0; end = end }))
-      reads_end large alive end end_is = record {
-        row = subst (IsRow width rows) (cond-false _ _ _ (le-ltb code (2 ^ 31) large)) (row_on alive);
-        behind = λ kind patterns recognises some. on_with_end kind patterns some width rows recognises start text place
-            last (reads.behind kind patterns recognises some) symbol below code code_is large alive end end_is;
-      }
-
-      pub finds_dead : code ≡ nothing → (more : List ℕ) → FindsIn width rows start (text ++ symbol ∷ more) last
-      finds_dead is_dead more = λ kind patterns recognises some. dead_on kind patterns some width rows recognises start
-          text place last (reads.behind kind patterns recognises some) symbol below code code_is is_dead more
-
-      pub reads_dead : code ≡ nothing → last ≡ None → (kind : MatchKind) (patterns : List (List ℕ))
-          → Recognises (root_kind_of kind) patterns width rows → NoneIsEmpty patterns → ⊥
-      reads_dead is_dead none kind patterns recognises some =
-          dead_has_one kind patterns some width rows recognises start text place last
-          (reads.behind kind patterns recognises some) symbol below code code_is is_dead none
-
-  -- behind all bytes
-  pub finds_all : (text : List ℕ) (place : ℕ) (last : Option Ended) → HasRead width rows start text place last
-      → FindsIn width rows start text last
-  finds_all text place last reads = λ kind patterns recognises some. (reads.behind kind patterns recognises some).found
-
 pub text_length : (classes haystack : List ℕ) (start at : ℕ) → start ≤ at → at ≤ length haystack
     → start + length (text_of classes haystack (between start at)) ≡ at
 text_length classes haystack start at after inside =
@@ -465,98 +286,6 @@ text_length classes haystack start at after inside =
       length-take (at - start) (drop start haystack),
       length-drop start haystack,
     )
-
--- a walk is at most as far behind the place of its last match as the longest pattern is long
-pub reads_near : (width : ℕ) (rows : List ℕ) (start : ℕ) (text : List ℕ) (place : ℕ) (last : Option Ended)
-    → HasRead width rows start text place last
-    → StopsNear width rows (start + length text) last
-reads_near width rows start text place None reads = λ kind patterns recognises some longest short. tt
-reads_near width rows start text place (Some e) reads = λ kind patterns recognises some longest short.
-    let behind = reads.behind kind patterns recognises some in
-    let word = word_of recognises.words behind.at.state in
-    let end = behind.found.end in
-    let size = live_is_short kind patterns longest short text word behind.at.live_suffix in
-    let least = from_match_short kind patterns word in
-    let same = ap (λ (l : List ℕ). length l) (from_match_live kind patterns text word behind.at.live_suffix) in
-    omega arith
-
--- a place before one that is near is near
-pub stops_nearer : (last : Option Ended) (place before longest : ℕ) (patterns : List (List ℕ)) → before ≤ place
-    → IfSome last (λ e. place + length (pattern_at patterns e.pattern) ≤ e.end + longest)
-    → IfSome last (λ e. before + length (pattern_at patterns e.pattern) ≤ e.end + longest)
-stops_nearer None place before longest patterns earlier near = tt
-stops_nearer (Some e) place before longest patterns earlier near = omega arith
-
-pub near_before : (width : ℕ) (rows : List ℕ) (place before : ℕ) (answer : Option Ended) → before ≤ place
-    → StopsNear width rows place answer → StopsNear width rows before answer
-near_before width rows place before answer earlier near kind patterns recognises some longest short =
-    stops_nearer answer place before longest patterns earlier (near kind patterns recognises some longest short)
-
--- one byte more of a span
-module _ (classes rows haystack : List ℕ) (width : ℕ) (are : AreClasses classes width) (table : IsTable width rows)
-    (start at : ℕ) (after : start ≤ at) (inside : at < length haystack) (is_byte : get_or haystack at 0 < 256)
-    (place : ℕ) (last : Option Ended)
-    (reads : HasRead width rows start (text_of classes haystack (between start at)) place last)
-  where
-    module _ (code : ℕ) (code_is : code ≡ get_or rows (place + get_or classes (get_or haystack at 0) 0) 0) where
-      -- no match ends there, one does, or no more bytes matter
-      pub step_on : code < 2 ^ 31
-          → HasRead width rows start (text_of classes haystack (between start (at + 1))) code last
-      step_on small = subst (λ (text : List ℕ). HasRead width rows start text code last)
-          (sym (text_push classes haystack start at after inside))
-          (reads_on width rows table start (text_of classes haystack (between start at)) place last reads
-          (get_or classes (get_or haystack at 0) 0) (are.below (get_or haystack at 0) is_byte) code code_is small)
-
-      pub step_end : 2 ^ 31 ≤ code → ¬ (code ≡ nothing)
-          → HasRead width rows start (text_of classes haystack (between start (at + 1))) (code - 2 ^ 31)
-          (Some (record { pattern = get_or rows (code - 2 ^ 31 + width) 0; end = at + 1 }))
-      step_end large alive = subst (λ (text : List ℕ). HasRead width rows start text (code - 2 ^ 31)
-          (Some (record { pattern = get_or rows (code - 2 ^ 31 + width) 0; end = at + 1 })))
-          (sym (text_push classes haystack start at after inside))
-          (reads_end width rows table start (text_of classes haystack (between start at)) place last reads
-          (get_or classes (get_or haystack at 0) 0) (are.below (get_or haystack at 0) is_byte) code code_is large alive
-          (at + 1)
-          (let size = text_length classes haystack start at after (omega arith) in omega arith))
-
-      pub step_dead : code ≡ nothing → (end : ℕ) → at < end
-          → FindsIn width rows start (text_of classes haystack (between start end)) last
-      step_dead is_dead end before = subst (λ (text : List ℕ). FindsIn width rows start text last)
-          (sym (text_split classes haystack start at after inside end before))
-          (finds_dead width rows table start (text_of classes haystack (between start at)) place last reads
-          (get_or classes (get_or haystack at 0) 0) (are.below (get_or haystack at 0) is_byte) code code_is is_dead
-          (text_of classes haystack (between (at + 1) end)))
-
-      -- where no more bytes matter there is a match
-      pub step_dead_has_one : code ≡ nothing → last ≡ None → (kind : MatchKind) (patterns : List (List ℕ))
-          → Recognises (root_kind_of kind) patterns width rows → NoneIsEmpty patterns → ⊥
-      step_dead_has_one =
-          reads_dead width rows table start (text_of classes haystack (between start at)) place last reads
-          (get_or classes (get_or haystack at 0) 0) (are.below (get_or haystack at 0) is_byte) code code_is
-
--- what is found is the match of the span, if that is asked for
-pub finds_by : (t : Table) (haystack : List ℕ) (span : Span) (is_earliest : Bool) (last : Option Ended)
-    → (is_earliest ≡ true → last ≡ None)
-    → FindsIn t.width (rows_by t) span.start (text_in t haystack span.start span.end) last
-    → Finds t haystack span is_earliest last
-finds_by t haystack span is_earliest None none finds = finds
-finds_by t haystack span false (Some e) none finds = finds
-finds_by t haystack span true (Some e) none finds =
-    let never : ⊥ = let some = none refl in cc in absurd never
-
--- and the one that ends first
-pub finds_first : (t : Table) (haystack : List ℕ) (span : Span) (is_earliest : Bool) (e : Ended) → is_earliest ≡ true
-    → FindsEarliest t haystack span.start e → Finds t haystack span is_earliest (Some e)
-finds_first t haystack span true e is finds = finds
-finds_first t haystack span false e is finds =
-    let never : ⊥ = cc in absurd never
-
--- how far a walk goes that knows what it found
-pub stops_by : (t : Table) (span : Span) (steps place : ℕ) (last : Option Ended)
-    → (last ≡ None → WalksAll t span steps) → place ≡ span.start + steps - 1
-    → StopsNear t.width (rows_by t) place last → StopsBy t span steps (Known last)
-stops_by t span steps place None all is near = all refl
-stops_by t span steps place (Some e) all is near =
-    subst (λ (n : ℕ). StopsNear t.width (rows_by t) n (Some e)) is near
 
 -- what `get` answers, if it answers, is the number there
 pub got_is : (numbers : List ℕ) (i : ℕ) (answer : Option (Bor ℕ)) (item : Bor ℕ) → IsItemAt numbers i answer

@@ -67,6 +67,29 @@ puts_behind at prefix numbers old now new at_is before puts =
     ∙ (ap (λ l. prefix ++ (numbers ++ l)) behind
     ∙ sym (append_assoc prefix numbers (drop (length (prefix ++ numbers)) old))))
 
+-- two lists, one behind the other
+pub puts_both : (at : ℕ) (one two old now new : List ℕ) → at ≤ length old → Puts at one old now
+    → Puts (at + length one) two now new → Puts at (one ++ two) old new
+puts_both at one two old now new inside first second =
+    let before = take at old in
+    let prefix = before ++ one in
+    let size : at + length one ≡ length prefix = omega (
+      arith,
+      length-append before one,
+      length-take-le at old inside,
+    ) in
+    let all : length (prefix ++ two) ≡ at + length (one ++ two) = omega (
+      arith,
+      size,
+      length-append prefix two,
+      length-append one two,
+    ) in
+    let rest = drop (at + length (one ++ two)) old in
+    puts_behind (at + length one) prefix two old now new size
+    (first ∙ (sym (append_assoc before one (drop (at + length one) old)) ∙ ap (λ k. prefix ++ drop k old) size)) second
+    ∙ (ap (λ k. (prefix ++ two) ++ drop k old) all
+    ∙ (ap (λ l. l ++ rest) (append_assoc before one two) ∙ append_assoc before (one ++ two) rest))
+
 -- the parts of a prepared search, one behind the other, and the check over them
 module _ (version width patterns places longest : ℕ) (lengths table starts ends old : List ℕ)
     (lengths_are : length lengths ≡ patterns) (table_is : length table ≡ places + 256)

@@ -1,22 +1,19 @@
 -- Walks through a span from its end, by tables that may be lent.
-use Rattle.std.specs.Prelude.{◌≡◌, ◌⊎◌, ℕ, ◌+◌, ◌-◌, ◌<◌, ◌≤◌, ◌^◌, ◌%◌, List, None, Option, Some, length, map}
-use Rattle.std.specs.Prelude.{max, min, reverse, slice_index}
+use Rattle.std.specs.Prelude.{◌≡◌, ◌⊎◌, ℕ, ◌+◌, ◌-◌, ◌<◌, ◌≤◌, ◌^◌, ◌%◌, List, length, map}
+use Rattle.std.specs.Prelude.{max, reverse, slice_index}
 use Rattle.literal_base.specs.Leftmost.{IsBetter}
 use Rattle.literal_base.specs.MatchValue.{MatchValue}
-use Rattle.literal_base.specs.Occurs.{NothingOccurs, Occurs, between}
+use Rattle.literal_base.specs.Occurs.{Occurs, between}
 use Rattle.literal_base.specs.declared.search.MatchKind.TheVariants.{Standard}
 use Rattle.literal_base.specs.declared.search.Span.{Span}
 use Rattle.literal_ids.specs.declared.primitives.pattern_id.TheConstants.PatternID
 use Rattle.literal_search.specs.SearchValue.{SearchValue}
 use Rattle.literal_search.specs.Inside.Walk.{IsAt, classes_by, rows_by, text_of}
-use Rattle.literal_search.specs.Linear.{looked_by}
-use Rattle.literal_search.specs.PreparedLinear.{AreBackTables, ArePrints, BackTables, texts_back}
+use Rattle.literal_search.specs.SearchValue.{looked_by}
+use Rattle.literal_search.specs.Prepared.{AreBackTables, ArePrints, BackTables, texts_back}
 use Rattle.literal_search.specs.Table.{Recognises}
 use Rattle.literal_search.specs.declared.backward.Backward.{Backward}
-use Rattle.literal_search.specs.declared.backward.Begun.{Begun}
 use Rattle.literal_search.specs.declared.backward.Marks.{Marks}
-use Rattle.literal_search.specs.declared.backward.Stopped.{Stopped}
-use Rattle.literal_search.specs.declared.backward.Stopped.TheVariants.{OutOfMemory}
 use Rattle.literal_search.specs.declared.backward.TheConstants.{LEAST}
 use Rattle.literal_search.specs.declared.prepared.TheConstants.{FINGERPRINTS_LEN}
 
@@ -42,15 +39,11 @@ back_tables_by search b = record {
 pub record AreBackFor (search : SearchValue) (b : Backward) : Type 0 where
   pub tables : AreBackTables (back_tables_by search b)
   pub lens : b.lens.now ≡ map (λ bytes. length bytes) search.query.patterns
-  pub prints : ArePrints search b.prints.now
+  pub prints : ArePrints search.query.patterns search.ignore_case b.prints.now
 
 -- what holds of whatever search they are the tables of
 abbrev pub ForBackward : Backward → (BackTables → Type 0) → Type 0
 ForBackward b P = (search : SearchValue) → AreBackFor search b → P (back_tables_by search b)
-
--- the number in a row leads to another
-abbrev pub LeadsOn : Backward → ℕ → Type 0
-LeadsOn b code = code % 2 ^ 31 + 256 < length b.table.rows.now
 
 -- a walk stands at the row of what it read of a haystack, from a place down to another
 pub record StandsDown (p : BackTables) (haystack : List ℕ) (from at place : ℕ) : Type 0 where
@@ -85,20 +78,6 @@ pub record IsMark (p : BackTables) (haystack : List ℕ) (end at code : ℕ) : T
   pub named : 2 ^ 31 ≤ code → named_by p code < length p.best
   pub best : 2 ^ 31 ≤ code → BeginsBest p haystack end at (best_by p code)
 
--- the same for a walk that began so far behind that it knows all that begins at the place
-pub record StandsFar (p : BackTables) (haystack : List ℕ) (end at place : ℕ) : Type 0 where
-  pub from : ℕ
-  pub after : at ≤ from
-  pub inside : from ≤ end
-  pub far : (from ≡ end) ⊎ (at + p.longest ≤ from)
-  pub stands : StandsDown p haystack from at place
-
--- at a place a pattern begins, and a walk stands there
-pub record IsBegun (p : BackTables) (haystack : List ℕ) (end : ℕ) (begun : Begun) : Type 0 where
-  pub ends : 2 ^ 31 ≤ begun.code
-  pub mark : IsMark p haystack end begun.at begun.code
-  pub stands : StandsFar p haystack end begun.at (begun.code % 2 ^ 31)
-
 -- a part of the span, as long as the longest pattern if more is behind it
 pub record IsBlock (longest : ℕ) (span block : Span) : Type 0 where
   pub after : span.start ≤ block.start
@@ -125,28 +104,36 @@ pub record IsPlaced (longest : ℕ) (span : Span) (at : ℕ) (m : Marks) : Type 
   pub full : (m.known ≡ span.start) ⊎ ((m.known ≡ span.end) ⊎ (longest ≤ m.known - span.start))
   pub looked : at ≤ looked_by longest span m.known
   pub first : at < m.upto → m.first ≤ at
-  pub listed : m.upto ≤ m.first + length m.numbers.items
+  pub listed : m.upto ≤ m.first + max longest LEAST
   pub upto_known : m.upto ≤ m.known
 
--- there are marks of each place from there on before the one, and from that on nothing begins up to where it is known
-pub record AreMarked (p : BackTables) (haystack : List ℕ) (span : Span) (at : ℕ) (m : Marks) : Type 0 where
-  pub marks : AreMarks p haystack span.end m.numbers.items m.first at m.upto
+-- where an iteration goes on at a place: so, if no pattern is longer than a block; else nothing is known behind it
+pub record IsAhead (longest : ℕ) (span : Span) (at : ℕ) (m : Marks) : Type 0 where
+  pub after : span.start ≤ at
+  pub inside : at ≤ span.end
+  pub short : longest ≤ LEAST → IsPlaced longest span at m
+  pub long : LEAST < longest → m.known ≡ at
+
+-- in numbers there are marks of each place from there on before the one, and from that on nothing begins up to where
+-- it is known
+pub record AreMarked (p : BackTables) (haystack : List ℕ) (span : Span) (at : ℕ) (numbers : List ℕ) (m : Marks)
+    : Type 0 where
+  pub marks : AreMarks p haystack span.end numbers m.first at m.upto
   pub none : (k : ℕ) → at ≤ k → m.upto ≤ k → k < m.known → NoneBeginsAt p haystack span.end k
 
--- there is room for the marks of any block of a span
-abbrev pub HasRoomForMarks : ℕ → Span → Marks → Type 0
-HasRoomForMarks longest span m = min (max longest LEAST) (span.end - span.start) ≤ length m.numbers.items
+-- a block is marked that begins at a place, and goes as far as the longest pattern is long, or to the end of the span
+pub record IsBlockMarked (longest : ℕ) (span : Span) (from : ℕ) (m : Marks) : Type 0 where
+  pub first : m.first ≡ from
+  pub upto : m.upto ≤ m.known
+  pub some : from < m.known
+  pub inside : m.known ≤ span.end
+  pub full : (m.known ≡ span.end) ⊎ (from + longest ≤ m.known)
+  pub listed : m.upto ≤ from + max longest LEAST
 
 -- a number was read for the byte at a place, and the walk goes on from there
 pub record IsRead (p : BackTables) (haystack : List ℕ) (from at code : ℕ) : Type 0 where
   pub mark : IsMark p haystack from at code
   pub stands : StandsDown p haystack from at (code % 2 ^ 31)
-
--- the last place of a block at which a pattern begins, and None where none does
-abbrev pub IsLastBegun : BackTables → List ℕ → ℕ → Span → Option Begun → Type 0
-IsLastBegun p haystack end block None = NoneFrom p haystack end block.start block.end
-IsLastBegun p haystack end block (Some begun) =
-    IsBegun p haystack end begun × NoneFrom p haystack end (begun.at + 1) block.end
 
 -- a match begins at a place or behind it, is not empty and ends in the span, and has one of the lengths, which is not
 -- above the longest
@@ -156,8 +143,3 @@ pub record IsMatchBy (b : Backward) (span : Span) (at : ℕ) (found : MatchValue
   pub inside : found.end ≤ span.end
   pub short : found.end ≤ found.start + b.table.longest
   pub pattern : found.pattern < length b.lens.now
-
--- why a search that has the tables stops: it found no room for marks, and something occurs
-pub record StopsMarking (p : BackTables) (haystack : List ℕ) (from end : ℕ) (error : Stopped) : Type 0 where
-  pub no_memory : error ≡ OutOfMemory
-  pub occurs : ¬ NothingOccurs p.search.query.patterns p.search.ignore_case haystack (between from end)

@@ -4,10 +4,10 @@ use Rattle.std.specs.Prelude.{◌-◌, IfSome}
 use Rattle.literal_base.specs.Occurs.{between}
 use Rattle.literal_base.specs.declared.search.Span.{Span}
 use Rattle.literal_fingerprints.specs.FingerprintsValue.{AllPass, FingerprintsValue}
-use Rattle.literal_search.specs.Linear.{first_part}
+use Rattle.literal_search.specs.SearchValue.{first_part}
 use Rattle.literal_search.specs.Inside.Backward.{AreMarks, ForBackward, IsMark, NoneFrom, StandsDown}
 use Rattle.literal_search.specs.Inside.Walk.{classes_by, rows_by}
-use Rattle.literal_search.specs.PreparedLinear.{BackTables}
+use Rattle.literal_search.specs.Prepared.{BackTables}
 use Rattle.literal_search.specs.declared.backward.Backward.{Backward}
 use Rattle.literal_search.specs.declared.backward.Begun.{Begun}
 use Rattle.literal_search.specs.declared.leftmost.Block.{Block}

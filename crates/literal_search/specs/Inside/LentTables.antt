@@ -8,10 +8,11 @@ use Rattle.literal_search.specs.Inside.Rows.{rows_of}
 use Rattle.literal_search.specs.Inside.Standing.{HaveSameToCome, IsStanding, standing_value}
 use Rattle.literal_search.specs.Overlapping.{OverlappingValue}
 use Rattle.literal_search.specs.OverlappingMatchesValue.{IsNextToCome, IsToCome, gone_on}
-use Rattle.literal_search.specs.Prepared.{LiesIn}
+use Rattle.literal_search.specs.Prepared.{ArePrints, LiesIn}
 use Rattle.literal_search.specs.SearchValue.{longest_of}
-use Rattle.literal_search.specs.PreparedOverlapping.{AreTables, HasLists, Tables, ends_in, starts_in}
-use Rattle.literal_search.specs.declared.prepared.TheConstants.{OVERLAPPING_VERSION}
+use Rattle.literal_search.specs.PreparedOverlapping.{AreTables, HasLists, Tables, ends_in, prints_behind}
+use Rattle.literal_search.specs.PreparedOverlapping.{starts_in}
+use Rattle.literal_search.specs.declared.prepared.TheConstants.{FINGERPRINTS_LEN, OVERLAPPING_VERSION}
 use Rattle.literal_search.specs.declared.prepared_overlapping.LentTables.{LentTables}
 use Rattle.literal_search.specs.declared.standing.Standing.{Standing}
 
@@ -21,6 +22,8 @@ pub record AreLent (p : LentTables) : Type 0 where
   pub listed : HasLists p.header.numbers.now
   pub starts_are : p.starts.now ≡ starts_in p.header.numbers.now
   pub ends_are : p.ends.now ≡ ends_in p.header.numbers.now
+  pub prints_are : p.prints.now ≡ prints_behind p.header.numbers.now
+  pub prints_long : length p.prints.now ≡ FINGERPRINTS_LEN
 
 -- the tables that they would be of a search
 abbrev pub tables_by : OverlappingValue → LentTables → Tables
@@ -34,11 +37,12 @@ tables_by search p = record {
   starts = p.starts.now;
 }
 
--- they are those of a search
+-- they are those of a search, with fingerprints that let all of its patterns pass, if any
 pub record AreFor (search : OverlappingValue) (p : LentTables) : Type 0 where
   pub tables : AreTables (tables_by search p)
   pub lengths : p.header.lengths.now ≡ map (λ bytes. length bytes) search.patterns
   pub longest : p.header.longest ≡ longest_of search.patterns
+  pub prints : ArePrints search.patterns search.ignore_case p.prints.now
 
 -- a search stands in the span, at a row or another number
 pub record LiesAt (span : Span) (s : Standing) : Type 0 where

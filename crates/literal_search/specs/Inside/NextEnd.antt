@@ -5,6 +5,7 @@ use Rattle.std.specs.Result.{IsOkAnd}
 use Rattle.literal_base.specs.Occurs.{Occurs, between, pattern_at}
 use Rattle.literal_base.specs.declared.search.MatchKind.TheVariants.{Standard}
 use Rattle.literal_base.specs.declared.search.Span.{Span}
+use Rattle.literal_search.specs.Prepared.{ArePrints}
 use Rattle.literal_search.specs.Inside.Classes.{symbols_in}
 use Rattle.literal_search.specs.Inside.Scan.{IsTableFor}
 use Rattle.literal_search.specs.Inside.Walk.{IsAt, classes_by, rows_by, text_of}
@@ -45,9 +46,10 @@ IsNextStop patterns ignore_case classes width rows haystack span behind answer =
 
 -- a walk that stands at a row at the start of a span finds where something ends next: in each span that begins before,
 -- and ends there too, for all patterns of which these are the numbers
-abbrev pub FindsNext : Table → List ℕ → ℕ → Span → Result (Option Stop) Damaged → Type 0
-FindsNext t haystack from span result =
-    (patterns : List (List ℕ)) (ignore_case : Bool) → IsTableFor t Standard patterns ignore_case → (start : ℕ)
+abbrev pub FindsNext : Table → List ℕ → List ℕ → ℕ → Span → Result (Option Stop) Damaged → Type 0
+FindsNext t prints haystack from span result =
+    (patterns : List (List ℕ)) (ignore_case : Bool) → IsTableFor t patterns ignore_case
+    → ArePrints patterns ignore_case prints → (start : ℕ)
     → Stands patterns ignore_case (classes_by t) t.width (rows_by t) haystack (between start span.end) span.start
     (record { place = from; end = span.start })
     → IsOkAnd result (IsNextStop patterns ignore_case (classes_by t) t.width (rows_by t) haystack
@@ -61,9 +63,10 @@ StepsToStop span steps (Some stop) = (stop.end ≤ span.start + steps) × (3 * s
 
 -- a walk that stood at a row at the start of a span stands at another further on, and nothing ended in between: in the
 -- same spans, and for the same patterns
-abbrev pub HasComeTo : Table → List ℕ → ℕ → Span → Stop → Type 0
-HasComeTo t haystack from span stop =
-    (patterns : List (List ℕ)) (ignore_case : Bool) → IsTableFor t Standard patterns ignore_case → (start : ℕ)
+abbrev pub HasComeTo : Table → List ℕ → List ℕ → ℕ → Span → Stop → Type 0
+HasComeTo t prints haystack from span stop =
+    (patterns : List (List ℕ)) (ignore_case : Bool) → IsTableFor t patterns ignore_case
+    → ArePrints patterns ignore_case prints → (start : ℕ)
     → Stands patterns ignore_case (classes_by t) t.width (rows_by t) haystack (between start span.end) span.start
     (record { place = from; end = span.start })
     → Stands patterns ignore_case (classes_by t) t.width (rows_by t) haystack (between start span.end) stop.end stop

@@ -1,20 +1,21 @@
 -- The parts of a prepared search, and how they are written.
-use Rattle.std.specs.Prelude.{◌≡◌, ◌+◌, ◌<◌, ◌≤◌, ◌^◌, ℕ, List, ◌∷◌, ◌++◌, IfSome, None}
-use Rattle.std.specs.Prelude.{length, map, slice_index, slice_range}
+use Rattle.std.specs.Prelude.{◌≡◌, ◌+◌, ◌<◌, ◌^◌, ℕ, List, ◌∷◌, ◌++◌, length, map, slice_index}
+use Rattle.std.specs.Prelude.{slice_range, ◌≤◌}
 use Rattle.std.specs.List.{splice}
-use Rattle.literal_search.specs.SearchValue.{longest_of}
+use Rattle.literal_search.specs.SearchValue.{longest_of, SearchValue}
 use Rattle.literal_search.specs.Inside.Rows.{packed_classes}
-use Rattle.literal_search.specs.Prepared.{AreShort, HasAllParts, HasParts, check_of, fingerprints_by}
-use Rattle.literal_search.specs.Prepared.{classes_end, lengths_in, fingerprints_part, rows_at, rows_end}
-use Rattle.literal_search.specs.Prepared.{shortest_by, width_in}
+use Rattle.literal_search.specs.Prepared.{HasAllParts, HasParts, check_of, classes_end}
+use Rattle.literal_search.specs.Prepared.{lengths_in, rows_at, rows_end, width_in}
+use Rattle.literal_search.specs.Prepared.{longest_in, ForPrepared, back_tables_in, prepared_len}
 use Rattle.literal_search.specs.declared.classes.TheConstants.{PACKED_LEN}
 use Rattle.literal_search.specs.declared.prepared.Header.{Header}
-use Rattle.literal_search.specs.declared.prepared.Prepared.TheInside.{Inside}
-use Rattle.literal_search.specs.declared.prepared.TheConstants.{PREPARED_VERSION}
+use Rattle.literal_search.specs.declared.prepared.TheConstants.{LENGTHS_AT}
 use Rattle.literal_search.specs.declared.walk.Table.{Table}
-use Rattle.literal_search.specs.declared.prepared.PrepareError.{PrepareError}
-use Rattle.literal_search.specs.declared.prepared.PrepareError.TheVariants.{ArrayTooShort, ListsTooLong}
-use Rattle.literal_search.specs.declared.prepared.PrepareError.TheVariants.{PatternTooLong}
+use Rattle.literal_base.specs.declared.search.Span.{Span}
+use Rattle.literal_search.specs.Inside.Backward.{AreBackFor, AreMarked, IsAhead, IsSafe, back_tables_by}
+use Rattle.literal_search.specs.declared.backward.Backward.{Backward}
+use Rattle.literal_search.specs.declared.backward.Marks.{Marks}
+use Rattle.literal_search.specs.declared.backward.TheConstants.{LEAST}
 
 -- the parts of an array that begins as a prepared search of a version, where the classes stand behind the rows too
 pub record IsSplit (version : ℕ) (numbers classes : List ℕ) (width : ℕ) (lengths rows : List ℕ)
@@ -31,7 +32,7 @@ pub record IsSplit (version : ℕ) (numbers classes : List ℕ) (width : ℕ) (l
 abbrev pub IsHeader : ℕ → Header → Type 0
 IsHeader version f = IsSplit version f.numbers.now f.classes.now f.width f.lengths.now f.rows.now f.longest
 
--- what a walk reads of them that goes by no fingerprints
+-- what a walk reads of them
 abbrev pub header_table : Header → Table
 header_table f =
     record {
@@ -39,17 +40,7 @@ header_table f =
       width = f.width;
       rows = f.rows;
       longest = f.longest;
-      shortest = 0;
-      fingerprints = None;
     }
-
--- the fields of a `Prepared`: the parts of an array, and its fingerprints where it has some
-pub record IsLent (p : Inside) : Type 0 where
-  pub header : IsHeader PREPARED_VERSION p.header
-  pub all : HasAllParts p.header.numbers.now
-  pub shortest : p.shortest ≡ shortest_by (fingerprints_part p.header.numbers.now)
-  pub fingerprints : IfSome p.fingerprints
-      (λ f. (0 < p.shortest) × (f ≡ fingerprints_by (fingerprints_part p.header.numbers.now)))
 
 -- numbers stand in a list from a place on, and the rest of it is as it was
 abbrev pub Puts : ℕ → List ℕ → List ℕ → List ℕ → Type 0
@@ -65,10 +56,19 @@ numbers_for version classes width patterns rows starts ends =
     checked version (width ∷ length patterns ∷ length rows ∷ longest_of patterns
     ∷ map (λ bytes. length bytes) patterns ++ (rows ++ packed_classes classes) ++ starts ++ ends)
 
--- why numbers are not written over an array: not all patterns are short; or they are, and there are too many numbers in
--- lists; or there are not, and the array is too short
-abbrev pub RefusesArray : List (List ℕ) → List ℕ → List ℕ → List ℕ → PrepareError → Type 0
-RefusesArray patterns ends numbers array PatternTooLong = ¬ AreShort patterns
-RefusesArray patterns ends numbers array ListsTooLong = AreShort patterns × (2 ^ 32 ≤ length ends)
-RefusesArray patterns ends numbers array (ArrayTooShort needed) =
-    AreShort patterns × (length ends < 2 ^ 32) × (length array < needed) × (needed ≡ length numbers)
+-- what a search from the right reads of an array, whatever that is prepared for
+pub record IsBackIn (numbers : List ℕ) (b : Backward) : Type 0 where
+  pub parts : HasAllParts numbers
+  pub safe : IsSafe b
+  pub is_for : ForPrepared numbers (λ search. AreBackFor search b)
+  pub tables : (search : SearchValue) → back_tables_by search b ≡ back_tables_in search numbers
+  pub longest : b.table.longest ≡ longest_in numbers
+  pub patterns : length b.lens.now ≡ slice_index numbers 3
+  pub end : LENGTHS_AT + length b.lens.now + length b.table.rows.now + length b.best.now + length b.prints.now
+      ≡ prepared_len numbers
+
+-- where the list goes on there are marks, for whatever the array is prepared for, if no pattern is longer than a block
+pub record GoesOnBy (numbers haystack : List ℕ) (span : Span) (at : ℕ) (codes : List ℕ) (m : Marks) : Type 0 where
+  pub ahead : IsAhead (longest_in numbers) span at m
+  pub marked : longest_in numbers ≤ LEAST
+      → ForPrepared numbers (λ search. AreMarked (back_tables_in search numbers) haystack span at codes m)

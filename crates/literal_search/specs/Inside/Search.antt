@@ -1,55 +1,58 @@
--- The fields of a `Search`.
-use Rattle.std.specs.Prelude.{◌≡◌, ◌+◌, ◌*◌, ◌<◌, ◌≤◌, ℕ, IfSome, List, length, map}
-use Rattle.literal_base.specs.Counts.{Counts}
-use Rattle.literal_base.specs.Kinds.{root_kind_of}
-use Rattle.literal_fingerprints.specs.FingerprintsValue.{AllPass}
-use Rattle.literal_search.specs.SearchValue.{CanBeKept, SearchValue, search_by, longest_of, shortest_of}
-use Rattle.literal_search.specs.SearchValue.{width_for}
-use Rattle.literal_search.specs.Inside.Classes.{AreClasses, Tells, symbols_in}
-use Rattle.literal_search.specs.SearchValue.{NoneIsShorter}
+-- The fields of `Parts`, and what private functions that build a search cite.
+use Rattle.std.specs.Prelude.{◌≡◌, ◌<◌, ◌≤◌, ℕ, List, ◌++◌, length, map}
+use Rattle.literal_base.specs.MatchValue.{MatchValue}
+use Rattle.literal_base.specs.Occurs.{between}
+use Rattle.literal_base.specs.declared.search.MatchKind.TheVariants.{Standard}
+use Rattle.literal_base.specs.declared.search.Span.{Span}
+use Rattle.literal_search.specs.SearchValue.{SearchValue, search_by, shortest_of, width_for}
+use Rattle.literal_base.specs.Greedy.{IsGreedyIn}
+use Rattle.literal_search.specs.Prepared.{rows_in, width_in}
+use Rattle.literal_search.specs.Prepared.{BackTables, IsPrepared, back_tables_in, prepared_len, texts_back}
 use Rattle.literal_search.specs.States.{IsRowsLength}
-use Rattle.literal_search.specs.Table.{Recognises}
 use Rattle.literal_search.specs.declared.BuildError.{BuildError}
 use Rattle.literal_search.specs.declared.BuildError.TheVariants.{OutOfMemory, TooManyStates}
-use Rattle.literal_search.specs.declared.Search.TheInside.{Inside}
 use Rattle.literal_search.specs.declared.grow.GrowError.{GrowError}
 use Rattle.literal_search.specs.declared.grow.GrowError.TheVariants as grow_error
+use Rattle.literal_search.specs.declared.search.Parts.{Parts}
 
 -- the patterns
-abbrev pub patterns_in : Inside → List (List ℕ)
-patterns_in a = map (λ pattern. pattern.items) a.patterns.items
+abbrev pub patterns_of : Parts → List (List ℕ)
+patterns_of p = map (λ pattern. pattern.items) p.patterns.items
 
 -- what a caller sees of a `Search`
-abbrev pub search_value : Inside → SearchValue
-search_value a = search_by a.kind a.ignore_case (patterns_in a)
+abbrev pub search_value : Parts → SearchValue
+search_value p = search_by p.kind p.ignore_case (patterns_of p)
+
+-- what a search from the right reads of them
+abbrev pub tables_of : Parts → BackTables
+tables_of p = back_tables_in (search_value p) p.numbers
+
+-- numbers are prepared for a search, and no more; there are as many classes and rows as its patterns need
+pub record AreKept (search : SearchValue) (numbers : List ℕ) : Type 0 where
+  pub prepared : IsPrepared search numbers
+  pub long : length numbers ≡ prepared_len numbers
+  pub width : width_in numbers ≡ width_for search.ignore_case search.query.patterns
+  pub rows : IsRowsLength Standard (texts_back (back_tables_in search numbers)) (width_in numbers)
+      (length (rows_in numbers))
+
+-- what the fields keep: numbers for the search
+abbrev pub AreParts : Parts → Type 0
+AreParts p = AreKept (search_value p) p.numbers
+
+-- the matches so far, before a place: whatever is the list of the rest goes on from them
+pub record IsGreedyUpTo (search : SearchValue) (haystack : List ℕ) (span : Span) (done : List MatchValue) (at : ℕ)
+    : Type 0 where
+  pub after : span.start ≤ at
+  pub inside : at ≤ span.end
+  pub goes_on : (more : List MatchValue)
+      → IsGreedyIn search.query search.ignore_case haystack (between at span.end) more
+      → IsGreedyIn search.query search.ignore_case haystack span (done ++ more)
 
 -- so long is the shortest of some patterns, where there is one
 abbrev pub IsShortestOf : ℕ → List (List ℕ) → Type 0
 IsShortestOf n patterns = 0 < length patterns → n ≡ shortest_of patterns
 
--- what the fields keep: each byte has a class, by which those of the patterns are told from others, and the rows, one
--- for each state, recognise the classes of the patterns, none of which is empty
-pub record IsSound (a : Inside) : Type 0 where
-  pub classes : AreClasses a.rows.classes a.width
-  pub tells : Tells a.ignore_case a.rows.classes (patterns_in a)
-  pub recognises : Recognises (root_kind_of a.kind) (map (symbols_in a.rows.classes) (patterns_in a)) a.width
-      a.rows.rows
-  pub width : a.width ≡ width_for a.ignore_case (patterns_in a)
-  pub rows : IsRowsLength (root_kind_of a.kind) (map (symbols_in a.rows.classes) (patterns_in a)) a.width
-      (length a.rows.rows)
-  pub longest : a.longest ≡ longest_of (patterns_in a)
-  pub shortest : NoneIsShorter a.shortest (patterns_in a)
-  pub shortest_is : IsShortestOf a.shortest (patterns_in a)
-  pub fingerprints : IfSome a.fingerprints (λ f. AllPass f a.ignore_case (patterns_in a))
-  pub kept : CanBeKept (patterns_in a)
-
 -- the error of the same name
 abbrev pub IsErrorOf : GrowError → BuildError → Type 0
 IsErrorOf grow_error.OutOfMemory error = error ≡ OutOfMemory
 IsErrorOf grow_error.TooManyStates error = error ≡ TooManyStates
-
--- what searches one after another scan up to the place from which the next one goes on: at least the bytes before it
-pub record ScansTo (patterns : List (List ℕ)) (at matches : ℕ) (old now : Counts) : Type 0 where
-  pub others : now ≡ record old { scanned = now.scanned }
-  pub least : old.scanned + at ≤ now.scanned
-  pub near : now.scanned ≤ old.scanned + 3 * at + matches * longest_of patterns

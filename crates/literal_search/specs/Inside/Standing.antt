@@ -1,37 +1,16 @@
--- The fields of `Parts` and `Standing`.
-use Rattle.std.specs.Prelude.{◌≡◌, ◌↔◌, IfSome, ℕ, ◌+◌, ◌<◌, ◌≤◌, List, length, map, slice_index}
+-- The fields of a `Standing`.
+use Rattle.std.specs.Prelude.{◌↔◌, ℕ, ◌+◌, ◌<◌, ◌≤◌, List, length, slice_index}
 use Rattle.literal_base.specs.declared.search.Span.{Span}
 use Rattle.literal_base.specs.MatchValue.{MatchValue}
 use Rattle.literal_base.specs.Occurs.{between}
 use Rattle.literal_search.specs.Inside.Suffixes.{AreSuffixes}
-use Rattle.literal_search.specs.Inside.Lists.{starts_of}
 use Rattle.literal_search.specs.Inside.NextEnd.{Stands}
 use Rattle.literal_search.specs.Inside.Walk.{text_of}
 use Rattle.literal_search.specs.Overlapping.{OverlappingValue}
 use Rattle.literal_search.specs.OverlappingMatchesValue.{IsToCome, OverlappingMatchesValue}
 use Rattle.literal_search.specs.PreparedOverlapping.{Tables, texts_in}
-use Rattle.literal_fingerprints.specs.FingerprintsValue.{AllPass}
-use Rattle.literal_search.specs.SearchValue.{longest_of}
-use Rattle.literal_search.specs.declared.overlapping.Parts.{Parts}
 use Rattle.literal_search.specs.declared.standing.Standing.{Standing}
 use Rattle.literal_search.specs.declared.walk.Stop.{Stop}
-
--- the tables that the parts hold
-abbrev pub tables_of : Parts → Tables
-tables_of p = record {
-  patterns = map (λ pattern. pattern.items) p.patterns.items;
-  ignore_case = p.ignore_case;
-  classes = p.rows.classes;
-  width = p.width;
-  rows = p.rows.rows;
-  ends = p.lists.ends.items;
-  starts = starts_of p.lists.starts.items;
-}
-
--- the parts by which a search passes over bytes: the length of the longest pattern, and fingerprints that let all pass
-pub record PassesBy (p : Parts) : Type 0 where
-  pub longest : p.longest ≡ longest_of (tables_of p).patterns
-  pub fingerprints : IfSome p.fingerprints (λ f. AllPass f p.ignore_case (tables_of p).patterns)
 
 -- what a caller sees of a search by tables
 abbrev pub overlapping_value : Tables → OverlappingValue

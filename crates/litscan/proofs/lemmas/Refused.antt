@@ -4,8 +4,7 @@ use Rattle.std.proofs.Common.{sym, ap, ◌∙◌, arith, subst, inl, inr}
 use Rattle.std.specs.Borrow.{Bor}
 use Rattle.std.proofs.lemmas.List.{nil_from_length}
 use Rattle.literal_base.specs.Occurs.{NoneIsEmpty, pattern_at}
-use Rattle.literal_base.specs.declared.search.MatchKind.TheVariants.{LeftmostLongest}
-use Rattle.literal_search.specs.SearchValue.{NeedTooManyStates, RefusesSearch}
+use Rattle.literal_search.specs.SearchValue.{NeedTooManyReversed, RefusesSearch}
 use Rattle.literal_search.specs.declared.BuildError.{BuildError}
 use Rattle.literal_search.specs.declared.BuildError.TheVariants.{EmptyPattern, OutOfMemory, TooManyPatterns}
 use Rattle.literal_search.specs.declared.BuildError.TheVariants.{TooManyStates}
@@ -16,7 +15,7 @@ module _ {U T : Type 0} {becomes : U → T → Type 0} {steps : T → Option (Bo
     {list : List (List ℕ)} (gives : GivesBytes becomes steps given list) where
   -- an error of an automaton that is built of the list
   pub refuses_words : (ignore_case : Bool) (error : BuildError)
-      → RefusesSearch becomes steps given (NeedTooManyStates LeftmostLongest ignore_case) error
+      → RefusesSearch becomes steps given (NeedTooManyReversed ignore_case) error
       → RefusesWords ignore_case list (build_fault error)
   refuses_words ignore_case (EmptyPattern number) (patterns, next, one, empty, is) =
       let on = next_given gives one in
@@ -32,4 +31,4 @@ module _ {U T : Type 0} {becomes : U → T → Type 0} {steps : T → Option (Bo
   refuses_words ignore_case TooManyPatterns one =
       let on = next_given gives one.2 in inl (omega (arith, on.within, one.4))
   refuses_words ignore_case TooManyStates all =
-      inr (subst (NeedTooManyStates LeftmostLongest ignore_case) (all_given gives all.1) all.2)
+      inr (subst (NeedTooManyReversed ignore_case) (all_given gives all.1) all.2)

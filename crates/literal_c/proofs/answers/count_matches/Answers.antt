@@ -10,12 +10,12 @@ use Rattle.literal_c.proofs.answers.count_matches.Goals as goal
 
 pub loop-matches-preserved : goal.loop-matches-preserved
 loop-matches-preserved g c =
-    let all = g.M.Matches.rest c.args.matches in
+    let all = g.M.LeftmostMatches.rest c.args.matches in
     let start = all.span.start in
     let stop = all.span.end in
-    let rest = g.M.Matches.rest c.loop-matches.matches in
+    let rest = g.M.LeftmostMatches.rest c.loop-matches.matches in
     let next = rest.span.start in
-    let new_rest = g.M.Matches.rest c.next_match.new.self in
+    let new_rest = g.M.LeftmostMatches.rest c.next_match.new.self in
     let it = c.in-Some.field-0 in
     let so_far = c.loop-matches.invariant in
     let step = c.in_ok-next_match.ensures in
@@ -45,7 +45,7 @@ loop-matches-preserved g c =
 
 pub returns-clause-count : goal.returns-clause-count
 returns-clause-count g c = λ search is.
-    let rest = g.M.Matches.rest c.loop-matches.matches in
+    let rest = g.M.LeftmostMatches.rest c.loop-matches.matches in
     let (whole, found, are_next, count) = c.loop-matches.invariant.counted search is in
     let none = subst (λ (r : Rest). NothingOccurs search.query.patterns search.ignore_case r.haystack r.span)
     c.loop-matches.invariant.stands

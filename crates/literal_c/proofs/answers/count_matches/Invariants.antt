@@ -7,17 +7,18 @@ use Rattle.literal_c.proofs.answers.count_matches.Given as goal
 
 abbrev pub invariant-loop-matches : goal.invariant-loop-matches
 invariant-loop-matches g l =
-    let all = g.M.Matches.rest l.initial.matches in
-    let next = (g.M.Matches.rest l.matches).span.start in
+    let all = g.M.LeftmostMatches.rest l.initial.matches in
+    let next = (g.M.LeftmostMatches.rest l.matches).span.start in
     record {
-      stands : g.M.Matches.rest l.matches ≡ behind all next;
+      stands : g.M.LeftmostMatches.rest l.matches ≡ behind all next;
       few : l.count + all.span.start ≤ next;
       most : l.count ≤ all.span.end - all.span.start;
-      counted : (search : SearchValue) → g.M.Matches.is_for l.initial.matches search
-          → g.M.Matches.is_for l.matches search × (found : List MatchValue)
+      counted : (search : SearchValue) → g.M.LeftmostMatches.is_for l.initial.matches search
+          → g.M.LeftmostMatches.is_for l.matches search × (found : List MatchValue)
           × AreNext search.query search.ignore_case all.haystack all.span.end all.span.start found next
           × (l.count ≡ length found);
     }
 
 abbrev pub decreases-loop-matches : goal.decreases-loop-matches
-decreases-loop-matches g l = (g.M.Matches.rest l.matches).span.end - (g.M.Matches.rest l.matches).span.start
+decreases-loop-matches g l = (g.M.LeftmostMatches.rest l.matches).span.end -
+    (g.M.LeftmostMatches.rest l.matches).span.start

@@ -10,11 +10,11 @@ use Rattle.literal_c.proofs.answers.write_page.Goals as goal
 
 pub loop-place-preserved : goal.loop-place-preserved
 loop-place-preserved g c =
-    let all = g.M.Matches.rest c.args.matches in
+    let all = g.M.LeftmostMatches.rest c.args.matches in
     let start = all.span.start in
     let stop = all.span.end in
-    let rest = g.M.Matches.rest c.loop-place.matches in
-    let new_rest = g.M.Matches.rest c.next_match.new.self in
+    let rest = g.M.LeftmostMatches.rest c.loop-place.matches in
+    let new_rest = g.M.LeftmostMatches.rest c.next_match.new.self in
     let next = c.loop-place.page.next in
     let i = c.loop-place.place-index in
     let found = c.loop-place.found in
@@ -56,8 +56,8 @@ loop-place-preserved g c =
 
 pub returns-in-Some-2-clause-page : goal.returns-in-Some-2-clause-page
 returns-in-Some-2-clause-page g c = λ search is.
-    let all = g.M.Matches.rest c.args.matches in
-    let rest = g.M.Matches.rest c.loop-place.matches in
+    let all = g.M.LeftmostMatches.rest c.args.matches in
+    let rest = g.M.LeftmostMatches.rest c.loop-place.matches in
     let page = c.loop-place.page in
     let found = c.loop-place.found in
     let it = c.in-Some-2.it in

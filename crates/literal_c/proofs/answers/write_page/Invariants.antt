@@ -7,15 +7,16 @@ use Rattle.literal_c.proofs.answers.write_page.Given as goal
 
 abbrev pub invariant-loop-place : goal.invariant-loop-place
 invariant-loop-place g l =
-    let all = g.M.Matches.rest l.initial.matches in
+    let all = g.M.LeftmostMatches.rest l.initial.matches in
     record {
       count : l.page.written ≡ l.place-index;
       last : l.page.is_last ≡ 1;
-      stands : g.M.Matches.rest l.matches ≡ behind all l.page.next;
+      stands : g.M.LeftmostMatches.rest l.matches ≡ behind all l.page.next;
       after : l.fn.start + l.place-index ≤ l.page.next;
       before : l.page.next ≤ all.span.end;
-      matches : (search : SearchValue) → g.M.Matches.is_for l.initial.matches search
-          → g.M.Matches.is_for l.matches search × AreNext search.query search.ignore_case all.haystack all.span.end
+      matches : (search : SearchValue) → g.M.LeftmostMatches.is_for l.initial.matches search
+          → g.M.LeftmostMatches.is_for l.matches search
+          × AreNext search.query search.ignore_case all.haystack all.span.end
           all.span.start (map match_of (take l.place-index l.found)) l.page.next;
       inside : All (λ found. MayBeFound all.span all.patterns (match_of found)) (take l.place-index l.found);
       others : drop l.place-index l.found ≡ drop l.place-index l.fn.found;

@@ -1,16 +1,13 @@
 use Rattle.std.proofs.Common.{ap, ◌<◌, ◌∙◌, ℕ, List, length, subst}
-use Rattle.literal_base.specs.Kinds.{root_kind_of}
-use Rattle.literal_search.specs.SearchValue.{NeedTooManyStates, search_by}
-use Rattle.literal_search.proofs.lemmas.Callers.{none_need_few}
+use Rattle.literal_search.specs.SearchValue.{NeedTooManyReversed, search_by}
+use Rattle.literal_search.proofs.lemmas.Callers.{none_need_few_reversed}
 use Rattle.literal_c.specs.Arguments.{kind_of}
-use Rattle.literal_c.specs.Pieces.{pieces}
 use Rattle.literal_c.proofs.lemmas.Pieces.{built_for, some_for, too_many_for}
 use Rattle.literal_c.proofs.arguments.search_for.Goals as goal
 
 pub returns-in-Ok : goal.returns-in-Ok
 returns-in-Ok c =
-    let kind = kind_of c.args.kind in
-    let list = pieces c.args.patterns.now 0 c.args.ends.now in (
+    let kind = kind_of c.args.kind in (
       record { is_kind = c.in-Some.ensures.0; are_ends = c.are_ends.ensures.0 c.if-not-are_ends.false },
       c.can_be_searched.ensures.0 c.if-not-can_be_searched.false,
       built_for _ _ _ _ c.in-Ok.ensures.ok ∙ (ap (λ k. search_by k c.args.ignore_case c.new.result) c.in-Some.ensures.1
@@ -18,19 +15,17 @@ returns-in-Ok c =
     )
 
 pub returns-in-Err-TooManyStates : goal.returns-in-Err-TooManyStates
-returns-in-Err-TooManyStates c =
-    let list = pieces c.args.patterns.now 0 c.args.ends.now in (
-      record { is_kind = c.in-Some.ensures.0; are_ends = c.are_ends.ensures.0 c.if-not-are_ends.false },
-      c.can_be_searched.ensures.0 c.if-not-can_be_searched.false,
-      subst (λ k. NeedTooManyStates (root_kind_of k) c.args.ignore_case list) c.in-Some.ensures.1
-          (subst (NeedTooManyStates (root_kind_of c.in-Some.kind) c.args.ignore_case) c.new.ensures
-          (too_many_for _ _ _ c.in-Err-TooManyStates.ensures.error c.in-Err-TooManyStates.field-0-is)),
-    )
+returns-in-Err-TooManyStates c = (
+  record { is_kind = c.in-Some.ensures.0; are_ends = c.are_ends.ensures.0 c.if-not-are_ends.false },
+  c.can_be_searched.ensures.0 c.if-not-can_be_searched.false,
+  subst (NeedTooManyReversed c.args.ignore_case) c.new.ensures
+      (too_many_for _ _ _ c.in-Err-TooManyStates.ensures.error c.in-Err-TooManyStates.field-0-is),
+)
 
 pub returns-in-Err : goal.returns-in-Err
 returns-in-Err c = (
   record { is_kind = c.in-Some.ensures.0; are_ends = c.are_ends.ensures.0 c.if-not-are_ends.false },
   c.can_be_searched.ensures.0 c.if-not-can_be_searched.false,
   subst (λ (list : List (List ℕ)). 0 < length list) c.new.ensures
-      (some_for _ _ _ c.in-Err.ensures.error (none_need_few (root_kind_of c.in-Some.kind) c.args.ignore_case)),
+      (some_for _ _ _ c.in-Err.ensures.error (none_need_few_reversed c.args.ignore_case)),
 )

@@ -1,5 +1,4 @@
 use Rattle.std.proofs.Common.{ap, ◌<◌, ◌∙◌, ℕ, List, length, subst}
-use Rattle.literal_base.specs.declared.search.MatchKind.TheVariants.{Standard}
 use Rattle.literal_search.specs.SearchValue.{NeedTooManyStates}
 use Rattle.literal_search.proofs.lemmas.Callers.{none_need_few}
 use Rattle.literal_c.specs.Overlapping.{overlapping_for}
@@ -17,7 +16,7 @@ pub returns-in-Err-TooManyStates : goal.returns-in-Err-TooManyStates
 returns-in-Err-TooManyStates c = (
   c.are_ends.ensures.0 c.if-not-are_ends.false,
   c.can_be_searched.ensures.0 c.if-not-can_be_searched.false,
-  subst (NeedTooManyStates Standard c.args.ignore_case) c.new.ensures
+  subst (NeedTooManyStates c.args.ignore_case) c.new.ensures
       (too_many_for _ _ _ c.in-Err-TooManyStates.ensures.error c.in-Err-TooManyStates.field-0-is),
 )
 
@@ -26,5 +25,5 @@ returns-in-Err c = (
   c.are_ends.ensures.0 c.if-not-are_ends.false,
   c.can_be_searched.ensures.0 c.if-not-can_be_searched.false,
   subst (λ (list : List (List ℕ)). 0 < length list) c.new.ensures
-      (some_for _ _ _ c.in-Err.ensures.error (none_need_few Standard c.args.ignore_case)),
+      (some_for _ _ _ c.in-Err.ensures.error (none_need_few c.args.ignore_case)),
 )

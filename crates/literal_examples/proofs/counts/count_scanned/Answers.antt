@@ -1,4 +1,4 @@
-use Rattle.std.proofs.Common.{◌+◌, ◌∷◌, [], ◌++◌, ◌∙◌, ap, sym, subst, length, arith}
+use Rattle.std.proofs.Common.{◌+◌, ◌∷◌, [], ◌++◌, ◌∙◌, ap, refl, sym, subst, length, arith}
 use Rattle.std.proofs.lemmas.List.{length_push}
 use Rattle.literal_search.specs.SearchValue.{ScansListAtMost}
 use Rattle.literal_examples.proofs.counts.count_scanned.Goals as goal
@@ -15,10 +15,11 @@ loop-count-preserved c =
       run = (
         all ++ found ∷ [],
         c.iterations_scan_at_most.ensures.more _ _ _ all found so_far.run.1
-            (record { gives = step.gives; bounded = step.bounded }),
+            (record { gives = step.gives; scans = step.scans }),
         ap (λ n. n + 1) so_far.run.2 ∙ sym (length_push all found),
       );
       text_is = ap (λ m. m.haystack) step.gives.goes_on ∙ so_far.text_is;
+      end_is = ap (λ m. m.span.end) step.gives.goes_on ∙ so_far.end_is;
       few = omega (arith, so_far.few, start, some, ap (λ m. m.at) step.gives.goes_on);
     }
 
@@ -27,24 +28,26 @@ returns-clause-count c =
     let run = c.loop-count.invariant.run in (
       run.0,
       c.iterations_scan_at_most.ensures.greedy _ _ _ run.0 run.1
-          (record { gives = c.in_default.ensures.gives; bounded = c.in_default.ensures.bounded }),
+          (record { gives = c.in_default.ensures.gives; scans = c.in_default.ensures.scans }),
       run.2,
     )
 
 pub returns-clause-least : goal.returns-clause-least
 returns-clause-least c =
     let run = c.loop-count.invariant.run in
-    omega (
-      arith,
-      c.iterations_scan_at_most.ensures.each _ _ _ run.0 run.1
-          (record { gives = c.in_default.ensures.gives; bounded = c.in_default.ensures.bounded }),
-    )
+    let each = (c.iterations_scan_at_most.ensures.whole _ _ _ run.0 refl refl run.1
+    (record { gives = c.in_default.ensures.gives; scans = c.in_default.ensures.scans })).0 in
+    omega (arith, each)
 
 pub returns-clause-bounded : goal.returns-clause-bounded
 returns-clause-bounded c =
     let run = c.loop-count.invariant.run in
-    let scans = c.iterations_scan_at_most.ensures.bounded _ _ _ run.0 run.1
-    (record { gives = c.in_default.ensures.gives; bounded = c.in_default.ensures.bounded }) in
+    let scans = (c.iterations_scan_at_most.ensures.whole _ _ _ run.0 refl refl run.1
+    (record { gives = c.in_default.ensures.gives; scans = c.in_default.ensures.scans })).1 in
     subst (λ n. ScansListAtMost c.args.search.now.query.patterns (length c.args.text.now) n c.args.tally.now
     c.next_counted.new.tally) (sym run.2)
-    (record { others = scans.others; near = omega (arith, scans.near) })
+    (record {
+      others = scans.others;
+      short = λ short. omega (arith, scans.short short);
+      long = omega (arith, scans.long);
+    })

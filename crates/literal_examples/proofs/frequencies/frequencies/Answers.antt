@@ -1,6 +1,7 @@
 use Rattle.literal_search.specs.SearchValue.{SearchValue}
-use Rattle.std.proofs.Common.{ap, ◌∙◌, ◌≡◌, ◌==◌, ◌<◌, length, slice_index, arith}
-use Rattle.std.proofs.lemmas.List.{get_or_default}
+use Rattle.std.proofs.Common.{ap, ◌∙◌, ◌≡◌, ◌==◌, ◌<◌, length, rules, slice_index, arith}
+use Rattle.std.proofs.lemmas.Grind.{common_steps}
+use Rattle.std.proofs.lemmas.List.{get_or_default, length_push}
 use Rattle.std.proofs.lemmas.List.Sums.{count_by-le-length}
 use Rattle.literal_base.specs.MatchValue.{MatchValue}
 use Rattle.literal_search.proofs.lemmas.Callers.{greedy_from_matches}
@@ -32,6 +33,29 @@ overflow_add-index_mut c =
       c.end.ensures.end,
       c.end.type_inv,
     )
+
+pub loop-found-preserved : goal.loop-found-preserved
+loop-found-preserved c =
+    let found = c.in-Some.found in
+    let finds = c.in-Some.ensures.steps in
+    let so_far = c.loop-found.invariant in
+    let at_is = ap (λ m. m.at) finds.goes_on in
+    record {
+      search_is = ap (λ m. m.search) finds.goes_on ∙ so_far.search_is;
+      haystack_is = ap (λ m. m.haystack) finds.goes_on ∙ so_far.haystack_is;
+      end_is = ap (λ m. m.span.end) finds.goes_on ∙ so_far.end_is;
+      within = omega (arith, at_is, so_far.end_is, finds.leftmost.whole, finds.leftmost.occurs.before_end);
+      few = omega (
+        arith,
+        at_is,
+        so_far.few,
+        finds.leftmost.occurs.after_start,
+        finds.not_empty,
+        length_push c.loop-found.yielded found,
+      );
+      len = search rules;
+      counted = λ i below. grind (arith, common_steps, so_far.counted i);
+    }
 
 pub returns-clause-counted : goal.returns-clause-counted
 returns-clause-counted c = (

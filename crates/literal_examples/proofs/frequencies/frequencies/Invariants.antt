@@ -6,6 +6,7 @@ abbrev pub invariant-loop-found : goal.invariant-loop-found
 invariant-loop-found l = record {
   search_is : l.found-iterator.search ≡ l.search;
   haystack_is : l.found-iterator.haystack ≡ l.haystack;
+  end_is : l.found-iterator.span.end ≡ length l.haystack;
   within : l.found-iterator.at ≤ length l.haystack;
   few : length l.yielded ≤ l.found-iterator.at;
   len : length l.counts.items ≡ length l.search.query.patterns;

@@ -1,7 +1,21 @@
-use Rattle.std.proofs.Common.{◌≡◌, ◌++◌, [], ap, ◌∙◌, append-nil, length, rules, slice_range}
+use Rattle.std.proofs.Common.{◌≡◌, ◌++◌, ◌∷◌, [], ap, arith, ◌∙◌, append-nil, length, rules, slice_range}
+use Rattle.std.proofs.lemmas.Grind.{common_steps}
 use Rattle.literal_search.proofs.lemmas.Callers.{greedy_from_matches}
 use Rattle.literal_examples.specs.Redacted.{redacted}
 use Rattle.literal_examples.proofs.redact.redact.Goals as goal
+
+pub loop-found-preserved : goal.loop-found-preserved
+loop-found-preserved c =
+    let finds = c.in-Some.ensures.steps in
+    let so_far = c.loop-found.invariant in
+    record {
+      search_is = ap (λ m. m.search) finds.goes_on ∙ so_far.search_is;
+      haystack_is = ap (λ m. m.haystack) finds.goes_on ∙ so_far.haystack_is;
+      end_is = ap (λ m. m.span.end) finds.goes_on ∙ so_far.end_is;
+      at_is = search rules;
+      within = search rules;
+      text = λ more. grind (arith, common_steps, so_far.text (c.in-Some.found ∷ more));
+    }
 
 pub returns-clause-redacted : goal.returns-clause-redacted
 returns-clause-redacted c =

@@ -8,6 +8,7 @@ abbrev pub invariant-loop-found : goal.invariant-loop-found
 invariant-loop-found l = record {
   search_is : l.found-iterator.search ≡ l.search;
   haystack_is : l.found-iterator.haystack ≡ l.haystack;
+  end_is : l.found-iterator.span.end ≡ length l.haystack;
   at_is : l.found-iterator.at ≡ length l.text.items;
   within : length l.text.items ≤ length l.haystack;
   text : (more : List MatchValue) → l.text.items ++ redacted l.haystack (length l.text.items) more

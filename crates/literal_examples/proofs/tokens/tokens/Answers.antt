@@ -32,13 +32,9 @@ loop-found-preserved c =
     record {
       search_is = search rules;
       haystack_is = search rules;
+      end_is = search rules;
       at_is = search rules;
-      within = omega (
-        arith,
-        ap (λ h. length h) so_far.haystack_is,
-        finds.leftmost.whole,
-        finds.leftmost.occurs.before_end,
-      );
+      within = omega (arith, so_far.end_is, finds.leftmost.whole, finds.leftmost.occurs.before_end);
       tiles = subst (λ (ts : List Token). Tiles 0 c.end-at.result ts) (sym pushed)
           (subst (λ e. Tiles 0 e ((all ++ gap at c.start.result) ++ token ∷ [])) end_is tiled);
       matched_are = ap matched pushed ∙ (matched-append (all ++ gap at c.start.result) (token ∷ [])

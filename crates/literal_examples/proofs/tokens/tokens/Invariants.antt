@@ -7,6 +7,7 @@ abbrev pub invariant-loop-found : goal.invariant-loop-found
 invariant-loop-found l = record {
   search_is : l.found-iterator.search ≡ l.search;
   haystack_is : l.found-iterator.haystack ≡ l.haystack;
+  end_is : l.found-iterator.span.end ≡ length l.haystack;
   at_is : l.found-iterator.at ≡ l.at;
   within : l.at ≤ length l.haystack;
   tiles : Tiles 0 l.at l.all.items;

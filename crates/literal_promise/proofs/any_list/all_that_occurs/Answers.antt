@@ -1,5 +1,4 @@
-use Rattle.std.proofs.Common.{inl, inr}
-use Rattle.literal_base.specs.declared.search.MatchKind.TheVariants.{Standard}
+use Rattle.std.proofs.Common.{inr}
 use Rattle.literal_base.proofs.lemmas.Callers.{slice_gives}
 use Rattle.literal_search.specs.SearchValue.{NeedTooManyStates}
 use Rattle.literal_search.proofs.lemmas.Callers.{overlapping_is_for}
@@ -10,7 +9,7 @@ pub returns-in_err-search-clause-refused : goal.returns-in_err-search-clause-ref
 returns-in_err-search-clause-refused c =
     let asked = c.args.asked.now in
     refuses_any asked c.from_residual.result (slice_gives asked.patterns.now (cc))
-    (NeedTooManyStates Standard asked.ignore_case) (λ patterns many. inr (inl many))
+    (NeedTooManyStates asked.ignore_case) (λ patterns many. inr many)
     c.in_err-search.field-0.0 c.in_err-search.ensures.error c.from_residual.ensures.1
 
 pub returns-in_err-all-clause-refused : goal.returns-in_err-all-clause-refused

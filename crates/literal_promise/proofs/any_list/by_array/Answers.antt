@@ -5,6 +5,6 @@ use Rattle.literal_promise.proofs.any_list.by_array.Goals as goal
 pub unreachable-requires-in_default-find_in : goal.unreachable-requires-in_default-find_in
 unreachable-requires-in_default-find_in c =
     let search = c.args.search.now in
-    c.in_default-find_in.ensures.prepared search.query search.ignore_case
-    (subst (λ (numbers : List ℕ). IsPrepared search.query search.ignore_case numbers) (sym c.in-Ok.ensures.0)
+    c.in_default-find_in.ensures.prepared search
+    (subst (λ (numbers : List ℕ). IsPrepared search numbers) (sym c.in-Ok.ensures.0)
     c.in_ok-places.ensures.ok.prepared)

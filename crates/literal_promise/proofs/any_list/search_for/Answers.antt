@@ -1,7 +1,6 @@
 use Rattle.std.proofs.Common.{inl}
-use Rattle.literal_base.specs.Kinds.{root_kind_of}
 use Rattle.literal_base.proofs.lemmas.Callers.{slice_gives}
-use Rattle.literal_search.specs.SearchValue.{NeedTooManyStates}
+use Rattle.literal_search.specs.SearchValue.{NeedTooManyReversed}
 use Rattle.literal_search.proofs.lemmas.Callers.{search_is_for}
 use Rattle.literal_promise.proofs.lemmas.Refused.{refuses_any}
 use Rattle.literal_promise.proofs.any_list.search_for.Goals as goal
@@ -21,5 +20,5 @@ pub returns-in_err-search-clause-refused : goal.returns-in_err-search-clause-ref
 returns-in_err-search-clause-refused c =
     let asked = c.args.asked.now in
     refuses_any asked c.from_residual.result (slice_gives asked.patterns.now (cc))
-    (NeedTooManyStates (root_kind_of asked.kind) asked.ignore_case) (λ patterns many. inl many)
+    (NeedTooManyReversed asked.ignore_case) (λ patterns many. inl many)
     c.in_err-search.field-0.0 c.in_err-search.ensures.error c.from_residual.ensures.1

@@ -1,4 +1,4 @@
-use Rattle.std.proofs.Common.{◌<◌, ap, arith, length, rules, ◌∙◌, subst, sym}
+use Rattle.std.proofs.Common.{◌<◌, ap, arith, length, refl, rules, ◌∙◌, subst, sym}
 use Rattle.literal_search.specs.SearchValue.{SearchValue}
 use Rattle.literal_promise.proofs.any_list.taken_in_turn.Goals as goal
 
@@ -8,21 +8,26 @@ loop-found-preserved c =
     let step = c.in-Some.ensures in
     record {
       run = rw (sym c.in_ok-push.ensures.items) at (c.iterations_scan_at_most.ensures.more _ _ _ _ c.in-Some.found
-          so_far.run (record { gives = step.gives; bounded = step.bounded }));
+          so_far.run (record { gives = step.gives; scans = step.scans }));
       haystack_is = ap (λ m. m.haystack) step.gives.goes_on ∙ so_far.haystack_is;
+      end_is = ap (λ m. m.span.end) step.gives.goes_on ∙ so_far.end_is;
       search_is = ap (λ m. m.search) step.gives.goes_on ∙ so_far.search_is;
     }
 
 pub returns-clause-greedy : goal.returns-clause-greedy
 returns-clause-greedy c =
     c.iterations_scan_at_most.ensures.greedy _ _ _ _ c.loop-found.invariant.run
-    (record { gives = c.in_default.ensures.gives; bounded = c.in_default.ensures.bounded })
+    (record { gives = c.in_default.ensures.gives; scans = c.in_default.ensures.scans })
 
 pub returns-clause-bounded : goal.returns-clause-bounded
 returns-clause-bounded c =
-    let scans = c.iterations_scan_at_most.ensures.bounded _ _ _ _ c.loop-found.invariant.run
-    (record { gives = c.in_default.ensures.gives; bounded = c.in_default.ensures.bounded }) in
-    record { others = scans.others; near = omega (arith, scans.near) }
+    let scans = (c.iterations_scan_at_most.ensures.whole _ _ _ _ refl refl c.loop-found.invariant.run
+    (record { gives = c.in_default.ensures.gives; scans = c.in_default.ensures.scans })).1 in
+    record {
+      others = scans.others;
+      short = λ short. omega (arith, scans.short short);
+      long = omega (arith, scans.long);
+    }
 
 pub returns-in_err-push-clause-no_memory : goal.returns-in_err-push-clause-no_memory
 returns-in_err-push-clause-no_memory c =
@@ -33,8 +38,6 @@ returns-in_err-push-clause-no_memory c =
 
 pub returns-clause-each : goal.returns-clause-each
 returns-clause-each c =
-    omega (
-      arith,
-      c.iterations_scan_at_most.ensures.each _ _ _ _ c.loop-found.invariant.run
-          (record { gives = c.in_default.ensures.gives; bounded = c.in_default.ensures.bounded }),
-    )
+    let each = (c.iterations_scan_at_most.ensures.whole _ _ _ _ refl refl c.loop-found.invariant.run
+    (record { gives = c.in_default.ensures.gives; scans = c.in_default.ensures.scans })).0 in
+    omega (arith, each)

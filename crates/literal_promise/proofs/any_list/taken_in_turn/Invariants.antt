@@ -1,14 +1,15 @@
 use Rattle.std.proofs.Common.{◌≡◌, ◌-◌, length}
 use Rattle.std.specs.Iterator.{Yields}
+use Rattle.literal_search.proofs.lemmas.Callers.{matches_of}
 use Rattle.literal_search.specs.MatchesValue.{GivesCounted}
 use Rattle.literal_promise.proofs.any_list.taken_in_turn.Given as goal
 
 -- what was found so far is in the list
 abbrev pub invariant-loop-found : goal.invariant-loop-found
 invariant-loop-found l = record {
-  run : Yields GivesCounted (record { search = l.search; haystack = l.haystack; at = 0 }, l.fn.iterated) l.matches.items
-      (l.iteration, l.iterated);
+  run : Yields GivesCounted (matches_of l.search l.haystack, l.fn.iterated) l.matches.items (l.iteration, l.iterated);
   haystack_is : l.iteration.haystack ≡ l.haystack;
+  end_is : l.iteration.span.end ≡ length l.haystack;
   search_is : l.iteration.search ≡ l.search;
 }
 

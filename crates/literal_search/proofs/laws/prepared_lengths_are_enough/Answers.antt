@@ -3,7 +3,6 @@ use Rattle.literal_search.proofs.laws.prepared_lengths_are_enough.Goals as goal
 
 pub returns : goal.returns
 returns c = record {
-  once = λ query ignore_case n m one other. places_once query ignore_case n m one other;
-  enough = λ query ignore_case n array error short takes fits. long_enough query ignore_case n array error short takes
-      fits;
+  once = λ search n m one other. places_once search n m one other;
+  enough = λ search n array error takes fits. long_enough search n array error takes fits;
 }

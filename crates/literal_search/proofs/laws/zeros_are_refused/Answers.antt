@@ -2,8 +2,7 @@ use Rattle.std.proofs.Common.{◌≡◌, ◌-◌, ◌∙◌, ℕ, List, [], ◌�
 use Rattle.std.proofs.lemmas.List.Elements.{All-drop, All-head, All-take}
 use Rattle.std.specs.List.{All}
 use Rattle.literal_search.specs.Prepared.{check_of, prepared_len}
-use Rattle.literal_search.specs.PreparedLinear.{linear_len}
-use Rattle.literal_search.specs.PreparedOverlapping.{listed_len}
+use Rattle.literal_search.specs.PreparedOverlapping.{overlapping_len}
 use Rattle.literal_search.proofs.lemmas.Check.{zeros_are_told}
 use Rattle.literal_search.proofs.laws.zeros_are_refused.Goals as goal
 
@@ -22,6 +21,5 @@ check_is_wrong zeros len are is =
 pub returns : goal.returns
 returns c = record {
   prepared = λ version zeros are whole. check_is_wrong zeros (prepared_len (version ∷ zeros) - 2) are whole.check;
-  overlapping = λ version zeros are whole. check_is_wrong zeros (listed_len (version ∷ zeros) - 2) are whole.check;
-  linear = λ version zeros are whole. check_is_wrong zeros (linear_len (version ∷ zeros) - 2) are whole.check;
+  overlapping = λ version zeros are whole. check_is_wrong zeros (overlapping_len (version ∷ zeros) - 2) are whole.check;
 }

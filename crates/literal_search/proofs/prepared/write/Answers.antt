@@ -1,4 +1,7 @@
-use Rattle.std.proofs.Common.{◌≡◌, ◌+◌, ◌-◌, ◌≤◌, ◌^◌, ◌∷◌, ◌++◌, ◌∙◌, ℕ, List, ap, arith, length, map, subst, sym}
+use Rattle.std.proofs.Common.{◌≡◌, ◌<◌, rules, ◌+◌, ◌-◌, ◌^◌, ◌∷◌, ◌++◌, ◌∙◌, ℕ, List, ap, arith, length}
+use Rattle.std.proofs.Common.{length-append}
+use Rattle.std.proofs.Common.{map, subst, sym}
+use Rattle.std.specs.List.{slice_range}
 use Rattle.std.proofs.Math.ListN.{set}
 use Rattle.std.proofs.lemmas.List.{length-map, take-append-drop}
 use Rattle.std.proofs.lemmas.Simd.{map-map}
@@ -6,18 +9,17 @@ use Rattle.std.specs.Global.{Vec}
 use Rattle.literal_search.specs.Inside.Prepared.{Puts, checked}
 use Rattle.literal_search.specs.Inside.Rows.{classes_of, packed_classes, rows_of}
 use Rattle.literal_search.specs.SearchValue.{longest_of}
-use Rattle.literal_search.specs.Prepared.{AreShort}
-use Rattle.literal_search.proofs.lemmas.Longest.{all_short, longest_short}
-use Rattle.literal_search.proofs.lemmas.Numbers.{numbers_long}
+use Rattle.literal_search.specs.Prepared.{check_of}
+use Rattle.literal_search.proofs.lemmas.Longest.{longest_short}
 use Rattle.literal_search.proofs.lemmas.Rows.{length_rows, rows_long}
-use Rattle.literal_search.proofs.lemmas.Written.{puts_all, size_of_all}
+use Rattle.literal_search.proofs.lemmas.Written.{puts_all, puts_both}
 use Rattle.literal_search.proofs.prepared.write.Goals as goal
 
 pub overflow_sub-places : goal.overflow_sub-places
 overflow_sub-places c = omega (arith, length_rows c.args.rows.now c.requires.classes)
 
-pub returns-clause-ok : goal.returns-clause-ok
-returns-clause-ok c =
+pub returns : goal.returns
+returns c =
     let version = c.args.version in
     let width = c.args.width in
     let patterns = c.args.patterns.now in
@@ -26,6 +28,8 @@ returns-clause-ok c =
     let classes = classes_of table in
     let starts = c.args.starts.now in
     let ends = c.args.ends.now in
+    let prints = c.args.prints.now in
+    let behind = ends ++ prints in
     let old = c.args.array.now in
     let all = map (λ (p : Vec ℕ). p.items) patterns in
     let lengths = map (λ (bytes : List ℕ). length bytes) all in
@@ -36,64 +40,32 @@ returns-clause-ok c =
     let longest = c.longest_len-longest.result in
     let places = length table - 256 in
     let long : length table ≡ places + 256 = omega (arith, length_rows table c.requires.classes) in
-    let written = puts_all version width (length patterns) places longest lengths table starts ends old each long
+    let listed = 6 + length patterns + length table + length starts in
+    let last = c.put_numbers-4.new.array in
+    let all_behind : listed + length ends + 33 ≡ listed + length behind = omega (arith, length-append ends prints) in
+    let both = puts_both listed ends prints c.put_starts.new.array c.put_numbers-3.new.array last (omega arith)
+    c.put_numbers-3.ensures c.put_numbers-4.ensures in
+    let written = puts_all version width (length patterns) places longest lengths table starts behind old each long
     c.put_numbers.new.array c.put_lengths.new.array c.put_numbers-2.new.array c.put_starts.new.array
-    c.put_numbers-3.new.array c.check_over.result c.put_numbers.ensures put c.put_numbers-2.ensures
-    c.put_starts.ensures c.put_numbers-3.ensures c.check_over.ensures in
-    let size = size_of_all version width (length patterns) places longest lengths table starts ends old each long in
+    last c.check_over.result c.put_numbers.ensures put c.put_numbers-2.ensures
+    c.put_starts.ensures both
+    (c.check_over.ensures ∙ ap (λ end. check_of (slice_range last 2 end)) all_behind) in
     let parts : table ≡ rows ++ packed_classes classes =
     sym (take-append-drop places table) ∙ ap (λ l. rows ++ l) c.requires.classes in
     let count : places ≡ length rows = sym (rows_long table) in
-    let body = λ (n k l : ℕ) (t : List ℕ). checked version (width ∷ n ∷ k ∷ l ∷ lengths ++ t ++ starts ++ ends) in
+    let body = λ (n k l : ℕ) (t : List ℕ). checked version (width ∷ n ∷ k ∷ l ∷ lengths ++ t ++ starts ++ behind) in
     let is : body (length patterns) places longest table ≡ body (length all) (length rows) (longest_of all)
     (rows ++ packed_classes classes) =
     ap (λ n. body n places longest table) (sym many)
     ∙ (ap (λ k. body (length all) k longest table) count
     ∙ (ap (λ l. body (length all) (length rows) l table) c.longest_len-longest.ensures
     ∙ ap (λ t. body (length all) (length rows) (longest_of all) t) parts))
-    in (
-      omega arith,
-      omega arith,
-      subst (λ (numbers : List ℕ). Puts 0 numbers old (set c.put_numbers-3.new.array 1 c.check_over.result)) is
-          written,
-      sym size ∙ ap (λ (numbers : List ℕ). length numbers) is,
-    )
+    in
+    subst (λ (numbers : List ℕ). Puts 0 numbers old (set last 1 c.check_over.result)) is written
 
--- the patterns are short where the longest is
-short_by : (patterns : List (List ℕ)) (longest : ℕ) → longest ≡ longest_of patterns → longest ≤ 2 ^ 32 - 1
-    → AreShort patterns
-short_by patterns longest is short = all_short patterns (2 ^ 32) (omega (arith, is))
-
-pub returns-then-longest-clause-error : goal.returns-then-longest-clause-error
-returns-then-longest-clause-error c = λ short.
-    let all = map (λ (p : Vec ℕ). p.items) c.args.patterns.now in
-    let below = longest_short all (2 ^ 32) (omega arith) short in
-    omega (arith, below, c.longest_len-longest.ensures, c.if-longest.true)
-
-pub returns-then-ends-clause-error : goal.returns-then-ends-clause-error
-returns-then-ends-clause-error c = (
-  short_by (map (λ (p : Vec ℕ). p.items) c.args.patterns.now) c.longest_len-longest.result
-      c.longest_len-longest.ensures (omega (arith, c.if-longest.false)),
-  omega (arith, c.if-ends.true),
-)
-
-pub returns-then-array-needed-clause-error : goal.returns-then-array-needed-clause-error
-returns-then-array-needed-clause-error c =
-    let patterns = c.args.patterns.now in
-    let all = map (λ (p : Vec ℕ). p.items) patterns in (
-      short_by all c.longest_len-longest.result c.longest_len-longest.ensures (omega (arith, c.if-longest.false)),
-      omega (arith, c.if-ends.false),
-      omega (arith, c.if-array-needed.true),
-      omega (
-        arith,
-        numbers_long c.args.version (classes_of c.args.rows.now) c.args.width all (rows_of c.args.rows.now)
-            c.args.starts.now c.args.ends.now,
-        length_rows c.args.rows.now c.requires.classes,
-        length-map patterns (λ (p : Vec ℕ). p.items),
-      ),
-    )
-
-pub put_lengths-requires-clause-short : goal.put_lengths-requires-clause-short
-put_lengths-requires-clause-short c =
-    short_by (map (λ (p : Vec ℕ). p.items) c.args.patterns.now) c.longest_len-longest.result
-    c.longest_len-longest.ensures (omega (arith, c.if-longest.false))
+pub overflow_cast-longest : goal.overflow_cast-longest
+overflow_cast-longest c =
+    let short = longest_short (map (λ (p : Vec ℕ). p.items) c.args.patterns.now) (2 ^ 32) (omega arith)
+    c.requires.short in
+    let below : c.longest_len-longest.result < 2 ^ 32 = omega (arith, short, c.longest_len-longest.ensures) in
+    search (rules, below)

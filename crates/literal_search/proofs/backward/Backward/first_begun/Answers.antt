@@ -1,6 +1,5 @@
-use Rattle.std.proofs.Common.{◌+◌, ◌*◌, ◌≤◌, ◌∙◌, ◌≡◌, ap, arith, inl, refl, subst, sym}
+use Rattle.std.proofs.Common.{◌∙◌, ap, arith, inl, refl, subst, sym}
 use Rattle.literal_base.specs.Counts.{Counts}
-use Rattle.literal_base.specs.Occurs.{between}
 use Rattle.literal_search.specs.Inside.Backward.{back_tables_by}
 use Rattle.literal_search.specs.Inside.Leftmost.{IsFront}
 use Rattle.literal_search.proofs.lemmas.Leftmost.{found_reads, lane_begins, no_first, none_on, ok_part_on}

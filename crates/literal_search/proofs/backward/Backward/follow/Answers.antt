@@ -1,4 +1,4 @@
-use Rattle.std.proofs.Common.{◌≡◌, ◌+◌, ◌^◌, ℕ, Option, Some, ap, arith, refl, sym}
+use Rattle.std.proofs.Common.{ℕ, Option, Some, ap, arith, refl, sym}
 use Rattle.literal_search.specs.Inside.Backward.{back_tables_by}
 use Rattle.literal_search.specs.declared.backward.Begun.{Begun}
 use Rattle.literal_search.proofs.lemmas.Leftmost.{first_on, lane_small, lane_step}

@@ -5,8 +5,8 @@ use Rattle.literal_search.specs.Inside.Backward.{IsMark, back_tables_by}
 use Rattle.literal_search.specs.Inside.Leftmost.{IsFirstBegun, LiesInPart}
 use Rattle.literal_search.proofs.backward.Backward.mark_place.Goals as goal
 
-pub returns-in_ok-make_room-clause-marked : goal.returns-in_ok-make_room-clause-marked
-returns-in_ok-make_room-clause-marked c = λ search is.
+pub returns-clause-marked : goal.returns-clause-marked
+returns-clause-marked c = λ search is.
     let tables = back_tables_by search c.args.self.now in
     let haystack = c.args.haystack.now in
     let end = c.args.span.end in
@@ -15,18 +15,17 @@ returns-in_ok-make_room-clause-marked c = λ search is.
     let first = subst (IsFirstBegun tables haystack end (between at (at + 1))) c.in-Some.is
     (c.in_ok-begun.ensures.first search is) in
     let lies = subst (LiesInPart at (at + 1)) c.in-Some.is c.in_ok-begun.ensures.inside in
-    let items = c.make_room.new.marks.items in
-    let start = c.args.marks.now.first in
+    let numbers = c.args.numbers.now in
     let place : begun.at ≡ at = omega (arith, lies.0, lies.1) in
-    let slot : at - start ≡ 0 = omega (arith, c.requires.places.0) in
-    let read : slice_index (set items 0 begun.code) (at - start) ≡ begun.code =
-    ap (slice_index (set items 0 begun.code)) slot ∙ get_or-set_same items 0 begun.code 0
-    (omega (arith, c.in_ok-make_room.ensures.ok, c.requires.inside)) in
+    let none : at - at ≡ 0 = omega arith in
+    let read : slice_index (set numbers 0 begun.code) (at - at) ≡ begun.code =
+    ap (slice_index (set numbers 0 begun.code)) none ∙ get_or-set_same numbers 0 begun.code 0
+    (omega (arith, c.requires.room)) in
     let mark = subst (λ n. IsMark tables haystack end n begun.code) place first.0 in
     record {
       marks = λ k after before.
           let here : at ≡ k = omega (arith, after, before) in
-          subst (λ n. IsMark tables haystack end n (slice_index (set items 0 begun.code) (n - start))) here
+          subst (λ n. IsMark tables haystack end n (slice_index (set numbers 0 begun.code) (n - at))) here
           (subst (IsMark tables haystack end at) (sym read) mark);
       none = λ k after upto before. absurd (omega (arith, upto, before));
     }

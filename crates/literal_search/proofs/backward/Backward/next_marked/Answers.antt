@@ -1,17 +1,12 @@
-use Rattle.std.proofs.Common.{◌-◌, ◌∙◌, arith, subst, sym}
-use Rattle.std.proofs.lemmas.Grind.{get_or_default_zero}
-use Rattle.literal_search.specs.Inside.Backward.{IsMark, back_tables_by}
+use Rattle.std.proofs.Common.{arith}
+use Rattle.literal_search.specs.Inside.Backward.{back_tables_by}
 use Rattle.literal_search.proofs.backward.Backward.next_marked.Goals as goal
 
 pub returns-then-code-ge-ENDS-clause-found : goal.returns-then-code-ge-ENDS-clause-found
 returns-then-code-ge-ENDS-clause-found c = λ search is marked.
     let at = c.loop-at.at in
     let tables = back_tables_by search c.args.self.now in
-    let first = c.args.marks.now.first in
-    let numbers = c.args.marks.now.numbers.items in
-    let read = get_or_default_zero numbers (at - first) c.index-code.result.now (omega arith) in
-    let mark = subst (IsMark tables c.args.haystack.now c.args.span.end at) (sym (c.index-code.ensures ∙ read))
-    (marked.marks at (omega arith) (omega arith)) in
+    let mark = marked.marks at (omega arith) (omega arith) in
     let leftmost = c.in_ok-match_at.ensures.leftmost search is mark in
     let here = c.in_ok-match_at.ensures.here in
     record {

@@ -2,21 +2,21 @@ use Rattle.std.proofs.Common.{◌≤◌, ℕ, IfSome, List, None, Option, Some, 
 use Rattle.literal_base.specs.MatchValue.{MatchValue}
 use Rattle.literal_base.specs.declared.search.Span.{Span}
 use Rattle.literal_search.specs.Inside.Backward.{AreMarked, IsMatchBy, back_tables_by}
-use Rattle.literal_search.specs.LinearMatchesValue.{place_behind}
-use Rattle.literal_search.specs.PreparedLinear.{BackTables}
+use Rattle.literal_search.specs.MatchesValue.{place_behind}
+use Rattle.literal_search.specs.Prepared.{BackTables}
 use Rattle.literal_search.specs.declared.backward.Backward.{Backward}
 use Rattle.literal_search.specs.declared.backward.Marks.{Marks}
 use Rattle.literal_search.proofs.backward.Backward.next_match.Goals as goal
 
 -- where the list goes on behind a match, the marks are those too
-marked_behind : (tables : BackTables) (haystack : List ℕ) (span : Span) (from : ℕ) (m : Marks) → from ≤ span.end
-    → AreMarked tables haystack span from m → (b : Backward) (answer : Option MatchValue)
-    → IfSome answer (IsMatchBy b span from) → AreMarked tables haystack span (place_behind span answer) m
-marked_behind tables haystack span from m before marked b None lies = record {
+marked_behind : (tables : BackTables) (haystack : List ℕ) (span : Span) (from : ℕ) (numbers : List ℕ) (m : Marks)
+    → from ≤ span.end → AreMarked tables haystack span from numbers m → (b : Backward) (answer : Option MatchValue)
+    → IfSome answer (IsMatchBy b span from) → AreMarked tables haystack span (place_behind span answer) numbers m
+marked_behind tables haystack span from numbers m before marked b None lies = record {
   marks = λ k behind upto. marked.marks k (omega (arith, before, behind)) upto;
   none = λ k behind upto known. marked.none k (omega (arith, before, behind)) upto known;
 }
-marked_behind tables haystack span from m before marked b (Some found) lies =
+marked_behind tables haystack span from numbers m before marked b (Some found) lies =
     let after = lies.after in
     let some = lies.some in
     record {
@@ -27,6 +27,7 @@ marked_behind tables haystack span from m before marked b (Some found) lies =
 pub returns-then-is_some-clause-marked : goal.returns-then-is_some-clause-marked
 returns-then-is_some-clause-marked c = λ search is marked.
     marked_behind (back_tables_by search c.args.self.now) c.args.haystack.now c.args.span c.in_ok-at.at
-    c.mark_from.new.marks (omega (arith, c.in_ok-at.ensures.later, c.in_ok-at.ensures.placed.known_inside))
+    c.mark_from.new.numbers c.mark_from.new.marks
+    (omega (arith, c.in_ok-at.ensures.later, c.in_ok-at.ensures.placed.known_inside))
     (c.in_ok-at.ensures.marked search is (c.loop-from.invariant.marked search is marked)) c.args.self.now
     c.in_ok-found.found c.in_ok-found.ensures.lies

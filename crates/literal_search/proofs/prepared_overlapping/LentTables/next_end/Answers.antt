@@ -1,23 +1,18 @@
-use Rattle.std.proofs.Common.{◌<◌, ◌≤◌, ◌≡◌, ◌^◌, ℕ, IfSome, List, Option, Result, Some, arith, get_or, length}
+use Rattle.std.proofs.Common.{◌<◌, ◌≤◌, ◌^◌, ℕ, IfSome, List, Option, Result, Some, arith, get_or}
 use Rattle.std.proofs.Common.{subst, sym}
 use Rattle.std.specs.Result.{IsOkAnd}
-use Rattle.literal_base.specs.Occurs.{IsValidSpan, between}
 use Rattle.literal_base.specs.declared.search.Span.{Span}
 use Rattle.literal_search.specs.Inside.Packed.{unpacked}
-use Rattle.literal_search.specs.Inside.LentTables.{AreFor, IsNextEnd, tables_by}
-use Rattle.literal_search.specs.Inside.NextEnd.{FindsNext, IsNextStop}
-use Rattle.literal_search.specs.Inside.Prepared.{header_table}
+use Rattle.literal_search.specs.Inside.LentTables.{IsNextEnd, tables_by}
+use Rattle.literal_search.specs.Inside.NextEnd.{IsNextStop}
 use Rattle.literal_search.specs.Inside.Rows.{rows_of}
-use Rattle.literal_search.specs.Inside.Standing.{IsStanding}
 use Rattle.literal_search.specs.Overlapping.{OverlappingValue}
 use Rattle.literal_search.specs.declared.prepared.Damaged.{Damaged}
 use Rattle.literal_search.specs.declared.prepared_overlapping.LentTables.{LentTables}
 use Rattle.literal_search.specs.declared.standing.Standing.{Standing}
 use Rattle.literal_search.specs.declared.walk.Stop.{Stop}
-use Rattle.literal_search.specs.declared.walk.Table.{Table}
 use Rattle.literal_search.proofs.lemmas.LentTables.{finds_there, list_there, next_none, next_nowhere, next_there}
 use Rattle.literal_search.proofs.lemmas.LentTables.{row_there}
-use Rattle.literal_search.proofs.lemmas.Prepared.{classes_long}
 use Rattle.literal_search.proofs.prepared_overlapping.LentTables.next_end.Goals as goal
 
 pub returns-then-standing-span-clause-prepared : goal.returns-then-standing-span-clause-prepared
@@ -25,27 +20,14 @@ returns-then-standing-span-clause-prepared c = λ search are standing.
     next_none are c.args.haystack.now (λ k. omega (arith, c.type_inv.haystack k)) c.args.span c.requires.valid
     c.args.standing standing c.if-standing.false c.if-standing-span.true
 
-pub next_end-requires-clause-classes : goal.next_end-requires-clause-classes
-next_end-requires-clause-classes c =
-    subst (λ (t : Table). length t.classes.now ≡ 64) (sym c.table-table.ensures) (classes_long c.requires.lent.header)
-
 -- where something ends next by the numbers of a search
 abbrev NextStop : OverlappingValue → LentTables → List ℕ → Span → ℕ → Option Stop → Type 0
 NextStop search p haystack span at =
     IsNextStop search.patterns search.ignore_case (unpacked p.header.classes.now) p.header.width
     (rows_of p.header.rows.now) haystack span at
 
-finds_by : {search : OverlappingValue} {p : LentTables} (are : AreFor search p) (haystack : List ℕ)
-    → ((i : ℕ) → get_or haystack i 0 < 256) → (span : Span) → IsValidSpan haystack span → (s : Standing)
-    → IsStanding (tables_by search p) haystack span s → s.at < span.end → (t : Table) → t ≡ header_table p.header
-    → (result : Result (Option Stop) Damaged) → FindsNext t haystack s.place (between s.at span.end) result
-    → IsOkAnd result (NextStop search p haystack span s.at)
-finds_by are haystack bytes span valid s standing more t t_is result finds =
-    finds_there are haystack bytes span valid s standing more result
-    (subst (λ (t : Table). FindsNext t haystack s.place (between s.at span.end) result) t_is finds)
-
-pub returns-in_err-stop-clause-prepared : goal.returns-in_err-stop-clause-prepared
-returns-in_err-stop-clause-prepared c = λ search are standing.
+pub returns-in_err-found-clause-prepared : goal.returns-in_err-found-clause-prepared
+returns-in_err-found-clause-prepared c = λ search are standing.
     let s = c.args.standing in
     let p = c.args.self.now in
     let haystack = c.args.haystack.now in
@@ -54,9 +36,10 @@ returns-in_err-stop-clause-prepared c = λ search are standing.
     let more : s.at < span.end = omega (arith, c.if-standing-span.false) in
     let byte : (k : ℕ) → get_or haystack k 0 < 256 = λ k. omega (arith, c.type_inv.haystack k) in
     let Next = NextStop search p haystack span s.at in
-    let found = finds_by are haystack byte span c.requires.valid s standing more c.table-table.result
-    c.table-table.ensures c.next_end.result c.next_end.ensures.next in
-    absurd (subst (λ (r : Result (Option Stop) Damaged). IsOkAnd r Next) c.in_err-stop.was found)
+    let is = c.table.ensures in
+    let found = finds_there are haystack byte span c.requires.valid s standing more c.table.result
+    (is.table search are) is.classes is.width is.rows c.next_end.result c.next_end.ensures.next in
+    absurd (subst (λ (r : Result (Option Stop) Damaged). IsOkAnd r Next) c.in_err-found.was found)
 
 pub returns-in_default-clause-prepared : goal.returns-in_default-clause-prepared
 returns-in_default-clause-prepared c = λ search are standing.
@@ -68,10 +51,11 @@ returns-in_default-clause-prepared c = λ search are standing.
     let more : s.at < span.end = omega (arith, c.if-standing-span.false) in
     let byte : (k : ℕ) → get_or haystack k 0 < 256 = λ k. omega (arith, c.type_inv.haystack k) in
     let Next = NextStop search p haystack span s.at in
-    let found = finds_by are haystack byte span c.requires.valid s standing more c.table-table.result
-    c.table-table.ensures c.next_end.result c.next_end.ensures.next in
+    let is = c.table.ensures in
+    let found = finds_there are haystack byte span c.requires.valid s standing more c.table.result
+    (is.table search are) is.classes is.width is.rows c.next_end.result c.next_end.ensures.next in
     next_nowhere are haystack byte span c.requires.valid s standing c.if-standing.false
-    (subst Next c.in_default.is (subst (λ (r : Result (Option Stop) Damaged). IsOkAnd r Next) c.in_ok-stop.was found))
+    (subst Next c.in_default.is (subst (λ (r : Result (Option Stop) Damaged). IsOkAnd r Next) c.in_ok-found.was found))
 
 pub returns-in_err-standing_at-clause-prepared : goal.returns-in_err-standing_at-clause-prepared
 returns-in_err-standing_at-clause-prepared c = λ search are standing.
@@ -83,14 +67,15 @@ returns-in_err-standing_at-clause-prepared c = λ search are standing.
     let more : s.at < span.end = omega (arith, c.if-standing-span.false) in
     let byte : (k : ℕ) → get_or haystack k 0 < 256 = λ k. omega (arith, c.type_inv.haystack k) in
     let Next = NextStop search p haystack span s.at in
-    let found = finds_by are haystack byte span c.requires.valid s standing more c.table-table.result
-    c.table-table.ensures c.next_end.result c.next_end.ensures.next in
+    let is = c.table.ensures in
+    let found = finds_there are haystack byte span c.requires.valid s standing more c.table.result
+    (is.table search are) is.classes is.width is.rows c.next_end.result c.next_end.ensures.next in
     let stop = c.in-Some.stop in
-    let next = subst Next c.in-Some.is (subst (λ (r : Result (Option Stop) Damaged). IsOkAnd r Next) c.in_ok-stop.was
+    let next = subst Next c.in-Some.is (subst (λ (r : Result (Option Stop) Damaged). IsOkAnd r Next) c.in_ok-found.was
     found) in
     let ends = subst (λ (answer : Option Stop). IfSome answer
     (λ stop. (s.at < stop.end) × (stop.end ≤ span.end) × (stop.place < 2 ^ 32))) c.in-Some.is
-    c.in_ok-stop.ensures.inside in
+    c.in_ok-found.ensures.inside in
     let row = row_there are haystack byte span c.requires.valid s standing c.if-standing.false stop next ends.0 ends.1
     in
     let list = list_there are haystack byte span c.requires.valid s standing c.if-standing.false stop next ends.0 ends.1
@@ -107,14 +92,15 @@ returns-clause-prepared c = λ search are standing.
     let more : s.at < span.end = omega (arith, c.if-standing-span.false) in
     let byte : (k : ℕ) → get_or haystack k 0 < 256 = λ k. omega (arith, c.type_inv.haystack k) in
     let Next = NextStop search p haystack span s.at in
-    let found = finds_by are haystack byte span c.requires.valid s standing more c.table-table.result
-    c.table-table.ensures c.next_end.result c.next_end.ensures.next in
+    let is = c.table.ensures in
+    let found = finds_there are haystack byte span c.requires.valid s standing more c.table.result
+    (is.table search are) is.classes is.width is.rows c.next_end.result c.next_end.ensures.next in
     let stop = c.in-Some.stop in
-    let next = subst Next c.in-Some.is (subst (λ (r : Result (Option Stop) Damaged). IsOkAnd r Next) c.in_ok-stop.was
+    let next = subst Next c.in-Some.is (subst (λ (r : Result (Option Stop) Damaged). IsOkAnd r Next) c.in_ok-found.was
     found) in
     let ends = subst (λ (answer : Option Stop). IfSome answer
     (λ stop. (s.at < stop.end) × (stop.end ≤ span.end) × (stop.place < 2 ^ 32))) c.in-Some.is
-    c.in_ok-stop.ensures.inside in
+    c.in_ok-found.ensures.inside in
     let row = row_there are haystack byte span c.requires.valid s standing c.if-standing.false stop next ends.0 ends.1
     in
     let list = list_there are haystack byte span c.requires.valid s standing c.if-standing.false stop next ends.0 ends.1

@@ -1,7 +1,7 @@
 use Rattle.std.proofs.Common.{◌≡◌, ◌+◌, ◌∙◌, List, ℕ, ap, arith, length, subst, sym}
 use Rattle.std.specs.List.{slice_range}
 use Rattle.literal_search.specs.Prepared.{check_of, classes_end, rows_at}
-use Rattle.literal_search.specs.PreparedOverlapping.{IsWholeOverlapping, ends_at, listed_len}
+use Rattle.literal_search.specs.PreparedOverlapping.{IsWholeOverlapping, ends_at, listed_len, overlapping_len}
 use Rattle.literal_search.proofs.lemmas.Prepared.{length_part}
 use Rattle.literal_search.proofs.prepared_overlapping.PreparedOverlapping.is_whole.Goals as goal
 
@@ -20,7 +20,7 @@ returns c =
     let ends = ap (λ (l : List ℕ). length l) lent.ends_are
     ∙ length_part numbers (ends_at numbers) (listed_len numbers) (omega arith) (omega arith) in
     let end_is : 6 + length p.header.lengths.now + length p.header.rows.now + length p.starts.now + length p.ends.now
-    ≡ listed_len numbers =
+    + 33 ≡ overlapping_len numbers =
     omega (arith, lengths, rows, starts, ends) in
     let check_is = ap (λ end. check_of (slice_range numbers 2 end)) end_is in (
       λ same. subst IsWholeOverlapping c.self.view_is

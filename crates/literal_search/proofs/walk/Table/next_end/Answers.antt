@@ -1,13 +1,15 @@
-use Rattle.std.proofs.Common.{◌≡◌, ◌+◌, ◌-◌, ◌<◌, ◌^◌, ℕ, Bool, List, arith, get_or, map, refl, subst}
+use Rattle.std.proofs.Common.{IfSome, MatchOption, None, Option, Some, ◌≡◌, ◌+◌, ◌-◌, ◌<◌, ◌^◌, ℕ, Bool, List, arith}
+use Rattle.std.proofs.Common.{get_or, map, refl, subst}
 use Rattle.literal_base.specs.Occurs.{IsValidSpan, between}
 use Rattle.literal_base.specs.declared.search.MatchKind.TheVariants.{Standard}
 use Rattle.literal_base.specs.declared.search.Span.{Span}
+use Rattle.literal_fingerprints.specs.FingerprintsValue.{FingerprintsValue}
 use Rattle.literal_search.specs.Inside.Classes.{symbols_in}
 use Rattle.literal_search.specs.Inside.NextEnd.{Stands}
 use Rattle.literal_search.specs.Inside.Walk.{HasReached, ReachesWithin, ReadsTo, classes_by, rows_by, text_of}
 use Rattle.literal_search.specs.Table.{Recognises}
 use Rattle.literal_search.specs.declared.walk.Stop.{Stop}
-use Rattle.literal_search.proofs.lemmas.NextEnd.{later_new, next_nowhere, next_there, stands_new}
+use Rattle.literal_search.proofs.lemmas.NextEnd.{kept_pass, later_new, next_nowhere, next_there, stands_new}
 use Rattle.literal_search.proofs.lemmas.Scan.{others_on}
 use Rattle.literal_search.proofs.walk.Table.next_end.Goals as goal
 
@@ -22,25 +24,31 @@ valid_whole patterns ignore_case classes width rows haystack span start stop val
     let ordered = valid.ordered in
     record { ordered = omega arith; in_haystack = valid.in_haystack }
 
+-- what holds of the fingerprints that were read holds of those that are kept
+kept_some : (A : Type 0) (P : FingerprintsValue → Type 0) (o : Option FingerprintsValue) → MatchOption o A P
+    → IfSome o P
+kept_some A P None are = tt
+kept_some A P (Some f) are = are
+
 pub returns-in_err-stop-clause-next : goal.returns-in_err-stop-clause-next
-returns-in_err-stop-clause-next c = λ patterns ignore_case is start begun.
-    let come = c.loop-nearest.invariant.comes patterns ignore_case is start begun in
+returns-in_err-stop-clause-next c = λ patterns ignore_case is pass start begun.
+    let come = c.loop-fingerprints.invariant.comes patterns ignore_case is pass start begun in
     absurd (c.in_err-stop.ensures.reaches is.classes (map (symbols_in (classes_by c.args.self.now)) patterns)
     is.recognises _ (come.0.at is.recognises))
 
 pub returns-in-Ends-clause-next : goal.returns-in-Ends-clause-next
-returns-in-Ends-clause-next c = λ patterns ignore_case is start begun.
+returns-in-Ends-clause-next c = λ patterns ignore_case is pass start begun.
     let t = c.args.self.now in
     let haystack = c.args.haystack.now in
     let words = map (symbols_in (classes_by t)) patterns in
     let whole = between start c.args.span.end in
-    let here : Stop = record { place = c.loop-nearest.from; end = c.loop-nearest.start } in
-    let rest = between c.loop-nearest.start c.args.span.end in
-    let so_far = c.loop-nearest.invariant in
-    let come = so_far.comes patterns ignore_case is start begun in
+    let here : Stop = record { place = c.loop-fingerprints.from; end = c.loop-fingerprints.start } in
+    let rest = between c.loop-fingerprints.start c.args.span.end in
+    let so_far = c.loop-fingerprints.invariant in
+    let come = so_far.comes patterns ignore_case is pass start begun in
     let valid = valid_whole patterns ignore_case (classes_by t) t.width (rows_by t) haystack c.args.span start _
     c.requires.valid refl begun in
-    let lies = subst (ReachesWithin rest (c.loop-nearest.start + c.loop-nearest.near)) c.in-Ends.is
+    let lies = subst (ReachesWithin rest (c.loop-fingerprints.start + c.loop-fingerprints.near)) c.in-Ends.is
     c.in_ok-stop.ensures.inside in
     next_there t patterns ignore_case is haystack (λ k. omega (arith, c.type_inv.haystack k)) whole valid here
     so_far.inside come.0 c.args.span.start come.1 c.in-Ends.stop lies.0
@@ -49,15 +57,15 @@ returns-in-Ends-clause-next c = λ patterns ignore_case is start begun.
     c.in-Ends.is (c.in_ok-stop.ensures.reaches is.classes words recognises _ (come.0.at recognises)))
 
 pub returns-in-Nowhere-clause-next : goal.returns-in-Nowhere-clause-next
-returns-in-Nowhere-clause-next c = λ patterns ignore_case is start begun.
+returns-in-Nowhere-clause-next c = λ patterns ignore_case is pass start begun.
     let t = c.args.self.now in
     let haystack = c.args.haystack.now in
     let words = map (symbols_in (classes_by t)) patterns in
     let whole = between start c.args.span.end in
-    let here : Stop = record { place = c.loop-nearest.from; end = c.loop-nearest.start } in
-    let rest = between c.loop-nearest.start c.args.span.end in
-    let so_far = c.loop-nearest.invariant in
-    let come = so_far.comes patterns ignore_case is start begun in
+    let here : Stop = record { place = c.loop-fingerprints.from; end = c.loop-fingerprints.start } in
+    let rest = between c.loop-fingerprints.start c.args.span.end in
+    let so_far = c.loop-fingerprints.invariant in
+    let come = so_far.comes patterns ignore_case is pass start begun in
     let valid = valid_whole patterns ignore_case (classes_by t) t.width (rows_by t) haystack c.args.span start _
     c.requires.valid refl begun in
     next_nowhere t patterns ignore_case is haystack (λ k. omega (arith, c.type_inv.haystack k)) whole valid here
@@ -67,38 +75,43 @@ returns-in-Nowhere-clause-next c = λ patterns ignore_case is start begun.
     c.in-Nowhere.is (c.in_ok-stop.ensures.reaches is.classes words is.recognises _ (come.0.at is.recognises)))
 
 pub returns-in_err-start-in-Back-clause-next : goal.returns-in_err-start-in-Back-clause-next
-returns-in_err-start-in-Back-clause-next c = λ patterns ignore_case is start begun.
-    absurd (c.in_err-start-in-Back.ensures.none Standard patterns ignore_case is)
+returns-in_err-start-in-Back-clause-next c = λ patterns ignore_case is pass start begun.
+    absurd (c.in_err-start-in-Back.ensures.none patterns ignore_case is
+    (kept_pass patterns ignore_case c.args.prints.now c.kept_or_read-fingerprints.result
+    c.kept_or_read-fingerprints.ensures pass))
 
-pub loop-nearest-preserved : goal.loop-nearest-preserved
-loop-nearest-preserved c =
+pub loop-fingerprints-preserved : goal.loop-fingerprints-preserved
+loop-fingerprints-preserved c =
     let t = c.args.self.now in
     let haystack = c.args.haystack.now in
-    let here : Stop = record { place = c.loop-nearest.from; end = c.loop-nearest.start } in
-    let rest = between c.loop-nearest.start c.args.span.end in
-    let so_far = c.loop-nearest.invariant in
+    let here : Stop = record { place = c.loop-fingerprints.from; end = c.loop-fingerprints.start } in
+    let rest = between c.loop-fingerprints.start c.args.span.end in
+    let so_far = c.loop-fingerprints.invariant in
     let told = c.in_ok-stop.ensures in
     let at = c.in-Back.at in
-    let lies = subst (ReachesWithin rest (c.loop-nearest.start + c.loop-nearest.near)) c.in-Back.is told.inside in
-    let far = subst (ReadsTo rest (c.reach.new.tally.scanned - c.loop-nearest.tally.scanned)) c.in-Back.is
+    let lies = subst (ReachesWithin rest
+    (c.loop-fingerprints.start + c.loop-fingerprints.near)) c.in-Back.is told.inside in
+    let far = subst (ReadsTo rest (c.reach.new.tally.scanned - c.loop-fingerprints.tally.scanned)) c.in-Back.is
     told.counted in
     let passed = c.in_ok-start-in-Back.ensures in
     let new = c.in_ok-start-in-Back.start in
-    let next = c.next-near.ensures in
+    let next = c.farther-near.ensures in
     record {
       after = omega (arith, so_far.after, lies.0, passed.inside.0);
       inside = passed.inside.1;
       short = next.short so_far.short c.nearest-nearest.ensures.short;
       far = next.least;
-      comes = λ patterns ignore_case is start begun.
+      kept = kept_some _ _ c.kept_or_read-fingerprints.result c.kept_or_read-fingerprints.ensures;
+      comes = λ patterns ignore_case is pass start begun.
           let words = map (symbols_in (classes_by t)) patterns in
           let whole = between start c.args.span.end in
-          let come = so_far.comes patterns ignore_case is start begun in
+          let come = so_far.comes patterns ignore_case is pass start begun in
           let valid = valid_whole patterns ignore_case (classes_by t) t.width (rows_by t) haystack c.args.span start _
           c.requires.valid refl begun in
           let bytes = λ (k : ℕ). (let small : get_or haystack k 0 < 256 = omega (arith, c.type_inv.haystack k) in small)
           in
-          let none = passed.none Standard patterns ignore_case is in
+          let none = passed.none patterns ignore_case is (kept_pass patterns ignore_case c.args.prints.now
+          c.kept_or_read-fingerprints.result c.kept_or_read-fingerprints.ensures pass) in
           let back = λ (recognises : Recognises Standard words t.width (rows_by t)). subst (HasReached words t.width
           (rows_by t) recognises (text_of (classes_by t) haystack (between come.0.from here.end)) (classes_by t)
           haystack rest) c.in-Back.is (told.reaches is.classes words recognises _ (come.0.at recognises)) in (
@@ -107,28 +120,28 @@ loop-nearest-preserved c =
             later_new t patterns ignore_case is haystack bytes whole valid here so_far.inside come.0 c.args.span.start
                 come.1 at new (omega (arith, lies.0)) passed.inside.0 passed.inside.1 back none,
           );
-      others = others_on c.args.tally.now c.loop-nearest.tally c.reach.new.tally c.pass_over.new.tally
+      others = others_on c.args.tally.now c.loop-fingerprints.tally c.reach.new.tally c.pass_over.new.tally
           so_far.others told.others passed.others;
       least = omega (arith, so_far.least, far, lies.0, passed.least, told.grows);
       most = omega (arith, so_far.most, so_far.far, far, lies.0, lies.2, passed.counted, passed.inside.0, told.grows);
     }
 
 pub returns-in_err-stop-2-clause-next : goal.returns-in_err-stop-2-clause-next
-returns-in_err-stop-2-clause-next c = λ patterns ignore_case is start begun.
-    let come = c.loop-nearest.invariant.comes patterns ignore_case is start begun in
+returns-in_err-stop-2-clause-next c = λ patterns ignore_case is pass start begun.
+    let come = c.loop-fingerprints.invariant.comes patterns ignore_case is pass start begun in
     absurd (c.in_err-stop-2.ensures.reaches is.classes (map (symbols_in (classes_by c.args.self.now)) patterns)
     is.recognises _ (come.0.at is.recognises))
 
 pub returns-in-Ends-2-clause-next : goal.returns-in-Ends-2-clause-next
-returns-in-Ends-2-clause-next c = λ patterns ignore_case is start begun.
+returns-in-Ends-2-clause-next c = λ patterns ignore_case is pass start begun.
     let t = c.args.self.now in
     let haystack = c.args.haystack.now in
     let words = map (symbols_in (classes_by t)) patterns in
     let whole = between start c.args.span.end in
-    let here : Stop = record { place = c.loop-nearest.from; end = c.loop-nearest.start } in
-    let rest = between c.loop-nearest.start c.args.span.end in
-    let so_far = c.loop-nearest.invariant in
-    let come = so_far.comes patterns ignore_case is start begun in
+    let here : Stop = record { place = c.loop-fingerprints.from; end = c.loop-fingerprints.start } in
+    let rest = between c.loop-fingerprints.start c.args.span.end in
+    let so_far = c.loop-fingerprints.invariant in
+    let come = so_far.comes patterns ignore_case is pass start begun in
     let valid = valid_whole patterns ignore_case (classes_by t) t.width (rows_by t) haystack c.args.span start _
     c.requires.valid refl begun in
     let lies = subst (ReachesWithin rest (2 ^ 64 - 1)) c.in-Ends-2.is
@@ -140,15 +153,15 @@ returns-in-Ends-2-clause-next c = λ patterns ignore_case is start begun.
     c.in-Ends-2.is (c.in_ok-stop-2.ensures.reaches is.classes words recognises _ (come.0.at recognises)))
 
 pub returns-in-Nowhere-2-clause-next : goal.returns-in-Nowhere-2-clause-next
-returns-in-Nowhere-2-clause-next c = λ patterns ignore_case is start begun.
+returns-in-Nowhere-2-clause-next c = λ patterns ignore_case is pass start begun.
     let t = c.args.self.now in
     let haystack = c.args.haystack.now in
     let words = map (symbols_in (classes_by t)) patterns in
     let whole = between start c.args.span.end in
-    let here : Stop = record { place = c.loop-nearest.from; end = c.loop-nearest.start } in
-    let rest = between c.loop-nearest.start c.args.span.end in
-    let so_far = c.loop-nearest.invariant in
-    let come = so_far.comes patterns ignore_case is start begun in
+    let here : Stop = record { place = c.loop-fingerprints.from; end = c.loop-fingerprints.start } in
+    let rest = between c.loop-fingerprints.start c.args.span.end in
+    let so_far = c.loop-fingerprints.invariant in
+    let come = so_far.comes patterns ignore_case is pass start begun in
     let valid = valid_whole patterns ignore_case (classes_by t) t.width (rows_by t) haystack c.args.span start _
     c.requires.valid refl begun in
     next_nowhere t patterns ignore_case is haystack (λ k. omega (arith, c.type_inv.haystack k)) whole valid here
@@ -158,7 +171,7 @@ returns-in-Nowhere-2-clause-next c = λ patterns ignore_case is start begun.
     c.in-Nowhere-2.is (c.in_ok-stop-2.ensures.reaches is.classes words is.recognises _ (come.0.at is.recognises)))
 
 pub returns-in-Back-2-clause-next : goal.returns-in-Back-2-clause-next
-returns-in-Back-2-clause-next c = λ patterns ignore_case is start begun.
-    let lies = subst (ReachesWithin (between c.loop-nearest.start c.args.span.end) (2 ^ 64 - 1)) c.in-Back-2.is
+returns-in-Back-2-clause-next c = λ patterns ignore_case is pass start begun.
+    let lies = subst (ReachesWithin (between c.loop-fingerprints.start c.args.span.end) (2 ^ 64 - 1)) c.in-Back-2.is
     c.in_ok-stop-2.ensures.inside in
     absurd (omega (arith, lies.1, lies.2, c.requires.valid.in_haystack))

@@ -3,9 +3,9 @@ use Rattle.literal_search.proofs.lemmas.Scan.{none_in_blocks}
 use Rattle.literal_search.proofs.walk.Table.none_begins.Goals as goal
 
 pub returns-clause-none : goal.returns-clause-none
-returns-clause-none c = λ same kind patterns ignore_case is.
+returns-clause-none c = λ same patterns ignore_case is.
     let t = c.args.self.now in
-    none_in_blocks t kind patterns ignore_case is c.args.haystack.now (λ k. omega (arith, c.type_inv.haystack k))
+    none_in_blocks t patterns ignore_case is c.args.haystack.now (λ k. omega (arith, c.type_inv.haystack k))
     c.args.at
     c.args.block c.requires.inside
     (c.none_in_four.ensures.none same is.classes)

@@ -30,9 +30,9 @@ loop-block-preserved-then-block-lt-LAST_BLOCK c =
       some = omega (arith, so_far.some);
       long = omega (arith, so_far.long);
       short = omega (arith, so_far.short, c.if-block-lt-LAST_BLOCK.true);
-      none = λ kind patterns ignore_case is. none_further patterns ignore_case c.args.haystack.now c.args.span start
-          (start + 4 * c.loop-block.block) c.requires.valid.in_haystack (so_far.none kind patterns ignore_case is)
-          (told.none refl kind patterns ignore_case is);
+      none = λ patterns ignore_case is. none_further patterns ignore_case c.args.haystack.now c.args.span start
+          (start + 4 * c.loop-block.block) c.requires.valid.in_haystack (so_far.none patterns ignore_case is)
+          (told.none refl patterns ignore_case is);
       others = others_on c.args.tally.now c.loop-block.tally c.none_begins.new.tally c.none_begins.new.tally
           so_far.others told.others refl;
       least = omega (arith, so_far.least, told.all refl);
@@ -50,9 +50,9 @@ loop-block-preserved c =
       some = omega (arith, so_far.some);
       long = omega (arith, so_far.long);
       short = omega (arith, so_far.short);
-      none = λ kind patterns ignore_case is. none_further patterns ignore_case c.args.haystack.now c.args.span start
-          (start + 4 * c.loop-block.block) c.requires.valid.in_haystack (so_far.none kind patterns ignore_case is)
-          (told.none refl kind patterns ignore_case is);
+      none = λ patterns ignore_case is. none_further patterns ignore_case c.args.haystack.now c.args.span start
+          (start + 4 * c.loop-block.block) c.requires.valid.in_haystack (so_far.none patterns ignore_case is)
+          (told.none refl patterns ignore_case is);
       others = others_on c.args.tally.now c.loop-block.tally c.none_begins.new.tally c.none_begins.new.tally
           so_far.others told.others refl;
       least = omega (arith, so_far.least, told.all refl);

@@ -1,0 +1,62 @@
+use Rattle.std.proofs.Common.{ℕ, List, ap, arith, length, of_calls, refl, rules}
+use Rattle.std.proofs.lemmas.Fn.{FoldsTo-push}
+use Rattle.literal_search.proofs.lemmas.Callers.{greedy_from_matches}
+use Rattle.literal_search.proofs.search.Search.replace_all_with.Goals as goal
+
+pub loop-found-init : goal.loop-found-init
+loop-found-init g c = record {
+  search_is = search rules;
+  haystack_is = search rules;
+  at_is = search rules;
+  to_end = search rules;
+  within = omega arith;
+  callable = c.requires;
+  first = record { writer = c.args.write; text = c.new-text.result; at = 0 };
+  begins = (refl, c.new-text.ensures.items, refl);
+  is_written = refl;
+}
+
+pub returns-clause-ok : goal.returns-clause-ok
+returns-clause-ok g c = record {
+  matches = c.loop-found.yielded;
+  are_greedy = greedy_from_matches c.args.self.now c.args.haystack.now _ _ _ _ (cc) c.loop-found.yielded_by
+      c.in-None.ensures.steps;
+  first = c.loop-found.invariant.first;
+  last = record { writer = c.loop-found.write; text = c.loop-found.text; at = c.loop-found.at };
+  begins = c.loop-found.invariant.begins;
+  is_written = c.loop-found.invariant.is_written;
+  ends = c.in_ok-extend_from_slice-2.ensures.items;
+}
+
+pub loop-found-preserved : goal.loop-found-preserved
+loop-found-preserved g c =
+    let so_far = c.loop-found.invariant in
+    let found = c.in-Some.found in
+    let found_steps = c.in-Some.ensures.steps in
+    record {
+      search_is = search rules;
+      haystack_is = search rules;
+      at_is = search rules;
+      to_end = search rules;
+      within = omega (
+        arith,
+        c.end-at.ensures.end,
+        found_steps.leftmost.whole,
+        found_steps.leftmost.occurs.before_end,
+        so_far.to_end,
+        ap (λ (l : List ℕ). length l) so_far.haystack_is,
+      );
+      callable = search of_calls;
+      first = so_far.first;
+      begins = so_far.begins;
+      is_written = FoldsTo-push _ so_far.first c.loop-found.yielded _ found _ so_far.is_written (record {
+        bytes = _;
+        before = _;
+        behind = _;
+        are_matched = search rules;
+        between = search rules;
+        calls = c.in_ok-write.ensures;
+        leaves = refl;
+        goes_on = search rules;
+      });
+    }

@@ -1,0 +1,265 @@
+//! A search for leftmost matches by numbers in an array that its caller lends: written once, and then searched by, with
+//! no memory of its own. It does not trust the array: where a number leads out of it, the search says so.
+ghost use Rattle.std.specs.Prelude.{◌≡◌, ◌+◌, ◌-◌, ◌*◌, ◌<◌, ◌≤◌, ◌↔◌, slice_index};
+ghost use Rattle.std.specs.Prelude.{IfOk, IfSome, IsTrue, MatchResult, None, ⊤};
+ghost use Rattle.std.specs.Result.{IsOkAnd};
+ghost use Rattle.literal_base.specs.Occurs.{IsValidSpan, between};
+ghost use Rattle.literal_search.specs.SearchValue.{LooksFor, ScansNext};
+ghost use Rattle.literal_base.specs.Leftmost.{IsLeftmost};
+ghost use Rattle.literal_search.specs.MatchesValue.{GivesMatch, place_behind};
+ghost use Rattle.literal_search.specs.Prepared.{LiesIn, longest_in};
+ghost use Rattle.literal_search.specs.Prepared.{ForPrepared, HasAllParts, IsWhole, matches_for};
+ghost use Rattle.literal_search.specs.Inside.Prepared.{IsBackIn};
+
+use crate::backward::{Backward, LEAST, Marks, no_marks, place_after};
+use crate::classes::CLASSES_LEN;
+use crate::prepared::{Damaged, FINGERPRINTS_LEN, LENGTHS_AT, PREPARED_VERSION, is_checked, split};
+use crate::walk::Table;
+use literal_base::count::Tally;
+use literal_base::{Match, Span};
+use std::marker::Model;
+
+/// A search for leftmost matches by numbers that [`Search::prepare`](crate::Search::prepare) wrote into an array, which
+/// may be longer. Contracts see the array.
+#[derive(Drop)]
+pub struct Prepared<'p> {
+    numbers: &'p [u32],
+    backward: Backward<'p>,
+}
+
+impl<'p> Model for Prepared<'p> {
+    ghost use Rattle.std.specs.Prelude.{List, ℕ};
+    ghost use Rattle.literal_search.specs.Inside.Prepared.{IsBackIn};
+
+    ghost Value = { List ℕ };
+
+    ghost view = { λ p. p.numbers.now };
+
+    ghost invariant = { λ p. IsBackIn p.numbers.now p.backward };
+}
+
+impl<'p> Prepared<'p> {
+    /// The search by the numbers in an array, where its first numbers say that it is one, and it is as long as they
+    /// say. No more of it is read: [`Prepared::is_whole`] goes over all of it.
+    pub fn new(numbers: &'p [u32]) -> Result<Prepared<'p>, Damaged>
+        ensures { MatchResult result (λ prepared. (prepared ≡ numbers.now) × HasAllParts numbers.now)
+            (λ _. ¬ HasAllParts numbers.now) }
+    {
+        let backward = backward_in(numbers)?;
+        Ok(Prepared { numbers, backward })
+    }
+
+    /// Whether the check over all numbers of the search is right. It finds each change of one number, unless that
+    /// says how many numbers there are ([`changed_number_is_found`](crate::laws::changed_number_is_found)), an array
+    /// of zeros ([`zeros_are_refused`](crate::laws::zeros_are_refused)), and most other changes, but none that is made
+    /// to pass.
+    pub fn is_whole(&self) -> bool
+        ensures { IsTrue result ↔ IsWhole self.now }
+    {
+        let Backward {
+            table,
+            best,
+            lens,
+            prints,
+        } = &self.backward;
+        let end = LENGTHS_AT + lens.len() + table.rows.len() + best.len() + prints.len();
+        is_checked(self.numbers, end)
+    }
+
+    /// How many bytes the longest pattern has, by the numbers.
+    pub fn max_pattern_len(&self) -> usize
+        ensures { result ≡ longest_in self.now }
+    {
+        self.backward().table.longest
+    }
+
+    /// All matches in a span of the haystack, one after another, for which the same holds as for
+    /// [`Search::find_iter_in`](crate::Search::find_iter_in). With numbers that were changed it may give others, or
+    /// [`Damaged`]; but each lies in the span, is not empty, begins behind the one before it, and names one of the
+    /// patterns.
+    pub fn find_iter_in<'s, 'h>(
+        &'s self,
+        haystack: &'h [u8],
+        span: Span,
+    ) -> PreparedMatches<'s, 'p, 'h>
+        requires { IsValidSpan haystack.now span }
+        ensures { result ≡ record {
+          numbers = self.now;
+          haystack = haystack.now;
+          span = span;
+          at = span.start;
+          known = span.start;
+        } }
+    {
+        prove!(span.end <= haystack.len());
+        PreparedMatches {
+            prepared: self,
+            haystack,
+            span,
+            at: span.start,
+            numbers: [0; LEAST],
+            marks: no_marks(span.start),
+        }
+    }
+
+    /// The leftmost match in a span of the haystack, for which the same holds as for
+    /// [`Search::find_in`](crate::Search::find_in). With numbers that were changed it may be another, or [`Damaged`];
+    /// but it lies in the span, is not empty, and names one of the patterns.
+    pub fn find_in(&self, haystack: &[u8], span: Span) -> Result<Option<Match>, Damaged>
+        requires { IsValidSpan haystack.now span }
+        ensures prepared { ForPrepared self.now (λ search. IsOkAnd result
+            (IsLeftmost search.query search.ignore_case haystack.now span)) }
+        ensures inside { IfOk result (λ answer. IfSome answer (LiesIn span)) }
+        ensures pattern { IfOk result (λ answer. IfSome answer
+            (λ found. found.pattern < slice_index self.now 3)) }
+    {
+        self.find_in_counted(haystack, span, &mut Tally::new())
+    }
+
+    /// Answers as [`Prepared::find_in`], and adds each byte that it looks up to a tally, as scanned: at most
+    /// three times the bytes of the span, whatever the numbers are, and the rest as
+    /// [`Search::find_in_counted`](crate::Search::find_in_counted).
+    pub fn find_in_counted(
+        &self,
+        haystack: &[u8],
+        span: Span,
+        tally: &mut Tally,
+    ) -> Result<Option<Match>, Damaged>
+        requires { IsValidSpan haystack.now span }
+        ensures prepared { ForPrepared self.now (λ search. IsOkAnd result
+            (IsLeftmost search.query search.ignore_case haystack.now span)) }
+        ensures inside { IfOk result (λ answer. IfSome answer (LiesIn span)) }
+        ensures pattern { IfOk result (λ answer. IfSome answer
+            (λ found. found.pattern < slice_index self.now 3)) }
+        ensures others { tally.new ≡ record tally.old { scanned = tally.new.scanned } }
+        ensures most { tally.new.scanned ≤ tally.old.scanned + 3 * (span.end - span.start) }
+        ensures counted { IfOk result
+            (λ answer. LooksFor (longest_in self.now) span answer tally.old.scanned tally.new.scanned) }
+    {
+        self.backward().find_in(haystack, span, tally)
+    }
+
+    /// What a search from the right reads.
+    fn backward(&self) -> Backward<'_>
+        ensures { IsBackIn self.now result }
+    {
+        self.backward
+    }
+}
+
+/// What a search from the right reads of an array, where its first numbers say that it is one, and it is as long as
+/// they say.
+pub(crate) fn backward_in(numbers: &[u32]) -> Result<Backward<'_>, Damaged>
+    ensures { MatchResult result (IsBackIn numbers.now) (λ _. ¬ HasAllParts numbers.now) }
+{
+    let header = split(numbers, PREPARED_VERSION)?;
+    let best_at = LENGTHS_AT + header.lengths.len() + header.rows.len();
+    let prints_at = best_at + header.lengths.len();
+    let is_short = numbers.len() < prints_at + FINGERPRINTS_LEN;
+    if is_short || header.rows.len() == CLASSES_LEN {
+        return Err(Damaged);
+    }
+    let table = Table {
+        classes: header.classes,
+        width: header.width,
+        rows: header.rows,
+        longest: header.longest,
+    };
+    Ok(Backward {
+        table,
+        best: &numbers[best_at..prints_at],
+        lens: header.lengths,
+        prints: &numbers[prints_at..prints_at + FINGERPRINTS_LEN],
+    })
+}
+
+/// What [`Prepared::find_iter_in`] goes over. Contracts see the array, the haystack, the span, the place from
+/// which the list goes on, and up to which place it has looked. After [`Damaged`], or its first `None`, it stands at
+/// the end of the span, and has ended.
+#[derive(Drop)]
+pub struct PreparedMatches<'s, 'p, 'h> {
+    prepared: &'s Prepared<'p>,
+    haystack: &'h [u8],
+    span: Span,
+    at: usize,
+    numbers: [u32; LEAST],
+    marks: Marks,
+}
+
+impl<'s, 'p, 'h> Model for PreparedMatches<'s, 'p, 'h> {
+    ghost use Rattle.literal_base.specs.Occurs.{IsValidSpan};
+    ghost use Rattle.literal_search.specs.Prepared.{PreparedMatchesValue};
+    ghost use Rattle.literal_search.specs.Inside.Prepared.{GoesOnBy};
+
+    ghost Value = { PreparedMatchesValue };
+
+    ghost view = { λ m. record {
+      numbers = m.prepared.now;
+      haystack = m.haystack.now;
+      span = m.span;
+      at = m.at;
+      known = m.marks.known;
+    } };
+
+    ghost invariant = { λ m. IsValidSpan m.haystack.now m.span
+        × GoesOnBy m.prepared.now m.haystack.now m.span m.at m.numbers m.marks };
+}
+
+impl<'s, 'p, 'h> PreparedMatches<'s, 'p, 'h> {
+    /// The next match, as [`Matches`](crate::Matches) gives them, and `None` behind the last. With numbers
+    /// that were changed each still begins behind the one before it; after `None` or [`Damaged`] there is only `None`.
+    pub fn next_match(&mut self) -> Result<Option<Match>, Damaged>
+        ensures prepared { ForPrepared self.old.numbers (λ search. IsOkAnd result (λ answer.
+            GivesMatch (matches_for search self.old) answer (matches_for search self.new))) }
+        ensures inside { IfOk result (λ answer. IfSome answer (LiesIn (between self.old.at self.old.span.end))) }
+        ensures pattern { IfOk result (λ answer. IfSome answer
+            (λ found. found.pattern < slice_index self.old.numbers 3)) }
+        ensures goes_on { MatchResult result (λ answer. self.new.at ≡ place_behind self.old.span answer)
+            (λ _. self.new.at ≡ self.old.span.end) }
+        ensures ended { self.old.at ≡ self.old.span.end → IsOkAnd result (λ answer. answer ≡ None) }
+        ensures same { self.new ≡ record self.old { at = self.new.at; known = self.new.known } }
+    {
+        self.next_counted(&mut Tally::new())
+    }
+
+    /// Answers as `next_match`, and adds each byte that it looks up to a tally, as
+    /// [`Matches::next_counted`](crate::Matches::next_counted) does: a whole iteration looks up at most
+    /// three times the bytes of the span, whatever the numbers are.
+    pub fn next_counted(&mut self, tally: &mut Tally) -> Result<Option<Match>, Damaged>
+        ensures prepared { ForPrepared self.old.numbers (λ search. IsOkAnd result (λ answer.
+            GivesMatch (matches_for search self.old) answer (matches_for search self.new))) }
+        ensures inside { IfOk result (λ answer. IfSome answer (LiesIn (between self.old.at self.old.span.end))) }
+        ensures pattern { IfOk result (λ answer. IfSome answer
+            (λ found. found.pattern < slice_index self.old.numbers 3)) }
+        ensures goes_on { MatchResult result (λ answer. self.new.at ≡ place_behind self.old.span answer)
+            (λ _. self.new.at ≡ self.old.span.end) }
+        ensures ended { self.old.at ≡ self.old.span.end → IsOkAnd result (λ answer. answer ≡ None) }
+        ensures same { self.new ≡ record self.old { at = self.new.at; known = self.new.known } }
+        ensures further { (self.old.known ≤ self.new.known) × (self.new.known ≤ self.old.span.end) }
+        ensures others { tally.new ≡ record tally.old { scanned = tally.new.scanned } }
+        ensures most { tally.new.scanned ≤ tally.old.scanned + 3 * (self.old.span.end - self.old.known) }
+        ensures scans { IfOk result (λ answer. ScansNext (longest_in self.old.numbers) self.old.span self.old.at
+            self.old.known self.new.known answer tally.old tally.new) }
+    {
+        let (span, backward) = (self.span, self.prepared.backward());
+        let answer = backward.next_in(
+            self.haystack,
+            span,
+            self.at,
+            &mut self.numbers,
+            &mut self.marks,
+            tally,
+        );
+        match answer {
+            Ok(answer) => {
+                self.at = place_after(span, &answer);
+                Ok(answer)
+            }
+            Err(_) => {
+                self.at = span.end;
+                self.marks = no_marks(span.end);
+                Err(Damaged)
+            }
+        }
+    }
+}

@@ -1,0 +1,672 @@
+//! The search for leftmost matches of any number of patterns.
+ghost use Rattle.std.specs.Prelude.{◌≡◌, ◌+◌, ◌-◌, ◌*◌, ◌<◌, ◌≤◌, ◌^◌, ◌↔◌, ◌++◌, ◌∷◌, [], ℕ, length, map, reverse};
+ghost use Rattle.std.specs.Prelude.{IfErr, IfOk, IfSome, IsTrue, MatchOption, OnErr, max};
+ghost use Rattle.std.specs.List.{repeat};
+ghost use Rattle.literal_base.specs.Given.{CanBeTaken};
+ghost use Rattle.literal_base.specs.Greedy.{IsGreedy, IsGreedyIn};
+ghost use Rattle.literal_base.specs.Leftmost.{IsLeftmost};
+ghost use Rattle.literal_base.specs.Occurs.{IsValidSpan, NothingOccurs, Occurs, between, one_occurs, pattern_at};
+ghost use Rattle.literal_base.specs.Occurs.{whole_of};
+ghost use Rattle.literal_search.specs.At.{IsMatchAt, ScansAt};
+ghost use Rattle.literal_search.specs.SearchValue.{BuildsSearch, CanBeKept, MayRefuseList, NeedFewReversed};
+ghost use Rattle.literal_search.specs.SearchValue.{NeedTooManyReversed, RefusesSearch, ScansNext, ScansThrice};
+ghost use Rattle.literal_search.specs.SearchValue.{ScansWithin};
+ghost use Rattle.literal_search.specs.SearchValue.{longest_of, looked_upto, reversed, shortest_of};
+ghost use Rattle.literal_search.specs.MatchesValue.{GivesMatch, most_to_come, place_behind};
+ghost use Rattle.literal_search.specs.Memory.{TakesBytes};
+ghost use Rattle.literal_search.specs.Prepared.{AreShort, RefusesToPrepare, TakesPlaces, WritesPrepared, longest_in};
+ghost use Rattle.literal_search.specs.Inside.Backward.{AreBackFor, AreMarked, IsPlaced, IsSafe, back_tables_by};
+ghost use Rattle.literal_search.specs.Inside.Kept.{numbers_kept};
+ghost use Rattle.literal_search.specs.Inside.Prepared.{numbers_for};
+ghost use Rattle.literal_search.specs.Inside.Rows.{rows_value};
+ghost use Rattle.literal_search.specs.Inside.Search.{AreParts, patterns_of, search_value, tables_of};
+ghost use Rattle.literal_search.specs.declared.backward.TheConstants.{LEAST};
+
+use crate::backward::{Backward, LEAST, Marks, no_marks, place_after};
+use crate::classes::{CLASSES_LEN, classes_for};
+use crate::prepared::{
+    ArrayTooShort, FINGERPRINTS_LEN, LENGTHS_AT, NO_PATTERN, PREPARED_VERSION, fingerprint_numbers,
+    put_numbers, write,
+};
+use crate::prepared_search::backward_in;
+use crate::rows::{Rows, rows_for};
+use crate::suffixes::Recognised;
+use crate::{BuildError, copies, push_copy, shortest_len, total_bytes};
+use literal_base::count::Tally;
+use literal_base::packed::MatchKind;
+use literal_base::{Match, Span, search};
+use literal_fingerprints::Fingerprints;
+use literal_ids::PatternID;
+use std::alloc::{AllocError, Global};
+use std::fmt;
+use std::marker::Model;
+
+/// Searches for leftmost matches of any number of patterns at once. Contracts see the kind of match, the patterns, and
+/// whether ASCII case is ignored.
+///
+/// A search, and a list of all matches, looks up at most three times as many bytes as there are, whatever the patterns
+/// are, and however many matches there are. It walks through a block of the haystack from its end, by an automaton of
+/// the reversed patterns, which tells at each place what begins there. The automaton has a state for each suffix of a
+/// pattern, and a row of numbers for each state: one for each byte that stands in a pattern, and two more.
+///
+/// ```rust
+/// let words = [b"password".as_slice(), b"secret"];
+/// let search = Search::new(alloc, MatchKind::LeftmostFirst, true, words)?;
+/// let found = search.find(b"My Secret.").ok_or("nothing is found")?;
+/// assert!(rt; found.pattern().as_usize() == 1 && found.range() == (3..9));
+/// ```
+#[derive(Drop)]
+pub struct Search {
+    parts: Parts,
+}
+
+/// What a search reads.
+#[derive(Drop)]
+struct Parts {
+    kind: MatchKind,
+    ignore_case: bool,
+    patterns: Vec<Vec<u8>>,
+    numbers: Numbers,
+}
+
+/// The numbers of a search, as [`Search::prepare`] writes them. Contracts see them.
+#[derive(Drop)]
+struct Numbers {
+    /// Empty where there is no pattern.
+    kept: Vec<u32>,
+}
+
+impl Model for Numbers {
+    ghost use Rattle.std.specs.Prelude.{List, ℕ};
+    ghost use Rattle.literal_search.specs.Inside.Kept.{numbers_kept};
+
+    ghost Value = { List ℕ };
+
+    ghost view = { λ n. numbers_kept n.kept.items };
+}
+
+impl Model for Search {
+    ghost use Rattle.literal_search.specs.SearchValue.{SearchValue};
+    ghost use Rattle.literal_search.specs.Inside.Search.{AreParts, search_value};
+
+    ghost Value = { SearchValue };
+
+    ghost view = { λ l. search_value l.parts };
+
+    ghost invariant = { λ l. AreParts l.parts };
+}
+
+impl Search {
+    /// The search for the patterns that the iterator gives, by this kind of match, and with ASCII case ignored or not.
+    /// The iterator has to end. There may be no pattern: then nothing is found, and no memory is asked for. Else it is
+    /// asked for only for a pattern that is kept, and behind the last of them.
+    pub fn new<'a, I: IntoIterator<Item = &'a [u8]>>(
+        alloc: Global,
+        kind: MatchKind,
+        ignore_case: bool,
+        patterns: I,
+    ) -> Result<Search, BuildError>
+        requires { CanBeTaken I.into_iter_gives I.IntoIter.can_next I.IntoIter.remaining patterns }
+        ensures ok { IfOk result
+            (BuildsSearch I.into_iter_gives I.IntoIter.next_gives patterns kind ignore_case) }
+        ensures few { IfOk result (λ search. NeedFewReversed ignore_case search.query.patterns) }
+        ensures error { IfErr result (RefusesSearch I.into_iter_gives I.IntoIter.next_gives patterns
+            (NeedTooManyReversed ignore_case)) }
+    {
+        let patterns = copies(alloc, patterns)?;
+        let classes = classes_for(ignore_case, &patterns);
+        let backward = backward_copies(alloc, &patterns)?;
+        let rows = rows_for(alloc, search::MatchKind::Standard, &classes, &backward)?;
+        let recognised = Recognised {
+            classes: &classes.table,
+            width: classes.width,
+            rows: rows.without_classes(),
+            patterns: &backward,
+        };
+        let best = recognised.best_suffixes(alloc, kind)?;
+        let fingerprints = Fingerprints::new(ignore_case, &patterns);
+        let prints = fingerprint_numbers(shortest_len(&patterns), fingerprints.as_ref());
+        let numbers = numbers_for(alloc, classes.width, &patterns, &rows, &best, &prints)?;
+        let parts = Parts {
+            kind,
+            ignore_case,
+            patterns,
+            numbers,
+        };
+        Ok(Search { parts })
+    }
+
+    /// The leftmost match in the haystack: [`Search::find_in`] of all of it.
+    pub fn find(&self, haystack: &[u8]) -> Option<Match>
+        ensures leftmost { IsLeftmost self.now.query self.now.ignore_case haystack.now (whole_of haystack.now) result }
+        ensures not_empty { IfSome result (λ found. found.start < found.end) }
+    {
+        let end = haystack.len();
+        self.find_in(haystack, Span { start: 0, end })
+    }
+
+    /// The leftmost match in a span of the haystack: of the occurrences of patterns that lie whole in the span the one
+    /// that begins first, and of those that begin there the one that the match kind prefers. Offsets, in the answer
+    /// too, are in bytes of the whole haystack. The span has to be valid: its `start` at most its `end`, and that at
+    /// most the haystack's length. No memory is asked for.
+    pub fn find_in(&self, haystack: &[u8], span: Span) -> Option<Match>
+        requires { IsValidSpan haystack.now span }
+        ensures leftmost { IsLeftmost self.now.query self.now.ignore_case haystack.now span result }
+        ensures not_empty { IfSome result (λ found. found.start < found.end) }
+    {
+        self.find_in_counted(haystack, span, &mut Tally::new())
+    }
+
+    /// Answers as [`Search::find_in`], and adds each byte that it looks up to a tally, as scanned: at most three times
+    /// the bytes of the span. It looks up at least those of the span, or with a match those up to its end. With a match
+    /// it also looks up at most eleven times the bytes before it, and 36 times the bytes of a first part, which are 16,
+    /// or 3 more than half the bytes of the longest pattern, whichever is more.
+    pub fn find_in_counted(&self, haystack: &[u8], span: Span, tally: &mut Tally) -> Option<Match>
+        requires { IsValidSpan haystack.now span }
+        ensures leftmost { IsLeftmost self.now.query self.now.ignore_case haystack.now span result }
+        ensures not_empty { IfSome result (λ found. found.start < found.end) }
+        ensures bounded { ScansWithin self.now.query.patterns span result tally.old tally.new }
+    {
+        let answer = self.parts.backward().find_in(haystack, span, tally);
+        answer.unwrap_or(None)
+    }
+
+    /// Whether a pattern occurs in the haystack.
+    pub fn is_match(&self, haystack: &[u8]) -> bool
+        ensures occurs { IsTrue result ↔ ((i : ℕ) × (at : ℕ)
+            × Occurs self.now.query.patterns self.now.ignore_case haystack.now (whole_of haystack.now) i at) }
+        ensures told { result ≡ one_occurs self.now.query.patterns self.now.ignore_case haystack.now }
+    {
+        self.find(haystack).is_some()
+    }
+
+    /// The match that begins at a place: of the patterns that stand there the one that the match kind prefers, and
+    /// `None` where none does. A lexer goes so from token to token. The place has to be at most the haystack's length.
+    pub fn match_at(&self, haystack: &[u8], at: usize) -> Option<Match>
+        requires { at ≤ length haystack.now }
+        ensures at { IsMatchAt self.now.query self.now.ignore_case haystack.now at result }
+        ensures not_empty { IfSome result (λ found. found.start < found.end) }
+    {
+        self.match_at_counted(haystack, at, &mut Tally::new())
+    }
+
+    /// Answers as [`Search::match_at`], and adds each byte that it looks up to a tally, as scanned: at most as many as
+    /// the longest pattern has, and at least those of the match.
+    pub fn match_at_counted(&self, haystack: &[u8], at: usize, tally: &mut Tally) -> Option<Match>
+        requires { at ≤ length haystack.now }
+        ensures at { IsMatchAt self.now.query self.now.ignore_case haystack.now at result }
+        ensures not_empty { IfSome result (λ found. found.start < found.end) }
+        ensures bounded { ScansAt self.now.query.patterns at result tally.old tally.new }
+    {
+        let answer = self.parts.backward().find_at(haystack, at, tally);
+        answer.unwrap_or(None)
+    }
+
+    /// All matches in the haystack, from the left, none of which overlaps another: first the leftmost match of the
+    /// haystack, and after each match the leftmost one of what is left behind it. The iterator borrows the haystack,
+    /// and ends with the first `None`.
+    pub fn find_iter<'s, 'h>(&'s self, haystack: &'h [u8]) -> Matches<'s, 'h>
+        ensures { result ≡ record {
+          search = self.now;
+          haystack = haystack.now;
+          span = whole_of haystack.now;
+          at = 0;
+          known = 0;
+        } }
+    {
+        let end = haystack.len();
+        self.find_iter_in(haystack, Span { start: 0, end })
+    }
+
+    /// The same in a span of the haystack, of which each match lies whole in it. Offsets, in the matches too, are in
+    /// bytes of the whole haystack. The span has to be valid: its `start` at most its `end`, and that at most the
+    /// haystack's length. No memory is asked for: what is known of one block stands in the iterator, which takes 4 KiB.
+    /// If a pattern is longer than a block, of 1,024 bytes, each match is searched for alone.
+    pub fn find_iter_in<'s, 'h>(&'s self, haystack: &'h [u8], span: Span) -> Matches<'s, 'h>
+        requires { IsValidSpan haystack.now span }
+        ensures { result ≡ record {
+          search = self.now;
+          haystack = haystack.now;
+          span = span;
+          at = span.start;
+          known = span.start;
+        } }
+    {
+        prove!(span.end <= haystack.len());
+        Matches {
+            parts: &self.parts,
+            haystack,
+            span,
+            at: span.start,
+            numbers: [0; LEAST],
+            marks: no_marks(span.start),
+        }
+    }
+
+    /// The list of what [`Search::find_iter`] gives. Memory is asked for only where there is a match, or a pattern has
+    /// more than 1,024 bytes.
+    pub fn find_all(&self, haystack: &[u8]) -> Result<Vec<Match>, AllocError>
+        ensures greedy { IfOk result
+            (λ all. IsGreedy self.now.query self.now.ignore_case haystack.now 0 all.items) }
+        ensures no_memory { OnErr result (MayRefuseList self.now haystack.now (whole_of haystack.now)) }
+    {
+        let end = haystack.len();
+        self.find_all_in(haystack, Span { start: 0, end })
+    }
+
+    /// The list of what [`Search::find_iter_in`] gives, for a span that is valid. Memory is asked for only where there
+    /// is a match, or a pattern has more than 1,024 bytes.
+    pub fn find_all_in(&self, haystack: &[u8], span: Span) -> Result<Vec<Match>, AllocError>
+        requires { IsValidSpan haystack.now span }
+        ensures greedy { IfOk result
+            (λ all. IsGreedyIn self.now.query self.now.ignore_case haystack.now span all.items) }
+        ensures no_memory { OnErr result (MayRefuseList self.now haystack.now span) }
+    {
+        self.find_all_in_counted(haystack, span, &mut Tally::new())
+    }
+
+    /// Answers as [`Search::find_all_in`], and adds each byte that it looks up to a tally, as scanned: at least those
+    /// of the span, and at most three times these.
+    pub fn find_all_in_counted(
+        &self,
+        haystack: &[u8],
+        span: Span,
+        tally: &mut Tally,
+    ) -> Result<Vec<Match>, AllocError>
+        requires { IsValidSpan haystack.now span }
+        ensures greedy { IfOk result
+            (λ all. IsGreedyIn self.now.query self.now.ignore_case haystack.now span all.items) }
+        ensures bounded { ScansThrice span tally.old tally.new }
+        ensures least { IfOk result (λ _. tally.old.scanned + (span.end - span.start) ≤ tally.new.scanned) }
+        ensures no_memory { OnErr result (MayRefuseList self.now haystack.now span) }
+    {
+        if self.parts.longest() <= LEAST {
+            return self.parts.all_in(haystack, span, &mut [0; LEAST], tally);
+        }
+        let alloc = *self.parts.patterns.allocator();
+        let mut numbers = vec![in alloc; 0u32; self.parts.longest()]?;
+        self.parts.all_in(haystack, span, &mut numbers, tally)
+    }
+
+    /// Writes the search into the first places of an array, and answers how many these are: about as many as the
+    /// automaton has numbers. [`Prepared`](crate::Prepared) searches by them, without this automaton. After an error
+    /// the array is as it was.
+    pub fn prepare(&self, array: &mut [u32]) -> Result<usize, ArrayTooShort>
+        ensures ok { IfOk result (WritesPrepared self.now array.old array.new) }
+        ensures error { IfErr result (RefusesToPrepare self.now array.old) }
+        ensures as_before { OnErr result (array.new ≡ array.old) }
+    {
+        let numbers = self.parts.numbers.as_slice();
+        let needed = numbers.len();
+        if array.len() < needed {
+            return Err(ArrayTooShort { needed });
+        }
+        put_numbers(array, 0, numbers);
+        Ok(needed)
+    }
+
+    /// How many places [`Search::prepare`] writes: an array of as many, or more, is long enough for it.
+    pub fn prepared_len(&self) -> usize
+        ensures { TakesPlaces self.now result }
+    {
+        self.parts.numbers.as_slice().len()
+    }
+
+    /// How many bytes its numbers and its patterns take: 4 for each place that [`Search::prepare`] writes, and one for
+    /// each byte of a pattern. It leaves out what the allocator rounds up, and where each pattern lies.
+    pub fn memory_usage(&self) -> u128
+        ensures { TakesBytes self.now result }
+    {
+        let numbers = self.parts.numbers.as_slice();
+        numbers.len() as u128 * 4 + total_bytes(&self.parts.patterns)
+    }
+
+    /// Which of the patterns that match at one place is taken.
+    pub fn match_kind(&self) -> MatchKind
+        ensures { result ≡ self.now.query.kind }
+    {
+        self.parts.kind
+    }
+
+    /// Whether ASCII case is ignored.
+    pub fn ignores_case(&self) -> bool
+        ensures { result ≡ self.now.ignore_case }
+    {
+        self.parts.ignore_case
+    }
+
+    /// How many patterns there are, none of them empty.
+    pub fn patterns_len(&self) -> usize
+        ensures len { result ≡ length self.now.query.patterns }
+        ensures patterns { CanBeKept self.now.query.patterns }
+    {
+        self.parts.patterns.len()
+    }
+
+    /// How many bytes the longest pattern has, and 0 where there is none.
+    pub fn max_pattern_len(&self) -> usize
+        ensures { result ≡ longest_of self.now.query.patterns }
+    {
+        self.parts.longest()
+    }
+
+    /// How many bytes the shortest pattern has, and 0 where there is none. It goes over all patterns.
+    pub fn min_pattern_len(&self) -> usize
+        ensures { result ≡ shortest_of self.now.query.patterns }
+    {
+        if self.parts.patterns.is_empty() {
+            return 0;
+        }
+        shortest_len(&self.parts.patterns)
+    }
+
+    /// The bytes of the pattern of a number, as they were given, and `None` where there is none of that number.
+    pub fn pattern(&self, id: PatternID) -> Option<&[u8]>
+        ensures { MatchOption result (length self.now.query.patterns ≤ id)
+            (λ bytes. (id < length self.now.query.patterns) × (bytes.now ≡ pattern_at self.now.query.patterns id)) }
+    {
+        let pattern = self.parts.patterns.get(id.as_usize())?;
+        Some(pattern.as_slice())
+    }
+
+    /// A copy: the same kind, patterns and case. It takes as much memory as this one, and none where there is no
+    /// pattern, but not the time to build another.
+    pub fn try_clone(&self) -> Result<Search, AllocError>
+        ensures copy { IfOk result (λ copy. copy ≡ self.now) }
+        ensures no_memory { OnErr result (0 < length self.now.query.patterns) }
+    {
+        let Parts {
+            kind,
+            ignore_case,
+            patterns,
+            numbers,
+        } = &self.parts;
+        let alloc = *patterns.allocator();
+        let copied = copy_of_lists(alloc, patterns)?;
+        let numbers = numbers.copy(alloc, patterns)?;
+        let parts = Parts {
+            kind: *kind,
+            ignore_case: *ignore_case,
+            patterns: copied,
+            numbers,
+        };
+        Ok(Search { parts })
+    }
+}
+
+/// Says which match is taken, whether ASCII case is ignored, and how many patterns there are.
+impl fmt::Debug for Search {
+    fn fmt<W: fmt::Write>(&self, f: &mut fmt::Formatter<W>) -> fmt::Result {
+        let (kind, ignore_case) = (self.match_kind(), self.ignores_case());
+        let patterns = self.patterns_len();
+        write!(
+            f,
+            "Search {{ kind: {kind:?}, ignore_case: {ignore_case}, patterns: {patterns} }}"
+        )
+    }
+}
+
+impl Parts {
+    /// The list of all matches in a span, by numbers that have room for the marks of a block.
+    fn all_in(
+        &self,
+        haystack: &[u8],
+        span: Span,
+        numbers: &mut [u32],
+        tally: &mut Tally,
+    ) -> Result<Vec<Match>, AllocError>
+        requires parts { AreParts self.now }
+        requires valid { IsValidSpan haystack.now span }
+        requires room { max (longest_in self.now.numbers) LEAST ≤ length numbers.old }
+        ensures greedy { IfOk result
+            (λ all. IsGreedyIn (search_value self.now).query self.now.ignore_case haystack.now span all.items) }
+        ensures bounded { ScansThrice span tally.old tally.new }
+        ensures least { IfOk result (λ _. tally.old.scanned + (span.end - span.start) ≤ tally.new.scanned) }
+        ensures no_memory { OnErr result
+            (¬ NothingOccurs (patterns_of self.now) self.now.ignore_case haystack.now span) }
+    {
+        let mut all = Vec::new(*self.patterns.allocator());
+        let mut marks = no_marks(span.start);
+        let mut at = span.start;
+        while let Some(found) = self.next_match(haystack, span, at, numbers, &mut marks, tally) {
+            at = found.end();
+            all.push(found)?;
+        }
+        Ok(all)
+    }
+
+    /// The leftmost match of the rest of a span, from a place on.
+    fn next_match(
+        &self,
+        haystack: &[u8],
+        span: Span,
+        at: usize,
+        numbers: &mut [u32],
+        marks: &mut Marks,
+        tally: &mut Tally,
+    ) -> Option<Match>
+        requires parts { AreParts self.now }
+        requires valid { IsValidSpan haystack.now span }
+        requires room { max (longest_in self.now.numbers) LEAST ≤ length numbers.old }
+        requires placed { IsPlaced (longest_in self.now.numbers) span at marks.old }
+        requires marked { AreMarked (tables_of self.now) haystack.now span at numbers.old marks.old }
+        ensures leftmost { IsLeftmost (search_value self.now).query self.now.ignore_case haystack.now
+            (between at span.end) result }
+        ensures not_empty { IfSome result (λ found. found.start < found.end) }
+        ensures placed { IsPlaced (longest_in self.now.numbers) span (place_behind span result) marks.new }
+        ensures marked { AreMarked (tables_of self.now) haystack.now span (place_behind span result) numbers.new
+            marks.new }
+        ensures further { (marks.old.known ≤ marks.new.known) × (marks.new.known ≤ span.end) }
+        ensures bounded { ScansThrice (between marks.old.known marks.new.known) tally.old tally.new }
+        ensures least { tally.old.scanned + looked_upto (patterns_of self.now) span marks.new.known
+            ≤ tally.new.scanned + looked_upto (patterns_of self.now) span marks.old.known }
+    {
+        let backward = self.backward();
+        match backward.next_match(haystack, span, at, numbers, marks, tally) {
+            Ok(answer) => answer,
+            Err(_) => unreachable!(),
+        }
+    }
+
+    /// How long the longest pattern is.
+    fn longest(&self) -> usize
+        requires { AreParts self.now }
+        ensures { result ≡ longest_in self.now.numbers }
+    {
+        self.backward().table.longest
+    }
+
+    /// What a search from the right reads of them.
+    fn backward(&self) -> Backward<'_>
+        requires { AreParts self.now }
+        ensures safe { IsSafe result }
+        ensures is_for { AreBackFor (search_value self.now) result }
+        ensures tables { back_tables_by (search_value self.now) result ≡ tables_of self.now }
+        ensures longest { result.table.longest ≡ longest_in self.now.numbers }
+    {
+        match backward_in(self.numbers.as_slice()) {
+            Ok(backward) => backward,
+            Err(_) => unreachable!(),
+        }
+    }
+}
+
+impl Numbers {
+    /// The numbers.
+    fn as_slice(&self) -> &[u32]
+        ensures { result.now ≡ self.now }
+    {
+        if self.kept.is_empty() {
+            return &NO_PATTERN;
+        }
+        &self.kept
+    }
+
+    /// A copy, for the same patterns. Memory is asked for only where there is one.
+    fn copy(&self, alloc: Global, patterns: &[Vec<u8>]) -> Result<Numbers, AllocError>
+        ensures some { 0 < length patterns.now → IfOk result (λ copy. copy ≡ self.now) }
+        ensures none { length patterns.now ≡ 0 → IfOk result (λ copy. copy ≡ numbers_kept []) }
+        ensures no_memory { OnErr result (0 < length patterns.now) }
+    {
+        let mut kept = Vec::new(alloc);
+        if patterns.is_empty() {
+            return Ok(Numbers { kept });
+        }
+        kept.extend_from_slice(&self.kept)?;
+        Ok(Numbers { kept })
+    }
+}
+
+/// The numbers for patterns, by their rows. Memory is asked for only where there is a pattern.
+fn numbers_for(
+    alloc: Global,
+    width: usize,
+    patterns: &[Vec<u8>],
+    rows: &Rows,
+    best: &[u32],
+    prints: &[u32; FINGERPRINTS_LEN],
+) -> Result<Numbers, AllocError>
+    requires width { width ≤ 256 }
+    requires patterns { length patterns.now ≤ 2 ^ 31 - 1 }
+    requires short { AreShort (map (λ pattern. pattern.items) patterns.now) }
+    requires rows { length rows.now.rows ≤ 2 ^ 31 - 1 }
+    requires best { length best.now ≡ length patterns.now }
+    requires none { patterns.now ≡ [] → (width ≡ 1) × (rows.now ≡ rows_value [])
+        × (prints.now ≡ repeat FINGERPRINTS_LEN (0 ∷ [])) }
+    ensures numbers { IfOk result (λ numbers. numbers ≡ numbers_for PREPARED_VERSION rows.now.classes width
+        (map (λ pattern. pattern.items) patterns.now) rows.now.rows [] (best.now ++ prints.now)) }
+    ensures no_memory { OnErr result (0 < length patterns.now) }
+{
+    if patterns.is_empty() {
+        return Ok(Numbers {
+            kept: Vec::new(alloc),
+        });
+    }
+    let rows = rows.as_slice();
+    let needed = LENGTHS_AT + patterns.len() + rows.len() + best.len() + FINGERPRINTS_LEN;
+    let mut kept = vec![in alloc; 0u32; needed]?;
+    write(
+        PREPARED_VERSION,
+        width,
+        patterns,
+        rows,
+        &[],
+        best,
+        prints,
+        &mut kept,
+    );
+    Ok(Numbers { kept })
+}
+
+/// Copies of some patterns.
+fn copy_of_lists(alloc: Global, lists: &[Vec<u8>]) -> Result<Vec<Vec<u8>>, AllocError>
+    ensures copy { IfOk result (λ copy. map (λ pattern. pattern.items) copy.items
+        ≡ map (λ pattern. pattern.items) lists.now) }
+    ensures no_memory { OnErr result (0 < length lists.now) }
+{
+    let mut copy = Vec::new(alloc);
+    for bytes in lists {
+        push_copy(alloc, &mut copy, bytes)?;
+    }
+    Ok(copy)
+}
+
+/// Copies of the patterns, each reversed.
+fn backward_copies(alloc: Global, patterns: &[Vec<u8>]) -> Result<Vec<Vec<u8>>, AllocError>
+    ensures copies { IfOk result (λ all. map (λ pattern. pattern.items) all.items
+        ≡ reversed (map (λ pattern. pattern.items) patterns.now)) }
+    ensures not_empty { OnErr result (0 < length patterns.now) }
+{
+    let mut all = Vec::new(alloc);
+    for pattern in patterns {
+        all.push(backward_copy(alloc, pattern)?)?;
+    }
+    Ok(all)
+}
+
+/// A reversed copy of a pattern.
+fn backward_copy(alloc: Global, bytes: &[u8]) -> Result<Vec<u8>, AllocError>
+    ensures { IfOk result (λ copy. copy.items ≡ reverse bytes.now) }
+{
+    let mut copy = Vec::new(alloc);
+    copy.extend_from_slice(bytes)?;
+    copy.reverse();
+    Ok(copy)
+}
+
+/// What [`Search::find_iter_in`] goes over. Contracts see the search, the haystack, the span, the place from which the
+/// list goes on, and up to which place it has looked. After its first `None` it keeps answering `None`.
+#[derive(Drop)]
+pub struct Matches<'s, 'h> {
+    parts: &'s Parts,
+    haystack: &'h [u8],
+    span: Span,
+    at: usize,
+    numbers: [u32; LEAST],
+    marks: Marks,
+}
+
+impl<'s, 'h> Model for Matches<'s, 'h> {
+    ghost use Rattle.literal_search.specs.MatchesValue.{MatchesValue};
+    ghost use Rattle.std.specs.Prelude.{◌≤◌};
+    ghost use Rattle.literal_search.specs.Inside.Backward.{AreMarked, IsAhead};
+    ghost use Rattle.literal_search.specs.declared.backward.TheConstants.{LEAST};
+    ghost use Rattle.literal_search.specs.Inside.Search.{AreParts, search_value, tables_of};
+    ghost use Rattle.literal_search.specs.Prepared.{longest_in};
+    ghost use Rattle.literal_base.specs.Occurs.{IsValidSpan};
+
+    ghost Value = { MatchesValue };
+
+    ghost view = { λ m. record {
+      search = search_value m.parts.now;
+      haystack = m.haystack.now;
+      span = m.span;
+      at = m.at;
+      known = m.marks.known;
+    } };
+
+    ghost invariant = { λ m. AreParts m.parts.now × IsValidSpan m.haystack.now m.span
+        × IsAhead (longest_in m.parts.now.numbers) m.span m.at m.marks
+        × (longest_in m.parts.now.numbers ≤ LEAST
+        → AreMarked (tables_of m.parts.now) m.haystack.now m.span m.at m.numbers m.marks) };
+}
+
+impl<'s, 'h> Matches<'s, 'h> {
+    /// Answers as `next`, and adds each byte that it looks up to a tally, as scanned: at most three times as many as
+    /// those up to which it looks further than before, and at least those by which it reads further, which is as far
+    /// ahead as a pattern may reach. A whole iteration so looks up at least the bytes of the span, and at most three
+    /// times as many. If a pattern has more than 1,024 bytes, it is what [`Search::find_in_counted`] looks up in the
+    /// rest.
+    pub fn next_counted(&mut self, tally: &mut Tally) -> Option<Match>
+        ensures gives { GivesMatch self.old result self.new }
+        ensures scans { ScansNext (longest_of self.old.search.query.patterns) self.old.span self.old.at self.old.known
+            self.new.known result tally.old tally.new }
+    {
+        let (span, backward) = (self.span, self.parts.backward());
+        let next = backward.next_in(
+            self.haystack,
+            span,
+            self.at,
+            &mut self.numbers,
+            &mut self.marks,
+            tally,
+        );
+        let Ok(answer) = next else {
+            unreachable!();
+        };
+        self.at = place_after(span, &answer);
+        answer
+    }
+}
+
+impl<'s, 'h> Iterator for Matches<'s, 'h> {
+    type Item = Match;
+
+    ghost next_gives = { GivesMatch };
+
+    ghost remaining = { most_to_come };
+
+    fn next(&mut self) -> Option<Match> {
+        self.next_counted(&mut Tally::new())
+    }
+}
