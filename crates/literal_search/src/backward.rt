@@ -1,7 +1,7 @@
 //! Walks through a span from its end, by an automaton of the reversed patterns. The numbers may be lent, and so any:
 //! they are damaged where one leads out of the rows.
 ghost use Rattle.std.specs.Prelude.{◌≡◌, ◌⊎◌, ◌+◌, ◌-◌, ◌*◌, ◌<◌, ◌≤◌, ◌^◌, ◌%◌, [], length, max, min};
-ghost use Rattle.std.specs.Prelude.{ℕ, IfOk, IfSome, MatchOption, None};
+ghost use Rattle.std.specs.Prelude.{ℕ, IfOk, IfSome, MatchOption, None, slice_index};
 ghost use Rattle.std.specs.Result.{IsOkAnd};
 ghost use Rattle.literal_base.specs.Leftmost.{IsLeftmost, IsLeftmostMatch};
 ghost use Rattle.literal_base.specs.Occurs.{IsValidSpan, between};
@@ -10,9 +10,9 @@ ghost use Rattle.literal_search.specs.MatchesValue.{place_behind};
 ghost use Rattle.literal_search.specs.Inside.Backward.{AreMarked, AreMarks, ForBackward, IsAhead, IsBlock};
 ghost use Rattle.literal_search.specs.Inside.Backward.{IsBlockMarked};
 ghost use Rattle.literal_search.specs.Inside.Backward.{IsMark, IsMatchBy, IsPlaced, IsSafe, NoneFrom};
-ghost use Rattle.literal_search.specs.Inside.Leftmost.{AreLanes, HasBytes, HaveRows, IsLimit, IsPart};
+ghost use Rattle.literal_search.specs.Inside.Leftmost.{AreLanes, AreMarksBehind, HasBytes, HaveRows, IsLimit, IsPart};
 
-use crate::leftmost::{Block, LEAST_PART, Lanes, OVERLAP, PRICE};
+use crate::leftmost::{Block, LEAST_PART, OVERLAP, PRICE, Passed};
 use crate::prepared::{Damaged, fingerprints_in};
 use crate::walk::{ENDS, Table};
 use literal_base::count::Tally;
@@ -321,7 +321,8 @@ impl<'t> Backward<'t> {
         Ok(())
     }
 
-    /// Marks each place of four neighbouring parts, by four walks at once that stand at their ends.
+    /// Marks each place of four neighbouring parts, by four walks at once that passed through some places of each. These
+    /// places are marked.
     #[inline(never)]
     fn mark_in_four(
         &self,
@@ -330,7 +331,7 @@ impl<'t> Backward<'t> {
         span: Span,
         at: usize,
         part: usize,
-        lanes: Lanes,
+        passed: Passed,
         limit: usize,
         marks: &mut [u32],
         tally: &mut Tally,
@@ -338,20 +339,23 @@ impl<'t> Backward<'t> {
         requires safe { IsSafe self.now }
         requires same { HasBytes self.now classes.now }
         requires limit { IsLimit self.now limit }
-        requires rows { HaveRows limit lanes }
+        requires rows { HaveRows limit passed.lanes }
         requires valid { IsValidSpan haystack.now span }
         requires inside { at + 4 * part ≤ span.end }
+        requires left { passed.left ≤ part }
         requires room { 4 * part ≤ length marks.old }
-        ensures marks { ForBackward self.now (λ tables. AreLanes tables haystack.now span at part part lanes
+        ensures marks { ForBackward self.now (λ tables.
+            AreLanes tables haystack.now span at part passed.left passed.lanes
+            → AreMarksBehind tables haystack.now span.end marks.old at part passed.left
             → IsOkAnd result (λ _. AreMarks tables haystack.now span.end marks.new at at (at + 4 * part))) }
         ensures others { tally.new ≡ record tally.old { scanned = tally.new.scanned } }
-        ensures most { tally.new.scanned ≤ tally.old.scanned + 4 * part }
-        ensures all { IfOk result (λ _. tally.new.scanned ≡ tally.old.scanned + 4 * part) }
+        ensures most { tally.new.scanned ≤ tally.old.scanned + 4 * passed.left }
+        ensures all { IfOk result (λ _. tally.new.scanned ≡ tally.old.scanned + 4 * passed.left) }
     {
-        let (mut first, mut second) = (lanes.first, lanes.second);
-        let (mut third, mut fourth) = (lanes.third, lanes.fourth);
+        let (mut first, mut second) = (passed.lanes.first, passed.lanes.second);
+        let (mut third, mut fourth) = (passed.lanes.third, passed.lanes.fourth);
         let search = *self; // (a copy: what is written to the marks does not change it)
-        for step in (0..part).rev() {
+        for step in (0..passed.left).rev() {
             let here = at + step;
             let one = search.step(classes, first, haystack, here, limit, tally)?;
             marks[step] = one;
@@ -403,10 +407,13 @@ impl<'t> Backward<'t> {
         let (limit, bytes) = (self.table.limit()?, self.table.class_bytes());
         let classes = &bytes;
         let led = self.lead_in_four(classes, haystack, span, from, block, limit, tally)?;
+        let passed =
+            self.pass_in_four(classes, haystack, span, from, part, led.lanes, limit, tally);
         let mut upto = from;
-        if !self.pass_in_four(classes, haystack, span, from, part, led.lanes, limit, tally) {
+        if passed.left > 0 {
+            clear(numbers);
             self.mark_in_four(
-                classes, haystack, span, from, part, led.lanes, limit, numbers, tally,
+                classes, haystack, span, from, part, passed, limit, numbers, tally,
             )?;
             upto = known;
         }
@@ -451,7 +458,8 @@ impl<'t> Backward<'t> {
         ensures lies { IfOk result (λ answer. IfSome answer (IsMatchBy self.now span from)) }
         ensures known { IfOk result (λ answer. IfSome answer (λ found. found.start < marks.known)) }
     {
-        for at in from..marks.upto {
+        let upto = marks.upto.max(from);
+        for at in pass_unmarked(numbers, marks.first, from, upto)..upto {
             let code = numbers[at - marks.first];
             if code >= ENDS {
                 return Ok(Some(self.match_at(haystack, span, at, code)?));
@@ -488,6 +496,37 @@ impl<'t> Backward<'t> {
         let end = at + len;
         Ok(Match::must(pattern, Span { start: at, end }))
     }
+}
+
+/// Marks that say of each place that nothing begins there.
+fn clear(marks: &mut [u32])
+    ensures long { length marks.new ≡ length marks.old }
+    ensures clear { (at : ℕ) → slice_index marks.new at ≡ 0 }
+{
+    marks.fill(0);
+}
+
+/// A place up to which, from another on, no mark says that a pattern begins: eight marks are read at once.
+#[inline(always)]
+fn pass_unmarked(numbers: &[u32], first: usize, from: usize, upto: usize) -> usize
+    requires ordered { from ≤ upto }
+    requires first { from < upto → first ≤ from }
+    requires inside { from < upto → upto ≤ first + length numbers.now }
+    ensures within { (from ≤ result) × (result ≤ upto) }
+    ensures none { (at : ℕ) → from ≤ at → at < result → slice_index numbers.now (at - first) < 2 ^ 31 }
+{
+    let mut at = from;
+    while upto - at >= 8 {
+        let one = at - first;
+        let five = one + 4;
+        let four = numbers[one] | numbers[one + 1] | numbers[one + 2] | numbers[one + 3];
+        let more = numbers[five] | numbers[five + 1] | numbers[five + 2] | numbers[five + 3];
+        if four | more >= ENDS {
+            break;
+        }
+        at += 8;
+    }
+    at
 }
 
 /// No marks, where nothing is known from a place on.

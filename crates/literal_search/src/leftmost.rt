@@ -1,7 +1,7 @@
 //! The leftmost match of a span, by walks from the right by an automaton of the reversed patterns. No memory is asked
 //! for. The numbers may be lent, and so any: they are damaged where one leads out of the rows.
 ghost use Rattle.std.specs.Prelude.{◌≡◌, ◌⊎◌, ◌+◌, ◌-◌, ◌*◌, ◌/◌, ◌<◌, ◌≤◌, ◌^◌, ◌%◌, ℕ, length, max, min};
-ghost use Rattle.std.specs.Prelude.{IfOk, IfSome, IsNone, MatchOption, Some, false, true};
+ghost use Rattle.std.specs.Prelude.{IfOk, IfSome, IsNone, IsTrue, MatchOption, Some, ◌↔◌};
 ghost use Rattle.std.specs.Result.{IsOkAnd};
 ghost use Rattle.literal_base.specs.Leftmost.{IsLeftmost};
 ghost use Rattle.literal_base.specs.Occurs.{IsValidSpan, between, rest_from};
@@ -9,7 +9,7 @@ ghost use Rattle.literal_base.specs.declared.search.Span.{Span};
 ghost use Rattle.literal_search.specs.At.{IsMatchAt};
 ghost use Rattle.literal_search.specs.Inside.Backward.{ForBackward, IsMatchBy};
 ghost use Rattle.literal_search.specs.Inside.Backward.{IsSafe, NoneFrom};
-ghost use Rattle.literal_search.specs.Inside.Leftmost.{AreLanes, HasBytes, HaveRows, IsFirstBegun, IsFourParts};
+ghost use Rattle.literal_search.specs.Inside.Leftmost.{AreLanes, HasBytes, HaveRows, IsFirstBegun, IsFourParts, NoneBehind};
 ghost use Rattle.literal_search.specs.Inside.Leftmost.{IsLane, IsLed};
 ghost use Rattle.literal_search.specs.Inside.Leftmost.{IsFront, IsLimit, IsPaid, IsPart, IsStep, LiesInPart, ReadsFor};
 ghost use Rattle.literal_search.specs.Inside.Leftmost.{AreFor, owed_by};
@@ -50,12 +50,30 @@ pub struct Lanes {
     pub fourth: usize,
 }
 
+impl Lanes {
+    /// Whether all four are rows below a limit.
+    #[inline(always)]
+    fn are_rows(&self, limit: usize) -> bool
+        ensures { IsTrue result ↔ HaveRows limit self.now }
+    {
+        self.first < limit && self.second < limit && self.third < limit && self.fourth < limit
+    }
+}
+
 /// Four walks at the ends of four parts.
 #[derive(Clone, Copy)]
 pub struct Led {
     pub lanes: Lanes,
     /// The first place behind the parts at which a pattern begins, as far as the fourth walk tells.
     pub behind: Option<Begun>,
+}
+
+/// How far four walks have gone through their parts.
+#[derive(Clone, Copy)]
+pub struct Passed {
+    /// The number of places of each part before which its walk stands.
+    pub left: usize,
+    pub lanes: Lanes,
 }
 
 /// A block of a span through which four walks go at once.
@@ -330,8 +348,8 @@ impl<'t> Backward<'t> {
         Ok(Led { lanes, behind })
     }
 
-    /// The same walks through the parts, up to where a number does not lead on: where a pattern begins, or where it is
-    /// damaged.
+    /// The same walks through the parts, up to the first step at which a number does not lead on: where a pattern
+    /// begins, or where it is damaged. They stop before that step.
     #[inline(never)]
     pub(crate) fn pass_in_four(
         &self,
@@ -343,56 +361,54 @@ impl<'t> Backward<'t> {
         lanes: Lanes,
         limit: usize,
         tally: &mut Tally,
-    ) -> bool
+    ) -> Passed
         requires safe { IsSafe self.now }
         requires same { HasBytes self.now classes.now }
         requires limit { IsLimit self.now limit }
         requires rows { HaveRows limit lanes }
         requires valid { IsValidSpan haystack.now span }
         requires inside { at + 4 * part ≤ span.end }
-        ensures none { result ≡ true → ForBackward self.now (λ tables.
-            AreLanes tables haystack.now span at part part lanes
-            → NoneFrom tables haystack.now span.end at (at + 4 * part)) }
-        ensures some { result ≡ false → ForBackward self.now (λ tables.
+        ensures left { result.left ≤ part }
+        ensures rows { HaveRows limit result.lanes }
+        ensures lanes { ForBackward self.now (λ tables. AreLanes tables haystack.now span at part part lanes
+            → AreLanes tables haystack.now span at part result.left result.lanes) }
+        ensures none { ForBackward self.now (λ tables. AreLanes tables haystack.now span at part part lanes
+            → NoneBehind tables haystack.now span.end at part result.left) }
+        ensures some { 0 < result.left → ForBackward self.now (λ tables.
             AreLanes tables haystack.now span at part part lanes
             → ¬ NoneFrom tables haystack.now span.end at (at + 4 * part)) }
         ensures others { tally.new ≡ record tally.old { scanned = tally.new.scanned } }
-        ensures grows { tally.old.scanned ≤ tally.new.scanned }
         ensures most { tally.new.scanned ≤ tally.old.scanned + 4 * part }
-        ensures all { result ≡ true → tally.new.scanned ≡ tally.old.scanned + 4 * part }
+        ensures least { tally.old.scanned + 4 * (part - result.left) ≤ tally.new.scanned }
+        ensures all { result.left ≡ 0 → tally.new.scanned ≡ tally.old.scanned + 4 * part }
     {
-        let (mut first, mut second) = (lanes.first, lanes.second);
-        let (mut third, mut fourth) = (lanes.third, lanes.fourth);
+        let mut now = lanes;
         for step in 0..part {
             let here = at + (part - 1 - step);
-            first = self.table.next_at(classes, first, haystack, here, tally);
-            if first >= limit {
-                return false;
+            let first = self.table.next_at(classes, now.first, haystack, here, tally);
+            let second = self.table.next_at(classes, now.second, haystack, here + part, tally);
+            let third = self.table.next_at(classes, now.third, haystack, here + 2 * part, tally);
+            let fourth = self.table.next_at(classes, now.fourth, haystack, here + 3 * part, tally);
+            let next = Lanes {
+                first,
+                second,
+                third,
+                fourth,
+            };
+            if !next.are_rows(limit) {
+                let left = part - step;
+                return Passed { left, lanes: now };
             }
-            second = self
-                .table
-                .next_at(classes, second, haystack, here + part, tally);
-            if second >= limit {
-                return false;
-            }
-            third = self
-                .table
-                .next_at(classes, third, haystack, here + 2 * part, tally);
-            if third >= limit {
-                return false;
-            }
-            fourth = self
-                .table
-                .next_at(classes, fourth, haystack, here + 3 * part, tally);
-            if fourth >= limit {
-                return false;
-            }
+            now = next;
         }
-        true
+        Passed {
+            left: 0,
+            lanes: now,
+        }
     }
 
-    /// The first place of four neighbouring parts at which a pattern begins, by four walks that stand at their ends, of
-    /// which each is followed alone, from the left, up to the one that finds something.
+    /// The first place of four neighbouring parts at which a pattern begins, by four walks that passed through some
+    /// places of each. Each is followed alone, from the left, up to the one that finds something.
     #[inline(never)]
     fn first_of_lanes(
         &self,
@@ -401,54 +417,56 @@ impl<'t> Backward<'t> {
         span: Span,
         at: usize,
         part: usize,
-        lanes: Lanes,
+        passed: Passed,
         limit: usize,
         tally: &mut Tally,
     ) -> Result<Option<Begun>, Damaged>
         requires safe { IsSafe self.now }
         requires same { HasBytes self.now classes.now }
         requires limit { IsLimit self.now limit }
-        requires rows { HaveRows limit lanes }
+        requires rows { HaveRows limit passed.lanes }
         requires valid { IsValidSpan haystack.now span }
         requires after { span.start ≤ at }
         requires inside { at + 4 * part ≤ span.end }
-        ensures first { ForBackward self.now (λ tables. AreLanes tables haystack.now span at part part lanes
+        requires left { passed.left ≤ part }
+        ensures first { ForBackward self.now (λ tables. AreLanes tables haystack.now span at part passed.left passed.lanes
+            → NoneBehind tables haystack.now span.end at part passed.left
             → IsOkAnd result (IsFirstBegun tables haystack.now span.end (between at (at + 4 * part)))) }
         ensures inside { IfOk result (LiesInPart at (at + 4 * part)) }
         ensures others { tally.new ≡ record tally.old { scanned = tally.new.scanned } }
-        ensures most { tally.new.scanned ≤ tally.old.scanned + 4 * part }
+        ensures most { tally.new.scanned ≤ tally.old.scanned + 4 * passed.left }
         ensures least { IfOk result (λ first. IfSome first
-            (λ begun. tally.old.scanned + begun.at < tally.new.scanned + at)) }
+            (λ begun. tally.old.scanned + begun.at < tally.new.scanned + at + 3 * (part - passed.left))) }
     {
-        let (one, two) = (at + part, at + 2 * part);
-        let (three, four) = (at + 3 * part, at + 4 * part);
+        let (lanes, left) = (passed.lanes, passed.left);
+        let (two, three, four) = (at + part, at + 2 * part, at + 3 * part);
         let part = Span {
             start: at,
-            end: one,
+            end: at + left,
         };
         let first = self.first_in(classes, haystack, span, part, lanes.first, limit, tally)?;
         if first.is_some() {
             return Ok(first);
         }
         let part = Span {
-            start: one,
-            end: two,
+            start: two,
+            end: two + left,
         };
         let first = self.first_in(classes, haystack, span, part, lanes.second, limit, tally)?;
         if first.is_some() {
             return Ok(first);
         }
         let part = Span {
-            start: two,
-            end: three,
+            start: three,
+            end: three + left,
         };
         let first = self.first_in(classes, haystack, span, part, lanes.third, limit, tally)?;
         if first.is_some() {
             return Ok(first);
         }
         let part = Span {
-            start: three,
-            end: four,
+            start: four,
+            end: four + left,
         };
         self.first_in(classes, haystack, span, part, lanes.fourth, limit, tally)
     }
@@ -483,10 +501,11 @@ impl<'t> Backward<'t> {
     {
         let part = block.part;
         let led = self.lead_in_four(classes, haystack, span, at, block, limit, tally)?;
-        if !self.pass_in_four(classes, haystack, span, at, part, led.lanes, limit, tally) {
-            return match self.first_of_lanes(
-                classes, haystack, span, at, part, led.lanes, limit, tally,
-            )? {
+        let passed = self.pass_in_four(classes, haystack, span, at, part, led.lanes, limit, tally);
+        if passed.left > 0 {
+            return match self
+                .first_of_lanes(classes, haystack, span, at, part, passed, limit, tally)?
+            {
                 Some(begun) => Ok(Some(begun)),
                 None => Err(Damaged),
             };

@@ -1,9 +1,10 @@
 -- What walks through parts of a span tell of the places of the parts.
-use Rattle.std.proofs.Common.{◌≡◌, ℕ, ◌+◌, ◌-◌, ◌<◌, ◌≤◌, ◌⊎◌, ◌^◌, ◌%◌, List, Option, Some, None, arith}
+use Rattle.std.proofs.Common.{◌≡◌, ℕ, ◌+◌, ◌-◌, ◌*◌, ◌<◌, ◌≤◌, ◌⊎◌, ◌^◌, ◌%◌, List, Option, Some, None, arith}
 use Rattle.std.proofs.Common.{◌∙◌, ◌≢◌, IfSome, Err, Ok, Result, ap, false, is_some, get_or, inl, inr, length, set}
-use Rattle.std.proofs.Common.{subst, sym, true}
+use Rattle.std.proofs.Common.{bit_or, subst, sym, true}
 use Rattle.std.proofs.lemmas.Bool.{cases_lt, false≢true}
 use Rattle.std.proofs.lemmas.List.{get_or-set_other, get_or-set_same}
+use Rattle.std.proofs.lemmas.Nat.{le_or_l, le_or_r}
 use Rattle.std.specs.Result.{IsOkAnd}
 use Rattle.literal_base.specs.Counts.{Counts}
 use Rattle.literal_base.specs.Leftmost.{IsLeftmostMatch}
@@ -12,12 +13,14 @@ use Rattle.literal_base.specs.Occurs.{between}
 use Rattle.literal_base.specs.declared.search.Span.{Span}
 use Rattle.literal_search.specs.Inside.Backward.{AreBackFor, AreMarks, IsMark, NoneBeginsAt, NoneFrom, StandsDown}
 use Rattle.literal_search.specs.Inside.Backward.{back_tables_by, best_by}
-use Rattle.literal_search.specs.Inside.Leftmost.{IsFirstBegun, IsLane, IsLimit, IsStep}
+use Rattle.literal_search.specs.Inside.Leftmost.{AreLanes, AreMarksBehind, HaveRows, IsFirstBegun, IsLane, IsLimit}
+use Rattle.literal_search.specs.Inside.Leftmost.{IsStep, NoneBehind}
 use Rattle.literal_search.specs.Inside.Leftmost.{ReadsFor}
 use Rattle.literal_search.specs.Prepared.{AreBackTables, BackTables}
 use Rattle.literal_search.specs.SearchValue.{SearchValue}
 use Rattle.literal_search.specs.declared.backward.Backward.{Backward}
 use Rattle.literal_search.specs.declared.backward.Begun.{Begun}
+use Rattle.literal_search.specs.declared.leftmost.Lanes.{Lanes}
 use Rattle.literal_search.specs.declared.prepared.Damaged.{Damaged}
 use Rattle.literal_search.proofs.lemmas.Backward.{mark_in, read_one, stands_nowhere}
 
@@ -64,6 +67,20 @@ pub lane_there : (p : BackTables) (haystack : List ℕ) (span : Span) (end at to
     → IsLane p haystack span end at place → IsLane p haystack span end to place
 lane_there p haystack span end at to place same lane = subst (λ n. IsLane p haystack span end n place) same lane
 
+-- what tells all that begins before an end tells all that begins before a nearer one
+pub lane_nearer : (p : BackTables) (haystack : List ℕ) (span : Span) (end nearer at place : ℕ) → nearer ≤ end
+    → IsLane p haystack span end at place → IsLane p haystack span nearer at place
+lane_nearer p haystack span end nearer at place below lane = record {
+  from = lane.from;
+  after = lane.after;
+  inside = lane.inside;
+  far = elim lane.far [
+    | inl all ↦ inl all
+    | inr far ↦ inr (omega (arith, far, below))
+  ];
+  stands = lane.stands;
+}
+
 -- a number below 2^31 leads to itself
 pub lane_small : (p : BackTables) (haystack : List ℕ) (span : Span) (end at code : ℕ) → code < 2 ^ 31
     → IsStep p haystack span end at code → IsLane p haystack span end at code
@@ -71,19 +88,19 @@ lane_small p haystack span end at code small step =
     let same : code % 2 ^ 31 ≡ code = omega (arith, small) in
     subst (IsLane p haystack span end at) same step.lane
 
--- where the number is not below the limit of the rows, a pattern begins
-pub begins_if_not : (b : Backward) (search : SearchValue) → AreBackFor search b → (haystack : List ℕ) (span : Span)
-    (end at code limit : ℕ) → IsLimit b limit → at < end → limit ≤ code
+-- where no pattern begins, the number is below the limit of the rows
+below_if_none : (b : Backward) (search : SearchValue) → AreBackFor search b → (haystack : List ℕ) (span : Span)
+    (end at code limit : ℕ) → IsLimit b limit → at < end
     → IsStep (back_tables_by search b) haystack span end at code
-    → ¬ NoneBeginsAt (back_tables_by search b) haystack span.end at
-begins_if_not b search is haystack span end at code limit limit_is before over step none =
+    → NoneBeginsAt (back_tables_by search b) haystack span.end at → code < limit
+below_if_none b search is haystack span end at code limit limit_is before step none =
     elim (cases_lt code (2 ^ 31)) [
       | inl small ↦
           let row = (lane_small (back_tables_by search b) haystack span end at code small step).stands.row in
-          absurd (omega (arith, row, limit_is.is, over, small))
+          omega (arith, row, limit_is.is, small)
       | inr large ↦
           let best = (step.mark before).best large in
-          none (best_by (back_tables_by search b) code) best.occurs
+          absurd (none (best_by (back_tables_by search b) code) best.occurs)
     ]
 
 module _ (p : BackTables) (haystack : List ℕ) (span : Span) (end at code : ℕ) (before : at < end)
@@ -119,6 +136,92 @@ module _ (p : BackTables) (haystack : List ℕ) (span : Span) (end at code : ℕ
           subst (IsFirstBegun p haystack span.end (between at upto)) (sym (begins large))
           (step.mark before, λ k after less. absurd (omega (arith, after, less)))
     ]
+
+-- four walks have each read a number for the byte before so many places of its part
+pub record AreSteps (p : BackTables) (haystack : List ℕ) (span : Span) (at part left : ℕ) (codes : Lanes) : Type 0 where
+  pub first : IsStep p haystack span (at + part) (at + left) codes.first
+  pub second : IsStep p haystack span (at + 2 * part) (at + part + left) codes.second
+  pub third : IsStep p haystack span (at + 3 * part) (at + 2 * part + left) codes.third
+  pub fourth : IsStep p haystack span (at + 4 * part) (at + 3 * part + left) codes.fourth
+
+-- they do so at once
+pub steps_in_four : (p : BackTables) → AreBackTables p → (haystack : List ℕ)
+    → ((i : ℕ) → get_or haystack i 0 < 256) → (span : Span) → span.end ≤ length haystack
+    → (at part next left here : ℕ) (now codes : Lanes) → next ≡ left + 1 → here ≡ at + left
+    → AreLanes p haystack span at part next now
+    → codes.first ≡ get_or p.rows (now.first + get_or p.classes (get_or haystack here 0) 0) 0
+    → codes.second ≡ get_or p.rows (now.second + get_or p.classes (get_or haystack (here + part) 0) 0) 0
+    → codes.third ≡ get_or p.rows (now.third + get_or p.classes (get_or haystack (here + 2 * part) 0) 0) 0
+    → codes.fourth ≡ get_or p.rows (now.fourth + get_or p.classes (get_or haystack (here + 3 * part) 0) 0) 0
+    → AreSteps p haystack span at part left codes
+steps_in_four p are haystack bytes span valid at part next left here now codes next_is here_is lanes one two three four =
+    let step = lane_step p are haystack bytes span valid in
+    record {
+      first = step (at + part) (at + next) here (at + left) now.first codes.first (omega (arith, next_is, here_is))
+          (omega (arith, here_is)) lanes.first one;
+      second = step (at + 2 * part) (at + part + next) (here + part) (at + part + left) now.second codes.second
+          (omega (arith, next_is, here_is)) (omega (arith, here_is)) lanes.second two;
+      third = step (at + 3 * part) (at + 2 * part + next) (here + 2 * part) (at + 2 * part + left) now.third codes.third
+          (omega (arith, next_is, here_is)) (omega (arith, here_is)) lanes.third three;
+      fourth = step (at + 4 * part) (at + 3 * part + next) (here + 3 * part) (at + 3 * part + left) now.fourth
+          codes.fourth (omega (arith, next_is, here_is)) (omega (arith, here_is)) lanes.fourth four;
+    }
+
+-- where nothing begins in the parts, the numbers lead on
+pub rows_if_none : (b : Backward) (search : SearchValue) → AreBackFor search b → (haystack : List ℕ) (span : Span)
+    (at part left limit : ℕ) (codes : Lanes) → IsLimit b limit → left < part
+    → AreSteps (back_tables_by search b) haystack span at part left codes
+    → NoneFrom (back_tables_by search b) haystack span.end at (at + 4 * part) → HaveRows limit codes
+rows_if_none b search is haystack span at part left limit codes limit_is before steps none =
+    let below = below_if_none b search is haystack span in
+    record {
+      first = below (at + part) (at + left) codes.first limit limit_is (omega (arith, before)) steps.first
+          (none (at + left) (omega arith) (omega (arith, before)));
+      second = below (at + 2 * part) (at + part + left) codes.second limit limit_is (omega (arith, before)) steps.second
+          (none (at + part + left) (omega arith) (omega (arith, before)));
+      third = below (at + 3 * part) (at + 2 * part + left) codes.third limit limit_is (omega (arith, before))
+          steps.third (none (at + 2 * part + left) (omega arith) (omega (arith, before)));
+      fourth = below (at + 4 * part) (at + 3 * part + left) codes.fourth limit limit_is (omega (arith, before))
+          steps.fourth (none (at + 3 * part + left) (omega arith) (omega (arith, before)));
+    }
+
+module _ (p : BackTables) (haystack : List ℕ) (span : Span) (at part left limit : ℕ) (codes : Lanes)
+    (small : limit ≤ 2 ^ 31) (rows : HaveRows limit codes) (steps : AreSteps p haystack span at part left codes)
+  where
+    first_row : codes.first < 2 ^ 31
+    first_row = omega (arith, small, rows.first)
+
+    second_row : codes.second < 2 ^ 31
+    second_row = omega (arith, small, rows.second)
+
+    third_row : codes.third < 2 ^ 31
+    third_row = omega (arith, small, rows.third)
+
+    fourth_row : codes.fourth < 2 ^ 31
+    fourth_row = omega (arith, small, rows.fourth)
+
+    -- where they do, the walks go on
+    pub lanes_on : AreLanes p haystack span at part left codes
+    lanes_on = record {
+      first = lane_small p haystack span (at + part) (at + left) codes.first first_row steps.first;
+      second = lane_small p haystack span (at + 2 * part) (at + part + left) codes.second second_row steps.second;
+      third = lane_small p haystack span (at + 3 * part) (at + 2 * part + left) codes.third third_row steps.third;
+      fourth = lane_small p haystack span (at + 4 * part) (at + 3 * part + left) codes.fourth fourth_row steps.fourth;
+    }
+
+    -- and nothing begins there
+    pub none_on_four : (next : ℕ) → next ≡ left + 1 → left < part → NoneBehind p haystack span.end at part next
+        → NoneBehind p haystack span.end at part left
+    none_on_four next next_is before none = record {
+      first = none_more p haystack span (at + part) (at + left) codes.first (omega (arith, before)) steps.first
+          (at + part) (at + next) (omega (arith, next_is)) first_row none.first;
+      second = none_more p haystack span (at + 2 * part) (at + part + left) codes.second (omega (arith, before))
+          steps.second (at + 2 * part) (at + part + next) (omega (arith, next_is)) second_row none.second;
+      third = none_more p haystack span (at + 3 * part) (at + 2 * part + left) codes.third (omega (arith, before))
+          steps.third (at + 3 * part) (at + 2 * part + next) (omega (arith, next_is)) third_row none.third;
+      fourth = none_more p haystack span (at + 4 * part) (at + 3 * part + left) codes.fourth (omega (arith, before))
+          steps.fourth (at + 4 * part) (at + 3 * part + next) (omega (arith, next_is)) fourth_row none.fourth;
+    }
 
 -- where nothing begins before a place, the match that begins there is the leftmost
 pub leftmost_from : (p : BackTables) (haystack : List ℕ) (span : Span) (at : ℕ) (found : MatchValue)
@@ -192,6 +295,16 @@ pub ok_part_on : (p : BackTables) (haystack : List ℕ) (end from start upto : �
 ok_part_on p haystack end from start upto before (Ok first) is = part_on p haystack end from start upto before first is
 ok_part_on p haystack end from start upto before (Err damaged) is = is
 
+-- what is the first place of a part is that of a longer one, where nothing begins behind the part
+pub ok_first_upto : (p : BackTables) (haystack : List ℕ) (end start upto further : ℕ)
+    → NoneFrom p haystack end upto further → (result : Result (Option Begun) Damaged)
+    → IsOkAnd result (IsFirstBegun p haystack end (between start upto))
+    → IsOkAnd result (IsFirstBegun p haystack end (between start further))
+ok_first_upto p haystack end start upto further behind (Ok None) none =
+    none_on p haystack end start upto further none behind
+ok_first_upto p haystack end start upto further behind (Ok (Some begun)) first = first
+ok_first_upto p haystack end start upto further behind (Err damaged) is = is
+
 -- one step more
 pub one_more : (a b : Counts) → a ≡ b
     → (let t : Counts = record a { scanned = a.scanned + 1 } in t)
@@ -227,4 +340,82 @@ marks_on p haystack end marks at to next upto slot code after next_is slot_is in
           subst (λ n. IsMark p haystack end n (get_or (set marks slot code) (n - at) 0)) same
           (subst (λ n. IsMark p haystack end to (get_or (set marks slot code) n 0))
           (slot_there ∙ ap (λ n. n - at) (sym same)) (subst (IsMark p haystack end to) (sym read) mark))
+    ]
+
+-- of cleared marks each says that nothing begins, which is so behind some places of each part
+pub cleared_marks : (p : BackTables) (haystack : List ℕ) (end : ℕ) (marks : List ℕ) (at part left : ℕ)
+    → ((k : ℕ) → get_or marks k 0 ≡ 0) → NoneBehind p haystack end at part left
+    → AreMarksBehind p haystack end marks at part left
+cleared_marks p haystack end marks at part left cleared none =
+    let mark : (k : ℕ) → NoneBeginsAt p haystack end k → IsMark p haystack end k (get_or marks (k - at) 0) = λ k none.
+        subst (IsMark p haystack end k) (sym (cleared (k - at))) (record {
+          none = λ _. none;
+          row = λ large. absurd (omega (arith, large));
+          named = λ large. absurd (omega (arith, large));
+          best = λ large. absurd (omega (arith, large));
+        }) in
+    record {
+      first = λ k after before. mark k (none.first k after before);
+      second = λ k after before. mark k (none.second k after before);
+      third = λ k after before. mark k (none.third k after before);
+      fourth = λ k after before. mark k (none.fourth k after before);
+    }
+
+-- and marks of all places of each part are those of a block
+pub marks_of_four : (p : BackTables) (haystack : List ℕ) (end : ℕ) (marks : List ℕ) (at part : ℕ)
+    → AreMarksBehind p haystack end marks at part 0 → AreMarks p haystack end marks at at (at + 4 * part)
+marks_of_four p haystack end marks at part are k after before = elim (cases_lt k (at + part)) [
+  | inl one ↦ are.first k (omega (arith, after)) one
+  | inr second ↦
+      elim (cases_lt k (at + 2 * part)) [
+        | inl two ↦ are.second k (omega (arith, second)) two
+        | inr third ↦
+            elim (cases_lt k (at + 3 * part)) [
+              | inl three ↦ are.third k (omega (arith, third)) three
+              | inr fourth ↦ are.fourth k (omega (arith, fourth)) before
+            ]
+      ]
+]
+
+-- of four neighbours in a list each is small, if all their bits together are
+four_small : (numbers : List ℕ) (one limit : ℕ)
+    → bit_or (bit_or (bit_or (get_or numbers one 0) (get_or numbers (one + 1) 0)) (get_or numbers (one + 2) 0))
+    (get_or numbers (one + 3) 0) < limit
+    → (k : ℕ) → one ≤ k → k < one + 4 → get_or numbers k 0 < limit
+four_small numbers one limit small k after before =
+    let n = λ (i : ℕ). get_or numbers i 0 in
+    let two = bit_or (n one) (n (one + 1)) in
+    let three = bit_or two (n (one + 2)) in
+    let two_small : two < limit = omega (arith, small, le_or_l three (n (one + 3)), le_or_l two (n (one + 2))) in
+    let there : (i : ℕ) → i ≡ k → n i < limit → n k < limit = λ i same. subst (λ m. n m < limit) same in
+    elim (cases_lt one k) [
+      | inr not ↦ there one (omega (arith, not, after)) (omega (arith, two_small, le_or_l (n one) (n (one + 1))))
+      | inl second ↦
+          elim (cases_lt (one + 1) k) [
+            | inr not ↦ there (one + 1) (omega (arith, not, second)) (omega (arith, two_small, le_or_r (n one) (n (one + 1))))
+            | inl third ↦
+                elim (cases_lt (one + 2) k) [
+                  | inr not ↦
+                      there (one + 2) (omega (arith, not, third))
+                      (omega (arith, small, le_or_l three (n (one + 3)), le_or_r two (n (one + 2))))
+                  | inl fourth ↦ there (one + 3) (omega (arith, fourth, before)) (omega (arith, small, le_or_r three (n (one + 3))))
+                ]
+          ]
+    ]
+
+-- and so are eight
+pub eight_small : (numbers : List ℕ) (one limit : ℕ)
+    → bit_or (bit_or (bit_or (bit_or (get_or numbers one 0) (get_or numbers (one + 1) 0)) (get_or numbers (one + 2) 0))
+    (get_or numbers (one + 3) 0)) (bit_or (bit_or (bit_or (get_or numbers (one + 4) 0) (get_or numbers (one + 4 + 1) 0))
+    (get_or numbers (one + 4 + 2) 0)) (get_or numbers (one + 4 + 3) 0)) < limit
+    → (k : ℕ) → one ≤ k → k < one + 8 → get_or numbers k 0 < limit
+eight_small numbers one limit small k after before =
+    let n = λ (i : ℕ). get_or numbers i 0 in
+    let first = bit_or (bit_or (bit_or (n one) (n (one + 1))) (n (one + 2))) (n (one + 3)) in
+    let second = bit_or (bit_or (bit_or (n (one + 4)) (n (one + 4 + 1))) (n (one + 4 + 2))) (n (one + 4 + 3)) in
+    elim (cases_lt k (one + 4)) [
+      | inl early ↦
+          four_small numbers one limit (omega (arith, small, le_or_l first second)) k after early
+      | inr late ↦
+          four_small numbers (one + 4) limit (omega (arith, small, le_or_r first second)) k late (omega (arith, before))
     ]

@@ -1,22 +1,22 @@
 use Rattle.std.proofs.Common.{◌≡◌, ◌+◌, ◌-◌, ◌*◌, ◌≤◌, ◌∙◌, ℕ, ap, arith, inl, inr, length}
-use Rattle.std.proofs.Common.{refl, set}
+use Rattle.std.proofs.Common.{refl, set, subst}
 use Rattle.std.proofs.lemmas.List.{length-set}
 use Rattle.literal_base.specs.Counts.{Counts}
 use Rattle.literal_search.specs.Inside.Backward.{AreBackFor, back_tables_by}
-use Rattle.literal_search.specs.Inside.Leftmost.{AreLanes, IsStep}
+use Rattle.literal_search.specs.Inside.Leftmost.{AreLanes, AreMarksBehind, IsStep}
 use Rattle.literal_search.specs.SearchValue.{SearchValue}
-use Rattle.literal_search.proofs.lemmas.Leftmost.{marks_kept, marks_on, one_more}
+use Rattle.literal_search.proofs.lemmas.Leftmost.{marks_kept, marks_of_four, marks_on, one_more}
 use Rattle.literal_search.proofs.backward.Backward.mark_in_four.Goals as goal
 
 pub returns-in_err-one-clause-marks : goal.returns-in_err-one-clause-marks
-returns-in_err-one-clause-marks c = λ search is lanes.
+returns-in_err-one-clause-marks c = λ search is lanes marked.
     let at = c.args.at in
     absurd (c.in_err-one.ensures.step search is c.args.span (at + c.args.part) (at + c.loop-step.step)
     (at + (c.loop-step.step - 1)) c.requires.valid.in_haystack (omega arith) refl
     (c.loop-step.invariant.lanes search is lanes).first)
 
 pub returns-in_err-two-clause-marks : goal.returns-in_err-two-clause-marks
-returns-in_err-two-clause-marks c = λ search is lanes.
+returns-in_err-two-clause-marks c = λ search is lanes marked.
     let at = c.args.at in
     let part = c.args.part in
     absurd (c.in_err-two.ensures.step search is c.args.span (at + 2 * part) (at + part + c.loop-step.step)
@@ -24,7 +24,7 @@ returns-in_err-two-clause-marks c = λ search is lanes.
     (c.loop-step.invariant.lanes search is lanes).second)
 
 pub returns-in_err-three-clause-marks : goal.returns-in_err-three-clause-marks
-returns-in_err-three-clause-marks c = λ search is lanes.
+returns-in_err-three-clause-marks c = λ search is lanes marked.
     let at = c.args.at in
     let part = c.args.part in
     absurd (c.in_err-three.ensures.step search is c.args.span (at + 3 * part) (at + 2 * part + c.loop-step.step)
@@ -32,7 +32,7 @@ returns-in_err-three-clause-marks c = λ search is lanes.
     (c.loop-step.invariant.lanes search is lanes).third)
 
 pub returns-in_err-four-clause-marks : goal.returns-in_err-four-clause-marks
-returns-in_err-four-clause-marks c = λ search is lanes.
+returns-in_err-four-clause-marks c = λ search is lanes marked.
     let at = c.args.at in
     let part = c.args.part in
     absurd (c.in_err-four.ensures.step search is c.args.span (at + 4 * part) (at + 3 * part + c.loop-step.step)
@@ -46,6 +46,7 @@ loop-step-preserved c =
     let end = span.end in
     let at = c.args.at in
     let part = c.args.part in
+    let left = c.args.passed.left in
     let next = c.loop-step.step in
     let step = next - 1 in
     let valid = c.requires.valid.in_haystack in
@@ -60,7 +61,7 @@ loop-step-preserved c =
     let long2 : length marks2 ≡ length marks0 = length-set marks1 (step + part) c.in_ok-two.two ∙ long1 in
     let long3 : length marks3 ≡ length marks0 = length-set marks2 (step + 2 * part) c.in_ok-three.three ∙ long2 in
     let tables = λ (search : SearchValue). back_tables_by search c.args.self.now in
-    let Start = λ (search : SearchValue). AreLanes (tables search) haystack span at part part c.args.lanes in
+    let Start = λ (search : SearchValue). AreLanes (tables search) haystack span at part left c.args.passed.lanes in
     let one : (search : SearchValue) → AreBackFor search c.args.self.now → Start search
     → IsStep (tables search) haystack span (at + part) (at + step) c.in_ok-one.one =
     λ search is lanes. c.in_ok-one.ensures.step search is span (at + part) (at + next) (at + step) valid (omega arith)
@@ -78,8 +79,8 @@ loop-step-preserved c =
     → IsStep (tables search) haystack span (at + 4 * part) (at + 3 * part + step) c.in_ok-four.four =
     λ search is lanes. c.in_ok-four.ensures.step search is span (at + 4 * part) (at + 3 * part + next)
     (at + 3 * part + step) valid (omega arith) (omega arith) (so_far.lanes search is lanes).fourth in
-    let sum : c.args.tally.now.scanned + 4 * (part - next) + 1 + 1 + 1 + 1
-    ≡ c.args.tally.now.scanned + 4 * (part - step) = omega (arith, before) in
+    let sum : c.args.tally.now.scanned + 4 * (left - next) + 1 + 1 + 1 + 1
+    ≡ c.args.tally.now.scanned + 4 * (left - step) = omega (arith, before) in
     record {
       before = omega (arith, before);
       long = length-set marks3 (step + 3 * part) c.in_ok-four.four ∙ (long3 ∙ so_far.long);
@@ -95,9 +96,9 @@ loop-step-preserved c =
         third = (three search is lanes).lane;
         fourth = (four search is lanes).lane;
       };
-      marks = λ search is lanes.
+      marks = λ search is lanes marked.
           let p = tables search in
-          let are = so_far.marks search is lanes in
+          let are = so_far.marks search is lanes marked in
           record {
             first =
                 marks_kept p haystack end marks3 at (at + step) (at + part) (step + 3 * part) c.in_ok-four.four
@@ -149,3 +150,11 @@ loop-step-preserved c =
           ∙ one_more _ _ (c.in_ok-one.ensures.ticks ∙ one_more _ _ so_far.counted)))
           ∙ ap (λ (n : ℕ). let n' : Counts = record c.args.tally.now { scanned = n } in n') sum);
     }
+
+pub returns-clause-marks : goal.returns-clause-marks
+returns-clause-marks c = λ search is lanes marked.
+    let none : c.loop-step.step ≡ 0 = omega (arith, c.loop-step-test.false) in
+    let tables = back_tables_by search c.args.self.now in
+    marks_of_four tables c.args.haystack.now c.args.span.end c.loop-step.marks c.args.at c.args.part
+    (subst (AreMarksBehind tables c.args.haystack.now c.args.span.end c.loop-step.marks c.args.at c.args.part) none
+    (c.loop-step.invariant.marks search is lanes marked))
