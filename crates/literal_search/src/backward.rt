@@ -11,6 +11,7 @@ ghost use Rattle.literal_search.specs.Inside.Backward.{AreMarked, AreMarks, ForB
 ghost use Rattle.literal_search.specs.Inside.Backward.{IsBlockMarked};
 ghost use Rattle.literal_search.specs.Inside.Backward.{IsMark, IsMatchBy, IsPlaced, IsSafe, NoneFrom};
 ghost use Rattle.literal_search.specs.Inside.Leftmost.{AreLanes, AreMarksBehind, HasBytes, HaveRows, IsLimit, IsPart};
+ghost use Rattle.literal_search.specs.declared.backward.TheConstants.{MARKED};
 
 use crate::leftmost::{Block, LEAST_PART, OVERLAP, PRICE, Passed};
 use crate::prepared::{Damaged, fingerprints_in};
@@ -21,8 +22,12 @@ use literal_base::{Match, Span};
 /// How long a block is at least, if the span is.
 pub(crate) const LEAST: usize = 1024;
 
-/// The length of each of the four parts of a block that is marked, if as much is left.
+/// The length of each of the four parts of a block that is marked, if as much is left, once the blocks before it
+/// followed one another.
 const MARKED: usize = LEAST / 4;
+
+/// The least length of such a part, where the block before is far.
+const FIRST_MARKED: usize = 16;
 
 /// What a search from the right reads.
 #[derive(Clone, Copy)]
@@ -51,6 +56,8 @@ pub struct Marks {
     pub first: usize,
     pub upto: usize,
     pub known: usize,
+    /// The length of each of the four parts of the block, and 0 where that is no such block.
+    pub part: usize,
 }
 
 impl<'t> Backward<'t> {
@@ -198,6 +205,7 @@ impl<'t> Backward<'t> {
             end: span.end,
         };
         let at = self.pass_over(fingerprints, haystack, rest, tally);
+        let part = self.part_after(marks.part, at - from);
         *marks = no_marks(span.end);
         if at == span.end {
             return Ok(at);
@@ -205,7 +213,7 @@ impl<'t> Backward<'t> {
         *marks = if at - from >= PRICE.max(self.table.longest) {
             self.mark_place(haystack, span, at, numbers, tally)?
         } else {
-            self.mark_block(haystack, span, at, numbers, tally)?
+            self.mark_block(haystack, span, at, part, numbers, tally)?
         };
         Ok(at)
     }
@@ -239,6 +247,7 @@ impl<'t> Backward<'t> {
                 first: at,
                 upto: at,
                 known,
+                part: 0,
             });
         };
         numbers[0] = begun.code;
@@ -246,15 +255,18 @@ impl<'t> Backward<'t> {
             first: at,
             upto: known,
             known,
+            part: 0,
         })
     }
 
-    /// Marks the block that begins at a place.
+    /// Marks the block that begins at a place, by four walks through parts of at most this length, if they can be long
+    /// enough.
     fn mark_block(
         &self,
         haystack: &[u8],
         span: Span,
         from: usize,
+        part: usize,
         numbers: &mut [u32],
         tally: &mut Tally,
     ) -> Result<Marks, Damaged>
@@ -262,6 +274,7 @@ impl<'t> Backward<'t> {
         requires valid { IsValidSpan haystack.now span }
         requires after { span.start ≤ from }
         requires inside { from < span.end }
+        requires short { part ≤ MARKED }
         requires room { max self.now.table.longest LEAST ≤ length numbers.old }
         ensures marked { ForBackward self.now (λ tables. IsOkAnd result
             (AreMarked tables haystack.now span from numbers.new)) }
@@ -274,7 +287,7 @@ impl<'t> Backward<'t> {
         ensures least { IfOk result (λ m. tally.old.scanned
             + min (m.known + (self.now.table.longest - 1)) span.end ≤ tally.new.scanned + from) }
     {
-        if let Some(part) = self.part_for_marks(span.end - from) {
+        if let Some(part) = self.part_for_marks(span.end - from, part) {
             return self.mark_four_parts(haystack, span, from, part, numbers, tally);
         }
         let (limit, bytes) = (self.table.limit()?, self.table.class_bytes());
@@ -284,6 +297,7 @@ impl<'t> Backward<'t> {
             first: from,
             upto: block.end,
             known: block.end,
+            part: 0,
         })
     }
 
@@ -411,7 +425,7 @@ impl<'t> Backward<'t> {
             self.pass_in_four(classes, haystack, span, from, part, led.lanes, limit, tally);
         let mut upto = from;
         if passed.left > 0 {
-            clear(numbers);
+            clear(numbers, 4 * part);
             self.mark_in_four(
                 classes, haystack, span, from, part, passed, limit, numbers, tally,
             )?;
@@ -421,17 +435,32 @@ impl<'t> Backward<'t> {
             first: from,
             upto,
             known,
+            part,
         })
     }
 
-    /// How long each of four parts is that are marked at once, where so many bytes are left; and none where these are
-    /// few, or the longest pattern is longer than such a part.
-    pub(crate) fn part_for_marks(&self, left: usize) -> Option<usize>
+    /// How long each of the four parts of the next block may be: twice as long as those of the block before, or, where
+    /// at least as many bytes were passed over as that has, as short as they can be.
+    fn part_after(&self, before: usize, passed: usize) -> usize
+        ensures { result ≤ MARKED }
+    {
+        let part = if passed / 4 < before {
+            before.saturating_mul(2)
+        } else {
+            FIRST_MARKED
+        };
+        part.max(self.table.longest.saturating_add(4)).min(MARKED)
+    }
+
+    /// How long each of four parts is that are marked at once, at most so long, where so many bytes are left; and none
+    /// where these are few, or the longest pattern is longer than such a part.
+    pub(crate) fn part_for_marks(&self, left: usize, most: usize) -> Option<usize>
+        requires { most ≤ MARKED }
         ensures inside { IfSome result (λ part. 4 * part + self.now.table.longest ≤ left) }
         ensures long { IfSome result (λ part. (self.now.table.longest + 4 ≤ part) × (OVERLAP ≤ 4 * part)) }
         ensures short { IfSome result (λ part. 4 * part ≤ LEAST) }
     {
-        let part = (left.saturating_sub(self.table.longest) / 4).min(MARKED);
+        let part = (left.saturating_sub(self.table.longest) / 4).min(most);
         if part < LEAST_PART || part < self.table.longest.saturating_add(4) {
             return None;
         }
@@ -498,12 +527,13 @@ impl<'t> Backward<'t> {
     }
 }
 
-/// Marks that say of each place that nothing begins there.
-fn clear(marks: &mut [u32])
+/// So many first marks say that nothing begins.
+fn clear(marks: &mut [u32], upto: usize)
+    requires inside { upto ≤ length marks.old }
     ensures long { length marks.new ≡ length marks.old }
-    ensures clear { (at : ℕ) → slice_index marks.new at ≡ 0 }
+    ensures clear { (at : ℕ) → at < upto → slice_index marks.new at ≡ 0 }
 {
-    marks.fill(0);
+    marks[..upto].fill(0);
 }
 
 /// A place up to which, from another on, no mark says that a pattern begins: eight marks are read at once.
@@ -531,12 +561,13 @@ fn pass_unmarked(numbers: &[u32], first: usize, from: usize, upto: usize) -> usi
 
 /// No marks, where nothing is known from a place on.
 pub fn no_marks(at: usize) -> Marks
-    ensures { result ≡ record { first = at; upto = at; known = at } }
+    ensures { result ≡ record { first = at; upto = at; known = at; part = 0 } }
 {
     Marks {
         first: at,
         upto: at,
         known: at,
+        part: 0,
     }
 }
 

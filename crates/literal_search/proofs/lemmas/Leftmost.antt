@@ -344,21 +344,22 @@ marks_on p haystack end marks at to next upto slot code after next_is slot_is in
 
 -- of cleared marks each says that nothing begins, which is so behind some places of each part
 pub cleared_marks : (p : BackTables) (haystack : List ℕ) (end : ℕ) (marks : List ℕ) (at part left : ℕ)
-    → ((k : ℕ) → get_or marks k 0 ≡ 0) → NoneBehind p haystack end at part left
+    → ((k : ℕ) → k < 4 * part → get_or marks k 0 ≡ 0) → NoneBehind p haystack end at part left
     → AreMarksBehind p haystack end marks at part left
 cleared_marks p haystack end marks at part left cleared none =
-    let mark : (k : ℕ) → NoneBeginsAt p haystack end k → IsMark p haystack end k (get_or marks (k - at) 0) = λ k none.
-        subst (IsMark p haystack end k) (sym (cleared (k - at))) (record {
+    let mark : (k : ℕ) → at ≤ k → k < at + 4 * part → NoneBeginsAt p haystack end k
+    → IsMark p haystack end k (get_or marks (k - at) 0) = λ k after before none.
+        subst (IsMark p haystack end k) (sym (cleared (k - at) (omega (arith, after, before)))) (record {
           none = λ _. none;
           row = λ large. absurd (omega (arith, large));
           named = λ large. absurd (omega (arith, large));
           best = λ large. absurd (omega (arith, large));
         }) in
     record {
-      first = λ k after before. mark k (none.first k after before);
-      second = λ k after before. mark k (none.second k after before);
-      third = λ k after before. mark k (none.third k after before);
-      fourth = λ k after before. mark k (none.fourth k after before);
+      first = λ k after before. mark k (omega (arith, after)) (omega (arith, before)) (none.first k after before);
+      second = λ k after before. mark k (omega (arith, after)) (omega (arith, before)) (none.second k after before);
+      third = λ k after before. mark k (omega (arith, after)) (omega (arith, before)) (none.third k after before);
+      fourth = λ k after before. mark k (omega (arith, after)) (omega (arith, before)) (none.fourth k after before);
     }
 
 -- and marks of all places of each part are those of a block
