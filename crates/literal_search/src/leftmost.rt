@@ -662,8 +662,6 @@ impl<'t> Backward<'t> {
         ensures counted { IfOk result
             (ReadsFor self.now.table.longest span tally.old.scanned tally.new.scanned) }
     {
-        let (limit, bytes) = (self.table.limit()?, self.table.class_bytes());
-        let classes = &bytes;
         let fingerprints = &fingerprints_in(self.prints);
         let owed = owed_by(fingerprints);
         let begin = Front {
@@ -672,6 +670,11 @@ impl<'t> Backward<'t> {
             part: FIRST.max(self.table.longest / 2 + 3),
         };
         let mut front = self.pass_on(fingerprints, haystack, span, begin, tally);
+        if front.at == span.end {
+            return Ok(None);
+        }
+        let (limit, bytes) = (self.table.limit()?, self.table.class_bytes());
+        let classes = &bytes;
         while let Some(block) = self.four_parts_at(span, front.at, front.part, owed) {
             let looked = self.look_on(classes, haystack, span, front, block, owed, limit, tally)?;
             if looked.first.is_some() {

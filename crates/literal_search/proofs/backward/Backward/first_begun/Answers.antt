@@ -3,6 +3,7 @@ use Rattle.literal_base.specs.Counts.{Counts}
 use Rattle.literal_search.specs.Inside.Backward.{back_tables_by}
 use Rattle.literal_search.specs.Inside.Leftmost.{IsFront}
 use Rattle.literal_search.proofs.lemmas.Leftmost.{found_reads, lane_begins, no_first, none_on, ok_part_on}
+use Rattle.literal_search.proofs.lemmas.Leftmost.{part_on, some_first}
 use Rattle.literal_search.proofs.backward.Backward.first_begun.Goals as goal
 
 pub loop-block-init : goal.loop-block-init
@@ -21,6 +22,42 @@ loop-block-init c = record {
   none = c.pass_on-front.ensures.none;
   others = c.pass_on-front.ensures.others;
 }
+
+pub returns-then-front-span-clause-most : goal.returns-then-front-span-clause-most
+returns-then-front-span-clause-most c =
+    let front = c.pass_on-front.ensures.front c.args.tally.now.scanned (record {
+      after = omega arith;
+      inside = c.requires.valid.ordered;
+      some = omega arith;
+      long = omega arith;
+      near = λ _. omega arith;
+      least = omega arith;
+      most = omega arith;
+    }) in
+    omega (arith, front.most, c.if-front-span.true)
+
+pub returns-then-front-span-clause-counted : goal.returns-then-front-span-clause-counted
+returns-then-front-span-clause-counted c =
+    let front = c.pass_on-front.ensures.front c.args.tally.now.scanned (record {
+      after = omega arith;
+      inside = c.requires.valid.ordered;
+      some = omega arith;
+      long = omega arith;
+      near = λ _. omega arith;
+      least = omega arith;
+      most = omega arith;
+    }) in
+    omega (arith, front.least, c.if-front-span.true)
+
+pub returns-then-is_some-clause-first : goal.returns-then-is_some-clause-first
+returns-then-is_some-clause-first c = λ search is.
+    let tables = back_tables_by search c.args.self.now in
+    let end = c.args.span.end in
+    let at = c.loop-block.front.at in
+    let looked = c.in_ok-looked.looked in
+    part_on tables c.args.haystack.now end c.args.span.start at end (c.loop-block.invariant.none search is) looked.first
+    (some_first tables c.args.haystack.now end at looked.front.at end looked.first
+    (sym c.is_some.ensures ∙ c.if-is_some.true) (c.in_ok-looked.ensures.first search is))
 
 pub returns-in_err-looked-clause-most : goal.returns-in_err-looked-clause-most
 returns-in_err-looked-clause-most c =
