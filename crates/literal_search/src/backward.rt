@@ -24,7 +24,7 @@ pub(crate) const LEAST: usize = 1024;
 
 /// The length of each of the four parts of a block that is marked, if as much is left, once the blocks before it
 /// followed one another.
-const MARKED: usize = LEAST / 4;
+pub(crate) const MARKED: usize = LEAST / 4;
 
 /// The least length of such a part, where the block before is far.
 const FIRST_MARKED: usize = 16;
@@ -336,9 +336,47 @@ impl<'t> Backward<'t> {
     }
 
     /// Marks each place of four neighbouring parts, by four walks at once that passed through some places of each. These
-    /// places are marked.
+    /// places are marked. For the length that most parts have there is a loop of its own.
     #[inline(never)]
     fn mark_in_four(
+        &self,
+        classes: &[u8; 256],
+        haystack: &[u8],
+        span: Span,
+        at: usize,
+        part: usize,
+        passed: Passed,
+        limit: usize,
+        marks: &mut [u32],
+        tally: &mut Tally,
+    ) -> Result<(), Damaged>
+        requires safe { IsSafe self.now }
+        requires same { HasBytes self.now classes.now }
+        requires limit { IsLimit self.now limit }
+        requires rows { HaveRows limit passed.lanes }
+        requires valid { IsValidSpan haystack.now span }
+        requires inside { at + 4 * part ≤ span.end }
+        requires left { passed.left ≤ part }
+        requires room { 4 * part ≤ length marks.old }
+        ensures marks { ForBackward self.now (λ tables.
+            AreLanes tables haystack.now span at part passed.left passed.lanes
+            → AreMarksBehind tables haystack.now span.end marks.old at part passed.left
+            → IsOkAnd result (λ _. AreMarks tables haystack.now span.end marks.new at at (at + 4 * part))) }
+        ensures others { tally.new ≡ record tally.old { scanned = tally.new.scanned } }
+        ensures most { tally.new.scanned ≤ tally.old.scanned + 4 * passed.left }
+        ensures all { IfOk result (λ _. tally.new.scanned ≡ tally.old.scanned + 4 * passed.left) }
+    {
+        if part == MARKED {
+            return self.mark_parts(
+                classes, haystack, span, at, MARKED, passed, limit, marks, tally,
+            );
+        }
+        self.mark_parts(classes, haystack, span, at, part, passed, limit, marks, tally)
+    }
+
+    /// [`Backward::mark_in_four`], by one loop.
+    #[inline(always)]
+    fn mark_parts(
         &self,
         classes: &[u8; 256],
         haystack: &[u8],

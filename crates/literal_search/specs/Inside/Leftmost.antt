@@ -1,6 +1,7 @@
 -- The leftmost match of a span, by walks from the right.
 use Rattle.std.specs.Prelude.{◌≡◌, ◌⊎◌, ℕ, ◌+◌, ◌*◌, ◌<◌, ◌≤◌, ◌^◌, ◌%◌, List, None, Option, Some, length, min}
 use Rattle.std.specs.Prelude.{◌-◌, IfSome}
+use Rattle.literal_base.specs.Counts.{Counts}
 use Rattle.literal_base.specs.Occurs.{between}
 use Rattle.literal_base.specs.declared.search.Span.{Span}
 use Rattle.literal_fingerprints.specs.FingerprintsValue.{AllPass, FingerprintsValue}
@@ -13,6 +14,7 @@ use Rattle.literal_search.specs.declared.backward.Begun.{Begun}
 use Rattle.literal_search.specs.declared.leftmost.Block.{Block}
 use Rattle.literal_search.specs.declared.leftmost.Lanes.{Lanes}
 use Rattle.literal_search.specs.declared.leftmost.Led.{Led}
+use Rattle.literal_search.specs.declared.leftmost.Passed.{Passed}
 use Rattle.literal_search.specs.declared.leftmost.Front.{Front}
 use Rattle.literal_search.specs.declared.leftmost.TheConstants.{FIRST, OVERLAP}
 
@@ -82,6 +84,22 @@ pub record NoneBehind (p : BackTables) (haystack : List ℕ) (end at part left :
   pub second : NoneFrom p haystack end (at + part + left) (at + 2 * part)
   pub third : NoneFrom p haystack end (at + 2 * part + left) (at + 3 * part)
   pub fourth : NoneFrom p haystack end (at + 3 * part + left) (at + 4 * part)
+
+-- four walks passed through four neighbouring parts, up to where something begins in them, or to their starts
+pub record HavePassed (b : Backward) (haystack : List ℕ) (span : Span) (at part : ℕ) (begin : Lanes) (limit : ℕ)
+    (old new : Counts) (passed : Passed) : Type 0 where
+  pub left : passed.left ≤ part
+  pub rows : HaveRows limit passed.lanes
+  pub lanes : ForBackward b (λ tables. AreLanes tables haystack span at part part begin
+      → AreLanes tables haystack span at part passed.left passed.lanes)
+  pub none : ForBackward b (λ tables. AreLanes tables haystack span at part part begin
+      → NoneBehind tables haystack span.end at part passed.left)
+  pub some : 0 < passed.left → ForBackward b (λ tables. AreLanes tables haystack span at part part begin
+      → ¬ NoneFrom tables haystack span.end at (at + 4 * part))
+  pub others : new ≡ record old { scanned = new.scanned }
+  pub most : new.scanned ≤ old.scanned + 4 * part
+  pub least : old.scanned + 4 * (part - passed.left) ≤ new.scanned
+  pub all : passed.left ≡ 0 → new.scanned ≡ old.scanned + 4 * part
 
 -- of each place of four neighbouring parts behind as many bytes of each there is a mark, in a list that has that of the
 -- first of these places first

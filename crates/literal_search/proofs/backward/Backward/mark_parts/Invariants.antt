@@ -1,7 +1,7 @@
 use Rattle.std.proofs.Common.{◌≡◌, ◌+◌, ◌-◌, ◌*◌, ◌≤◌, length}
 use Rattle.literal_search.specs.Inside.Backward.{ForBackward}
 use Rattle.literal_search.specs.Inside.Leftmost.{AreLanes, AreMarksBehind, HaveRows}
-use Rattle.literal_search.proofs.backward.Backward.mark_in_four.Given as goal
+use Rattle.literal_search.proofs.backward.Backward.mark_parts.Given as goal
 
 abbrev pub invariant-loop-step : goal.invariant-loop-step
 invariant-loop-step l = record {
