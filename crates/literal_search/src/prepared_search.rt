@@ -140,10 +140,11 @@ impl<'p> Prepared<'p> {
     }
 
     /// What a search from the right reads.
-    fn backward(&self) -> Backward<'_>
-        ensures { IsBackIn self.now result }
+    #[inline(always)]
+    fn backward(&self) -> &Backward<'p>
+        ensures { IsBackIn self.now result.now }
     {
-        self.backward
+        &self.backward
     }
 }
 

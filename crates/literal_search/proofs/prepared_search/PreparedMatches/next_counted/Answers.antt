@@ -18,7 +18,7 @@ invariant_of-self c =
       c.self.invariant.0,
       record {
         ahead = subst (λ (n : ℕ). IsAhead n m.span c.place_after-self-inside.result marks) longest
-            (subst (λ (at : ℕ). IsAhead c.backward-backward.result.table.longest m.span at marks) at_is
+            (subst (λ (at : ℕ). IsAhead c.backward-backward.result.now.table.longest m.span at marks) at_is
             c.in-Ok.ensures.ahead);
         marked = λ short search is.
             let before = subst (λ (t : BackTables). AreMarked t m.haystack.now m.span m.at m.numbers m.marks)
@@ -37,7 +37,7 @@ returns-in-Ok-clause-prepared c = λ search given.
     let m = c.self.inside in
     let old = c.self.invariant.1 in
     let is = subst (λ (v : PreparedMatchesValue). IsPrepared search v.numbers) (sym c.self.view_is) given in
-    let before = λ (short : c.backward-backward.result.table.longest ≤ LEAST).
+    let before = λ (short : c.backward-backward.result.now.table.longest ≤ LEAST).
     subst (λ (t : BackTables). AreMarked t m.haystack.now m.span m.at m.numbers m.marks)
     (sym (c.backward-backward.ensures.tables search))
     (old.marked (omega (arith, short, c.backward-backward.ensures.longest)) search is) in
@@ -52,7 +52,7 @@ returns-in-Ok-clause-prepared c = λ search given.
     subst (λ (v : PreparedMatchesValue). GivesMatch (matches_for search v) c.in-Ok.answer
     (new_at c.place_after-self-inside.result)) c.self.view_is (record {
       leftmost = told.leftmost search (c.backward-backward.ensures.is_for search is) before;
-      not_empty = some_by c.backward-backward.result m.span m.at c.in-Ok.answer told.lies;
+      not_empty = some_by c.backward-backward.result.now m.span m.at c.in-Ok.answer told.lies;
       goes_on = ap new_at c.place_after-self-inside.ensures;
       further = told.further.0;
       inside = told.further.1;
@@ -70,7 +70,7 @@ returns-in-Err-clause-prepared c = λ search given.
     let m = c.self.inside in
     let old = c.self.invariant.1 in
     let is = subst (λ (v : PreparedMatchesValue). IsPrepared search v.numbers) (sym c.self.view_is) given in
-    let before = λ (short : c.backward-backward.result.table.longest ≤ LEAST).
+    let before = λ (short : c.backward-backward.result.now.table.longest ≤ LEAST).
     subst (λ (t : BackTables). AreMarked t m.haystack.now m.span m.at m.numbers m.marks)
     (sym (c.backward-backward.ensures.tables search))
     (old.marked (omega (arith, short, c.backward-backward.ensures.longest)) search is) in
