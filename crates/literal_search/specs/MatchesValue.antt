@@ -30,7 +30,8 @@ pub record GivesMatch (old : MatchesValue) (answer : Option MatchValue) (new : M
     : Type 0 where
   pub leftmost : IsLeftmost old.search.query old.search.ignore_case old.haystack (between old.at old.span.end) answer
   pub not_empty : IfSome answer (λ found. found.start < found.end)
-  pub goes_on : new ≡ record old { at = place_behind old.span answer; known = new.known }
+  pub known : ℕ
+  pub goes_on : new ≡ record old { at = place_behind old.span answer; known = known }
   pub further : old.known ≤ new.known
   pub inside : new.known ≤ old.span.end
   pub looked : new.at ≤ looked_upto old.search.query.patterns old.span new.known

@@ -53,6 +53,7 @@ returns-in-Ok-clause-prepared c = λ search given.
     (new_at c.place_after-self-inside.result)) c.self.view_is (record {
       leftmost = told.leftmost search (c.backward-backward.ensures.is_for search is) before;
       not_empty = some_by c.backward-backward.result.now m.span m.at c.in-Ok.answer told.lies;
+      known = c.next_in-answer.new.marks.known;
       goes_on = ap new_at c.place_after-self-inside.ensures;
       further = told.further.0;
       inside = told.further.1;

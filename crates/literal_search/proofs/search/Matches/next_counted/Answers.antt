@@ -56,6 +56,7 @@ returns-clause-gives c =
           subst (λ (t : BackTables). AreMarked t m.haystack.now m.span m.at m.numbers m.marks)
           (sym c.backward-backward.ensures.tables) (old.3 (omega (arith, short, longest))));
       not_empty = some_by c.backward-backward.result m.span m.at c.in-Ok.answer told.lies;
+      known = c.next_in-next.new.marks.known;
       goes_on = ap new_at c.place_after-self-inside.ensures;
       further = told.further.0;
       inside = told.further.1;
