@@ -25,8 +25,8 @@
  * finds a match, a second bound is eleven times the bytes before the match, and 576 more, or 108 more than 18 times the
  * length of the longest pattern, whichever is more. A call for all matches, or their count, looks up at most three
  * times the bytes to search, if no pattern has more than 1,024 bytes. With a longer pattern it searches anew after each
- * match: it looks up at most eleven times the bytes, and, for each match that it finds (a page also finds the next), 108
- * more than 18 times that length. A call for every occurrence looks up at most three times the bytes.
+ * match: it looks up at most eleven times the bytes, and, for each match that it finds (a page also finds the next),
+ * 108 more than 18 times that length. A call for every occurrence looks up at most three times the bytes.
  *
  * Each call checks its arguments and returns one of the statuses below. It checks in this order: LITERAL_BAD_ARGUMENTS,
  * LITERAL_NO_SEARCHER, then, while the search is built, LITERAL_OUT_OF_MEMORY and LITERAL_TOO_LARGE, then
