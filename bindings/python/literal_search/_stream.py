@@ -23,9 +23,9 @@ def read(file: Any) -> Tuple[Any, Optional[Exception]]:
 
 
 def searched(searcher: "Prepared[Any]", file: Any, wanted: int, by: Any = None) -> Iterator[Any]:
-    """The wanted answer for each part of a text, up to its end. From each part the bytes are kept where a match may
-    begin that ends after the part. Then at least as much is read as was kept, so nothing is searched more than twice.
-    If the file fails, the text read before is searched first."""
+    """The wanted answer for each part of a text, up to its end. The bytes of a part are kept where a match may begin
+    that ends after it. Then at least as much is read as was kept, so nothing is searched more than twice. If the file
+    fails, the text before is searched first."""
     pieces: List[Any] = []
     kept = length = before = 0
     more = True
