@@ -1,5 +1,5 @@
 /* Prints all matches of some words in standard input's first 65535 bytes: find WORD... < TEXT
- * Each line is the number of the word, the offset of its first byte, and the offset behind its last byte. */
+ * Each line is the number of the word, the offset of its first byte, and the offset after its last byte. */
 #include "literal_search.h"
 
 #include <stdio.h>

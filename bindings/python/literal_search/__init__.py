@@ -1,4 +1,4 @@
-"""Search for several literals at once, in str and in bytes, by a library whose every function is proved.
+"""Multi-pattern search in str and in bytes, by a formally verified library.
 
 >>> searcher = Search(["apple", "maple", "Snapple"])
 >>> searcher.find("Nobody likes maple in their apple flavored Snapple.")
@@ -6,9 +6,9 @@ Match(pattern=1, start=13, end=18)
 >>> searcher.sub("***", "maple and apple")
 '*** and ***'
 
-A searcher whose patterns are str takes texts of type str, and every offset counts characters. One whose patterns are
-bytes takes what Python lends as bytes, without a copy, as bytes, bytearray, memoryview, mmap and array; every offset
-counts bytes, whatever the items are.
+A searcher whose patterns are str accepts texts of type str, and every offset counts characters. A searcher of bytes
+accepts contiguous buffers, without a copy: bytes, bytearray, memoryview, mmap and array. There every offset counts
+bytes, whatever the items are.
 """
 import copyreg
 import os
@@ -39,25 +39,26 @@ __all__ = ["Kind", "Match", "Search", "__version__"]
 
 _Any = TypeVar("_Any", bound="Search[Any]")
 
-# A file of a searcher: these words first, the kind, whether case is ignored, whether the patterns are str, how many
-# they are, and how many bytes they and the prepared search have; then the ends of the patterns, the patterns, and the
-# prepared search; and at the end a sum of all that.
+# A file of a searcher: these words first, the kind, whether case is ignored, whether the patterns are str, their
+# number, their length and the length of the prepared search; then the ends of the patterns, the patterns, the prepared
+# search; and at the end a checksum.
 _HEAD, _MAGIC, _SUM = struct.Struct("=8s6Q"), b"LITERAL1", struct.Struct("=L")
 
 
 class Search(_native.Prepared[AnyStr]):
-    """Searches for any number of patterns, none of them empty. Without a pattern it finds nothing, in any text. Of a
-    mapping, it searches for the keys, and `value` of each match is what the mapping gives for its pattern.
+    """Searches for any number of patterns, none of them empty. Without patterns it finds nothing. If the patterns are a
+    mapping, it searches for the keys, and `value` of each match is the mapping's value for its pattern.
 
-    With `ignore_case` A to Z are the same as a to z, in a str too; all other characters are themselves. A searcher
-    never changes, so threads may share one. In a long text, the other threads of Python run while the library searches,
-    and signals are looked for. Until a call returns its text can be neither resized nor closed, and no other thread may
-    write into it.
+    With `ignore_case` A to Z equal a to z, in a str too; all other characters are compared as they are. A searcher
+    never changes, so threads may share one. While the library searches a long text, Python's other threads run, and
+    signals are handled. Until a call returns, its text can be neither resized nor closed, and no other thread may write
+    to it.
 
     Raises ValueError if a pattern is empty or has a lone surrogate, MemoryError, and OverflowError if the table of the
-    search would have 2^31 places. Raises TypeError for a set with Kind.LEFTMOST_FIRST: the order of the patterns decides
-    what is found, and a set has none. Each call raises TypeError for what is no text, or one of the other type, BufferError
-    for a view with gaps or an array of objects, and ValueError for a str with a lone surrogate.
+    search would have 2^31 places or more. Raises TypeError for a set with Kind.LEFTMOST_FIRST: the order of the
+    patterns decides what is found, and a set has no order. Each call raises TypeError for an argument that is no text
+    or of the other type, BufferError for a view with gaps or an array of objects, and ValueError for a str with a lone
+    surrogate.
 
     >>> Search([b"ab", b"abcd"], Kind.LEFTMOST_LONGEST).find(b"xabcd")
     Match(pattern=1, start=1, end=5)
@@ -105,7 +106,7 @@ class Search(_native.Prepared[AnyStr]):
     def __init__(
         self, patterns: Iterable[Any], kind: Kind = Kind.LEFTMOST_FIRST, ignore_case: bool = False
     ) -> None:
-        if isinstance(kind, bool):  # (else it would be taken for the number of a kind)
+        if isinstance(kind, bool):  # (else it would count as the number of a kind)
             raise TypeError("the kind is a Kind, not a bool")
         if isinstance(patterns, (set, frozenset)) and kind == Kind.LEFTMOST_FIRST:
             raise TypeError("a set has no order, by which Kind.LEFTMOST_FIRST chooses: take a list, or LEFTMOST_LONGEST")
@@ -122,7 +123,7 @@ class Search(_native.Prepared[AnyStr]):
 
     @property
     def kind(self) -> Kind:
-        """Which of the patterns that match at one place is taken."""
+        """Which pattern wins if several match at one position."""
         return Kind(self._kind)
 
     @overload
@@ -136,8 +137,8 @@ class Search(_native.Prepared[AnyStr]):
     ) -> Iterator[Match[bytes]]: ...
 
     def finditer_earliest(self, text: Any, start: "_Offset" = 0, end: "_Offset" = None) -> Iterator[Match[Any]]:
-        """Gives what `find_earliest` finds in text[start:end], then what it finds from the end of that on, and so on. It
-        goes over all that occurs, as `finditer_overlapping` does, once.
+        """Yields what `find_earliest` finds in text[start:end], then what it finds from the end of that match on, and
+        so on. It goes once over every occurrence, like `finditer_overlapping`.
 
         >>> [it.span() for it in Search(["abcd", "bc", "d"]).finditer_earliest("abcd")]
         [(1, 3), (3, 4)]
@@ -152,7 +153,7 @@ class Search(_native.Prepared[AnyStr]):
     def find_each(self: "Search[bytes]", texts: "Iterable[ReadableBuffer]") -> List[Optional[Match[bytes]]]: ...
 
     def find_each(self, texts: Iterable[Any]) -> List[Optional[Match[Any]]]:
-        """The leftmost match of each text, or None. Offsets are in the text of the match.
+        """The leftmost match of each text, or None. Offsets are in that text.
 
         >>> Search(["ERROR", "WARN"]).find_each(["a WARN", "fine", "ERROR"])
         [Match(pattern=1, start=2, end=6), None, Match(pattern=0, start=0, end=5)]
@@ -167,7 +168,7 @@ class Search(_native.Prepared[AnyStr]):
     def findall_each(self: "Search[bytes]", texts: "Iterable[ReadableBuffer]") -> List[List[Match[bytes]]]: ...
 
     def findall_each(self, texts: Iterable[Any]) -> List[List[Match[Any]]]:
-        """All matches of each text, as `findall` lists them.
+        """The list of all matches of each text, by `findall`.
 
         >>> Search(["a"]).findall_each(["b", "ab"])
         [[], [Match(pattern=0, start=0, end=1)]]
@@ -176,14 +177,13 @@ class Search(_native.Prepared[AnyStr]):
         return [findall(it) for it in _many(texts)]
 
     def finditer_stream(self, file: "SupportsRead[Optional[AnyStr]]") -> Iterator[Match[AnyStr]]:
-        """Gives all matches in what a file gives up to its end, as `finditer` does in all of it, whatever pieces it
-        comes in: its offsets are in the whole, and each match has a copy of what was matched. The file has a method
-        `read`, which is asked for 128 KiB at a time, or as many characters. Of the text is kept what `read` gave last,
-        and in front of that twice as many bytes as the longest pattern has, at most. A match is given once that pattern
-        would fit in behind its start.
+        """Yields all matches in a file, up to its end, as `finditer` does in the whole text, whatever pieces it comes
+        in. Offsets are in the whole text, and each match has a copy of the matched part. The file's method `read` is
+        called for 128 KiB at a time, or as many characters. The last read is kept, and before it at most twice as many
+        bytes as the longest pattern has. A match is yielded once that pattern would fit after its start.
 
-        What `read` raises, passes through. A file that does not wait, and has nothing, raises BlockingIOError. Either
-        ends the iteration, behind the matches that are known.
+        Exceptions of `read` pass through. A non-blocking file without data raises BlockingIOError. Either ends the
+        iteration, after the matches that are known.
 
         >>> from io import BytesIO
         >>> [it.span() for it in Search([b"secret"]).finditer_stream(BytesIO(b"a secret secret"))]
@@ -192,7 +192,7 @@ class Search(_native.Prepared[AnyStr]):
         return chain.from_iterable(_stream.searched(self, file, _stream.MATCHES))
 
     def count_stream(self, file: "SupportsRead[Optional[AnyStr]]") -> int:
-        """How many matches `finditer_stream` gives.
+        """The number of matches that `finditer_stream` yields.
 
         >>> from io import StringIO
         >>> Search(["a"]).count_stream(StringIO("banana"))
@@ -204,9 +204,9 @@ class Search(_native.Prepared[AnyStr]):
     def sub_stream(
         self, file: "SupportsRead[Optional[AnyStr]]", out: "SupportsWrite[AnyStr]", replacement: "_Replacement[AnyStr]"
     ) -> None:
-        """Writes what a file gives to another one, with each match replaced as by `sub`. What is known is written as
-        soon as it is. Where an error comes, of the files or of a function, some of the text is written. What is written
-        to, has to write all that it is given, as each file does that has a buffer.
+        """Copies a file to another one, with each match replaced as by `sub`, and writes text as soon as it is final.
+        After an error, of the files or of a function, some of the text is written. The output's `write` must write all
+        of its argument, as every buffered file does.
 
         >>> from io import StringIO
         >>> Search(["cat", "dog"]).sub_stream(StringIO("cat and dog"), out := StringIO(), ["dog", "cat"])
@@ -217,10 +217,10 @@ class Search(_native.Prepared[AnyStr]):
             out.write(part)
 
     def save(self, path: "StrPath") -> None:
-        """Writes the searcher into a file, ready to search. A link is followed. A file that is there already is
-        replaced when all is written, and its mode stays. What is no regular file, as a FIFO, is written into.
+        """Writes the searcher into a file, ready to search. A link is followed. An existing file is replaced when all
+        is written, and keeps its mode. Other than regular files, such as a FIFO, are written to.
 
-        Raises TypeError for a searcher of a mapping: its values can be anything, and pickle knows how to keep them.
+        Raises TypeError for a searcher of a mapping: its values can be any objects, which pickle can keep.
         """
         if self._values is not None:
             raise TypeError("a searcher of a mapping is not saved: pickle it, or save one of its patterns alone")
@@ -238,10 +238,10 @@ class Search(_native.Prepared[AnyStr]):
 
     @classmethod
     def load(cls: Type[_Any], path: "StrPath") -> _Any:
-        """The searcher that `save` wrote into a file, without building its search again. What happens to a file by
-        accident is noticed; one that somebody forged may answer wrongly, and does nothing worse.
+        """The searcher that `save` wrote into a file, without building its search again. Accidental damage is noticed;
+        a forged file may lead to wrong answers, and to nothing worse.
 
-        Raises ValueError if the file is damaged, or was written by another version or machine.
+        Raises ValueError if the file is damaged, or from another version or machine.
         """
         with open(path, "rb") as file:
             read = _read(file.read())
@@ -278,14 +278,14 @@ class Search(_native.Prepared[AnyStr]):
 
 
 def _made(cls: Type[_Any], patterns: Iterable[Any], kind: Kind, ignore_case: bool) -> _Any:
-    """A searcher of a class, whose own __init__ is not called: for pickle and copy."""
+    """A searcher of a class, without a call of its own __init__: for pickle and copy."""
     made = cls.__new__(cls)
     Search.__init__(made, patterns, kind, ignore_case)
     return made
 
 
 def _one_after_another(matches: Iterator[Match[Any]]) -> Iterator[Match[Any]]:
-    """Of matches by their ends, each that begins where the one before it ends or later."""
+    """Of matches ordered by ends, each that begins at the end of the one before, or later."""
     at = 0
     for match in matches:
         if match.start >= at:
@@ -299,7 +299,7 @@ def _are_str(searcher: "Search[Any]") -> bool:
 
 
 def _state(searcher: "Search[Any]") -> Any:
-    """What a subclass keeps in a searcher, in the form of object.__getstate__."""
+    """The attributes of a subclass, in the form of object.__getstate__."""
     names = cast(Any, copyreg)._slotnames(type(searcher))
     values = {name: getattr(searcher, name) for name in names if hasattr(searcher, name)}
     kept = getattr(searcher, "__dict__", None)
@@ -307,7 +307,7 @@ def _state(searcher: "Search[Any]") -> Any:
 
 
 def _written(searcher: "Search[Any]") -> bytes:
-    """The file of a searcher, but for its sum."""
+    """The file of a searcher, without its checksum."""
     pieces = [_encoded(it) for it in searcher.patterns]
     ends, kept = list(accumulate(map(len, pieces))), searcher._prepared
     lens = len(pieces), sum(map(len, pieces)), len(kept)
@@ -316,7 +316,7 @@ def _written(searcher: "Search[Any]") -> bytes:
 
 
 def _replace(name: str, whole: bytes, mode: Optional[int]) -> None:
-    """Writes a file, which takes the place of one that has this mode, if there is one, and the mode too."""
+    """Writes a file, in place of an existing one, if that has a mode, which is kept."""
     part = os.path.join(os.path.dirname(name), f".{secrets.token_hex(8)}")  # (short: the name may be as long as can be)
     made = os.open(part, os.O_WRONLY | os.O_CREAT | os.O_EXCL, 0o666 if mode is None else 0o600)
     try:
@@ -332,7 +332,7 @@ def _replace(name: str, whole: bytes, mode: Optional[int]) -> None:
 
 
 def _read(whole: bytes) -> Optional[Tuple[Tuple[Any, ...], Tuple[bytes, ...], int, bool, bytes, None]]:
-    """What `_prepare` takes, of the file that holds it."""
+    """The arguments of `_prepare` from a file of a searcher."""
     if len(whole) < _HEAD.size + _SUM.size or _SUM.pack(zlib.crc32(whole[: -_SUM.size])) != whole[-_SUM.size :]:
         return None
     magic, kind, ignore_case, is_str, count, size, prepared = _HEAD.unpack_from(whole)
@@ -349,12 +349,12 @@ def _read(whole: bytes) -> Optional[Tuple[Tuple[Any, ...], Tuple[bytes, ...], in
 
 
 def _has_objects(view: memoryview) -> bool:
-    """Whether its items are objects, or have fields of them: the names of fields stand between colons."""
+    """Whether its items are objects, or have fields that are: the names of fields are between colons."""
     return "O" in "".join(view.format.split(":")[::2])
 
 
 def _encoded(pattern: Union[str, bytes]) -> bytes:
-    """The bytes by which a pattern is searched for."""
+    """The bytes of a pattern."""
     try:
         return str.encode(pattern) if isinstance(pattern, str) else pattern  # (not by a method of a subclass)
     except UnicodeEncodeError:
@@ -362,7 +362,7 @@ def _encoded(pattern: Union[str, bytes]) -> bytes:
 
 
 def _many(of: Iterable[Any]) -> Iterable[Any]:
-    """Patterns or texts, also an array of objects. One text is refused: it would be taken for its characters."""
+    """Patterns or texts, also an array of objects. A single text is refused: it would count as its characters."""
     try:
         if _has_objects(memoryview(cast(Any, of))):
             return of

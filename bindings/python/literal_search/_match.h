@@ -116,7 +116,7 @@ static PyObject *match_span(PyObject *of, PyObject *unused) {
 }
 
 PyDoc_STRVAR(group_doc, "group($self, /)\n--\n\n"
-"What was matched, as str or bytes. Of a text that can be changed it reads the bytes as they are now.");
+"The matched part, as str or bytes. From a mutable text it reads the bytes as they are now.");
 
 static PyObject *match_group(PyObject *of, PyObject *unused) {
     PyObject **items = items_of(of), *text = items[WHOLE_TEXT], *group = NULL;
@@ -157,15 +157,15 @@ static PyMethodDef match_methods[] = {
 
 static PyGetSetDef match_members[] = {
     {"pattern", match_shown, NULL, "The number of its pattern.", (void *)PATTERN},
-    {"start", match_shown, NULL, "The offset at which it begins.", (void *)START},
-    {"end", match_shown, NULL, "The offset behind its end.", (void *)END},
-    {"value", match_value, NULL, "What a mapping gives for its pattern, and without a mapping the pattern.", NULL},
+    {"start", match_shown, NULL, "The offset of its start.", (void *)START},
+    {"end", match_shown, NULL, "The offset after its end.", (void *)END},
+    {"value", match_value, NULL, "The mapping's value for its pattern, or without a mapping the pattern.", NULL},
     {0},
 };
 
 PyDoc_STRVAR(match_doc, "Match(pattern, start, end, group=None, value=None)\n--\n\n"
-"A match: the number of its pattern, the offset at which it begins, and the one behind its end. In a str offsets\n"
-"count characters, in any other text bytes. It equals the tuple of the three, and holds the text it was found in.");
+"A match: the number of its pattern, and the offsets of its start and after its end. In a str offsets count\n"
+"characters, in other texts bytes. It equals the tuple of the three, and keeps its text alive.");
 
 static PyTypeObject match_type = {
     PyVarObject_HEAD_INIT(NULL, 0)

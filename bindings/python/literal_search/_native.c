@@ -109,9 +109,8 @@ static PyObject *search_is_match(PyObject *self, PyObject *const *given, Py_ssiz
 }
 
 PyDoc_STRVAR(find_earliest_doc, "find_earliest($self, /, text, start=0, end=None)\n--\n\n"
-"Of everything that occurs in text[start:end] what ends first, and of several patterns that end there the one that\n"
-"stands first in the list; or None. The kind plays no part. The first call prepares a search, as `find_overlapping`\n"
-"does.");
+"The occurrence in text[start:end] that ends first, and of several patterns that end there the earliest in the list;\n"
+"or None. The kind plays no part. The first call prepares a search, like `find_overlapping`.");
 
 static PyObject *search_find_earliest(PyObject *self, PyObject *const *given, Py_ssize_t count, PyObject *names) {
     return first_of((Prepared *)self, given, count, names, THE_EARLIEST);
@@ -144,16 +143,15 @@ static PyObject *all_of(Prepared *self, PyObject *const *given, Py_ssize_t count
 }
 
 PyDoc_STRVAR(findall_doc, "findall($self, /, text, start=0, end=None)\n--\n\n"
-"The list of all matches in text[start:end], from the left, none of which overlaps another.");
+"The list of all matches in text[start:end], from the left, without overlaps.");
 
 static PyObject *search_findall(PyObject *self, PyObject *const *given, Py_ssize_t count, PyObject *names) {
     return all_of((Prepared *)self, given, count, names, false);
 }
 
 PyDoc_STRVAR(find_overlapping_doc, "find_overlapping($self, /, text, start=0, end=None)\n--\n\n"
-"The list of every occurrence of every pattern in text[start:end], those that overlap others too, in the order of\n"
-"their ends and, at one end, of their patterns. The kind plays no part. The first call prepares a search for it, which\n"
-"the searcher keeps.");
+"The list of every occurrence of every pattern in text[start:end], overlapping ones too, ordered by ends and then by\n"
+"patterns. The kind plays no part. The first call prepares a search for it, which the searcher keeps.");
 
 static PyObject *search_find_overlapping(PyObject *self, PyObject *const *given, Py_ssize_t count, PyObject *names) {
     return all_of((Prepared *)self, given, count, names, true);
@@ -181,14 +179,14 @@ static PyObject *count_of(Prepared *self, PyObject *const *given, Py_ssize_t cou
 }
 
 PyDoc_STRVAR(count_doc, "count($self, /, text, start=0, end=None)\n--\n\n"
-"How many matches `findall` gives, without a list of them.");
+"The number of matches that `findall` lists, without a list of them.");
 
 static PyObject *search_count(PyObject *self, PyObject *const *given, Py_ssize_t count, PyObject *names) {
     return count_of((Prepared *)self, given, count, names, false);
 }
 
 PyDoc_STRVAR(count_overlapping_doc, "count_overlapping($self, /, text, start=0, end=None)\n--\n\n"
-"How many occurrences `find_overlapping` gives, without a list of them.");
+"The number of occurrences that `find_overlapping` lists, without a list of them.");
 
 static PyObject *search_count_overlapping(PyObject *self, PyObject *const *given, Py_ssize_t count, PyObject *names) {
     return count_of((Prepared *)self, given, count, names, true);
@@ -214,16 +212,16 @@ static PyObject *iterator_of(Prepared *self, PyObject *const *given, Py_ssize_t 
 }
 
 PyDoc_STRVAR(finditer_doc, "finditer($self, /, text, start=0, end=None)\n--\n\n"
-"Gives what `findall` lists, one match after another. From this call on, before the first match is asked for, and\n"
-"until the iterator is at its end or gone, the text is held: it can be neither resized nor closed. Some thousands of\n"
-"matches are found ahead: do not write into the text in the meantime.");
+"Yields the matches that `findall` lists. From this call on, even before the first match, until the iterator is at\n"
+"its end or gone, the text can be neither resized nor closed. Some thousands of matches are found ahead: do not write\n"
+"to the text in the meantime.");
 
 static PyObject *search_finditer(PyObject *self, PyObject *const *given, Py_ssize_t count, PyObject *names) {
     return iterator_of((Prepared *)self, given, count, names, false);
 }
 
 PyDoc_STRVAR(finditer_overlapping_doc, "finditer_overlapping($self, /, text, start=0, end=None)\n--\n\n"
-"Gives what `find_overlapping` lists, one occurrence after another, and holds the text as `finditer` does.");
+"Yields the occurrences that `find_overlapping` lists, and holds the text like `finditer`.");
 
 static PyObject *search_finditer_overlapping(PyObject *self, PyObject *const *given, Py_ssize_t count, PyObject *names) {
     return iterator_of((Prepared *)self, given, count, names, true);
@@ -255,9 +253,9 @@ static PyObject *text_replaced(Prepared *self, PyObject *const *given, Py_ssize_
 }
 
 PyDoc_STRVAR(sub_doc, "sub($self, /, replacement, text, count=0)\n--\n\n"
-"The text with each match replaced: by the replacement, by the one of a list that has the pattern's number, or by what\n"
-"a function answers that is given the match. If `count` is not 0, at most so many matches are replaced, from the left.\n"
-"What a function does to the text meanwhile changes nothing in the answer.");
+"The text with each match replaced: by the replacement, by the item of a list at the pattern's number, or by the\n"
+"result of a function of the match. If `count` is not 0, at most `count` matches are replaced, from the left. If a function\n"
+"changes the text meanwhile, the answer is the same.");
 
 static PyObject *search_sub(PyObject *self, PyObject *const *given, Py_ssize_t count, PyObject *names) {
     size_t done;
@@ -265,7 +263,7 @@ static PyObject *search_sub(PyObject *self, PyObject *const *given, Py_ssize_t c
 }
 
 PyDoc_STRVAR(subn_doc, "subn($self, /, replacement, text, count=0)\n--\n\n"
-"What `sub` answers, and how many matches were replaced.");
+"The result of `sub`, and the number of replaced matches.");
 
 static PyObject *search_subn(PyObject *self, PyObject *const *given, Py_ssize_t count, PyObject *names) {
     size_t done;
@@ -274,8 +272,8 @@ static PyObject *search_subn(PyObject *self, PyObject *const *given, Py_ssize_t 
 }
 
 PyDoc_STRVAR(split_doc, "split($self, /, text, maxsplit=0)\n--\n\n"
-"What stands before, between and behind the matches. If `maxsplit` is not 0, the text is split at so many matches at\n"
-"most, from the left.");
+"The text before, between and after the matches. If `maxsplit` is not 0, the text is split at no more than `maxsplit`\n"
+"matches, from the left.");
 
 static PyObject *search_split(PyObject *self, PyObject *const *given, Py_ssize_t count, PyObject *names) {
     PyObject *asked[3], *parts;
@@ -304,8 +302,9 @@ static PyObject *wanted_of(Walk *walk, int wanted, PyObject *replacement) {
 }
 
 PyDoc_STRVAR(so_far_doc, "_so_far($self, part, start, before, more, wanted, replacement, /)\n--\n\n"
-"What is known of part[start:], where so much of the text came before the part, and more may follow: what is wanted,\n"
-"up to which offset in the part that is so, and whether no more is known. Of matches it lists some thousands at once.");
+"The known answer for part[start:], where `before` counts the text before the part, and more may follow: the wanted\n"
+"answer, the offset in the part up to which it holds, and whether no more is known. It lists some thousands of\n"
+"matches at once.");
 
 static PyObject *search_so_far(PyObject *of, PyObject *given) {
     PyObject *part, *start, *replacement, *answer;
@@ -399,8 +398,8 @@ static bool has_one_each(PyObject *of, size_t count) {
 }
 
 PyDoc_STRVAR(prepare_doc, "_prepare($self, patterns, pieces, kind, ignore_case, kept, values, /)\n--\n\n"
-"Sets the patterns, whose bytes are the pieces. Kept is what `_prepared` was of a searcher for the same, or None. The\n"
-"values are what a mapping gives for each, or None.");
+"Sets the patterns, whose bytes are the pieces. `kept` is `_prepared` of a searcher for the same patterns, or None.\n"
+"`values` has a mapping's value for each pattern, or is None.");
 
 static PyObject *search_prepare(PyObject *of, PyObject *given) {
     Prepared *self = (Prepared *)of, new = {.takes = TAKES_EITHER};
@@ -438,7 +437,7 @@ static PyObject *search_prepare(PyObject *of, PyObject *given) {
 }
 
 PyDoc_STRVAR(plain_bytes_doc, "plain_bytes(of, name, /)\n--\n\n"
-"The bytes of what is called a pattern or a replacement.");
+"The bytes of a pattern or a replacement, as `name` says.");
 
 static PyObject *module_plain_bytes(PyObject *unused, PyObject *given) {
     PyObject *of;

@@ -7,12 +7,12 @@ if TYPE_CHECKING:
 
 BLOCK = 1 << 17
 
-# What is wanted of each part of a text: its matches, how many they are, or the part with each replaced.
+# The answer for each part of a text: its matches, their number, or the part with each match replaced.
 MATCHES, COUNT, REPLACED = range(3)
 
 
 def read(file: Any) -> Tuple[Any, Optional[Exception]]:
-    """What a file gives next, as str or bytes, and at its end nothing; or why it gives none."""
+    """The next piece of a file, as str or bytes, empty at its end; or the exception."""
     try:
         piece = file.read(BLOCK)
         if piece is None:
@@ -23,9 +23,9 @@ def read(file: Any) -> Tuple[Any, Optional[Exception]]:
 
 
 def searched(searcher: "Prepared[Any]", file: Any, wanted: int, by: Any = None) -> Iterator[Any]:
-    """What is wanted of each part of a text, up to its end. Of a part there is kept where a match may begin that ends
-    behind it. Then as much is read as was kept, at least: so nothing is searched more than twice. Where the file fails,
-    what was read is searched first."""
+    """The wanted answer for each part of a text, up to its end. The bytes of a part are kept where a match may begin
+    that ends after it. Then at least as much is read as was kept, so nothing is searched more than twice. If the file
+    fails, the text before is searched first."""
     pieces: List[Any] = []
     kept = length = before = 0
     more = True

@@ -1,13 +1,13 @@
-"""By which rule the searches choose, and what they answer with."""
+"""The kinds of match, and the match."""
 import enum
 
 from ._native import Match as Match
 
 
 class Kind(enum.IntEnum):
-    """Which of the patterns that match at one place is taken."""
+    """Which pattern wins if several match at one position."""
 
-    #: the one that stands first in the list
+    #: the earliest in the list
     LEFTMOST_FIRST = 0
-    #: the longest, and of several equally long ones the one that stands first in the list
+    #: the longest, and of several equally long ones the earliest in the list
     LEFTMOST_LONGEST = 1

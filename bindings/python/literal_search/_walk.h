@@ -15,7 +15,7 @@ enum {
     PIECE = 1 << 20,      /* bytes of a piece, unless the longest pattern is much longer */
     FIRST_PAGE = 32,      /* room for so many matches at first */
     LARGEST_PAGE = 4096,  /* and for so many later */
-    READ_AHEAD = 1 << 22, /* bytes that the matches of a page may be looked at beyond their ends, all together */
+    READ_AHEAD = 1 << 22, /* bytes of the longest pattern, summed over the matches of a page */
     TAIL = 1 << 9,        /* so many bytes in front of a piece tell whether a long pattern may have begun */
     MOST_ROOM = 1 << 15   /* room for so many occurrences, unless a page would go back further than it goes on */
 };
@@ -36,8 +36,8 @@ typedef struct {
 
 /* ---- How far a call of the library goes ---- */
 
-/* How many bytes a search goes on at once. Behind them a call reads as many as the longest pattern has, or before them
- * in a search for all that occurs: so each byte is read at most five times over. */
+/* How many bytes a search goes on at once. After them a call reads as many as the longest pattern has, or before them
+ * in a search for every occurrence: so at most five calls get each byte. */
 static size_t piece_len(const Prepared *search) {
     return search->pieces.longest / 4 > PIECE ? search->pieces.longest / 4 : PIECE;
 }
@@ -58,8 +58,8 @@ static size_t cut_piece(const Prepared *search, size_t at, size_t end, size_t *p
     return *piece_end == end ? end : cut;
 }
 
-/* How many matches to find at once. With a long pattern they are fewer, since behind each match the library may look as
- * far ahead. */
+/* How many matches to find at once: fewer with long patterns, since with one of more than 1,024 bytes the library looks
+ * up to 18 times as far after each match. */
 static size_t most_matches(const Prepared *search, size_t wanted) {
     size_t most = READ_AHEAD / (search->pieces.longest + 1);
     return most < 2 ? 1 : most < wanted ? most : wanted;

@@ -1,19 +1,18 @@
-//! What a search finds, one after another.
+//! Iterators over matches.
 use crate::declared::Page;
 use crate::library::Prepared;
 use crate::{Match, Span};
 use std::fmt;
 use std::iter::FusedIterator;
 
-/// For how many matches there is room at first, then, and at most in pages of matches that do not overlap. Behind the
-/// last match of a page the library looks up some 2,000 bytes or fewer, which the next page looks up again. So larger
-/// pages look up fewer bytes twice, and a small one is enough for short texts, and for whoever takes the first match
-/// and no more.
+/// Room for matches: at first, then, and at most in pages of matches that do not overlap. After the last match of a
+/// page the library looks up some 2,000 bytes (more, if a pattern has more than 1,024), which the next page looks up
+/// again. So larger pages look up fewer bytes twice. A small page suffices for short texts, and for the first match.
 const FEW: usize = 4;
 const MANY: usize = 64;
 const MOST: usize = 1024;
 
-/// For how many bytes all that occurs is asked for at once, first and later.
+/// The length of the parts that are searched for every occurrence, first and later.
 const FIRST_PART: usize = 256;
 const PART: usize = 4096;
 
@@ -24,7 +23,7 @@ pub struct FindIter<'a, 'h>(Way<'a, 'h>);
 #[derive(Clone, Debug)]
 enum Way<'a, 'h> {
     Leftmost(Pages<'a, 'h>),
-    /// Of all that occurs, in the order of ends, what begins behind the match before.
+    /// Of all occurrences, in the order of ends, each that begins after the match before.
     Standard(FindOverlappingIter<'a, 'h>),
 }
 
@@ -57,7 +56,7 @@ impl Iterator for FindIter<'_, '_> {
 
 impl FusedIterator for FindIter<'_, '_> {}
 
-/// Places for matches, in memory of its own only once a few are not enough.
+/// Places for matches, allocated only once a few are not enough.
 #[derive(Clone)]
 struct Room {
     few: [Match; FEW],
@@ -90,7 +89,7 @@ impl Room {
 struct Pages<'a, 'h> {
     prepared: &'a Prepared,
     haystack: &'h [u8],
-    /// What is still to be searched.
+    /// The part that is still to be searched.
     rest: Span,
     room: Room,
     written: usize,
@@ -113,7 +112,7 @@ impl<'a, 'h> Pages<'a, 'h> {
         found
     }
 
-    /// Takes the next page, with more room than one that was full.
+    /// Finds the next page, with more room after a full one.
     fn turn(&mut self) {
         if self.written > 0 && self.room.many.len() < MOST {
             self.room.grow();
@@ -131,20 +130,20 @@ impl fmt::Debug for Pages<'_, '_> {
     }
 }
 
-/// Everything that occurs, of [`AhoCorasick::find_overlapping_iter`](crate::AhoCorasick::find_overlapping_iter).
+/// Every occurrence, of [`AhoCorasick::find_overlapping_iter`](crate::AhoCorasick::find_overlapping_iter).
 ///
-/// The haystack is searched in parts. What ends in a part is found in the bytes from the longest pattern before it on:
-/// there what begins in an earlier part lies whole. A part is longer than that, so that all together take a time that
-/// goes with the haystack and with what occurs there, however long patterns are.
+/// The haystack is searched in parts. To find the occurrences that end in a part, the search begins the length of the
+/// longest pattern before it, so that occurrences from earlier parts lie whole in the searched bytes. Parts become
+/// longer than that pattern, so the time is linear in the haystack and its occurrences, however long patterns are.
 #[derive(Clone)]
 pub struct FindOverlappingIter<'a, 'h> {
     prepared: &'a Prepared,
     longest: usize,
     haystack: &'h [u8],
     span: Span,
-    /// What begins before this may be left out.
+    /// Occurrences that begin before this may be left out.
     from: usize,
-    /// What ends up to here has been found, and stands in the room or was given before.
+    /// Occurrences that end up to here are found: they are in the room, or were given before.
     reached: usize,
     part: usize,
     room: Room,
@@ -158,7 +157,7 @@ impl<'a, 'h> FindOverlappingIter<'a, 'h> {
         FindOverlappingIter { prepared, longest, haystack, span, from, reached, part, room, written: 0, given: 0 }
     }
 
-    /// Finds what ends in the next part, or in the front of it that a page has room for.
+    /// Finds the occurrences that end in the next part, or in as much of it as a page has room for.
     fn turn(&mut self) {
         if self.written > 0 && self.room.many.is_empty() {
             self.room.grow();
@@ -175,8 +174,8 @@ impl<'a, 'h> FindOverlappingIter<'a, 'h> {
         self.part = (2 * self.part).min(PART.max(self.longest.saturating_mul(4)));
     }
 
-    /// Takes a page of what occurs in a span. It grows until it has all, or goes farther behind what was reached than
-    /// the span begins before that, so that not much is read again.
+    /// Finds a page of occurrences in a span. It grows until it has all, or goes farther beyond `reached` than the span
+    /// begins before it, so that not much is read again.
     fn fill(&mut self, span: Span) -> Page {
         let least = 2 * self.reached - span.start;
         loop {
@@ -189,7 +188,7 @@ impl<'a, 'h> FindOverlappingIter<'a, 'h> {
     }
 }
 
-/// Puts the longest first of matches that end at one place, and of equal patterns the first in the list.
+/// Sorts matches with one end: the longest first, and of equal patterns the first in the list.
 fn put_longest_first(matches: &mut [Match]) {
     let mut at = 0;
     while at < matches.len() {

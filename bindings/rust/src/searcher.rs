@@ -1,4 +1,4 @@
-//! The searcher, and how it is built.
+//! The searcher and its builder.
 use crate::library::Prepared;
 use crate::pieces::Pieces;
 use crate::stream::{Room, StreamFindIter, Window, MOST};
@@ -25,11 +25,11 @@ struct Parts {
 }
 
 impl AhoCorasick {
-    /// A searcher for some patterns by [`MatchKind::Standard`], with case kept. Without a pattern it finds nothing.
+    /// A searcher for some patterns by [`MatchKind::Standard`], with case kept. Without patterns it finds nothing.
     ///
     /// # Errors
     ///
-    /// As [`AhoCorasickBuilder::build`].
+    /// Like [`AhoCorasickBuilder::build`].
     ///
     /// ```
     /// use literal_search::{AhoCorasick, Match};
@@ -47,12 +47,12 @@ impl AhoCorasick {
         AhoCorasick::builder().build(patterns)
     }
 
-    /// A builder, by which the kind of match is set, and whether ASCII case is ignored.
+    /// A builder, which sets the kind of match, and whether to ignore ASCII case.
     pub fn builder() -> AhoCorasickBuilder {
         AhoCorasickBuilder::new()
     }
 
-    /// Whether a pattern occurs. It searches no further than it has to.
+    /// Whether a pattern occurs. The search stops at the first match.
     ///
     /// ```
     /// use literal_search::AhoCorasick;
@@ -93,10 +93,10 @@ impl AhoCorasick {
         }
     }
 
-    /// All matches that do not overlap: first that of [`AhoCorasick::find`], and then of what lies behind each.
+    /// All matches that do not overlap: first that of [`AhoCorasick::find`], and then the first after each match.
     ///
-    /// By a leftmost kind it takes memory for at most 1,024 matches, and none if there are few. By the standard one all
-    /// that occurs is found, as [`AhoCorasick::find_overlapping_iter`] finds it, and what overlaps is passed over.
+    /// By a leftmost kind it allocates room for at most 1,024 matches, and none if there are few. The standard kind
+    /// finds every occurrence, like [`AhoCorasick::find_overlapping_iter`], and skips those that overlap.
     ///
     /// ```
     /// use literal_search::AhoCorasick;
@@ -114,15 +114,15 @@ impl AhoCorasick {
         }
     }
 
-    /// Everything that occurs, also what overlaps or stands within other matches: in the order of ends, at one end the
-    /// longest first, and of equal patterns the first in the list.
+    /// Every occurrence, also overlapping and nested ones: ordered by ends, at one end the longest first, and of equal
+    /// patterns the first in the list.
     ///
-    /// It takes memory once, for 64 matches, and none if there are few; or more, where more occurs in twice as many bytes
-    /// as the longest pattern has.
+    /// It allocates once, for 64 matches, and not at all if there are few; or for more, if more occur within twice the
+    /// length of the longest pattern.
     ///
     /// # Panics
     ///
-    /// Where the kind of match is not [`MatchKind::Standard`].
+    /// If the kind of match is not [`MatchKind::Standard`].
     ///
     /// ```
     /// use literal_search::{AhoCorasick, Match};
@@ -142,11 +142,11 @@ impl AhoCorasick {
         FindOverlappingIter::new(&self.parts.prepared, self.parts.longest, input.haystack(), input.searched())
     }
 
-    /// The haystack with each match replaced by what the list has at the number of its pattern.
+    /// The haystack with each match replaced by the list's item at the number of its pattern.
     ///
     /// # Panics
     ///
-    /// Where the list has not as many replacements as there are patterns.
+    /// If the list does not have one replacement for each pattern.
     ///
     /// ```
     /// use literal_search::AhoCorasick;
@@ -165,11 +165,11 @@ impl AhoCorasick {
         replaced
     }
 
-    /// As [`AhoCorasick::replace_all`], in bytes.
+    /// Like [`AhoCorasick::replace_all`], for bytes.
     ///
     /// # Panics
     ///
-    /// Where the list has not as many replacements as there are patterns.
+    /// If the list does not have one replacement for each pattern.
     pub fn replace_all_bytes<B: AsRef<[u8]>>(&self, haystack: &[u8], replace_with: &[B]) -> Vec<u8> {
         self.assert_one_for_each(replace_with);
         let mut replaced = Vec::with_capacity(haystack.len());
@@ -185,10 +185,10 @@ impl AhoCorasick {
         assert!(given == wanted, "there are {given} replacements for {wanted} patterns");
     }
 
-    /// Appends the haystack to `dst`, with what the function appends in the place of each match. It is given the match,
-    /// the text there, and `dst`, and answers whether to go on: after `false` the rest is appended as it stands.
+    /// Appends the haystack to `dst`; the function appends the replacement of each match. Its arguments are the match,
+    /// the matched text, and `dst`. It returns whether to go on: after `false` the rest is appended unchanged.
     ///
-    /// A match that cuts a character stays in the text, as one of a pattern that is not UTF-8 may.
+    /// A match that cuts a character, possible for a pattern that is not UTF-8, stays in the text.
     ///
     /// ```
     /// use literal_search::AhoCorasick;
@@ -218,7 +218,7 @@ impl AhoCorasick {
         dst.push_str(&haystack[at..]);
     }
 
-    /// As [`AhoCorasick::replace_all_with`], in bytes, where each match is replaced.
+    /// Like [`AhoCorasick::replace_all_with`], for bytes, where each match is replaced.
     pub fn replace_all_with_bytes<F>(&self, haystack: &[u8], dst: &mut Vec<u8>, mut replace_with: F)
     where
         F: FnMut(&Match, &[u8], &mut Vec<u8>) -> bool,
@@ -234,14 +234,14 @@ impl AhoCorasick {
         dst.extend_from_slice(&haystack[at..]);
     }
 
-    /// All matches in what a reader gives, as [`AhoCorasick::find_iter`] gives them of all of it, whatever pieces it
-    /// comes in, with offsets in the whole. Of the text are kept fewer bytes than twice the longest pattern has, and a
-    /// block of 64 KiB. By a leftmost kind a match is given once the longest pattern would fit in behind its start, and
-    /// by the standard one once it is read.
+    /// All matches in the text of a reader, like [`AhoCorasick::find_iter`] in the whole text, whatever pieces it comes
+    /// in, with offsets in the whole. It keeps fewer bytes than twice the longest pattern has, and a block of 64 KiB.
+    /// By a leftmost kind a match is given once the longest pattern would fit after its start, by the standard kind
+    /// once it is read.
     ///
-    /// An error of the reader comes behind all matches that are known from what was read, and is the last; one of the
-    /// kind [`Interrupted`](std::io::ErrorKind::Interrupted) is passed over. A program ends where memory for the text
-    /// is refused.
+    /// An error of the reader comes after all matches that are known from the text before it, and is the last item; the
+    /// kind [`Interrupted`](std::io::ErrorKind::Interrupted) is ignored. If memory for the text is refused, the program
+    /// ends.
     ///
     /// ```
     /// use literal_search::AhoCorasick;
@@ -258,16 +258,16 @@ impl AhoCorasick {
         StreamFindIter::new(self, rdr)
     }
 
-    /// Writes what a reader gives, with each match replaced by what the list has at the number of its pattern. It keeps
+    /// Writes the text of a reader, with each match replaced by the list's item at the number of its pattern. It keeps
     /// as much as [`AhoCorasick::stream_find_iter`], and does not flush the writer.
     ///
     /// # Errors
     ///
-    /// Those of the reader and the writer, behind what is known by then.
+    /// Errors of the reader and the writer, after the text that is known by then.
     ///
     /// # Panics
     ///
-    /// Where the list has not as many replacements as there are patterns.
+    /// If the list does not have one replacement for each pattern.
     ///
     /// ```
     /// use literal_search::AhoCorasick;
@@ -287,12 +287,12 @@ impl AhoCorasick {
         self.stream_replace_all_with(rdr, wtr, |found, _, to| to.write_all(replace_with[found.pattern()].as_ref()))
     }
 
-    /// As [`AhoCorasick::stream_replace_all`], with what the function writes in the place of each match. It is given
-    /// the match, by its offsets in the whole, the bytes there, and the writer.
+    /// Like [`AhoCorasick::stream_replace_all`]; the function writes the replacement of each match. Its arguments are
+    /// the match, with offsets in the whole text, the matched bytes, and the writer.
     ///
     /// # Errors
     ///
-    /// Those of the reader, the writer and the function, behind what is known by then.
+    /// Errors of the reader, the writer and the function, after the text that is known by then.
     pub fn stream_replace_all_with<R, W, F>(&self, rdr: R, mut wtr: W, mut replace_with: F) -> io::Result<()>
     where
         R: Read,
@@ -318,8 +318,8 @@ impl AhoCorasick {
         }
     }
 
-    /// Finds the first matches from a place on that are known, whatever follows the haystack, or where nothing does, as
-    /// many as are wanted. Answers from which place on a search goes on, and whether no more are known.
+    /// Finds the first known matches from a place on, up to the wanted number, whatever follows the haystack, or if
+    /// nothing does. Returns where the search goes on, and whether no more are known.
     pub(crate) fn find_so_far(&self, haystack: &[u8], at: usize, more: bool, room: &mut Room) -> (usize, bool) {
         if self.parts.kind != MatchKind::Standard {
             return self.parts.prepared.find_so_far(haystack, at, more, room);
@@ -334,7 +334,7 @@ impl AhoCorasick {
         }
     }
 
-    /// Which of the occurrences is a match.
+    /// Which occurrences are matches.
     pub fn match_kind(&self) -> MatchKind {
         self.parts.kind
     }
@@ -344,12 +344,12 @@ impl AhoCorasick {
         self.parts.patterns_len
     }
 
-    /// How many bytes the shortest pattern has, and 0 where there is none.
+    /// The length of the shortest pattern, and 0 without patterns.
     pub fn min_pattern_len(&self) -> usize {
         self.parts.shortest
     }
 
-    /// How many bytes the longest pattern has, and 0 where there is none.
+    /// The length of the longest pattern, and 0 without patterns.
     pub fn max_pattern_len(&self) -> usize {
         self.parts.longest
     }
@@ -370,7 +370,7 @@ impl fmt::Debug for AhoCorasick {
     }
 }
 
-/// Builds searchers, as many as are asked for.
+/// Builds searchers.
 ///
 /// ```
 /// use literal_search::{AhoCorasick, Match, MatchKind};
@@ -389,30 +389,30 @@ pub struct AhoCorasickBuilder {
 }
 
 impl AhoCorasickBuilder {
-    /// A builder of searchers by [`MatchKind::Standard`], with case kept.
+    /// A builder with [`MatchKind::Standard`] and case kept.
     pub fn new() -> AhoCorasickBuilder {
         AhoCorasickBuilder::default()
     }
 
-    /// Sets which of the occurrences is a match.
+    /// Sets which occurrences are matches.
     pub fn match_kind(&mut self, kind: MatchKind) -> &mut AhoCorasickBuilder {
         self.kind = kind;
         self
     }
 
-    /// Sets whether A to Z are the same as a to z, in patterns and haystacks. Other letters are themselves.
+    /// Sets whether A to Z equal a to z, in patterns and haystacks. Other letters are compared as they are.
     pub fn ascii_case_insensitive(&mut self, yes: bool) -> &mut AhoCorasickBuilder {
         self.ignore_case = yes;
         self
     }
 
-    /// A searcher for some patterns, which are numbered from 0. Without a pattern it finds nothing.
+    /// A searcher for some patterns, which are numbered from 0. Without patterns it finds nothing.
     ///
     /// # Errors
     ///
-    /// Where a pattern is empty, there are more than [`PatternID::LIMIT`](crate::PatternID::LIMIT), memory is refused,
-    /// or the table of the search would have 2^31 places or more. (The last request, of some hundred bytes, is made as
-    /// Rust's collections make theirs, and ends the program where it is refused.)
+    /// If a pattern is empty, there are more than [`PatternID::LIMIT`](crate::PatternID::LIMIT), memory is refused, or
+    /// the table of the search would have 2^31 places or more. (If the last request, of some hundred bytes, is refused,
+    /// the program ends, as with Rust's collections.)
     ///
     /// ```
     /// let error = literal_search::AhoCorasick::new(["a", ""]).unwrap_err();
