@@ -4,7 +4,7 @@ ghost use Rattle.std.specs.Prelude.{◌≡◌, ◌+◌, ◌-◌, ◌*◌, ◌<�
 ghost use Rattle.std.specs.Prelude.{IfOk, IfSome, IsTrue, MatchResult, None, ⊤};
 ghost use Rattle.std.specs.Result.{IsOkAnd};
 ghost use Rattle.literal_base.specs.Occurs.{IsValidSpan, between};
-ghost use Rattle.literal_search.specs.SearchValue.{LooksFor, ScansNext};
+ghost use Rattle.literal_search.specs.SearchValue.{LooksFor, ScansNext, looked_by};
 ghost use Rattle.literal_base.specs.Leftmost.{IsLeftmost};
 ghost use Rattle.literal_search.specs.MatchesValue.{GivesMatch, place_behind};
 ghost use Rattle.literal_search.specs.Prepared.{LiesIn, longest_in};
@@ -239,6 +239,8 @@ impl<'s, 'p, 'h> PreparedMatches<'s, 'p, 'h> {
         ensures further { (self.old.known ≤ self.new.known) × (self.new.known ≤ self.old.span.end) }
         ensures others { tally.new ≡ record tally.old { scanned = tally.new.scanned } }
         ensures most { tally.new.scanned ≤ tally.old.scanned + 3 * (self.old.span.end - self.old.known) }
+        ensures looked { IfOk result (λ answer. place_behind self.old.span answer
+            ≤ looked_by (longest_in self.old.numbers) self.old.span self.new.known) }
         ensures scans { IfOk result (λ answer. ScansNext (longest_in self.old.numbers) self.old.span self.old.at
             self.old.known self.new.known answer tally.old tally.new) }
     {

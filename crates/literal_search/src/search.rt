@@ -12,7 +12,7 @@ ghost use Rattle.literal_search.specs.SearchValue.{BuildsSearch, CanBeKept, MayR
 ghost use Rattle.literal_search.specs.SearchValue.{NeedTooManyReversed, RefusesSearch, ScansNext, ScansThrice};
 ghost use Rattle.literal_search.specs.SearchValue.{ScansWithin};
 ghost use Rattle.literal_search.specs.SearchValue.{longest_of, looked_upto, reversed, shortest_of};
-ghost use Rattle.literal_search.specs.MatchesValue.{GivesMatch, most_to_come, place_behind};
+ghost use Rattle.literal_search.specs.MatchesValue.{GivesMatch, LooksOn, most_to_come, place_behind};
 ghost use Rattle.literal_search.specs.Memory.{TakesBytes};
 ghost use Rattle.literal_search.specs.Prepared.{AreShort, RefusesToPrepare, TakesPlaces, WritesPrepared, longest_in};
 ghost use Rattle.literal_search.specs.Inside.Backward.{AreBackFor, AreMarked, IsPlaced, IsSafe, back_tables_by};
@@ -639,6 +639,8 @@ impl<'s, 'h> Matches<'s, 'h> {
     /// rest.
     pub fn next_counted(&mut self, tally: &mut Tally) -> Option<Match>
         ensures gives { GivesMatch self.old result self.new }
+        ensures looks { LooksOn (longest_of self.old.search.query.patterns) self.old.span self.old.known
+            self.new.known result }
         ensures scans { ScansNext (longest_of self.old.search.query.patterns) self.old.span self.old.at self.old.known
             self.new.known result tally.old tally.new }
     {

@@ -15,7 +15,7 @@ loop-count-preserved c =
       run = (
         all ++ found ∷ [],
         c.iterations_scan_at_most.ensures.more _ _ _ all found so_far.run.1
-            (record { gives = step.gives; scans = step.scans }),
+            (record { gives = step.gives; looks = step.looks; scans = step.scans }),
         ap (λ n. n + 1) so_far.run.2 ∙ sym (length_push all found),
       );
       text_is = ap (λ m. m.haystack) step.gives.goes_on ∙ so_far.text_is;
@@ -28,7 +28,11 @@ returns-clause-count c =
     let run = c.loop-count.invariant.run in (
       run.0,
       c.iterations_scan_at_most.ensures.greedy _ _ _ run.0 run.1
-          (record { gives = c.in_default.ensures.gives; scans = c.in_default.ensures.scans }),
+          (record {
+      gives = c.in_default.ensures.gives;
+      looks = c.in_default.ensures.looks;
+      scans = c.in_default.ensures.scans;
+    }),
       run.2,
     )
 
@@ -36,14 +40,22 @@ pub returns-clause-least : goal.returns-clause-least
 returns-clause-least c =
     let run = c.loop-count.invariant.run in
     let each = (c.iterations_scan_at_most.ensures.whole _ _ _ run.0 refl refl run.1
-    (record { gives = c.in_default.ensures.gives; scans = c.in_default.ensures.scans })).0 in
+    (record {
+      gives = c.in_default.ensures.gives;
+      looks = c.in_default.ensures.looks;
+      scans = c.in_default.ensures.scans;
+    })).0 in
     omega (arith, each)
 
 pub returns-clause-bounded : goal.returns-clause-bounded
 returns-clause-bounded c =
     let run = c.loop-count.invariant.run in
     let scans = (c.iterations_scan_at_most.ensures.whole _ _ _ run.0 refl refl run.1
-    (record { gives = c.in_default.ensures.gives; scans = c.in_default.ensures.scans })).1 in
+    (record {
+      gives = c.in_default.ensures.gives;
+      looks = c.in_default.ensures.looks;
+      scans = c.in_default.ensures.scans;
+    })).1 in
     subst (λ n. ScansListAtMost c.args.search.now.query.patterns (length c.args.text.now) n c.args.tally.now
     c.next_counted.new.tally) (sym run.2)
     (record {

@@ -8,7 +8,7 @@ loop-found-preserved c =
     let step = c.in-Some.ensures in
     record {
       run = rw (sym c.in_ok-push.ensures.items) at (c.iterations_scan_at_most.ensures.more _ _ _ _ c.in-Some.found
-          so_far.run (record { gives = step.gives; scans = step.scans }));
+          so_far.run (record { gives = step.gives; looks = step.looks; scans = step.scans }));
       haystack_is = ap (λ m. m.haystack) step.gives.goes_on ∙ so_far.haystack_is;
       end_is = ap (λ m. m.span.end) step.gives.goes_on ∙ so_far.end_is;
       search_is = ap (λ m. m.search) step.gives.goes_on ∙ so_far.search_is;
@@ -17,12 +17,20 @@ loop-found-preserved c =
 pub returns-clause-greedy : goal.returns-clause-greedy
 returns-clause-greedy c =
     c.iterations_scan_at_most.ensures.greedy _ _ _ _ c.loop-found.invariant.run
-    (record { gives = c.in_default.ensures.gives; scans = c.in_default.ensures.scans })
+    (record {
+      gives = c.in_default.ensures.gives;
+      looks = c.in_default.ensures.looks;
+      scans = c.in_default.ensures.scans;
+    })
 
 pub returns-clause-bounded : goal.returns-clause-bounded
 returns-clause-bounded c =
     let scans = (c.iterations_scan_at_most.ensures.whole _ _ _ _ refl refl c.loop-found.invariant.run
-    (record { gives = c.in_default.ensures.gives; scans = c.in_default.ensures.scans })).1 in
+    (record {
+      gives = c.in_default.ensures.gives;
+      looks = c.in_default.ensures.looks;
+      scans = c.in_default.ensures.scans;
+    })).1 in
     record {
       others = scans.others;
       short = λ short. omega (arith, scans.short short);
@@ -39,5 +47,9 @@ returns-in_err-push-clause-no_memory c =
 pub returns-clause-each : goal.returns-clause-each
 returns-clause-each c =
     let each = (c.iterations_scan_at_most.ensures.whole _ _ _ _ refl refl c.loop-found.invariant.run
-    (record { gives = c.in_default.ensures.gives; scans = c.in_default.ensures.scans })).0 in
+    (record {
+      gives = c.in_default.ensures.gives;
+      looks = c.in_default.ensures.looks;
+      scans = c.in_default.ensures.scans;
+    })).0 in
     omega (arith, each)
