@@ -6,12 +6,11 @@ use Rattle.literal_examples.proofs.redact.redact.Goals as goal
 
 pub loop-found-preserved : goal.loop-found-preserved
 loop-found-preserved c =
-    let finds = c.in-Some.ensures.steps in
     let so_far = c.loop-found.invariant in
     record {
-      search_is = ap (λ m. m.search) finds.goes_on ∙ so_far.search_is;
-      haystack_is = ap (λ m. m.haystack) finds.goes_on ∙ so_far.haystack_is;
-      end_is = ap (λ m. m.span.end) finds.goes_on ∙ so_far.end_is;
+      search_is = search rules;
+      haystack_is = search rules;
+      end_is = search rules;
       at_is = search rules;
       within = search rules;
       text = λ more. grind (arith, common_steps, so_far.text (c.in-Some.found ∷ more));
