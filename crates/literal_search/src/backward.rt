@@ -371,7 +371,9 @@ impl<'t> Backward<'t> {
                 classes, haystack, span, at, MARKED, passed, limit, marks, tally,
             );
         }
-        self.mark_parts(classes, haystack, span, at, part, passed, limit, marks, tally)
+        self.mark_parts(
+            classes, haystack, span, at, part, passed, limit, marks, tally,
+        )
     }
 
     /// [`Backward::mark_in_four`], by one loop.
@@ -459,8 +461,9 @@ impl<'t> Backward<'t> {
         let (limit, bytes) = (self.table.limit()?, self.table.class_bytes());
         let classes = &bytes;
         let led = self.lead_in_four(classes, haystack, span, from, block, limit, tally)?;
-        let passed =
-            self.pass_in_four(classes, haystack, span, from, part, led.lanes, limit, tally);
+        let passed = self.pass_in_four(
+            classes, haystack, span, from, part, led.lanes, limit, tally,
+        );
         let mut upto = from;
         if passed.left > 0 {
             clear(numbers, 4 * part);

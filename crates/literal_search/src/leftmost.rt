@@ -373,9 +373,7 @@ impl<'t> Backward<'t> {
         ensures { HavePassed self.now haystack.now span at part lanes limit tally.old tally.new result }
     {
         match part {
-            MARKED => {
-                self.pass_parts(classes, haystack, span, at, MARKED, lanes, limit, tally)
-            }
+            MARKED => { self.pass_parts(classes, haystack, span, at, MARKED, lanes, limit, tally) }
             LAST => self.pass_parts(classes, haystack, span, at, LAST, lanes, limit, tally),
             _ => self.pass_parts(classes, haystack, span, at, part, lanes, limit, tally),
         }
@@ -417,10 +415,18 @@ impl<'t> Backward<'t> {
         let mut now = lanes;
         for step in 0..part {
             let here = at + (part - 1 - step);
-            let first = self.table.next_at(classes, now.first, haystack, here, tally);
-            let second = self.table.next_at(classes, now.second, haystack, here + part, tally);
-            let third = self.table.next_at(classes, now.third, haystack, here + 2 * part, tally);
-            let fourth = self.table.next_at(classes, now.fourth, haystack, here + 3 * part, tally);
+            let first = self
+                .table
+                .next_at(classes, now.first, haystack, here, tally);
+            let second = self
+                .table
+                .next_at(classes, now.second, haystack, here + part, tally);
+            let third = self
+                .table
+                .next_at(classes, now.third, haystack, here + 2 * part, tally);
+            let fourth = self
+                .table
+                .next_at(classes, now.fourth, haystack, here + 3 * part, tally);
             let next = Lanes {
                 first,
                 second,
@@ -535,9 +541,9 @@ impl<'t> Backward<'t> {
         let led = self.lead_in_four(classes, haystack, span, at, block, limit, tally)?;
         let passed = self.pass_in_four(classes, haystack, span, at, part, led.lanes, limit, tally);
         if passed.left > 0 {
-            return match self
-                .first_of_lanes(classes, haystack, span, at, part, passed, limit, tally)?
-            {
+            return match self.first_of_lanes(
+                classes, haystack, span, at, part, passed, limit, tally,
+            )? {
                 Some(begun) => Ok(Some(begun)),
                 None => Err(Damaged),
             };

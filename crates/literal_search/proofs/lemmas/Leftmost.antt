@@ -349,12 +349,12 @@ pub cleared_marks : (p : BackTables) (haystack : List ℕ) (end : ℕ) (marks : 
 cleared_marks p haystack end marks at part left cleared none =
     let mark : (k : ℕ) → at ≤ k → k < at + 4 * part → NoneBeginsAt p haystack end k
     → IsMark p haystack end k (get_or marks (k - at) 0) = λ k after before none.
-        subst (IsMark p haystack end k) (sym (cleared (k - at) (omega (arith, after, before)))) (record {
-          none = λ _. none;
-          row = λ large. absurd (omega (arith, large));
-          named = λ large. absurd (omega (arith, large));
-          best = λ large. absurd (omega (arith, large));
-        }) in
+    subst (IsMark p haystack end k) (sym (cleared (k - at) (omega (arith, after, before)))) (record {
+      none = λ _. none;
+      row = λ large. absurd (omega (arith, large));
+      named = λ large. absurd (omega (arith, large));
+      best = λ large. absurd (omega (arith, large));
+    }) in
     record {
       first = λ k after before. mark k (omega (arith, after)) (omega (arith, before)) (none.first k after before);
       second = λ k after before. mark k (omega (arith, after)) (omega (arith, before)) (none.second k after before);
