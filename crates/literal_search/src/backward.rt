@@ -335,8 +335,8 @@ impl<'t> Backward<'t> {
         Ok(())
     }
 
-    /// Marks each place of four neighbouring parts, by four walks at once that passed through some places of each. These
-    /// places are marked. For the length that most parts have there is a loop of its own.
+    /// Marks each place of four neighbouring parts, by four walks at once that passed through some places of each.
+    /// These places are marked. For the length that most parts have there is a loop of its own.
     #[inline(never)]
     fn mark_in_four(
         &self,

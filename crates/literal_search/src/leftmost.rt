@@ -9,8 +9,8 @@ ghost use Rattle.literal_base.specs.declared.search.Span.{Span};
 ghost use Rattle.literal_search.specs.At.{IsMatchAt};
 ghost use Rattle.literal_search.specs.Inside.Backward.{ForBackward, IsMatchBy};
 ghost use Rattle.literal_search.specs.Inside.Backward.{IsSafe, NoneFrom};
-ghost use Rattle.literal_search.specs.Inside.Leftmost.{AreLanes, HasBytes, HaveRows, IsFirstBegun, IsFourParts, NoneBehind};
-ghost use Rattle.literal_search.specs.Inside.Leftmost.{HavePassed};
+ghost use Rattle.literal_search.specs.Inside.Leftmost.{AreLanes, HasBytes, HavePassed, HaveRows, IsFirstBegun};
+ghost use Rattle.literal_search.specs.Inside.Leftmost.{IsFourParts, NoneBehind};
 ghost use Rattle.literal_search.specs.Inside.Leftmost.{IsLane, IsLed};
 ghost use Rattle.literal_search.specs.Inside.Leftmost.{IsFront, IsLimit, IsPaid, IsPart, IsStep, LiesInPart, ReadsFor};
 ghost use Rattle.literal_search.specs.Inside.Leftmost.{AreFor, owed_by};
@@ -467,7 +467,8 @@ impl<'t> Backward<'t> {
         requires after { span.start ≤ at }
         requires inside { at + 4 * part ≤ span.end }
         requires left { passed.left ≤ part }
-        ensures first { ForBackward self.now (λ tables. AreLanes tables haystack.now span at part passed.left passed.lanes
+        ensures first { ForBackward self.now (λ tables.
+            AreLanes tables haystack.now span at part passed.left passed.lanes
             → NoneBehind tables haystack.now span.end at part passed.left
             → IsOkAnd result (IsFirstBegun tables haystack.now span.end (between at (at + 4 * part)))) }
         ensures inside { IfOk result (LiesInPart at (at + 4 * part)) }

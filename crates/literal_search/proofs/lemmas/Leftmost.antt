@@ -154,7 +154,8 @@ pub steps_in_four : (p : BackTables) → AreBackTables p → (haystack : List �
     → codes.third ≡ get_or p.rows (now.third + get_or p.classes (get_or haystack (here + 2 * part) 0) 0) 0
     → codes.fourth ≡ get_or p.rows (now.fourth + get_or p.classes (get_or haystack (here + 3 * part) 0) 0) 0
     → AreSteps p haystack span at part left codes
-steps_in_four p are haystack bytes span valid at part next left here now codes next_is here_is lanes one two three four =
+steps_in_four p are haystack bytes span valid at part next left here now codes next_is here_is lanes one two three
+    four =
     let step = lane_step p are haystack bytes span valid in
     record {
       first = step (at + part) (at + next) here (at + left) now.first codes.first (omega (arith, next_is, here_is))
@@ -393,13 +394,17 @@ four_small numbers one limit small k after before =
       | inr not ↦ there one (omega (arith, not, after)) (omega (arith, two_small, le_or_l (n one) (n (one + 1))))
       | inl second ↦
           elim (cases_lt (one + 1) k) [
-            | inr not ↦ there (one + 1) (omega (arith, not, second)) (omega (arith, two_small, le_or_r (n one) (n (one + 1))))
+            | inr not ↦
+                there (one + 1) (omega (arith, not, second))
+                (omega (arith, two_small, le_or_r (n one) (n (one + 1))))
             | inl third ↦
                 elim (cases_lt (one + 2) k) [
                   | inr not ↦
                       there (one + 2) (omega (arith, not, third))
                       (omega (arith, small, le_or_l three (n (one + 3)), le_or_r two (n (one + 2))))
-                  | inl fourth ↦ there (one + 3) (omega (arith, fourth, before)) (omega (arith, small, le_or_r three (n (one + 3))))
+                  | inl fourth ↦
+                      there (one + 3) (omega (arith, fourth, before))
+                      (omega (arith, small, le_or_r three (n (one + 3))))
                 ]
           ]
     ]

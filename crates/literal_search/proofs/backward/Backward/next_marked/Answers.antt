@@ -35,4 +35,6 @@ returns-then-code-ge-ENDS-clause-found c = λ search is marked.
 
 pub loop-at-init : goal.loop-at-init
 loop-at-init c = λ search is marked at after before.
-    (marked.marks at after (omega (arith, before, c.pass_unmarked-at.ensures.within.1, after, c.max-upto.ensures))).none (c.pass_unmarked-at.ensures.none at after before)
+    let passed = c.pass_unmarked-at.ensures in
+    (marked.marks at after (omega (arith, before, passed.within.1, after, c.max-upto.ensures))).none
+    (passed.none at after before)

@@ -27,8 +27,8 @@ returns-then-not-are_rows-clause-some c = λ _ search is lanes none.
     (c.next_at-second.ensures.number is.tables.classes now.second.stands.row)
     (c.next_at-third.ensures.number is.tables.classes now.third.stands.row)
     (c.next_at-fourth.ensures.number is.tables.classes now.fourth.stands.row) in
-    let rows = rows_if_none c.args.self.now search is c.args.haystack.now c.args.span c.args.at part left c.args.limit codes
-    c.requires.limit (omega arith) steps none in
+    let rows = rows_if_none c.args.self.now search is c.args.haystack.now c.args.span c.args.at part left c.args.limit
+    codes c.requires.limit (omega arith) steps none in
     absurd (false≢true (sym c.if-not-are_rows.true ∙ c.are_rows.ensures.1 rows))
 
 pub loop-step-preserved : goal.loop-step-preserved
@@ -66,8 +66,8 @@ loop-step-preserved c =
           (steps search is lanes));
       none = λ search is lanes. subst
           (λ n. NoneBehind (tables search) c.args.haystack.now c.args.span.end c.args.at part n) same
-          (none_on_four (tables search) c.args.haystack.now c.args.span c.args.at part left c.args.limit codes small rows
-          (steps search is lanes) (part - step) (omega arith) (omega arith) (so_far.none search is lanes));
+          (none_on_four (tables search) c.args.haystack.now c.args.span c.args.at part left c.args.limit codes small
+          rows (steps search is lanes) (part - step) (omega arith) (omega arith) (so_far.none search is lanes));
       counted = c.next_at-fourth.ensures.ticks
           ∙ (one_more _ _ (c.next_at-third.ensures.ticks
           ∙ one_more _ _ (c.next_at-second.ensures.ticks
