@@ -10,7 +10,7 @@ decreases-loop-state l = 2 ^ 31 - l.state
 abbrev pub invariant-loop-state : goal.invariant-loop-state
 invariant-loop-state l = record {
   grows : Grows l.growing;
-  words : AreWords l.growing.texts.kind (texts_of l.growing.texts) (words_of l.growing) l.growing.texts.width
+  words : AreWords (texts_of l.growing.texts) (words_of l.growing) l.growing.texts.width
       (length l.growing.rows.items);
   filled : length l.growing.rows.items ≡ l.state * stride_of l.growing.texts.width;
   states : l.state ≤ length l.growing.states.items;

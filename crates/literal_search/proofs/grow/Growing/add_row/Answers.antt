@@ -13,8 +13,8 @@ returns-clause-words c =
     let so_far = c.loop-class.invariant in
     let pushed = c.in_ok-push_ending.ensures in
     let longer = pushed.filled in
-    subst (λ (u : Texts). AreWords u.kind (texts_of u) (words_of now) u.width (length now.rows.items)) so_far.texts
-    (subst (λ words. AreWords was.texts.kind (texts_of was.texts) words was.texts.width (length now.rows.items))
+    subst (λ (u : Texts). AreWords (texts_of u) (words_of now) u.width (length now.rows.items)) so_far.texts
+    (subst (λ words. AreWords (texts_of was.texts) words was.texts.width (length now.rows.items))
     (sym (words_same was now pushed.same.0 pushed.same.1))
-    (made_more was.texts.kind (texts_of was.texts) (words_of was) was.texts.width (length was.rows.items) so_far.words
+    (made_more (texts_of was.texts) (words_of was) was.texts.width (length was.rows.items) so_far.words
     (length now.rows.items) (omega (arith, longer))))
