@@ -6,12 +6,12 @@ ghost use Rattle.std.specs.List.{filter, find, range_with_len};
 ghost use Rattle.std.specs.Option.{unwrap_or};
 ghost use Rattle.literal_base.specs.Occurs.{pattern_at};
 ghost use Rattle.literal_search.specs.Table.{LeadsTo, Recognises, code_of, nothing, stride_of};
-ghost use Rattle.literal_search.specs.Words.{ending, first_equal, live_suffix, word_of};
+ghost use Rattle.literal_search.specs.Words.{ending, first_equal, live_suffix};
 ghost use Rattle.literal_search.specs.Inside.Classes.{AreClasses, symbols_in};
 ghost use Rattle.literal_search.specs.Inside.Grown.{AreWords, IsLonger, failure_of, goes_on, list_for};
 ghost use Rattle.literal_search.specs.States.{AreStates, HasTooManyStates, IsRowsLength};
-ghost use Rattle.literal_search.specs.Inside.Growing.{AreTexts, Grows, IsCode, IsStateAt, list_in, texts_of};
-ghost use Rattle.literal_search.specs.Inside.Growing.{word_in, words_of};
+ghost use Rattle.literal_search.specs.Inside.Growing.{AreTexts, AreWordsIn, Grows, IsNextState, LeadsIn, list_in};
+ghost use Rattle.literal_search.specs.Inside.Growing.{texts_of, word_behind, word_in, words_of};
 
 use crate::walk::{ENDS, NOTHING};
 use std::alloc::{AllocError, Global};
@@ -122,7 +122,7 @@ impl<'p> Growing<'p> {
         requires grows { Grows self.now }
         requires is_state { state < length self.now.states.items }
         ensures { (class : ℕ) → slice_index_or result class false ≡ false → list_for
-            (texts_of self.now.texts) (word_of (words_of self.now) state ++ class ∷ []) ≡ [] }
+            (texts_of self.now.texts) (word_behind self.now state class) ≡ [] }
     {
         let mut marks = [false; 256];
         let State {
@@ -196,9 +196,9 @@ impl<'p> Growing<'p> {
         requires is_state { state < length self.old.states.items }
         ensures grows { IfOk result (λ _. Grows self.new) }
         ensures lists { IfOk result (λ _. self.new.lists.items ≡ self.old.lists.items
-            ++ list_for (texts_of self.old.texts) (word_of (words_of self.old) state ++ class ∷ [])) }
+            ++ list_for (texts_of self.old.texts) (word_behind self.old state class)) }
         ensures whole { IfOk result (λ whole. whole ≡ first_equal (texts_of self.old.texts)
-            (word_of (words_of self.old) state ++ class ∷ [])) }
+            (word_behind self.old state class)) }
         ensures same { IfOk result (λ _. (self.new.texts ≡ self.old.texts) × (self.new.states ≡ self.old.states)
             × (self.new.rows ≡ self.old.rows)) }
     {
@@ -213,8 +213,7 @@ impl<'p> Growing<'p> {
         requires is_state { state < length self.now.states.items }
         requires is_class { class < self.now.texts.width }
         requires filled { state * stride_of self.now.texts.width ≤ length self.now.rows.items }
-        ensures { LeadsTo (texts_of self.now.texts) (words_of self.now) self.now.texts.width result
-            (failure_of (texts_of self.now.texts) (word_of (words_of self.now) state ++ class ∷ [])) }
+        ensures { LeadsIn self.now result (failure_of (texts_of self.now.texts) (word_behind self.now state class)) }
     {
         if state == 0 {
             return 0;
@@ -226,8 +225,8 @@ impl<'p> Growing<'p> {
     /// The ending of the state to which a number in a row leads.
     fn ending_of(&self, code: u32) -> u32
         requires grows { Grows self.now }
-        requires leads { IsCode self.now code }
-        ensures { (word : List ℕ) → LeadsTo (texts_of self.now.texts) (words_of self.now) self.now.texts.width code word
+        requires leads { (word : List ℕ) × LeadsIn self.now code word }
+        ensures { (word : List ℕ) → LeadsIn self.now code word
             → result ≡ unwrap_or (ending (texts_of self.now.texts) word) nothing }
     {
         self.states[place_of(code) / (self.texts.width + 1)].ending
@@ -247,14 +246,12 @@ impl<'p> Growing<'p> {
         requires is_state { state < length self.now.states.items }
         requires some { start < length self.now.lists.items }
         requires listed { slice_range self.now.lists.items start (length self.now.lists.items)
-            ≡ list_for (texts_of self.now.texts) (word_of (words_of self.now) state ++ class ∷ []) }
-        requires whole { whole ≡ first_equal (texts_of self.now.texts)
-            (word_of (words_of self.now) state ++ class ∷ []) }
-        requires failure { LeadsTo (texts_of self.now.texts) (words_of self.now) self.now.texts.width failure
-            (failure_of (texts_of self.now.texts) (word_of (words_of self.now) state ++ class ∷ [])) }
-        ensures word { word_in (texts_of self.now.texts) result ≡ word_of (words_of self.now) state ++ class ∷ [] }
-        ensures state { IsStateAt (texts_of self.now.texts) (words_of self.now) self.now.texts.width
-            self.now.lists.items (length self.now.states.items) result }
+            ≡ list_for (texts_of self.now.texts) (word_behind self.now state class) }
+        requires whole { whole ≡ first_equal (texts_of self.now.texts) (word_behind self.now state class) }
+        requires failure { LeadsIn self.now failure
+            (failure_of (texts_of self.now.texts) (word_behind self.now state class)) }
+        ensures word { word_in (texts_of self.now.texts) result ≡ word_behind self.now state class }
+        ensures state { IsNextState self.now result }
     {
         let _ = class; // (its contract names it)
         let ending = match whole {
@@ -274,8 +271,7 @@ impl<'p> Growing<'p> {
     /// Adds a state, where the rows of so many are not too long, and answers the number in a row for it.
     fn add_state(&mut self, state: State) -> Result<u32, GrowError>
         requires grows { Grows self.old }
-        requires state { IsStateAt (texts_of self.old.texts) (words_of self.old)
-            self.old.texts.width self.old.lists.items (length self.old.states.items) state }
+        requires state { IsNextState self.old state }
         requires different { AreStates (texts_of self.old.texts)
             (words_of self.old ++ word_in (texts_of self.old.texts) state ∷ []) }
         ensures grows { IfOk result (λ _. Grows self.new) }
@@ -298,8 +294,7 @@ impl<'p> Growing<'p> {
     /// Adds a state.
     fn push_state(&mut self, state: State) -> Result<(), AllocError>
         requires grows { Grows self.old }
-        requires state { IsStateAt (texts_of self.old.texts) (words_of self.old)
-            self.old.texts.width self.old.lists.items (length self.old.states.items) state }
+        requires state { IsNextState self.old state }
         requires few { (length self.old.states.items + 1) * stride_of self.old.texts.width ≤ 2 ^ 31 - 1 }
         ensures grows { IfOk result (λ _. Grows self.new) }
         ensures words { IfOk result (λ _. words_of self.new
@@ -317,14 +312,12 @@ impl<'p> Growing<'p> {
         requires is_state { state < length self.old.states.items }
         requires is_class { class < self.old.texts.width }
         requires filled { length self.old.rows.items ≡ state * stride_of self.old.texts.width + class }
-        requires words { AreWords (texts_of self.old.texts) (words_of self.old) self.old.texts.width
-            (length self.old.rows.items) }
+        requires words { AreWordsIn self.old }
         requires unmarked { is_marked ≡ false → list_for (texts_of self.old.texts)
-            (word_of (words_of self.old) state ++ class ∷ []) ≡ [] }
+            (word_behind self.old state class) ≡ [] }
         ensures grows { IfOk result (λ _. Grows self.new) }
         ensures leads { IfOk result (λ code. LeadsTo (texts_of self.old.texts) (words_of self.new)
-            self.old.texts.width code
-            (live_suffix (texts_of self.old.texts) (word_of (words_of self.old) state ++ class ∷ []))) }
+            self.old.texts.width code (live_suffix (texts_of self.old.texts) (word_behind self.old state class))) }
         ensures words { IfOk result (λ _. AreWords (texts_of self.old.texts) (words_of self.new)
             self.old.texts.width (length self.old.rows.items + 1)) }
         ensures too_many { IfErr result (λ error. error ≡ GrowError.TooManyStates
@@ -352,8 +345,8 @@ impl<'p> Growing<'p> {
         requires is_state { state < length self.old.states.items }
         requires is_class { class < self.old.texts.width }
         requires filled { length self.old.rows.items ≡ state * stride_of self.old.texts.width + class }
-        requires leads { LeadsTo (texts_of self.old.texts) (words_of self.old) self.old.texts.width next
-            (live_suffix (texts_of self.old.texts) (word_of (words_of self.old) state ++ class ∷ [])) }
+        requires leads { LeadsIn self.old next
+            (live_suffix (texts_of self.old.texts) (word_behind self.old state class)) }
         ensures grows { IfOk result (λ _. Grows self.new) }
         ensures filled { IfOk result (λ _. length self.new.rows.items ≡ length self.old.rows.items + 1) }
         ensures same { IfOk result (λ _. (self.new.texts ≡ self.old.texts) × (self.new.states ≡ self.old.states)) }
@@ -383,14 +376,12 @@ impl<'p> Growing<'p> {
         requires is_state { state < length self.old.states.items }
         requires is_class { class < self.old.texts.width }
         requires filled { length self.old.rows.items ≡ state * stride_of self.old.texts.width + class }
-        requires words { AreWords (texts_of self.old.texts) (words_of self.old) self.old.texts.width
-            (length self.old.rows.items) }
+        requires words { AreWordsIn self.old }
         requires unmarked { is_marked ≡ false → list_for (texts_of self.old.texts)
-            (word_of (words_of self.old) state ++ class ∷ []) ≡ [] }
+            (word_behind self.old state class) ≡ [] }
         ensures grows { IfOk result (λ _. Grows self.new) }
         ensures filled { IfOk result (λ _. length self.new.rows.items ≡ length self.old.rows.items + 1) }
-        ensures words { IfOk result (λ _. AreWords (texts_of self.old.texts) (words_of self.new)
-            self.old.texts.width (length self.new.rows.items)) }
+        ensures words { IfOk result (λ _. AreWordsIn self.new) }
         ensures too_many { IfErr result (λ error. error ≡ GrowError.TooManyStates
             → HasTooManyStates (texts_of self.old.texts) self.old.texts.width) }
         ensures kept { IfOk result (λ _. IsLonger (words_of self.old) (words_of self.new)) }
@@ -406,12 +397,10 @@ impl<'p> Growing<'p> {
         requires grows { Grows self.old }
         requires is_state { state < length self.old.states.items }
         requires filled { length self.old.rows.items ≡ state * stride_of self.old.texts.width }
-        requires words { AreWords (texts_of self.old.texts) (words_of self.old) self.old.texts.width
-            (length self.old.rows.items) }
+        requires words { AreWordsIn self.old }
         ensures grows { IfOk result (λ _. Grows self.new) }
         ensures filled { IfOk result (λ _. length self.new.rows.items ≡ (state + 1) * stride_of self.old.texts.width) }
-        ensures words { IfOk result (λ _. AreWords (texts_of self.old.texts) (words_of self.new)
-            self.old.texts.width (length self.new.rows.items)) }
+        ensures words { IfOk result (λ _. AreWordsIn self.new) }
         ensures too_many { IfErr result (λ error. error ≡ GrowError.TooManyStates
             → HasTooManyStates (texts_of self.old.texts) self.old.texts.width) }
         ensures kept { IfOk result (λ _. IsLonger (words_of self.old) (words_of self.new)) }

@@ -129,7 +129,7 @@ module _ (ignore_case : Bool) (classes : List ℕ) (patterns : List (List ℕ)) 
           occurs.after_start,
         )
 
-    -- where nothing is live, no occurrence that ends further on has begun
+    -- where the live suffix is empty, no occurrence that ends further on has begun
     pub begins_behind : (from at i place : ℕ) → from ≤ at → from ≤ place → at < place + length (pattern_at patterns i)
         → at ≤ span.end
         → live_suffix words (text_of classes haystack (between from at)) ≡ []

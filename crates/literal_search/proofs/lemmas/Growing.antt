@@ -15,7 +15,7 @@ use Rattle.std.specs.Option.{unwrap_or}
 use Rattle.literal_base.specs.Occurs.{pattern_at}
 use Rattle.literal_search.specs.Table.{LeadsTo, Recognises, nothing, stride_of}
 use Rattle.literal_search.specs.Words.{ending, live_suffix, word_of}
-use Rattle.literal_search.specs.Inside.Grown.{AreRows, IsLonger, list_for}
+use Rattle.literal_search.specs.Inside.Grown.{AreRows, AreWords, IsLonger, list_for}
 use Rattle.literal_search.specs.Inside.Growing.{AreTexts, IsGrowing, IsStateAt, list_in, texts_of, word_in, words_in}
 use Rattle.literal_search.specs.Inside.Growing.{words_of}
 use Rattle.literal_search.specs.declared.grow.Growing.{Growing}
@@ -286,3 +286,10 @@ module _ (t : Texts) where
 pub words_same : (g g' : Growing) → g'.texts ≡ g.texts → g'.states ≡ g.states → words_of g' ≡ words_of g
 words_same g g' texts states =
     ap (λ t. words_in t g'.states.items) texts ∙ ap (λ (s : Vec State). words_in g.texts s.items) states
+
+pub words_kept : (g g' : Growing) (upto : ℕ) → g'.texts ≡ g.texts → g'.states ≡ g.states
+    → AreWords (texts_of g.texts) (words_of g) g.texts.width upto
+    → AreWords (texts_of g'.texts) (words_of g') g'.texts.width upto
+words_kept g g' upto texts states are =
+    subst (λ (t : Texts). AreWords (texts_of t) (words_of g') t.width upto) (sym texts)
+    (subst (λ words. AreWords (texts_of g.texts) words g.texts.width upto) (sym (words_same g g' texts states)) are)

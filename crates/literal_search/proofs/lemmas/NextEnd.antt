@@ -25,7 +25,7 @@ use Rattle.literal_search.proofs.lemmas.Scan.{also_ok}
 use Rattle.literal_search.proofs.lemmas.FirstSuffix.{first_ends, none_ends}
 use Rattle.literal_search.proofs.lemmas.Walk.{at_start, text_halves}
 
--- at the first row nothing is live
+-- at the first row the live suffix is empty
 at_root : (patterns : List (List ℕ)) (width : ℕ) (rows : List ℕ) (recognises : Recognises patterns width rows)
     (text : List ℕ) → IsAt patterns width rows recognises text 0 → live_suffix patterns text ≡ []
 at_root patterns width rows recognises text at =

@@ -1,12 +1,12 @@
 -- The fields of `Growing`.
-use Rattle.std.specs.Prelude.{◌≡◌, ℕ, ◌*◌, ◌-◌, ◌<◌, ◌≤◌, ◌^◌, List, [], length, map}
+use Rattle.std.specs.Prelude.{◌≡◌, ℕ, ◌*◌, ◌-◌, ◌<◌, ◌≤◌, ◌^◌, List, [], ◌∷◌, ◌++◌, length, map}
 use Rattle.std.specs.Prelude.{slice_index_or, slice_range, take}
 use Rattle.std.specs.Option.{unwrap_or}
 use Rattle.literal_base.specs.Occurs.{pattern_at}
 use Rattle.literal_search.specs.Table.{LeadsTo, nothing, stride_of}
 use Rattle.literal_search.specs.Words.{ending, word_of}
 use Rattle.literal_search.specs.Inside.Classes.{AreClasses, symbols_in}
-use Rattle.literal_search.specs.Inside.Grown.{AreRows, failure_of, list_for}
+use Rattle.literal_search.specs.Inside.Grown.{AreRows, AreWords, failure_of, list_for}
 use Rattle.literal_search.specs.declared.grow.Growing.{Growing}
 use Rattle.literal_search.specs.declared.grow.State.{State}
 use Rattle.literal_search.specs.declared.grow.Texts.{Texts}
@@ -27,6 +27,10 @@ words_in t states = map (word_in (texts_of t)) states
 abbrev pub words_of : Growing → List (List ℕ)
 words_of g = words_in g.texts g.states.items
 
+-- the word of a state and one symbol more
+abbrev pub word_behind : Growing → ℕ → ℕ → List ℕ
+word_behind g state symbol = word_of (words_of g) state ++ symbol ∷ []
+
 -- the patterns of a state's list
 abbrev pub list_in : List ℕ → State → List ℕ
 list_in lists s = slice_range lists s.start s.end
@@ -36,9 +40,9 @@ pub record AreTexts (t : Texts) : Type 0 where
   pub classes : AreClasses t.classes.now t.width
   pub few : length t.patterns.now ≤ 2 ^ 31 - 1
 
--- the number in a row leads to a state
-abbrev pub IsCode : Growing → ℕ → Type 0
-IsCode g code = (word : List ℕ) × LeadsTo (texts_of g.texts) (words_of g) g.texts.width code word
+-- the number in a row leads to the state with this word
+abbrev pub LeadsIn : Growing → ℕ → List ℕ → Type 0
+LeadsIn g code word = LeadsTo (texts_of g.texts) (words_of g) g.texts.width code word
 
 -- a state's word is not empty, and its failure link leads to an earlier state, that of the live suffix behind the
 -- word's first symbol
@@ -74,3 +78,12 @@ pub record IsGrowing (t : Texts) (states : List State) (lists rows : List ℕ) :
 -- the fields are so
 abbrev pub Grows : Growing → Type 0
 Grows g = IsGrowing g.texts g.states.items g.lists.items g.rows.items
+
+-- a state may be the next one
+abbrev pub IsNextState : Growing → State → Type 0
+IsNextState g s =
+    IsStateAt (texts_of g.texts) (words_of g) g.texts.width g.lists.items (length g.states.items) s
+
+-- the words are those of different states, made as far as the rows are filled
+abbrev pub AreWordsIn : Growing → Type 0
+AreWordsIn g = AreWords (texts_of g.texts) (words_of g) g.texts.width (length g.rows.items)

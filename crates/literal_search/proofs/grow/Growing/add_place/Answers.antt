@@ -5,7 +5,7 @@ use Rattle.literal_search.specs.Inside.Growing.{texts_of, words_of}
 use Rattle.literal_search.specs.Table.{LeadsTo}
 use Rattle.literal_search.specs.Words.{live_suffix, word_of}
 use Rattle.literal_search.specs.declared.grow.Texts.{Texts}
-use Rattle.literal_search.proofs.lemmas.Growing.{words_length, words_same}
+use Rattle.literal_search.proofs.lemmas.Growing.{words_kept, words_length}
 use Rattle.literal_search.proofs.grow.Growing.add_place.Goals as goal
 
 pub push_next-requires-clause-leads : goal.push_next-requires-clause-leads
@@ -27,6 +27,7 @@ returns-clause-words c =
     let pushed = c.in_ok-push_next.ensures in
     let rows : length c.push_next.new.self.rows.items ≡ length g.rows.items + 1 =
     pushed.filled ∙ ap (λ (v : Vec ℕ). length v.items + 1) next.same.1 in
-    subst (AreWords (texts_of g.texts) (words_of c.push_next.new.self) g.texts.width) (sym rows)
-    (subst (λ words. AreWords (texts_of g.texts) words g.texts.width (length g.rows.items + 1))
-    (sym (words_same c.next.new.self c.push_next.new.self pushed.same.0 pushed.same.1)) next.words)
+    words_kept c.next.new.self c.push_next.new.self (length c.push_next.new.self.rows.items) pushed.same.0 pushed.same.1
+    (subst (λ (t : Texts). AreWords (texts_of t) (words_of c.next.new.self) t.width
+    (length c.push_next.new.self.rows.items)) (sym next.same.0)
+    (subst (AreWords (texts_of g.texts) (words_of c.next.new.self) g.texts.width) (sym rows) next.words))
