@@ -254,10 +254,7 @@ impl<'p> Growing<'p> {
         ensures state { IsNextState self.now result }
     {
         let _ = class; // (its contract names it)
-        let ending = match whole {
-            Some(pattern) => pattern,
-            None => self.ending_of(failure),
-        };
+        let ending = whole.unwrap_or(self.ending_of(failure));
         State {
             pattern: self.lists[start],
             depth: self.states[state].depth + 1,

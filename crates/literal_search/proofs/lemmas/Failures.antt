@@ -1,6 +1,6 @@
 -- Where the numbers in rows and links lead.
 use Rattle.std.proofs.Common.{◌≡◌, ℕ, ◌+◌, ◌*◌, ◌-◌, ◌<◌, ◌≤◌, ◌^◌, ◌/◌, List, [], ◌∷◌, ◌++◌, length, get_or}
-use Rattle.std.proofs.Common.{Option, None, Some, MatchOption, sym, ap, ◌∙◌, arith, subst}
+use Rattle.std.proofs.Common.{Option, None, Some, refl, sym, ap, ◌∙◌, arith, subst}
 use Rattle.std.proofs.lemmas.List.{length-append, length-map, length-take-le}
 use Rattle.std.proofs.lemmas.Nat.{div-mul-add, mul-add-lt, row_fits}
 use Rattle.std.proofs.lemmas.Option.{IfSome_then}
@@ -111,23 +111,20 @@ module _ (t : Texts) (states : List State) (lists rows : List ℕ) (g : IsGrowin
       (g.each n d below).listed ∙ ap (list_for (texts_of t)) (sym (word_at t states n d below))
 
 -- what ends with a word with one symbol more
-pub ending_next_to : (patterns : List (List ℕ)) (word : List ℕ) (symbol : ℕ) (whole : Option ℕ) (ends : ℕ)
-    → whole ≡ first_equal patterns (word ++ symbol ∷ [])
-    → MatchOption whole
-    (ends ≡ unwrap_or (ending patterns (failure_of patterns (word ++ symbol ∷ []))) nothing) (λ i. ends ≡ i)
-    → ends ≡ unwrap_or (ending patterns (word ++ symbol ∷ [])) nothing
-ending_next_to patterns word symbol whole ends is by =
-    by_whole whole by
-    ∙ sym (ap (λ o. unwrap_or o nothing)
-    (ending_next patterns (word ++ symbol ∷ []) (omega (arith, length-append word (symbol ∷ [])))
-    ∙ ap (λ o. option_or o (ending patterns (failure_of patterns (word ++ symbol ∷ [])))) (sym is)))
+pub ending_push : (patterns : List (List ℕ)) (word : List ℕ) (symbol : ℕ)
+    → let text = word ++ symbol ∷ [] in
+    unwrap_or (first_equal patterns text) (unwrap_or (ending patterns (failure_of patterns text)) nothing)
+    ≡ unwrap_or (ending patterns text) nothing
+ending_push patterns word symbol =
+    let text = word ++ symbol ∷ [] in
+    by_first (first_equal patterns text)
+    ∙ sym (ap (λ o. unwrap_or o nothing) (ending_next patterns text (omega (arith, length-append word (symbol ∷ [])))))
   where
-    by_whole : (o : Option ℕ)
-        → MatchOption o
-        (ends ≡ unwrap_or (ending patterns (failure_of patterns (word ++ symbol ∷ []))) nothing) (λ i. ends ≡ i)
-        → ends ≡ unwrap_or (option_or o (ending patterns (failure_of patterns (word ++ symbol ∷ [])))) nothing
-    by_whole None by = by
-    by_whole (Some i) by = by
+    by_first : (o : Option ℕ)
+        → unwrap_or o (unwrap_or (ending patterns (failure_of patterns (word ++ symbol ∷ []))) nothing)
+        ≡ unwrap_or (option_or o (ending patterns (failure_of patterns (word ++ symbol ∷ [])))) nothing
+    by_first None = refl
+    by_first (Some i) = refl
 
 -- a state with a word
 pub new_state : (patterns words : List (List ℕ)) (width : ℕ) (lists : List ℕ) (n : ℕ) (s : State)

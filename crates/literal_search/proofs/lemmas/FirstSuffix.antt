@@ -1,19 +1,19 @@
 -- The pattern that ends with a text: the first of those that are a suffix of it.
 use Rattle.std.proofs.Common.{◌≡◌, ℕ, ◌+◌, ◌-◌, ◌<◌, ◌≤◌, ◌&&◌, List, [], ◌∷◌, ◌++◌, length, drop, take, nat_eq}
 use Rattle.std.proofs.Common.{Option, Some, None, inl, inr, ◌⊎◌, append_assoc, length-append, refl, sym, ap, ◌∙◌, arith}
-use Rattle.std.proofs.lemmas.Bool.{and_parts, cases_lt, false≢true}
+use Rattle.std.proofs.lemmas.Bool.{and_parts, cases_lt, cond-true, false≢true, lt-ltb}
 use Rattle.std.proofs.lemmas.Bool.Decides.{Decides-eqb}
 use Rattle.std.proofs.Math.Seq.{drop-append_seam}
 use Rattle.std.proofs.lemmas.List.{drop-drop, take-append-drop}
 use Rattle.std.proofs.lemmas.List.Quantifiers.{position-Some}
+use Rattle.std.proofs.lemmas.List.Sums.{fails_before_first}
 use Rattle.std.proofs.lemmas.Slice.Eq.{starts_is}
-use Rattle.std.specs.List.{starts_with}
+use Rattle.std.specs.List.{position_or_len, starts_with}
 use Rattle.std.specs.Option.{option_or}
 use Rattle.literal_base.specs.Occurs.{NoneIsEmpty, pattern_at}
 use Rattle.literal_search.specs.Inside.Suffixes.{HasSuffix, IsSuffix, IsFirstSuffix}
 use Rattle.literal_search.specs.Words.{ending, first_equal}
 use Rattle.literal_search.proofs.lemmas.Ends.{equal_if, whole_if_long}
-use Rattle.literal_search.proofs.lemmas.Live.{none_any, none_position}
 
 -- a suffix of a suffix is one
 pub ends_on : (text middle end : List ℕ) → HasSuffix text middle → HasSuffix middle end → HasSuffix text end
@@ -81,8 +81,14 @@ module _ (patterns : List (List ℕ)) (some : NoneIsEmpty patterns) where
   not_equal : (text : List ℕ) (i : ℕ) → first_equal patterns text ≡ None → i < length patterns
       → ¬ (text ≡ pattern_at patterns i)
   not_equal text i none below same =
-      false≢true (sym (none_any (λ pattern. starts_with nat_eq pattern text && starts_with nat_eq text pattern) patterns
-      [] i (none_position _ patterns none) below) ∙ equal_if text (pattern_at patterns i) same)
+      let test = λ (pattern : List ℕ). starts_with nat_eq pattern text && starts_with nat_eq text pattern in
+      elim (cases_lt (position_or_len test patterns) (length patterns)) [
+        | inl early ↦
+            let found : first_equal patterns text ≡ Some (position_or_len test patterns) =
+            cond-true _ _ None (lt-ltb _ _ early) in cc
+        | inr late ↦ false≢true (sym (fails_before_first test patterns i [] (omega arith))
+            ∙ equal_if text (pattern_at patterns i) same)
+      ]
 
   -- the first that is a text
   equal_is_first : (text : List ℕ) (first : ℕ) → first_equal patterns text ≡ Some first

@@ -1,18 +1,17 @@
 -- The longest suffix of a text that is a prefix of a pattern, as the text grows.
-use Rattle.std.proofs.Common.{◌≡◌, ℕ, ◌<◌, Bool, true, false, List, [], ◌∷◌, ◌++◌, length, get_or, drop}
-use Rattle.std.proofs.Common.{Some, None, inl, inr, ◌⊎◌, nat_eq, append_assoc, refl, sym, ap, ◌∙◌, arith}
-use Rattle.std.proofs.lemmas.Bool.{cond-false, cond-true, false_from_ne_true, false≢true, lt-ltb}
+use Rattle.std.proofs.Common.{◌≡◌, ℕ, ◌<◌, Bool, true, false, List, [], ◌∷◌, ◌++◌, length, drop}
+use Rattle.std.proofs.Common.{inl, inr, ◌⊎◌, nat_eq, append_assoc, refl, sym, ap, ◌∙◌}
+use Rattle.std.proofs.lemmas.Bool.{cond-false, cond-true, false_from_ne_true, false≢true}
 use Rattle.std.proofs.lemmas.Bool.Decides.{Decides-eqb}
 use Rattle.std.proofs.lemmas.List.{get_or_default}
 use Rattle.std.proofs.lemmas.List.Folds.{Any-from_list_any, list_any_at}
-use Rattle.std.proofs.lemmas.List.Sums.{fails_before_first}
 use Rattle.std.proofs.lemmas.Slice.Eq.{starts_is}
-use Rattle.std.specs.List.{list_any, position, position_or_len, starts_with}
+use Rattle.std.specs.List.{starts_with}
 use Rattle.literal_base.specs.Occurs.{pattern_at}
 use Rattle.literal_search.specs.Words.{begins_one, live_suffix}
 
 -- a pattern that begins with a text begins with its prefixes
-pub begins_shorter : (pattern text more : List ℕ) → starts_with nat_eq pattern (text ++ more) ≡ true
+begins_shorter : (pattern text more : List ℕ) → starts_with nat_eq pattern (text ++ more) ≡ true
     → starts_with nat_eq pattern text ≡ true
 begins_shorter pattern text more is =
     (starts_is Decides-eqb pattern text _ refl).1 (more ++ drop (length (text ++ more)) pattern)
@@ -39,27 +38,6 @@ stands_or_begins text more pattern is =
       | inl one ↦ inl ((starts_is Decides-eqb text pattern _ refl).1 one.0 one.1)
       | inr one ↦ inr ((starts_is Decides-eqb pattern text _ refl).1 one.0 one.1)
     ]
-
--- where no element passes a test, each fails it
-pub none_any : {X : Type 0} (p : X → Bool) (xs : List X) (d : X) (i : ℕ) → list_any p xs ≡ false → i < length xs
-    → p (get_or xs i d) ≡ false
-none_any p xs d i none inside = by_test (p (get_or xs i d)) refl
-  where
-    by_test : (t : Bool) → p (get_or xs i d) ≡ t → t ≡ false
-    by_test true is = absurd (false≢true (sym none ∙ list_any_at p xs i d inside is))
-    by_test false is = refl
-
-pub none_position : {X : Type 0} (p : X → Bool) (xs : List X) → position p xs ≡ None → list_any p xs ≡ false
-none_position p xs is = by_test (list_any p xs) refl
-  where
-    by_test : (t : Bool) → list_any p xs ≡ t → t ≡ false
-    by_test false any = refl
-    by_test true any =
-        let one = Any-from_list_any p xs any in
-        let late : ¬ (position_or_len p xs < length xs) = λ early.
-        let found : position p xs ≡ Some (position_or_len p xs) =
-        cond-true _ (Some (position_or_len p xs)) None (lt-ltb _ _ early) in cc in
-        absurd (false≢true (sym (fails_before_first p xs one.0 one.1 (omega (arith, one.2))) ∙ (ap p one.3 ∙ one.4)))
 
 -- the number of a pattern that begins with a text
 pub one_begins : (patterns : List (List ℕ)) (text : List ℕ) → begins_one patterns text ≡ true

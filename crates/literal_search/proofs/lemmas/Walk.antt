@@ -1,8 +1,8 @@
 -- A walk through rows that recognise patterns.
 use Rattle.std.proofs.Common.{◌≡◌, ℕ, ◌+◌, ◌*◌, ◌-◌, ◌<◌, ◌≤◌, ◌^◌, List, [], ◌∷◌, ◌++◌, length, get_or}
-use Rattle.std.proofs.Common.{Option, Some, None, IsSome, inl, inr, take, drop, append-nil}
+use Rattle.std.proofs.Common.{Option, Some, None, IsSome, inl, inr, ◌⊎◌, take, drop, append-nil}
 use Rattle.std.proofs.Common.{append_assoc, mul-le-mul_right, refl, sym, ap, subst, ◌∙◌, arith}
-use Rattle.std.proofs.lemmas.Bool.{cases_lt, cond-false, cond-true, le-ltb, lt-ltb}
+use Rattle.std.proofs.lemmas.Bool.{cases_lt}
 use Rattle.std.proofs.lemmas.List.{drop-drop, drop-take, get_or-drop, length-drop, length-map, length-take, map-append}
 use Rattle.std.proofs.lemmas.List.{take-append-drop, take-take, take_more}
 use Rattle.std.specs.List.{slice_range}
@@ -11,10 +11,7 @@ use Rattle.std.specs.Option.{option_map, unwrap_or}
 use Rattle.std.specs.Slice.{IsItemAt}
 use Rattle.literal_base.specs.Occurs.{between}
 use Rattle.literal_search.specs.Inside.Classes.{symbols_in}
-use Rattle.literal_search.specs.Inside.Walk.{IsAt, IsRow}
-use Rattle.literal_search.specs.Inside.Walk.{IsFirstEnd, NoneEnds}
-use Rattle.literal_search.specs.Inside.Walk.{WalksOn}
-use Rattle.literal_search.specs.Inside.Walk.{place_of, read_to, text_of}
+use Rattle.literal_search.specs.Inside.Walk.{IsAt, IsFirstEnd, IsRow, NoneEnds, WalksOn, read_to, text_of}
 use Rattle.literal_search.specs.Table.{LeadsTo, Recognises, code_of, nothing, stride_of}
 use Rattle.literal_search.specs.Words.{ending, live_suffix, word_of}
 use Rattle.literal_search.proofs.lemmas.Behind.{ending_by_live}
@@ -29,11 +26,16 @@ row_fits patterns width rows recognises state below =
     let next : (state + 1) * stride_of width ≡ state * stride_of width + stride_of width = grind arith in
     omega (arith, most, next, recognises.full)
 
--- where a number in a row leads, as the walk reads it
-place_of_code : (place : ℕ) (ends : Option ℕ) → place < 2 ^ 31 → place_of (code_of place ends) ≡ place
-place_of_code place None small = cond-true _ _ _ (lt-ltb place (2 ^ 31) small)
-place_of_code place (Some i) small =
-    cond-false _ _ _ (le-ltb (place + 2 ^ 31) (2 ^ 31) (omega arith)) ∙ omega arith
+-- what ends where a walk stands
+pub ends_at : (patterns : List (List ℕ)) (width : ℕ) (rows : List ℕ) (recognises : Recognises patterns width rows)
+    (text : List ℕ) (place : ℕ)
+    → IsAt patterns width rows recognises text place
+    → get_or rows (place + width) 0 ≡ unwrap_or (ending patterns text) nothing
+ends_at patterns width rows recognises text place at =
+    ap (λ p. get_or rows (p + width) 0) at.place_is
+    ∙ (recognises.ends at.state at.is_state
+    ∙ ap (λ o. unwrap_or o nothing)
+    (sym (ending_by_live patterns text ∙ ap (ending patterns) at.live_suffix)))
 
 -- where the number behind a place and a symbol leads, for a walk that stands there
 module _ (patterns : List (List ℕ)) (width : ℕ) (rows : List ℕ) (recognises : Recognises patterns width rows)
@@ -48,15 +50,6 @@ module _ (patterns : List (List ℕ)) (width : ℕ) (rows : List ℕ) (recognise
         (live_suffix patterns (word_of recognises.words at.state ++ symbol ∷ [])))
         (sym (code_is ∙ ap (λ p. get_or rows (p + symbol) 0) at.place_is))
         (recognises.leads at.state symbol at.is_state below))
-
-    -- it leads to a row
-    pub row_behind : IsRow width rows (place_of code)
-    row_behind =
-        let fits = row_fits patterns width rows recognises to.state to.is_state in
-        let few = recognises.few in
-        let place_is = ap place_of to.code_is ∙ place_of_code (to.state * stride_of width)
-        (ending patterns (live_suffix patterns (text ++ symbol ∷ []))) (omega arith) in
-        record { state = to.state; place_is = place_is; fits = omega (arith, place_is, fits) }
 
     leads_by : (ends : Option ℕ) → ending patterns (text ++ symbol ∷ []) ≡ ends
         → code ≡ code_of (to.state * stride_of width) ends
@@ -96,12 +89,11 @@ module _ (patterns : List (List ℕ)) (width : ℕ) (rows : List ℕ) (recognise
             absurd (omega (arith, leads_by None ends))
         by_ending (Some i) ends =
             let place_is : code - 2 ^ 31 ≡ to.state * stride_of width = omega (arith, leads_by (Some i) ends) in
+            let on = stands (code - 2 ^ 31) place_is in
             let pattern_is : get_or rows (code - 2 ^ 31 + width) 0 ≡ i =
-            ap (λ p. get_or rows (p + width) 0) place_is
-            ∙ (recognises.ends to.state to.is_state
-            ∙ ap (λ o. unwrap_or o nothing) (ap (ending patterns) to.word_is
-            ∙ (sym (ending_by_live patterns (text ++ symbol ∷ [])) ∙ ends))) in
-            (stands (code - 2 ^ 31) place_is, ends ∙ ap Some (sym pattern_is))
+            ends_at patterns width rows recognises (text ++ symbol ∷ []) (code - 2 ^ 31) on
+            ∙ ap (λ o. unwrap_or o nothing) ends in
+            (on, ends ∙ ap Some (sym pattern_is))
 
 -- a part of a text in two
 pub slice_halves : (text : List ℕ) (from at to : ℕ) → from ≤ at → at ≤ to
@@ -271,20 +263,22 @@ module _ (width : ℕ) (rows : List ℕ) (from : ℕ) (classes haystack : List �
               }
 
           -- the number leads to a row
-          pub number_leads : IsRow width rows (place_of code)
+          pub number_leads : ((code < 2 ^ 31) × IsRow width rows code)
+              ⊎ ((2 ^ 31 ≤ code) × IsRow width rows (code - 2 ^ 31))
           number_leads =
               let stood = walks patterns recognises text begins in
               let code_is = number patterns recognises text stood.0 in
               let read = read_to text classes haystack start at in
-              row_behind patterns width rows recognises read place stood.0 _ below code code_is
-
--- what ends where a walk stands
-pub ends_at : (patterns : List (List ℕ)) (width : ℕ) (rows : List ℕ)
-    (recognises : Recognises patterns width rows) (text : List ℕ) (place : ℕ)
-    → IsAt patterns width rows recognises text place
-    → get_or rows (place + width) 0 ≡ unwrap_or (ending patterns text) nothing
-ends_at patterns width rows recognises text place at =
-    ap (λ p. get_or rows (p + width) 0) at.place_is
-    ∙ (recognises.ends at.state at.is_state
-    ∙ ap (λ o. unwrap_or o nothing)
-    (sym (ending_by_live patterns text ∙ ap (ending patterns) at.live_suffix)))
+              let next = read ++ get_or classes (get_or haystack at 0) 0 ∷ [] in
+              elim (cases_lt code (2 ^ 31)) [
+                | inl small ↦ inl (
+                  small,
+                  row_at patterns width rows recognises next code
+                      (at_without_end patterns width rows recognises read place stood.0 _ below code code_is small).0,
+                )
+                | inr large ↦ inr (
+                  large,
+                  row_at patterns width rows recognises next (code - 2 ^ 31)
+                      (at_with_end patterns width rows recognises read place stood.0 _ below code code_is large).0,
+                )
+              ]

@@ -1,8 +1,6 @@
 -- What a walk through the rows of an automaton finds.
 use Rattle.std.specs.Prelude.{◌≡◌, ℕ, ◌+◌, ◌*◌, ◌-◌, ◌<◌, ◌≤◌, ◌^◌, List, [], ◌++◌}
-use Rattle.std.specs.Prelude.{⊤, None, Result}
-use Rattle.std.specs.Prelude.{IsSome, length}
-use Rattle.std.specs.Prelude.{if◌then◌else◌, nat_lt, slice_range}
+use Rattle.std.specs.Prelude.{⊤, IsSome, None, Result, length, slice_range}
 use Rattle.std.specs.Result.{IsOkAnd}
 use Rattle.literal_base.specs.declared.search.Span.{Span}
 use Rattle.literal_base.specs.Occurs.{between}
@@ -22,10 +20,6 @@ pub record IsRow (width : ℕ) (rows : List ℕ) (place : ℕ) : Type 0 where
   pub state : ℕ
   pub place_is : place ≡ state * stride_of width
   pub fits : place + stride_of width ≤ length rows
-
--- where the row of a state begins, by its number in a row
-abbrev pub place_of : ℕ → ℕ
-place_of code = if nat_lt code (2 ^ 31) then code else code - 2 ^ 31
 
 -- the classes of the bytes of a span
 abbrev pub text_of : List ℕ → List ℕ → Span → List ℕ

@@ -1,19 +1,16 @@
-use Rattle.std.proofs.Common.{◌≡◌, ◌+◌, ◌≤◌, ◌∙◌, ◌++◌, ◌∷◌, [], ap, arith, length, List, ℕ, Option, MatchOption}
+use Rattle.std.proofs.Common.{◌≡◌, ◌+◌, ◌≤◌, ◌∙◌, ◌++◌, ◌∷◌, [], ap, arith, length, List, ℕ}
 use Rattle.std.proofs.Common.{sym, subst, take}
 use Rattle.std.proofs.lemmas.List.{length-append}
 use Rattle.std.specs.List.{slice_range}
 use Rattle.std.specs.Option.{unwrap_or}
 use Rattle.literal_base.specs.Occurs.{pattern_at}
-use Rattle.literal_search.specs.Inside.Grown.{failure_of}
 use Rattle.literal_search.specs.Inside.Growing.{texts_of, words_of}
-use Rattle.literal_search.specs.Table.{nothing}
-use Rattle.literal_search.specs.Words.{ending, word_of}
+use Rattle.literal_search.specs.Words.{first_equal, word_of}
 use Rattle.literal_search.specs.declared.grow.State.{State}
 use Rattle.literal_search.proofs.lemmas.Grown.{prefix_by_list}
 use Rattle.literal_search.proofs.lemmas.Growing.{words_length}
-use Rattle.literal_search.proofs.lemmas.Failures.{ending_next_to, long_word, new_state}
+use Rattle.literal_search.proofs.lemmas.Failures.{ending_push, long_word, new_state}
 use Rattle.literal_search.proofs.lemmas.Lists.{range_more}
-use Rattle.literal_search.proofs.grow.Growing.state_behind.Goals.{in-None, in-Some}
 use Rattle.literal_search.proofs.grow.Growing.state_behind.Goals as goal
 
 long_is : (c : goal.After-len) → length (word_of (words_of c.args.self.now) c.args.state) ≡ c.index-2.result.now.depth
@@ -57,15 +54,8 @@ returns-clause-state c =
     (omega (arith, shallow, c.requires.is_state)) (prefix_is c).0 (omega (arith, all, c.requires.some))
     (omega (arith, all))
     (ap (slice_range g.lists.items c.args.start) all ∙ c.requires.listed)
-    (ending_next_to (texts_of g.texts) word c.args.class c.args.whole c.match-whole.ending c.requires.whole
-    (elim c.match-whole.branch [
-      | in-Some w ↦ subst (λ (o : Option ℕ). MatchOption o
-          (c.match-whole.ending ≡ unwrap_or (ending (texts_of g.texts)
-          (failure_of (texts_of g.texts) (word ++ c.args.class ∷ []))) nothing)
-          (λ i. c.match-whole.ending ≡ i)) (sym w.in-Some.is) w.ending-is
-      | in-None w ↦ subst (λ (o : Option ℕ). MatchOption o
-          (c.match-whole.ending ≡ unwrap_or (ending (texts_of g.texts)
-          (failure_of (texts_of g.texts) (word ++ c.args.class ∷ []))) nothing)
-          (λ i. c.match-whole.ending ≡ i)) (sym w.in-None.is)
-          (w.ending-is ∙ w.ending_of-ending.ensures _ c.requires.failure)
-    ])) c.requires.failure
+    (c.unwrap_or-ending.ensures
+    ∙ (ap (λ o. unwrap_or o c.ending_of.result) c.requires.whole
+    ∙ (ap (unwrap_or (first_equal (texts_of g.texts) (word ++ c.args.class ∷ [])))
+    (c.ending_of.ensures _ c.requires.failure) ∙ ending_push (texts_of g.texts) word c.args.class)))
+    c.requires.failure

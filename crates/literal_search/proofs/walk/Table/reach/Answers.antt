@@ -1,9 +1,6 @@
-use Rattle.std.proofs.Common.{◌≡◌, ◌⊎◌, ◌+◌, ◌-◌, ◌<◌, ◌≤◌, ◌^◌, ◌∙◌, ℕ, ap, arith}
-use Rattle.std.proofs.Common.{get_or, inl, inr, length, min, subst, sym}
-use Rattle.std.proofs.lemmas.Bool.{cond-false, cond-true, le-ltb, lt-ltb}
+use Rattle.std.proofs.Common.{◌≡◌, ◌+◌, ◌-◌, ◌<◌, ◌∙◌, ℕ, ap, arith, get_or, inl, inr, length, subst, sym}
 use Rattle.literal_base.specs.Counts.{Counts}
-use Rattle.literal_search.specs.Inside.Walk.{IsFirstEnd, NoneEnds, WalksOn, classes_by, place_of, rows_by}
-use Rattle.literal_search.specs.Table.{stride_of}
+use Rattle.literal_search.specs.Inside.Walk.{IsFirstEnd, NoneEnds, WalksOn, classes_by, rows_by}
 use Rattle.literal_search.proofs.lemmas.Walk.{number_leads, reaches_end, walks_further, walks_start}
 use Rattle.literal_search.proofs.walk.Table.reach.Goals as goal
 
@@ -54,27 +51,24 @@ returns-then-code-eq0-clause-reaches c = λ are patterns recognises text begins.
     (c.code_at-code.ensures.number are)
     (omega (arith, c.if-code-eq0.true))) patterns recognises text begins
 
--- a number that leads to a row is below the limit, or 2^31 above what is
-no_row : (code limit width len : ℕ) → limit ≡ min len (2 ^ 31) → place_of code + stride_of width ≤ len
-    → len ≤ 2 ^ 31 - 1 → limit ≤ code → (code < 2 ^ 31) ⊎ (2 ^ 31 + limit ≤ code) → ⊥
-no_row code limit width len limit_is fits few above (inl small) =
-    let place_is : place_of code ≡ code = cond-true _ _ _ (lt-ltb code (2 ^ 31) small) in omega arith
-no_row code limit width len limit_is fits few above (inr large) =
-    let place_is : place_of code ≡ code - 2 ^ 31 = cond-false _ _ _ (le-ltb code (2 ^ 31) (omega arith)) in omega arith
-
 pub returns-in_err-place-clause-reaches : goal.returns-in_err-place-clause-reaches
 returns-in_err-place-clause-reaches c = λ are patterns recognises text begins.
     let t = c.args.self.now in
     let haystack = c.args.haystack.now in
     let at = c.loop-at.at in
     let inside : at < length haystack = omega (arith, c.loop-at-test.true, c.requires.valid.in_haystack) in
-    let row = number_leads t.width (rows_by t) c.args.from (classes_by t) haystack c.args.span.start at c.loop-at.place
+    let limit_is = c.in_ok-limit.ensures.2 in
+    let few = recognises.few in
+    elim (number_leads t.width (rows_by t) c.args.from (classes_by t) haystack c.args.span.start at c.loop-at.place
     (c.loop-at.invariant.walks are) c.loop-at.auto.at inside
     (are.below (get_or haystack at 0) (omega (arith, c.type_inv.haystack at))) c.code_at-code.result
-    (c.code_at-code.ensures.number are)
-    patterns recognises text begins in
-    absurd (no_row c.code_at-code.result c.in_ok-limit.limit t.width (length (rows_by t)) c.in_ok-limit.ensures.2
-    row.fits recognises.few c.if-code-limit.true c.in_err-place.ensures)
+    (c.code_at-code.ensures.number are) patterns recognises text begins) [
+      | inl one ↦ absurd (omega (arith, one.0, one.1.fits, limit_is, few, c.if-code-limit.true))
+      | inr one ↦ elim c.in_err-place.ensures [
+        | inl small ↦ absurd (omega (arith, one.0, small))
+        | inr large ↦ absurd (omega (arith, one.1.fits, limit_is, few, large))
+      ]
+    ]
 
 pub returns-then-code-limit-clause-reaches : goal.returns-then-code-limit-clause-reaches
 returns-then-code-limit-clause-reaches c = λ are patterns recognises text begins.
