@@ -13,6 +13,7 @@ pub mod Copied
 pub mod SuffixLists
 pub mod Ends
 pub mod EndsFound
+pub mod FirstSuffix
 pub mod Found
 pub mod GreedyIn
 pub mod Growing
@@ -37,7 +38,6 @@ pub mod Rewriting
 pub mod Rows
 pub mod Scan
 pub mod SoFar
-pub mod Standard
 pub mod Standing
 pub mod States
 pub mod Streams

@@ -15,7 +15,6 @@ use Rattle.literal_search.specs.Table.{Recognises}
 use Rattle.literal_search.specs.declared.classes.TheConstants.{CLASSES_LEN, PACKED_LEN}
 use Rattle.literal_search.specs.declared.prepared.ArrayTooShort.{ArrayTooShort}
 use Rattle.literal_search.specs.declared.prepared.TheConstants.{FINGERPRINTS_LEN, LENGTHS_AT, PREPARED_VERSION}
-use Rattle.literal_base.specs.declared.search.MatchKind.TheVariants.{Standard}
 use Rattle.literal_search.specs.Inside.Best.{AreBest}
 use Rattle.literal_search.specs.MatchesValue.{MatchesValue}
 use Rattle.literal_ids.specs.declared.primitives.pattern_id.TheConstants.PatternID
@@ -108,12 +107,12 @@ pub record BackTables : Type 0 where
 abbrev pub texts_back : BackTables → List (List ℕ)
 texts_back t = reversed (map (symbols_in t.classes) t.search.query.patterns)
 
--- each byte has a class, by which those of the patterns are told from others; the rows are for all that occurs of the
--- reversed texts, and for each of these the best suffix is known; none is empty
+-- each byte has a class, by which those of the patterns are told from others; the rows are those of the reversed
+-- texts, and for each of these the best suffix is known; none is empty
 pub record AreBackTables (t : BackTables) : Type 0 where
   pub classes : AreClasses t.classes t.width
   pub tells : Tells t.search.ignore_case t.classes t.search.query.patterns
-  pub recognises : Recognises Standard (texts_back t) t.width t.rows
+  pub recognises : Recognises (texts_back t) t.width t.rows
   pub best : AreBest t.search.query.kind (texts_back t) t.best (length t.search.query.patterns)
   pub longest : t.longest ≡ longest_of t.search.query.patterns
   pub kept : CanBeKept t.search.query.patterns
@@ -176,7 +175,7 @@ ForPrepared numbers P = (search : SearchValue) → IsPrepared search numbers →
 -- the fingerprints
 unfoldable pub TakesPlaces : SearchValue → ℕ → Type 0
 TakesPlaces search needed =
-    HoldsInClasses (λ texts width. (rows : ℕ) × IsRowsLength Standard (reversed texts) width rows
+    HoldsInClasses (λ texts width. (rows : ℕ) × IsRowsLength (reversed texts) width rows
     × (needed ≡ LENGTHS_AT + length search.query.patterns + rows + CLASSES_LEN + length search.query.patterns
     + FINGERPRINTS_LEN)) search.ignore_case search.query.patterns
 

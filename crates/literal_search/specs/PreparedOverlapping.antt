@@ -1,6 +1,5 @@
 -- A search for everything that occurs as numbers in an array that is lent.
 use Rattle.std.specs.Prelude.{◌≡◌, ◌⊎◌, ◌+◌, ◌<◌, ◌≤◌, ℕ, Bool, List, length, map, slice_index, slice_range}
-use Rattle.literal_base.specs.declared.search.MatchKind.TheVariants.{Standard}
 use Rattle.literal_base.specs.declared.search.Span.{Span}
 use Rattle.literal_search.specs.SearchValue.{CanBeKept, HoldsInClasses, longest_of, width_for}
 use Rattle.literal_search.specs.Inside.Classes.{AreClasses, Tells, symbols_in}
@@ -32,19 +31,19 @@ pub record Tables : Type 0 where
 abbrev pub texts_in : Tables → List (List ℕ)
 texts_in t = map (symbols_in t.classes) t.patterns
 
--- each byte has a class, by which those of the patterns are told from others; the rows are for all that occurs, by
--- these classes, and the lists are those of the patterns that are a suffix of one; none is empty
+-- each byte has a class, by which those of the patterns are told from others; the rows are those of the patterns'
+-- texts in these classes, and the lists are those of the patterns that are a suffix of one; none is empty
 pub record AreTables (t : Tables) : Type 0 where
   pub classes : AreClasses t.classes t.width
   pub tells : Tells t.ignore_case t.classes t.patterns
-  pub recognises : Recognises Standard (texts_in t) t.width t.rows
+  pub recognises : Recognises (texts_in t) t.width t.rows
   pub lists : AreLists (texts_in t) t.ends t.starts (length t.patterns)
   pub kept : CanBeKept t.patterns
 
 -- there are as many classes and rows as the patterns need
 pub record AreSized (t : Tables) : Type 0 where
   pub width : t.width ≡ width_for t.ignore_case t.patterns
-  pub rows : IsRowsLength Standard (texts_in t) t.width (length t.rows)
+  pub rows : IsRowsLength (texts_in t) t.width (length t.rows)
 
 -- where the lists begin, behind a number for each pattern that says where its list does, and one more
 abbrev pub ends_at : List ℕ → ℕ
@@ -110,7 +109,7 @@ ForOverlapping numbers P = (search : OverlappingValue) → IsPreparedOverlapping
 -- pattern, the rows of all states, the classes, the lists with the places where these begin, and the fingerprints
 unfoldable pub TakesListedPlaces : OverlappingValue → ℕ → Type 0
 TakesListedPlaces search needed =
-    HoldsInClasses (λ texts width. (rows : ℕ) × IsRowsLength Standard texts width rows
+    HoldsInClasses (λ texts width. (rows : ℕ) × IsRowsLength texts width rows
     × (ends : List ℕ) × (starts : List ℕ) × AreLists texts ends starts (length search.patterns)
     × (needed ≡ LENGTHS_AT + length search.patterns + rows + CLASSES_LEN + length starts + length ends
     + FINGERPRINTS_LEN)) search.ignore_case search.patterns

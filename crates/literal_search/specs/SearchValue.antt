@@ -15,7 +15,6 @@ use Rattle.literal_search.specs.States.{HasTooManyStates}
 use Rattle.literal_search.specs.declared.BuildError.{BuildError}
 use Rattle.literal_search.specs.declared.BuildError.TheVariants.{EmptyPattern, OutOfMemory, TooManyPatterns}
 use Rattle.literal_search.specs.declared.BuildError.TheVariants.{TooManyStates}
-use Rattle.literal_base.specs.declared.search.MatchKind.TheVariants.{Standard}
 use Rattle.literal_search.specs.declared.backward.TheConstants.{LEAST}
 use Rattle.literal_search.specs.declared.leftmost.TheConstants.{FIRST}
 use Rattle.literal_ids.specs.declared.primitives.pattern_id.TheConstants.PatternID
@@ -91,14 +90,14 @@ HoldsInClasses P ignore_case patterns =
     (classes : List ℕ) × AreClasses classes (width_for ignore_case patterns) × Tells ignore_case classes patterns
     × P (map (symbols_in classes) patterns) (width_for ignore_case patterns)
 
--- the automaton for all that occurs of the patterns has more states than the numbers in its rows reach
+-- the automaton of the patterns has more states than the numbers in its rows reach
 unfoldable pub NeedTooManyStates : Bool → List (List ℕ) → Type 0
-NeedTooManyStates ignore_case patterns = HoldsInClasses (HasTooManyStates Standard) ignore_case patterns
+NeedTooManyStates ignore_case patterns = HoldsInClasses HasTooManyStates ignore_case patterns
 
 -- the numbers in its rows reach all its states
 abbrev pub NeedFewStates : Bool → List (List ℕ) → Type 0
 NeedFewStates ignore_case patterns =
-    HoldsInClasses (λ texts width. ¬ HasTooManyStates Standard texts width) ignore_case patterns
+    HoldsInClasses (λ texts width. ¬ HasTooManyStates texts width) ignore_case patterns
 
 -- how long the longest of some patterns is, and 0 where there is none
 abbrev pub longest_of : List (List ℕ) → ℕ
@@ -133,15 +132,15 @@ looked_upto patterns = looked_by (longest_of patterns)
 abbrev pub reversed : List (List ℕ) → List (List ℕ)
 reversed patterns = map (λ (pattern : List ℕ). reverse pattern) patterns
 
--- the automaton for all that occurs of the reversed patterns has more states than the numbers in its rows reach
+-- the automaton of the reversed patterns has more states than the numbers in its rows reach
 unfoldable pub NeedTooManyReversed : Bool → List (List ℕ) → Type 0
 NeedTooManyReversed ignore_case patterns =
-    HoldsInClasses (λ texts width. HasTooManyStates Standard (reversed texts) width) ignore_case patterns
+    HoldsInClasses (λ texts width. HasTooManyStates (reversed texts) width) ignore_case patterns
 
 -- the numbers in its rows reach all its states
 abbrev pub NeedFewReversed : Bool → List (List ℕ) → Type 0
 NeedFewReversed ignore_case patterns =
-    HoldsInClasses (λ texts width. ¬ HasTooManyStates Standard (reversed texts) width) ignore_case patterns
+    HoldsInClasses (λ texts width. ¬ HasTooManyStates (reversed texts) width) ignore_case patterns
 
 -- the length of each of the four parts of the first block through which a search goes
 abbrev pub first_part : ℕ → ℕ

@@ -1,7 +1,6 @@
 //! The best of the patterns that are a suffix of a pattern.
 ghost use Rattle.std.specs.Prelude.{◌≡◌, ◌<◌, IfOk, OnErr, Some, length};
 ghost use Rattle.literal_base.specs.Occurs.{pattern_at};
-ghost use Rattle.literal_base.specs.declared.search.MatchKind.TheVariants.{Standard};
 ghost use Rattle.literal_search.specs.Inside.Best.{AreBest, AreShorter, IsBestSuffix};
 ghost use Rattle.literal_search.specs.Inside.Lists.{Recognise, symbols_of};
 ghost use Rattle.literal_search.specs.Words.{ending};
@@ -66,8 +65,7 @@ impl<'p> Recognised<'p> {
         requires recognise { Recognise self.now }
         requires shorter { AreShorter (symbols_of self.now) shorter.now (length self.now.patterns.now) }
         requires is_pattern { pattern < length self.now.patterns.now }
-        requires first { ending Standard (symbols_of self.now) (pattern_at (symbols_of self.now) pattern)
-            ≡ Some pattern }
+        requires first { ending (symbols_of self.now) (pattern_at (symbols_of self.now) pattern) ≡ Some pattern }
         ensures { IsBestSuffix MatchKind.LeftmostFirst (symbols_of self.now)
             (pattern_at (symbols_of self.now) pattern) result }
     {

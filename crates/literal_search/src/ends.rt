@@ -1,4 +1,4 @@
-//! From one end of patterns to the next by the numbers of an automaton for all that occurs: by one walk, and where that
+//! From one end of patterns to the next by the numbers of an automaton: by one walk, and where that
 //! is back in the first state, by passing over bytes with which nothing begins.
 ghost use Rattle.std.specs.Prelude.{◌≡◌, ◌+◌, ◌-◌, ◌*◌, ◌<◌, ◌≤◌, ◌^◌, IfOk, IfSome, MatchOption, length};
 ghost use Rattle.literal_base.specs.Occurs.{IsValidSpan};

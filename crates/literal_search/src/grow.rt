@@ -1,21 +1,19 @@
 //! The states of an automaton, made from the shorter to the longer words, and their rows.
 ghost use Rattle.std.specs.Prelude.{◌≡◌, ◌+◌, ◌-◌, ◌*◌, ◌<◌, ◌≤◌, ◌^◌, ◌++◌, ◌∷◌, ◌==◌, ◌&&◌, [], ℕ, if◌then◌else◌};
-ghost use Rattle.std.specs.Prelude.{IfErr, IfOk, IfSome, List, None, Option, Some, false, length, map};
+ghost use Rattle.std.specs.Prelude.{IfErr, IfOk, IfSome, List, Option, false, length, map};
 ghost use Rattle.std.specs.Prelude.{slice_index_or, slice_range, true};
 ghost use Rattle.std.specs.List.{filter, find, range_with_len};
 ghost use Rattle.std.specs.Option.{unwrap_or};
-ghost use Rattle.literal_base.specs.Occurs.{NoneIsEmpty, pattern_at};
-ghost use Rattle.literal_search.specs.Table.{Leads, LeadsTo, Recognises, code_of, nothing, stride_of};
-ghost use Rattle.literal_search.specs.Words.{first_equal, word_of};
+ghost use Rattle.literal_base.specs.Occurs.{pattern_at};
+ghost use Rattle.literal_search.specs.Table.{LeadsTo, Recognises, code_of, nothing, stride_of};
+ghost use Rattle.literal_search.specs.Words.{ending, first_equal, live_suffix};
 ghost use Rattle.literal_search.specs.Inside.Classes.{AreClasses, symbols_in};
-ghost use Rattle.literal_search.specs.Inside.Grown.{AreWords, IsLonger, LeadsBy, ending_live, goes_on, fallback};
-ghost use Rattle.literal_search.specs.Inside.Grown.{list_for, up_to_whole};
+ghost use Rattle.literal_search.specs.Inside.Grown.{AreWords, IsLonger, failure_of, goes_on, list_for};
 ghost use Rattle.literal_search.specs.States.{AreStates, HasTooManyStates, IsRowsLength};
-ghost use Rattle.literal_search.specs.Inside.Growing.{AreTexts, Grows, IsCode, IsStateAt, list_in, texts_of};
-ghost use Rattle.literal_search.specs.Inside.Growing.{word_in, words_of};
+ghost use Rattle.literal_search.specs.Inside.Growing.{AreTexts, AreWordsIn, Grows, IsNextState, LeadsIn, list_in};
+ghost use Rattle.literal_search.specs.Inside.Growing.{texts_of, word_behind, word_in, words_of};
 
 use crate::walk::{ENDS, NOTHING};
-use literal_base::search::MatchKind;
 use std::alloc::{AllocError, Global};
 
 /// Why there are no rows.
@@ -44,7 +42,6 @@ const LIMIT: usize = (1 << 31) - 1;
 /// Patterns, whose bytes are read by their classes.
 #[derive(Clone, Copy)]
 pub struct Texts<'p> {
-    pub kind: MatchKind,
     pub classes: &'p [u8; 256],
     pub width: usize,
     pub patterns: &'p [Vec<u8>],
@@ -80,24 +77,21 @@ impl<'p> Texts<'p> {
         self.patterns[pattern].len() >= LIMIT / (self.width + 1)
     }
 
-    /// Whether one pattern alone makes the rows too long, of those of which every prefix has a state.
+    /// Whether one pattern alone makes the rows too long.
     fn has_too_long(&self) -> bool
         requires { AreTexts self.now }
-        ensures { result ≡ true → HasTooManyStates self.now.kind (texts_of self.now) self.now.width }
+        ensures { result ≡ true → HasTooManyStates (texts_of self.now) self.now.width }
     {
         for pattern in 0..self.patterns.len() {
             if self.is_too_long(pattern) {
                 return true;
-            }
-            if self.kind == MatchKind::LeftmostFirst {
-                return false;
             }
         }
         false
     }
 }
 
-/// A state. Its word is a prefix of a pattern, and its list the patterns that begin with the word and may still win.
+/// A state. Its word is a prefix of a pattern, and its list the patterns that begin with the word.
 #[derive(Clone, Copy)]
 pub struct State {
     /// A pattern that begins with the word.
@@ -127,8 +121,8 @@ impl<'p> Growing<'p> {
     fn marks(&self, state: usize) -> [bool; 256]
         requires grows { Grows self.now }
         requires is_state { state < length self.now.states.items }
-        ensures { (class : ℕ) → slice_index_or result class false ≡ false → list_for self.now.texts.kind
-            (texts_of self.now.texts) (word_of (words_of self.now) state ++ class ∷ []) ≡ [] }
+        ensures { (class : ℕ) → slice_index_or result class false ≡ false → list_for
+            (texts_of self.now.texts) (word_behind self.now state class) ≡ [] }
     {
         let mut marks = [false; 256];
         let State {
@@ -175,10 +169,8 @@ impl<'p> Growing<'p> {
         requires numbers { (k d : ℕ) → k < length self.old.lists.items
             → slice_index_or self.old.lists.items k d < length self.old.texts.patterns.now }
         ensures lists { IfOk result (λ _. self.new.lists.items ≡ self.old.lists.items
-            ++ up_to_whole self.old.texts.kind
-            (λ i. length (pattern_at (texts_of self.old.texts) i) == here.depth + 1)
-            (filter (λ i. goes_on (pattern_at (texts_of self.old.texts) i) here.depth class)
-            (list_in self.old.lists.items here))) }
+            ++ filter (λ i. goes_on (pattern_at (texts_of self.old.texts) i) here.depth class)
+            (list_in self.old.lists.items here)) }
         ensures whole { IfOk result (λ whole. whole
             ≡ find (λ i. length (pattern_at (texts_of self.old.texts) i) == here.depth + 1)
             (filter (λ i. goes_on (pattern_at (texts_of self.old.texts) i) here.depth class)
@@ -193,9 +185,6 @@ impl<'p> Growing<'p> {
             let pattern = self.lists[place];
             if self.push_if_longer(here.depth, class, pattern)? {
                 whole = whole.or(Some(pattern));
-                if self.texts.kind == MatchKind::LeftmostFirst {
-                    return Ok(whole);
-                }
             }
         }
         Ok(whole)
@@ -207,10 +196,9 @@ impl<'p> Growing<'p> {
         requires is_state { state < length self.old.states.items }
         ensures grows { IfOk result (λ _. Grows self.new) }
         ensures lists { IfOk result (λ _. self.new.lists.items ≡ self.old.lists.items
-            ++ list_for self.old.texts.kind (texts_of self.old.texts)
-            (word_of (words_of self.old) state ++ class ∷ [])) }
-        ensures whole { IfOk result (λ whole. whole ≡ first_equal self.old.texts.kind (texts_of self.old.texts)
-            (word_of (words_of self.old) state ++ class ∷ [])) }
+            ++ list_for (texts_of self.old.texts) (word_behind self.old state class)) }
+        ensures whole { IfOk result (λ whole. whole ≡ first_equal (texts_of self.old.texts)
+            (word_behind self.old state class)) }
         ensures same { IfOk result (λ _. (self.new.texts ≡ self.old.texts) × (self.new.states ≡ self.old.states)
             × (self.new.rows ≡ self.old.rows)) }
     {
@@ -219,72 +207,54 @@ impl<'p> Growing<'p> {
         Ok(whole)
     }
 
-    /// The number in a row for the live suffix behind a state and a class, where no pattern goes on with it.
+    /// The number in a row for the failure link of a state's word with one symbol more.
     fn behind_failure(&self, state: usize, class: u8) -> u32
         requires grows { Grows self.now }
         requires is_state { state < length self.now.states.items }
         requires is_class { class < self.now.texts.width }
         requires filled { state * stride_of self.now.texts.width ≤ length self.now.rows.items }
-        ensures { LeadsBy self.now.texts.kind (texts_of self.now.texts) (words_of self.now) self.now.texts.width result
-            (fallback self.now.texts.kind (texts_of self.now.texts) (word_of (words_of self.now) state) class) }
+        ensures { LeadsIn self.now result (failure_of (texts_of self.now.texts) (word_behind self.now state class)) }
     {
         if state == 0 {
             return 0;
         }
         let failure = self.states[state].failure;
-        if failure == NOTHING {
-            return NOTHING;
-        }
         self.rows[place_of(failure) + class as usize]
     }
 
     /// The ending of the state to which a number in a row leads.
     fn ending_of(&self, code: u32) -> u32
         requires grows { Grows self.now }
-        requires leads { IsCode self.now code }
-        ensures { (word : Option (List ℕ)) → LeadsBy self.now.texts.kind (texts_of self.now.texts) (words_of self.now)
-            self.now.texts.width code word
-            → result ≡ unwrap_or (ending_live self.now.texts.kind (texts_of self.now.texts) word) nothing }
+        requires leads { (word : List ℕ) × LeadsIn self.now code word }
+        ensures { (word : List ℕ) → LeadsIn self.now code word
+            → result ≡ unwrap_or (ending (texts_of self.now.texts) word) nothing }
     {
-        if code == NOTHING {
-            return NOTHING;
-        }
         self.states[place_of(code) / (self.texts.width + 1)].ending
     }
 
     /// The state behind a state and a class whose list begins at a place, where the first pattern that ends there and
-    /// the number for the live suffix otherwise are known.
+    /// the number for its failure link are known.
     fn state_behind(
         &self,
         state: usize,
         class: u8,
         start: usize,
         whole: Option<u32>,
-        behind: u32,
+        failure: u32,
     ) -> State
         requires grows { Grows self.now }
         requires is_state { state < length self.now.states.items }
         requires some { start < length self.now.lists.items }
         requires listed { slice_range self.now.lists.items start (length self.now.lists.items)
-            ≡ list_for self.now.texts.kind (texts_of self.now.texts) (word_of (words_of self.now) state ++ class ∷ []) }
-        requires whole { whole ≡ first_equal self.now.texts.kind (texts_of self.now.texts)
-            (word_of (words_of self.now) state ++ class ∷ []) }
-        requires behind { LeadsBy self.now.texts.kind (texts_of self.now.texts) (words_of self.now) self.now.texts.width
-            behind (fallback self.now.texts.kind (texts_of self.now.texts) (word_of (words_of self.now) state) class) }
-        ensures word { word_in (texts_of self.now.texts) result ≡ word_of (words_of self.now) state ++ class ∷ [] }
-        ensures state { IsStateAt self.now.texts.kind (texts_of self.now.texts) (words_of self.now) self.now.texts.width
-            self.now.lists.items (length self.now.states.items) result }
+            ≡ list_for (texts_of self.now.texts) (word_behind self.now state class) }
+        requires whole { whole ≡ first_equal (texts_of self.now.texts) (word_behind self.now state class) }
+        requires failure { LeadsIn self.now failure
+            (failure_of (texts_of self.now.texts) (word_behind self.now state class)) }
+        ensures word { word_in (texts_of self.now.texts) result ≡ word_behind self.now state class }
+        ensures state { IsNextState self.now result }
     {
         let _ = class; // (its contract names it)
-        let failure = if whole.is_some() && self.texts.kind != MatchKind::Standard {
-            NOTHING
-        } else {
-            behind
-        };
-        let ending = match whole {
-            Some(pattern) => pattern,
-            None => self.ending_of(failure),
-        };
+        let ending = whole.unwrap_or(self.ending_of(failure));
         State {
             pattern: self.lists[start],
             depth: self.states[state].depth + 1,
@@ -298,16 +268,15 @@ impl<'p> Growing<'p> {
     /// Adds a state, where the rows of so many are not too long, and answers the number in a row for it.
     fn add_state(&mut self, state: State) -> Result<u32, GrowError>
         requires grows { Grows self.old }
-        requires state { IsStateAt self.old.texts.kind (texts_of self.old.texts) (words_of self.old)
-            self.old.texts.width self.old.lists.items (length self.old.states.items) state }
-        requires different { AreStates self.old.texts.kind (texts_of self.old.texts)
+        requires state { IsNextState self.old state }
+        requires different { AreStates (texts_of self.old.texts)
             (words_of self.old ++ word_in (texts_of self.old.texts) state ∷ []) }
         ensures grows { IfOk result (λ _. Grows self.new) }
         ensures words { IfOk result (λ _. words_of self.new
             ≡ words_of self.old ++ word_in (texts_of self.old.texts) state ∷ []) }
         ensures too_many { IfErr result (λ error. error ≡ GrowError.TooManyStates
-            → HasTooManyStates self.old.texts.kind (texts_of self.old.texts) self.old.texts.width) }
-        ensures code { IfOk result (λ code. LeadsTo self.old.texts.kind (texts_of self.old.texts) (words_of self.new)
+            → HasTooManyStates (texts_of self.old.texts) self.old.texts.width) }
+        ensures code { IfOk result (λ code. LeadsTo (texts_of self.old.texts) (words_of self.new)
             self.old.texts.width code (word_in (texts_of self.old.texts) state)) }
         ensures same { IfOk result (λ _. (self.new.texts ≡ self.old.texts) × (self.new.rows ≡ self.old.rows)) }
     {
@@ -322,8 +291,7 @@ impl<'p> Growing<'p> {
     /// Adds a state.
     fn push_state(&mut self, state: State) -> Result<(), AllocError>
         requires grows { Grows self.old }
-        requires state { IsStateAt self.old.texts.kind (texts_of self.old.texts) (words_of self.old)
-            self.old.texts.width self.old.lists.items (length self.old.states.items) state }
+        requires state { IsNextState self.old state }
         requires few { (length self.old.states.items + 1) * stride_of self.old.texts.width ≤ 2 ^ 31 - 1 }
         ensures grows { IfOk result (λ _. Grows self.new) }
         ensures words { IfOk result (λ _. words_of self.new
@@ -341,30 +309,29 @@ impl<'p> Growing<'p> {
         requires is_state { state < length self.old.states.items }
         requires is_class { class < self.old.texts.width }
         requires filled { length self.old.rows.items ≡ state * stride_of self.old.texts.width + class }
-        requires words { AreWords self.old.texts.kind (texts_of self.old.texts) (words_of self.old) self.old.texts.width
-            (length self.old.rows.items) }
-        requires unmarked { is_marked ≡ false → list_for self.old.texts.kind (texts_of self.old.texts)
-            (word_of (words_of self.old) state ++ class ∷ []) ≡ [] }
+        requires words { AreWordsIn self.old }
+        requires unmarked { is_marked ≡ false → list_for (texts_of self.old.texts)
+            (word_behind self.old state class) ≡ [] }
         ensures grows { IfOk result (λ _. Grows self.new) }
-        ensures leads { IfOk result (λ code. Leads self.old.texts.kind (texts_of self.old.texts) (words_of self.new)
-            self.old.texts.width code (word_of (words_of self.old) state ++ class ∷ [])) }
-        ensures words { IfOk result (λ _. AreWords self.old.texts.kind (texts_of self.old.texts) (words_of self.new)
+        ensures leads { IfOk result (λ code. LeadsTo (texts_of self.old.texts) (words_of self.new)
+            self.old.texts.width code (live_suffix (texts_of self.old.texts) (word_behind self.old state class))) }
+        ensures words { IfOk result (λ _. AreWords (texts_of self.old.texts) (words_of self.new)
             self.old.texts.width (length self.old.rows.items + 1)) }
         ensures too_many { IfErr result (λ error. error ≡ GrowError.TooManyStates
-            → HasTooManyStates self.old.texts.kind (texts_of self.old.texts) self.old.texts.width) }
+            → HasTooManyStates (texts_of self.old.texts) self.old.texts.width) }
         ensures kept { IfOk result (λ _. IsLonger (words_of self.old) (words_of self.new)) }
         ensures same { IfOk result (λ _. (self.new.texts ≡ self.old.texts) × (self.new.rows ≡ self.old.rows)) }
     {
-        let behind = self.behind_failure(state, class);
+        let failure = self.behind_failure(state, class);
         if !is_marked {
-            return Ok(behind);
+            return Ok(failure);
         }
         let start = self.lists.len();
         let whole = self.push_list(state, class)?;
         if self.lists.len() == start {
-            return Ok(behind);
+            return Ok(failure);
         }
-        let next = self.state_behind(state, class, start, whole, behind);
+        let next = self.state_behind(state, class, start, whole, failure);
         let code = self.add_state(next)?;
         Ok(code)
     }
@@ -375,8 +342,8 @@ impl<'p> Growing<'p> {
         requires is_state { state < length self.old.states.items }
         requires is_class { class < self.old.texts.width }
         requires filled { length self.old.rows.items ≡ state * stride_of self.old.texts.width + class }
-        requires leads { Leads self.old.texts.kind (texts_of self.old.texts) (words_of self.old) self.old.texts.width
-            next (word_of (words_of self.old) state ++ class ∷ []) }
+        requires leads { LeadsIn self.old next
+            (live_suffix (texts_of self.old.texts) (word_behind self.old state class)) }
         ensures grows { IfOk result (λ _. Grows self.new) }
         ensures filled { IfOk result (λ _. length self.new.rows.items ≡ length self.old.rows.items + 1) }
         ensures same { IfOk result (λ _. (self.new.texts ≡ self.old.texts) × (self.new.states ≡ self.old.states)) }
@@ -406,16 +373,14 @@ impl<'p> Growing<'p> {
         requires is_state { state < length self.old.states.items }
         requires is_class { class < self.old.texts.width }
         requires filled { length self.old.rows.items ≡ state * stride_of self.old.texts.width + class }
-        requires words { AreWords self.old.texts.kind (texts_of self.old.texts) (words_of self.old) self.old.texts.width
-            (length self.old.rows.items) }
-        requires unmarked { is_marked ≡ false → list_for self.old.texts.kind (texts_of self.old.texts)
-            (word_of (words_of self.old) state ++ class ∷ []) ≡ [] }
+        requires words { AreWordsIn self.old }
+        requires unmarked { is_marked ≡ false → list_for (texts_of self.old.texts)
+            (word_behind self.old state class) ≡ [] }
         ensures grows { IfOk result (λ _. Grows self.new) }
         ensures filled { IfOk result (λ _. length self.new.rows.items ≡ length self.old.rows.items + 1) }
-        ensures words { IfOk result (λ _. AreWords self.old.texts.kind (texts_of self.old.texts) (words_of self.new)
-            self.old.texts.width (length self.new.rows.items)) }
+        ensures words { IfOk result (λ _. AreWordsIn self.new) }
         ensures too_many { IfErr result (λ error. error ≡ GrowError.TooManyStates
-            → HasTooManyStates self.old.texts.kind (texts_of self.old.texts) self.old.texts.width) }
+            → HasTooManyStates (texts_of self.old.texts) self.old.texts.width) }
         ensures kept { IfOk result (λ _. IsLonger (words_of self.old) (words_of self.new)) }
         ensures same { IfOk result (λ _. self.new.texts ≡ self.old.texts) }
     {
@@ -429,14 +394,12 @@ impl<'p> Growing<'p> {
         requires grows { Grows self.old }
         requires is_state { state < length self.old.states.items }
         requires filled { length self.old.rows.items ≡ state * stride_of self.old.texts.width }
-        requires words { AreWords self.old.texts.kind (texts_of self.old.texts) (words_of self.old) self.old.texts.width
-            (length self.old.rows.items) }
+        requires words { AreWordsIn self.old }
         ensures grows { IfOk result (λ _. Grows self.new) }
         ensures filled { IfOk result (λ _. length self.new.rows.items ≡ (state + 1) * stride_of self.old.texts.width) }
-        ensures words { IfOk result (λ _. AreWords self.old.texts.kind (texts_of self.old.texts) (words_of self.new)
-            self.old.texts.width (length self.new.rows.items)) }
+        ensures words { IfOk result (λ _. AreWordsIn self.new) }
         ensures too_many { IfErr result (λ error. error ≡ GrowError.TooManyStates
-            → HasTooManyStates self.old.texts.kind (texts_of self.old.texts) self.old.texts.width) }
+            → HasTooManyStates (texts_of self.old.texts) self.old.texts.width) }
         ensures kept { IfOk result (λ _. IsLonger (words_of self.old) (words_of self.new)) }
         ensures same { IfOk result (λ _. self.new.texts ≡ self.old.texts) }
     {
@@ -473,28 +436,25 @@ fn code_for(place: u32, ending: u32) -> u32
     }
 }
 
-/// The rows for patterns, none of which is empty, in classes below the width.
+/// The rows for patterns, in classes below the width.
 pub fn grow(
     alloc: Global,
-    kind: MatchKind,
     classes: &[u8; 256],
     width: usize,
     patterns: &[Vec<u8>],
 ) -> Result<Vec<u32>, GrowError>
     requires classes { AreClasses classes.now width }
-    requires some { NoneIsEmpty (map (λ pattern. pattern.items) patterns.now) }
     requires few { length patterns.now ≤ 2 ^ 31 - 1 }
-    ensures recognises { IfOk result (λ rows. Recognises kind
+    ensures recognises { IfOk result (λ rows. Recognises
         (map (λ pattern. symbols_in classes.now pattern.items) patterns.now) width rows.items) }
-    ensures states { IfOk result (λ rows. IsRowsLength kind
+    ensures states { IfOk result (λ rows. IsRowsLength
         (map (λ pattern. symbols_in classes.now pattern.items) patterns.now) width (length rows.items)) }
-    ensures few { IfOk result (λ _. HasTooManyStates kind
+    ensures few { IfOk result (λ _. HasTooManyStates
         (map (λ pattern. symbols_in classes.now pattern.items) patterns.now) width → ⊥) }
-    ensures too_many { IfErr result (λ error. error ≡ GrowError.TooManyStates → HasTooManyStates kind
+    ensures too_many { IfErr result (λ error. error ≡ GrowError.TooManyStates → HasTooManyStates
         (map (λ pattern. symbols_in classes.now pattern.items) patterns.now) width) }
 {
     let texts = Texts {
-        kind,
         classes,
         width,
         patterns,
@@ -526,7 +486,7 @@ fn start<'p>(alloc: Global, texts: Texts<'p>) -> Result<Growing<'p>, AllocError>
         depth: 0,
         start: 0,
         end: lists.len(),
-        failure: NOTHING,
+        failure: 0,
         ending: NOTHING,
     })?;
     Ok(Growing {

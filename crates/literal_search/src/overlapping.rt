@@ -4,7 +4,6 @@ ghost use Rattle.std.specs.Prelude.{IfErr, IfOk, OnErr};
 ghost use Rattle.std.specs.List.{repeat};
 ghost use Rattle.std.specs.Option.{option_map};
 ghost use Rattle.literal_base.specs.Occurs.{IsValidSpan, between, whole_of};
-ghost use Rattle.literal_base.specs.declared.search.MatchKind.TheVariants.{Standard};
 ghost use Rattle.literal_base.specs.Given.{CanBeTaken};
 ghost use Rattle.literal_search.specs.SearchValue.{CanBeKept, NeedFewStates, NeedTooManyStates, RefusesSearch};
 ghost use Rattle.literal_search.specs.Earliest.{IsEarliestEnd, ScansToEndWithin};
@@ -29,7 +28,6 @@ use crate::standing::Standing;
 use crate::suffixes::Recognised;
 use crate::{BuildError, copies, shortest_len, total_bytes};
 use literal_base::count::Tally;
-use literal_base::search::MatchKind;
 use literal_base::{Match, Span};
 use literal_fingerprints::Fingerprints;
 use std::alloc::{AllocError, Global};
@@ -107,7 +105,7 @@ impl Overlapping {
     {
         let patterns = copies(alloc, patterns)?;
         let classes = classes_for(ignore_case, &patterns);
-        let rows = rows_for(alloc, MatchKind::Standard, &classes, &patterns)?;
+        let rows = rows_for(alloc, &classes, &patterns)?;
         let recognised = Recognised {
             classes: &classes.table,
             width: classes.width,

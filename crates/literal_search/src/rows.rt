@@ -1,6 +1,5 @@
 //! The rows of all states, and the class of each byte, which take memory only where there is a pattern.
 ghost use Rattle.std.specs.Prelude.{◌≡◌, ◌<◌, ◌≤◌, ◌^◌, ◌-◌, ◌++◌, [], IfErr, IfOk, OnErr, length, map};
-ghost use Rattle.literal_base.specs.Occurs.{NoneIsEmpty};
 ghost use Rattle.literal_search.specs.Table.{Recognises};
 ghost use Rattle.literal_search.specs.Inside.Classes.{AreClasses, symbols_in};
 ghost use Rattle.literal_search.specs.Inside.Packed.{unpacked};
@@ -10,7 +9,6 @@ ghost use Rattle.literal_search.specs.States.{HasTooManyStates, IsRowsLength};
 use crate::classes::{CLASSES_LEN, Classes, PACKED_LEN};
 use crate::grow::{GrowError, grow};
 use crate::prepared::{LENGTHS_AT, NO_PATTERN, pack};
-use literal_base::search::MatchKind;
 use std::alloc::{AllocError, Global};
 use std::marker::Model;
 
@@ -67,27 +65,21 @@ impl Rows {
     }
 }
 
-/// The rows for patterns, none of which is empty, in classes that are made for them.
+/// The rows for patterns, in classes that are made for them.
 #[tactic(auto, unfolding(crate::specs::Inside::Rows::AreKeptRows))]
-pub fn rows_for(
-    alloc: Global,
-    kind: MatchKind,
-    classes: &Classes,
-    patterns: &[Vec<u8>],
-) -> Result<Rows, GrowError>
+pub fn rows_for(alloc: Global, classes: &Classes, patterns: &[Vec<u8>]) -> Result<Rows, GrowError>
     requires classes { AreClasses classes.now.table classes.now.width }
     requires one { patterns.now ≡ [] → classes.now.width ≡ 1 }
-    requires some { NoneIsEmpty (map (λ pattern. pattern.items) patterns.now) }
     requires few { length patterns.now ≤ 2 ^ 31 - 1 }
     ensures classes { IfOk result (λ rows. rows.classes ≡ classes.now.table) }
-    ensures recognises { IfOk result (λ rows. Recognises kind
+    ensures recognises { IfOk result (λ rows. Recognises
         (map (λ pattern. symbols_in classes.now.table pattern.items) patterns.now) classes.now.width rows.rows) }
-    ensures states { IfOk result (λ rows. IsRowsLength kind
+    ensures states { IfOk result (λ rows. IsRowsLength
         (map (λ pattern. symbols_in classes.now.table pattern.items) patterns.now) classes.now.width
         (length rows.rows)) }
-    ensures few { IfOk result (λ _. HasTooManyStates kind
+    ensures few { IfOk result (λ _. HasTooManyStates
         (map (λ pattern. symbols_in classes.now.table pattern.items) patterns.now) classes.now.width → ⊥) }
-    ensures too_many { IfErr result (λ error. error ≡ GrowError.TooManyStates → HasTooManyStates kind
+    ensures too_many { IfErr result (λ error. error ≡ GrowError.TooManyStates → HasTooManyStates
         (map (λ pattern. symbols_in classes.now.table pattern.items) patterns.now) classes.now.width) }
     ensures none { patterns.now ≡ [] → IfOk result (λ rows. rows ≡ rows_value []) }
     ensures not_empty { OnErr result (0 < length patterns.now) }
@@ -97,7 +89,7 @@ pub fn rows_for(
             numbers: Vec::new(alloc),
         });
     }
-    let mut numbers = grow(alloc, kind, &classes.table, classes.width, patterns)?;
+    let mut numbers = grow(alloc, &classes.table, classes.width, patterns)?;
     push_classes(&mut numbers, &classes.table)?;
     Ok(Rows { numbers })
 }

@@ -34,7 +34,7 @@ use crate::suffixes::Recognised;
 use crate::{BuildError, copies, push_copy, shortest_len, total_bytes};
 use literal_base::count::Tally;
 use literal_base::packed::MatchKind;
-use literal_base::{Match, Span, search};
+use literal_base::{Match, Span};
 use literal_fingerprints::Fingerprints;
 use literal_ids::PatternID;
 use std::alloc::{AllocError, Global};
@@ -116,7 +116,7 @@ impl Search {
         let patterns = copies(alloc, patterns)?;
         let classes = classes_for(ignore_case, &patterns);
         let backward = backward_copies(alloc, &patterns)?;
-        let rows = rows_for(alloc, search::MatchKind::Standard, &classes, &backward)?;
+        let rows = rows_for(alloc, &classes, &backward)?;
         let recognised = Recognised {
             classes: &classes.table,
             width: classes.width,

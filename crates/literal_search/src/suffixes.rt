@@ -2,7 +2,6 @@
 ghost use Rattle.std.specs.Prelude.{◌≡◌, ◌<◌, ◌≤◌, ◌++◌, ◌∷◌, [], IfOk, OnErr, Some, drop, length};
 ghost use Rattle.std.specs.Option.{unwrap_or};
 ghost use Rattle.literal_base.specs.Occurs.{pattern_at};
-ghost use Rattle.literal_base.specs.declared.search.MatchKind.TheVariants.{Standard};
 ghost use Rattle.literal_search.specs.Table.{nothing};
 ghost use Rattle.literal_search.specs.Words.{ending};
 ghost use Rattle.literal_search.specs.Inside.Suffixes.{AreSuffixes};
@@ -14,7 +13,7 @@ use std::alloc::{AllocError, Global};
 /// Where the last of no lists ends.
 const NO_LIST: [usize; 1] = [0];
 
-/// Patterns, and the rows of an automaton for all that occurs of them.
+/// Patterns, and the rows of their automaton.
 #[derive(Clone, Copy)]
 pub struct Recognised<'p> {
     pub classes: &'p [u8; 256],
@@ -37,7 +36,7 @@ impl<'p> Recognised<'p> {
         requires recognise { Recognise self.now }
         requires is_pattern { pattern < length self.now.patterns.now }
         requires inside { from ≤ length (pattern_at (symbols_of self.now) pattern) }
-        ensures { result ≡ unwrap_or (ending Standard (symbols_of self.now)
+        ensures { result ≡ unwrap_or (ending (symbols_of self.now)
             (drop from (pattern_at (symbols_of self.now) pattern))) nothing }
     {
         let bytes = self.patterns[pattern].as_slice();
@@ -81,11 +80,11 @@ impl<'p> Recognised<'p> {
         requires recognise { Recognise self.now }
         requires links { AreOutputLinks (symbols_of self.now) links.now 0 }
         requires is_pattern { pattern < length self.now.patterns.now }
-        ensures ends { IfOk result (λ list. ending Standard (symbols_of self.now)
+        ensures ends { IfOk result (λ list. ending (symbols_of self.now)
             (pattern_at (symbols_of self.now) pattern) ≡ Some pattern
             → AreSuffixes (symbols_of self.now) (pattern_at (symbols_of self.now) pattern) 0 list.items 0
             (length list.items)) }
-        ensures none { IfOk result (λ list. ¬ (ending Standard (symbols_of self.now)
+        ensures none { IfOk result (λ list. ¬ (ending (symbols_of self.now)
             (pattern_at (symbols_of self.now) pattern) ≡ Some pattern) → list.items ≡ []) }
     {
         let mut list = Vec::new(alloc);

@@ -13,10 +13,10 @@ use crate::prepared::{Damaged, unpack};
 use literal_base::Span;
 use literal_base::count::Tally;
 
-/// What stands in a row where there is no state, or no pattern.
+/// What stands in a row where no pattern ends with the state's word.
 pub const NOTHING: u32 = u32::MAX;
 
-/// What a row's number for a state has more where a match ends with the state's word.
+/// What a row's number for a state has more where a pattern ends with the state's word.
 pub const ENDS: u32 = 1 << 31;
 
 /// Where a walk stands: at which row, and how far it has read.

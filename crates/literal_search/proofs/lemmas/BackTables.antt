@@ -2,7 +2,6 @@
 use Rattle.std.proofs.Common.{◌≡◌, ◌∙◌, ◌+◌, ◌++◌, ◌∷◌, ◌≤◌, ◌^◌, ℕ, List, [], ap, append-nil, append_assoc, arith}
 use Rattle.std.proofs.Common.{length, refl, subst, sym}
 use Rattle.std.specs.List.{slice_range}
-use Rattle.literal_base.specs.declared.search.MatchKind.TheVariants.{Standard}
 use Rattle.literal_search.specs.Inside.Classes.{AreClasses}
 use Rattle.std.proofs.lemmas.Bool.{cases_lt}
 use Rattle.std.proofs.lemmas.List.{get_or_default, length-map}
@@ -29,7 +28,7 @@ use Rattle.literal_search.proofs.lemmas.Backward.{back_count, back_long}
 use Rattle.literal_search.proofs.lemmas.Found.{symbols_length}
 use Rattle.literal_search.proofs.lemmas.Prepared.{length_part}
 use Rattle.literal_search.proofs.lemmas.States.{too_many_prefixes}
-use Rattle.literal_search.proofs.lemmas.Walk.{rows_are_table}
+use Rattle.literal_search.proofs.lemmas.Walk.{at_start, row_at}
 
 -- tables whose parts are equal
 pub same_tables : (search : SearchValue) (classes classes' : List ℕ) (width width' : ℕ)
@@ -102,13 +101,14 @@ module _ (t : BackTables) (are : AreBackTables t) (prints : List ℕ) (long : le
     prepared_all =
         let classes = classes_written PREPARED_VERSION t.classes t.width t.search.query.patterns t.rows t.best
         prints are.classes in
-        let table = rows_are_table Standard (texts_back t) t.width t.rows are.recognises in
+        let first = row_at (texts_back t) t.width t.rows are.recognises [] 0
+        (at_start (texts_back t) t.width t.rows are.recognises) in
         record {
           whole = record {
             parts = record {
               parts = record { version_is = refl; few = are.kept.few; fits = omega (arith, size) };
               fits = omega (arith, size, are.best.long, long);
-              row = omega (arith, table.some.fits);
+              row = omega (arith, first.fits);
             };
             check = check_written PREPARED_VERSION t.classes t.width t.search.query.patterns t.rows t.best prints
                 (prepared_len all_of) (omega (arith, size, are.best.long, long));
@@ -124,7 +124,7 @@ module _ (t : BackTables) (are : AreBackTables t) (prints : List ℕ) (long : le
 
     -- they are what a `Search` keeps
     pub kept_all : t.width ≡ width_for t.search.ignore_case t.search.query.patterns
-        → IsRowsLength Standard (texts_back t) t.width (length t.rows) → AreKept t.search all_of
+        → IsRowsLength (texts_back t) t.width (length t.rows) → AreKept t.search all_of
     kept_all width rows =
         let classes = classes_written PREPARED_VERSION t.classes t.width t.search.query.patterns t.rows t.best
         prints are.classes in
@@ -134,9 +134,9 @@ module _ (t : BackTables) (are : AreBackTables t) (prints : List ℕ) (long : le
           prepared = prepared_all;
           long = omega (arith, size, are.best.long, long);
           width = width;
-          rows = subst (λ (c : List ℕ). IsRowsLength Standard (reversed (map (symbols_in c) t.search.query.patterns))
+          rows = subst (λ (c : List ℕ). IsRowsLength (reversed (map (symbols_in c) t.search.query.patterns))
               t.width (length (rows_in all_of))) (sym classes)
-              (subst (λ (r : List ℕ). IsRowsLength Standard (texts_back t) t.width (length r)) (sym rows_are) rows);
+              (subst (λ (r : List ℕ). IsRowsLength (texts_back t) t.width (length r)) (sym rows_are) rows);
         }
 
 module _ {search : SearchValue} {numbers : List ℕ} (kept : AreKept search numbers) where
@@ -160,7 +160,7 @@ module _ {search : SearchValue} {numbers : List ℕ} (kept : AreKept search numb
     kept.prepared.tables.tells,
     (
       length (rows_in numbers),
-      subst (λ width. IsRowsLength Standard (texts_back (back_tables_in search numbers)) width
+      subst (λ width. IsRowsLength (texts_back (back_tables_in search numbers)) width
           (length (rows_in numbers))) kept.width kept.rows,
       kept_long,
     ),
@@ -168,7 +168,7 @@ module _ {search : SearchValue} {numbers : List ℕ} (kept : AreKept search numb
 
 -- patterns whose texts have few states are short
 pub short_by : (classes : List ℕ) (width : ℕ) (patterns : List (List ℕ))
-    → ¬ HasTooManyStates Standard (reversed (map (symbols_in classes) patterns)) width → AreShort patterns
+    → ¬ HasTooManyStates (reversed (map (symbols_in classes) patterns)) width → AreShort patterns
 short_by classes width patterns few i d below =
     let texts = reversed (map (symbols_in classes) patterns) in
     let count = back_count (map (symbols_in classes) patterns) ∙ length-map patterns (symbols_in classes) in
@@ -179,13 +179,13 @@ short_by classes width patterns few i d below =
       | inr large ↦
           let n = length (pattern_at texts i) + 1 in
           let most : n ≤ n * stride_of width = grind arith in
-          absurd (few (too_many_prefixes Standard texts i (omega (arith, count, below))
-          (λ is. let never : ⊥ = cc in absurd never) width (omega (arith, large, long, most))))
+          absurd (few (too_many_prefixes texts i (omega (arith, count, below))
+          width (omega (arith, large, long, most))))
     ]
 
 -- and so are those whose texts, as they are, have few
 pub short_forward : (classes : List ℕ) (width : ℕ) (patterns : List (List ℕ))
-    → ¬ HasTooManyStates Standard (map (symbols_in classes) patterns) width → AreShort patterns
+    → ¬ HasTooManyStates (map (symbols_in classes) patterns) width → AreShort patterns
 short_forward classes width patterns few i d below =
     let texts = map (symbols_in classes) patterns in
     let count = length-map patterns (symbols_in classes) in
@@ -196,6 +196,6 @@ short_forward classes width patterns few i d below =
       | inr large ↦
           let n = length (pattern_at texts i) + 1 in
           let most : n ≤ n * stride_of width = grind arith in
-          absurd (few (too_many_prefixes Standard texts i (omega (arith, count, below))
-          (λ is. let never : ⊥ = cc in absurd never) width (omega (arith, large, long, most))))
+          absurd (few (too_many_prefixes texts i (omega (arith, count, below))
+          width (omega (arith, large, long, most))))
     ]

@@ -15,7 +15,6 @@ use Rattle.literal_base.specs.Leftmost.{IsBetter, IsLeftmostMatch}
 use Rattle.literal_base.specs.Occurs.{IsValidSpan, NoneIsEmpty, Occurs, between, pattern_at}
 use Rattle.literal_base.specs.declared.packed.MatchKind.{MatchKind}
 use Rattle.literal_base.specs.declared.packed.MatchKind.TheVariants.{LeftmostFirst, LeftmostLongest}
-use Rattle.literal_base.specs.declared.search.MatchKind.TheVariants.{Standard}
 use Rattle.literal_search.specs.Inside.Classes.{symbols_in}
 use Rattle.literal_search.specs.Inside.Suffixes.{IsSuffix}
 use Rattle.literal_search.specs.Inside.Backward.{AreBackFor, BeginsBest, IsMark, IsRead, StandsDown, back_tables_by}
@@ -24,14 +23,14 @@ use Rattle.literal_search.specs.Inside.Walk.{IsAt, text_of}
 use Rattle.literal_search.specs.SearchValue.{reversed}
 use Rattle.literal_search.specs.Prepared.{AreBackTables, BackTables, texts_back}
 use Rattle.literal_search.specs.SearchValue.{SearchValue}
-use Rattle.literal_search.specs.Table.{Recognises, nothing}
+use Rattle.literal_search.specs.Table.{Recognises}
 use Rattle.literal_search.specs.Words.{ending}
 use Rattle.literal_search.specs.declared.backward.Backward.{Backward}
 use Rattle.literal_search.proofs.lemmas.Built.{same_texts}
 use Rattle.literal_search.proofs.lemmas.Found.{occurs_where, some_symbols, stands_where, symbols_length}
 use Rattle.literal_search.proofs.lemmas.Longest.{longest_is}
-use Rattle.literal_search.proofs.lemmas.Standard.{ends_of_first, ends_on, first_ends, none_ends}
-use Rattle.literal_search.proofs.lemmas.Walk.{always_live, at_dead, at_start, at_with_end, at_without_end, row_at}
+use Rattle.literal_search.proofs.lemmas.FirstSuffix.{ends_of_first, ends_on, first_ends, none_ends}
+use Rattle.literal_search.proofs.lemmas.Walk.{at_start, at_with_end, at_without_end, row_at}
 use Rattle.literal_search.proofs.lemmas.Walk.{text_split}
 
 -- the text of a reversed pattern is that of the pattern, reversed
@@ -91,12 +90,6 @@ module _ (lent backward patterns : List (Vec ℕ Global)) (same : lent ≡ backw
         ∙ (sym (length-map backward (λ (pattern : Vec ℕ Global). pattern.items))
         ∙ (ap (λ (l : List (List ℕ)). length l) copies
         ∙ back_count (map (λ (pattern : Vec ℕ Global). pattern.items) patterns)))
-
-    pub some_lent : NoneIsEmpty (map (λ (pattern : Vec ℕ Global). pattern.items) patterns)
-        → NoneIsEmpty (map (λ (pattern : Vec ℕ Global). pattern.items) lent)
-    some_lent some = subst (λ (l : List (List ℕ)). NoneIsEmpty l)
-        (sym (ap (map (λ (pattern : Vec ℕ Global). pattern.items)) same ∙ copies))
-        (some_back (map (λ (pattern : Vec ℕ Global). pattern.items) patterns) some)
 
 -- what is a prefix of a text is, reversed, a suffix of the reversed text
 module _ (texts : List (List ℕ)) (text : List ℕ) (i : ℕ) where
@@ -183,7 +176,7 @@ module _ (p : BackTables) (are : AreBackTables p) (haystack : List ℕ) (bytes :
           i at occurs)
 
       -- the best of the ends is the best that begins
-      best_begins : (first : ℕ) → ending Standard (texts_back p) (read at from) ≡ Some first
+      best_begins : (first : ℕ) → ending (texts_back p) (read at from) ≡ Some first
           → (first < length p.best) × BeginsBest p haystack from at (get_or p.best first 0)
       best_begins first ends =
           let text = read at from in
@@ -211,19 +204,19 @@ module _ (p : BackTables) (are : AreBackTables p) (haystack : List ℕ) (bytes :
         ap (λ n. symbols_in p.classes (take n (drop at haystack))) none
 
     row_of : (text : List ℕ) (place : ℕ)
-        → IsAt Standard (texts_back p) p.width p.rows are.recognises text place
+        → IsAt (texts_back p) p.width p.rows are.recognises text place
         → place + p.width < length p.rows
     row_of text place at =
-        let row = row_at Standard (texts_back p) p.width p.rows are.recognises text place at in
+        let row = row_at (texts_back p) p.width p.rows are.recognises text place at in
         omega (arith, row.fits)
 
     -- a walk that read nothing
     pub stands_nowhere : (from : ℕ) → StandsDown p haystack from from 0
     stands_nowhere from =
-        let at : (recognises : Recognises Standard (texts_back p) p.width p.rows)
-        → IsAt Standard (texts_back p) p.width p.rows recognises (read from from) 0 =
-        λ recognises. subst (λ t. IsAt Standard (texts_back p) p.width p.rows recognises (reverse t) 0)
-        (sym (no_text from)) (at_start Standard (texts_back p) p.width p.rows recognises) in
+        let at : (recognises : Recognises (texts_back p) p.width p.rows)
+        → IsAt (texts_back p) p.width p.rows recognises (read from from) 0 =
+        λ recognises. subst (λ t. IsAt (texts_back p) p.width p.rows recognises (reverse t) 0)
+        (sym (no_text from)) (at_start (texts_back p) p.width p.rows recognises) in
         record { row = row_of (read from from) 0 (at are.recognises); is_at = at }
 
     -- one byte more
@@ -245,31 +238,26 @@ module _ (p : BackTables) (are : AreBackTables p) (haystack : List ℕ) (bytes :
             ∙ ap (λ l. l ++ symbol ∷ rest) (no_text at))
             ∙ reverse-append (symbol ∷ []) rest)
 
-        alive : ¬ (code ≡ nothing)
-        alive dead = always_live (texts_back p) (read (at + 1) from ++ symbol ∷ [])
-            (at_dead Standard (texts_back p) p.width p.rows are.recognises (read (at + 1) from) place
-            (stands.is_at are.recognises) symbol below code code_is dead).0
-
         -- below 2^31 nothing begins there
-        without : code < 2 ^ 31 → (recognises : Recognises Standard (texts_back p) p.width p.rows)
-            → IsAt Standard (texts_back p) p.width p.rows recognises (read at from) code
-            × (ending Standard (texts_back p) (read at from) ≡ None)
+        without : code < 2 ^ 31 → (recognises : Recognises (texts_back p) p.width p.rows)
+            → IsAt (texts_back p) p.width p.rows recognises (read at from) code
+            × (ending (texts_back p) (read at from) ≡ None)
         without small recognises =
-            let on = at_without_end Standard (texts_back p) p.width p.rows recognises (read (at + 1) from) place
+            let on = at_without_end (texts_back p) p.width p.rows recognises (read (at + 1) from) place
             (stands.is_at recognises) symbol below code code_is small in (
-              subst (λ t. IsAt Standard (texts_back p) p.width p.rows recognises t code) more on.0,
-              ap (ending Standard (texts_back p)) (sym more) ∙ on.1,
+              subst (λ t. IsAt (texts_back p) p.width p.rows recognises t code) more on.0,
+              ap (ending (texts_back p)) (sym more) ∙ on.1,
             )
 
         -- from there on something does
-        with_end : 2 ^ 31 ≤ code → (recognises : Recognises Standard (texts_back p) p.width p.rows)
-            → IsAt Standard (texts_back p) p.width p.rows recognises (read at from) (code - 2 ^ 31)
-            × (ending Standard (texts_back p) (read at from) ≡ Some (named_by p code))
+        with_end : 2 ^ 31 ≤ code → (recognises : Recognises (texts_back p) p.width p.rows)
+            → IsAt (texts_back p) p.width p.rows recognises (read at from) (code - 2 ^ 31)
+            × (ending (texts_back p) (read at from) ≡ Some (named_by p code))
         with_end large recognises =
-            let on = at_with_end Standard (texts_back p) p.width p.rows recognises (read (at + 1) from) place
-            (stands.is_at recognises) symbol below code code_is large alive in (
-              subst (λ t. IsAt Standard (texts_back p) p.width p.rows recognises t (code - 2 ^ 31)) more on.0,
-              ap (ending Standard (texts_back p)) (sym more) ∙ on.1,
+            let on = at_with_end (texts_back p) p.width p.rows recognises (read (at + 1) from) place
+            (stands.is_at recognises) symbol below code code_is large in (
+              subst (λ t. IsAt (texts_back p) p.width p.rows recognises t (code - 2 ^ 31)) more on.0,
+              ap (ending (texts_back p)) (sym more) ∙ on.1,
             )
 
         pub mark_there : IsMark p haystack from at code

@@ -6,18 +6,17 @@ use Rattle.std.proofs.lemmas.List.{get_or_past, length-drop}
 use Rattle.std.specs.Option.{unwrap_or}
 use Rattle.literal_base.specs.Occurs.{NoneIsEmpty, pattern_at}
 use Rattle.literal_base.specs.declared.packed.MatchKind.TheVariants.{LeftmostLongest}
-use Rattle.literal_base.specs.declared.search.MatchKind.TheVariants.{Standard}
 use Rattle.literal_search.specs.Inside.Best.{IsBestSuffix, IsSmallestBut}
 use Rattle.literal_search.specs.Inside.Suffixes.{IsSuffix}
 use Rattle.literal_search.specs.Table.{nothing}
 use Rattle.literal_search.specs.Words.{ending}
 use Rattle.literal_search.proofs.lemmas.Chains.{behind_first, shorter_end}
-use Rattle.literal_search.proofs.lemmas.Standard.{ends_length, ends_of_first, ends_on}
-use Rattle.literal_search.proofs.lemmas.Standard.{first_ends, first_is_own, none_ends}
+use Rattle.literal_search.proofs.lemmas.FirstSuffix.{ends_length, ends_of_first, ends_on}
+use Rattle.literal_search.proofs.lemmas.FirstSuffix.{first_ends, first_is_own, none_ends}
 
 module _ (patterns : List (List ℕ)) (some : NoneIsEmpty patterns) (few : length patterns ≤ 2 ^ 31 - 1) where
   -- the first of its equals is the best of its ends by their length
-  pub longest_is_best : (text : List ℕ) (first : ℕ) → ending Standard patterns text ≡ Some first
+  pub longest_is_best : (text : List ℕ) (first : ℕ) → ending patterns text ≡ Some first
       → IsBestSuffix LeftmostLongest patterns text first
   longest_is_best text first ends =
       let is = first_ends patterns some text first ends in
@@ -44,7 +43,7 @@ module _ (patterns : List (List ℕ)) (some : NoneIsEmpty patterns) (few : lengt
   module _ (text : List ℕ) (smallest next : ℕ) (so_far : IsSmallestBut patterns text smallest next)
       (more : next ≢ nothing)
     where
-      next_end : IsSuffix patterns text next × (ending Standard patterns (pattern_at patterns next) ≡ Some next)
+      next_end : IsSuffix patterns text next × (ending patterns (pattern_at patterns next) ≡ Some next)
       next_end = elim so_far.next_is [ inl none ↦ absurd (more none) | inr is ↦ is ]
 
       pub next_below : next < length patterns
@@ -77,9 +76,9 @@ module _ (patterns : List (List ℕ)) (some : NoneIsEmpty patterns) (few : lengt
       ]
 
       pub smallest_on : (link : ℕ)
-          → link ≡ unwrap_or (ending Standard patterns (drop 1 (pattern_at patterns next))) nothing
+          → link ≡ unwrap_or (ending patterns (drop 1 (pattern_at patterns next))) nothing
           → IsSmallestBut patterns text (min smallest next) link
-      smallest_on link is = by (ending Standard patterns (drop 1 (pattern_at patterns next))) refl is
+      smallest_on link is = by (ending patterns (drop 1 (pattern_at patterns next))) refl is
         where
           rest : List ℕ
           rest = drop 1 (pattern_at patterns next)
@@ -97,7 +96,7 @@ module _ (patterns : List (List ℕ)) (some : NoneIsEmpty patterns) (few : lengt
             ]
           ]
 
-          by : (o : Option ℕ) → ending Standard patterns (drop 1 (pattern_at patterns next)) ≡ o
+          by : (o : Option ℕ) → ending patterns (drop 1 (pattern_at patterns next)) ≡ o
               → link ≡ unwrap_or o nothing → IsSmallestBut patterns text (min smallest next) link
           by None ends at = record {
             is = smaller;
@@ -126,14 +125,14 @@ module _ (patterns : List (List ℕ)) (some : NoneIsEmpty patterns) (few : lengt
 
       -- and it comes nearer to nothing
       pub smallest_falls : (link : ℕ)
-          → link ≡ unwrap_or (ending Standard patterns (drop 1 (pattern_at patterns next))) nothing
+          → link ≡ unwrap_or (ending patterns (drop 1 (pattern_at patterns next))) nothing
           → length (pattern_at patterns link) < length (pattern_at patterns next)
-      smallest_falls link is = by (ending Standard patterns (drop 1 (pattern_at patterns next))) refl is
+      smallest_falls link is = by (ending patterns (drop 1 (pattern_at patterns next))) refl is
         where
           long : 0 < length (pattern_at patterns next)
           long = some next [] next_below
 
-          by : (o : Option ℕ) → ending Standard patterns (drop 1 (pattern_at patterns next)) ≡ o
+          by : (o : Option ℕ) → ending patterns (drop 1 (pattern_at patterns next)) ≡ o
               → link ≡ unwrap_or o nothing → length (pattern_at patterns link) < length (pattern_at patterns next)
           by None ends at =
               let past = get_or_past patterns link [] (omega (arith, at, few)) in

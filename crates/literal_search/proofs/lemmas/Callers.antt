@@ -19,7 +19,6 @@ use Rattle.std.proofs.lemmas.Iterator.Consumers.{YieldsList-so_far, YieldsList-t
 use Rattle.std.proofs.lemmas.List.{get_or_default, length-map}
 use denote.Param.Members.{Mut}
 use Rattle.literal_base.specs.declared.packed.MatchKind.{MatchKind}
-use Rattle.literal_base.specs.declared.search.MatchKind.TheVariants.{Standard}
 use Rattle.literal_base.specs.Greedy.{IsGreedy, IsGreedyIn}
 use Rattle.literal_base.specs.MatchValue.{MatchValue}
 use Rattle.literal_base.specs.Occurs.{between, pattern_at, whole_of}
@@ -161,13 +160,13 @@ greedy_from_matches searched haystack m all n o start run nothing =
 pub none_need_few : (ignore_case : Bool) → ¬ NeedTooManyStates ignore_case []
 unfolding NeedTooManyStates
 none_need_few ignore_case (classes, are, tells, many) =
-    none_few Standard (subst (HasTooManyStates Standard []) (one_class ignore_case) many)
+    none_few (subst (HasTooManyStates []) (one_class ignore_case) many)
 
 -- nor are those of the reversed patterns
 pub none_need_few_reversed : (ignore_case : Bool) → ¬ NeedTooManyReversed ignore_case []
 unfolding NeedTooManyReversed
 none_need_few_reversed ignore_case (classes, are, tells, many) =
-    none_few Standard (subst (HasTooManyStates Standard []) (one_class ignore_case) many)
+    none_few (subst (HasTooManyStates []) (one_class ignore_case) many)
 
 -- `holds` is what holds of the function from call to call, such as that it stays as it was
 module _ {F : Type 0}

@@ -16,7 +16,6 @@ use Rattle.std.specs.List.{Contains}
 use Rattle.std.specs.List.Sorted.{IsPermutation, IsSorted}
 use Rattle.std.specs.Ordering.{nat_cmp}
 use Rattle.std.specs.Option.{unwrap_or}
-use Rattle.literal_base.specs.declared.search.MatchKind.TheVariants.{Standard}
 use Rattle.literal_base.specs.Occurs.{NoneIsEmpty, pattern_at}
 use Rattle.literal_search.specs.Inside.Suffixes.{AreSuffixes, ComesLater, HasSuffix, HasUpTo, IsSuffix, IsOutputLink}
 use Rattle.literal_search.specs.Inside.Suffixes.{IsNextEqual}
@@ -24,24 +23,24 @@ use Rattle.literal_search.specs.Inside.Suffixes.{left_from}
 use Rattle.literal_search.specs.Inside.Lists.{AreNextEquals, AreOutputLinks}
 use Rattle.literal_search.specs.Table.{nothing}
 use Rattle.literal_search.specs.Words.{ending}
-use Rattle.literal_search.proofs.lemmas.Standard.{end_of_itself, ends_length, ends_on, ends_same, ends_within}
-use Rattle.literal_search.proofs.lemmas.Standard.{first_ends, none_ends}
+use Rattle.literal_search.proofs.lemmas.FirstSuffix.{end_of_itself, ends_length, ends_on, ends_same, ends_within}
+use Rattle.literal_search.proofs.lemmas.FirstSuffix.{first_ends, none_ends}
 
 module _ (patterns : List (List ℕ)) (some : NoneIsEmpty patterns) (few : length patterns ≤ 2 ^ 31 - 1) where
   -- a pattern is the first of the equals of another
   pub record IsFirstEqual (pattern first : ℕ) : Type 0 where
     pub below : first < length patterns
     pub same : pattern_at patterns first ≡ pattern_at patterns pattern
-    pub first_is : ending Standard patterns (pattern_at patterns first) ≡ Some first
+    pub first_is : ending patterns (pattern_at patterns first) ≡ Some first
 
   pub first_equal_of : (pattern first : ℕ) → pattern < length patterns
-      → first ≡ unwrap_or (ending Standard patterns (pattern_at patterns pattern)) nothing → IsFirstEqual pattern first
-  first_equal_of pattern first below is = by (ending Standard patterns (pattern_at patterns pattern)) refl is
+      → first ≡ unwrap_or (ending patterns (pattern_at patterns pattern)) nothing → IsFirstEqual pattern first
+  first_equal_of pattern first below is = by (ending patterns (pattern_at patterns pattern)) refl is
     where
       text : List ℕ
       text = pattern_at patterns pattern
 
-      by : (o : Option ℕ) → ending Standard patterns (pattern_at patterns pattern) ≡ o → first ≡ unwrap_or o nothing
+      by : (o : Option ℕ) → ending patterns (pattern_at patterns pattern) ≡ o → first ≡ unwrap_or o nothing
           → IsFirstEqual pattern first
       by None ends at = absurd (none_ends patterns some (pattern_at patterns pattern) ends pattern
           (end_of_itself patterns some pattern below))
@@ -61,7 +60,7 @@ module _ (patterns : List (List ℕ)) (some : NoneIsEmpty patterns) (few : lengt
           ends_same (pattern_at patterns pattern) (pattern_at patterns i) (pattern_at patterns pattern) all.is.ends
           itself.ends (omega arith) in
           subst (IsFirstEqual pattern) (sym at)
-          (record { below = all.is.is_pattern; same = same; first_is = ap (ending Standard patterns) same ∙ ends })
+          (record { below = all.is.is_pattern; same = same; first_is = ap (ending patterns) same ∙ ends })
 
   pub behind_first : (text : List ℕ) → HasSuffix text (drop 1 text)
   behind_first text = record { prefix = take 1 text; split = sym (take-append-drop 1 text) }
@@ -119,17 +118,17 @@ module _ (patterns : List (List ℕ)) (some : NoneIsEmpty patterns) (few : lengt
       ]
 
       pub link_to_shorter : equal ≡ nothing → (link : ℕ)
-          → link ≡ unwrap_or (ending Standard patterns (drop 1 (pattern_at patterns pattern))) nothing
+          → link ≡ unwrap_or (ending patterns (drop 1 (pattern_at patterns pattern))) nothing
           → IsOutputLink patterns pattern link
       link_to_shorter none link is =
-          by (ending Standard patterns (drop 1 (pattern_at patterns pattern))) refl is
+          by (ending patterns (drop 1 (pattern_at patterns pattern))) refl is
         where
           only_shorter : (i : ℕ) → IsSuffix patterns (pattern_at patterns pattern) i → ComesLater patterns pattern i
               → IsSuffix patterns (drop 1 (pattern_at patterns pattern)) i
           only_shorter i end (inl shorter) = shorter_end (pattern_at patterns pattern) i end shorter
           only_shorter i end (inr later) = absurd ((as_long i end later.0 later.1).0 none)
 
-          by : (o : Option ℕ) → ending Standard patterns (drop 1 (pattern_at patterns pattern)) ≡ o
+          by : (o : Option ℕ) → ending patterns (drop 1 (pattern_at patterns pattern)) ≡ o
               → link ≡ unwrap_or o nothing → IsOutputLink patterns pattern link
           by None ends at = record {
             next = inl at;
@@ -184,7 +183,7 @@ module _ (patterns : List (List ℕ)) (some : NoneIsEmpty patterns) (few : lengt
                   let same : pattern_at patterns head ≡ pattern_at patterns first =
                   sym equal ∙ (ap (pattern_at patterns) here ∙ sym is.same) in
                   let both : Some head ≡ Some first =
-                  sym first_is ∙ (ap (ending Standard patterns) same ∙ is.first_is) in
+                  sym first_is ∙ (ap (ending patterns) same ∙ is.first_is) in
                   absurd (other (cc))
             ];
           })
@@ -234,7 +233,7 @@ links_start patterns links long = record { long = long; each = λ i from inside.
 
 module _ (patterns : List (List ℕ)) (some : NoneIsEmpty patterns) (few : length patterns ≤ 2 ^ 31 - 1) where
   -- a list of the ends of a pattern, from the first of its equals on
-  pub up_to_first : (first : ℕ) → ending Standard patterns (pattern_at patterns first) ≡ Some first
+  pub up_to_first : (first : ℕ) → ending patterns (pattern_at patterns first) ≡ Some first
       → HasUpTo patterns (pattern_at patterns first) [] first
   up_to_first first is =
       let all = first_ends patterns some (pattern_at patterns first) first is in

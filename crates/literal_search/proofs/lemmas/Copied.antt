@@ -2,7 +2,6 @@
 use Rattle.std.proofs.Common.{Bool, [], ◌∷◌, arith, refl, sym}
 use Rattle.std.specs.List.{repeat}
 use Rattle.literal_base.specs.declared.packed.MatchKind.{MatchKind}
-use Rattle.literal_base.specs.declared.search.MatchKind.TheVariants.{Standard}
 use Rattle.literal_search.specs.Inside.Kept.{numbers_kept}
 use Rattle.literal_search.specs.Inside.Search.{AreKept}
 use Rattle.literal_search.specs.Prepared.{AreBackTables, BackTables}
@@ -29,10 +28,10 @@ none_are_kept kind ignore_case =
     let are : AreBackTables (no_tables kind ignore_case) = record {
       classes = zeros_classes;
       tells = λ i k byte below. absurd (omega (arith, below));
-      recognises = none_recognised Standard;
+      recognises = none_recognised;
       best = record { long = refl; each = λ i below. absurd (omega (arith, below)) };
       longest = refl;
       kept = record { some = λ i d below. absurd (omega (arith, below)); few = omega arith };
     } in
     kept_all (no_tables kind ignore_case) are (repeat FINGERPRINTS_LEN (0 ∷ [])) refl
-    (λ some. absurd (omega (arith, some))) (sym (one_class ignore_case)) (none_long Standard)
+    (λ some. absurd (omega (arith, some))) (sym (one_class ignore_case)) none_long

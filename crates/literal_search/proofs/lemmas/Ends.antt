@@ -1,4 +1,4 @@
--- The best match in a text as the text grows: where it changes, it is known by the pattern that ends there.
+-- Where a text is a pattern.
 use Rattle.std.proofs.Common.{◌≡◌, ℕ, ◌≤◌, ◌&&◌, true, List, [], ◌∷◌, ◌++◌, length}
 use Rattle.std.proofs.Common.{drop}
 use Rattle.std.proofs.Common.{nat_eq}

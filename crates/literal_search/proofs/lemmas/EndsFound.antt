@@ -1,6 +1,6 @@
 -- Patterns that end where a walk was told of an end, as occurrences in the haystack.
 use Rattle.std.proofs.Common.{◌≡◌, ℕ, ◌+◌, ◌-◌, ◌<◌, ◌≤◌, Bool, true, false, List, [], ◌∷◌, ◌++◌, length, get_or, map}
-use Rattle.std.proofs.Common.{Some, append-nil, drop, take, nat_eq, refl, sym, ap, ◌∙◌, arith}
+use Rattle.std.proofs.Common.{append-nil, drop, take, nat_eq, refl, sym, ap, ◌∙◌, arith}
 use Rattle.std.proofs.Common.{inl, inr, length-append, zero, suc}
 use Rattle.std.proofs.Math.Seq.{drop-append_seam}
 use Rattle.std.proofs.lemmas.Bool.{cases_lt, cond-false, cond-true, false≢true}
@@ -10,7 +10,6 @@ use Rattle.std.proofs.lemmas.List.Folds.{list_any_at}
 use Rattle.std.proofs.lemmas.Slice.Eq.{starts_is}
 use Rattle.std.specs.List.{starts_with}
 use Rattle.literal_base.specs.Occurs.{IsValidSpan, NoneIsEmpty, NothingOccurs, Occurs, between, pattern_at}
-use Rattle.literal_base.specs.declared.search.MatchKind.TheVariants.{Standard}
 use Rattle.literal_base.specs.declared.search.Span.{Span}
 use Rattle.literal_search.specs.Inside.Classes.{Tells, symbols_in}
 use Rattle.literal_search.specs.Inside.Suffixes.{IsSuffix}
@@ -20,25 +19,25 @@ use Rattle.literal_search.proofs.lemmas.Ends.{whole_if_long}
 use Rattle.literal_search.proofs.lemmas.Found.{occurs_where, some_symbols, stands_where}
 use Rattle.literal_search.proofs.lemmas.Found.{symbols_length, text_long}
 use Rattle.literal_search.proofs.lemmas.Live.{stands_or_begins}
-use Rattle.literal_search.proofs.lemmas.Standard.{ends_length, none_ends}
+use Rattle.literal_search.proofs.lemmas.FirstSuffix.{ends_length, none_ends}
 use Rattle.literal_search.proofs.lemmas.Walk.{text_halves, text_length}
 
 -- where the live suffix is empty no pattern begins with any of the suffixes
-nothing_begun : (patterns : List (List ℕ)) (text : List ℕ) → live_suffix Standard patterns text ≡ Some []
-    → (k : ℕ) → k < length text → begins_one Standard patterns (drop k text) ≡ false
+nothing_begun : (patterns : List (List ℕ)) (text : List ℕ) → live_suffix patterns text ≡ []
+    → (k : ℕ) → k < length text → begins_one patterns (drop k text) ≡ false
 nothing_begun patterns [] is = λ k inside. absurd (omega arith)
 nothing_begun patterns (symbol ∷ text) is =
-    by_begun (begins_one Standard patterns (symbol ∷ text)) refl (nothing_begun patterns text)
+    by_begun (begins_one patterns (symbol ∷ text)) refl (nothing_begun patterns text)
   where
-    by_begun : (b : Bool) → begins_one Standard patterns (symbol ∷ text) ≡ b
-        → (live_suffix Standard patterns text ≡ Some [] → (k : ℕ) → k < length text
-        → begins_one Standard patterns (drop k text) ≡ false)
-        → (k : ℕ) → k < length (symbol ∷ text) → begins_one Standard patterns (drop k (symbol ∷ text)) ≡ false
+    by_begun : (b : Bool) → begins_one patterns (symbol ∷ text) ≡ b
+        → (live_suffix patterns text ≡ [] → (k : ℕ) → k < length text
+        → begins_one patterns (drop k text) ≡ false)
+        → (k : ℕ) → k < length (symbol ∷ text) → begins_one patterns (drop k (symbol ∷ text)) ≡ false
     by_begun true begun further k inside =
-        let some : live_suffix Standard patterns (symbol ∷ text) ≡ Some (symbol ∷ text) = cond-true _ _ _ begun in cc
+        let same : live_suffix patterns (symbol ∷ text) ≡ symbol ∷ text = cond-true _ _ _ begun in cc
     by_begun false unbegun further zero inside = unbegun
     by_begun false unbegun further (suc k) inside =
-        let same : live_suffix Standard patterns (symbol ∷ text) ≡ live_suffix Standard patterns text =
+        let same : live_suffix patterns (symbol ∷ text) ≡ live_suffix patterns text =
         cond-false _ _ _ unbegun in
         further (sym same ∙ is) k (omega arith)
 
@@ -130,10 +129,10 @@ module _ (ignore_case : Bool) (classes : List ℕ) (patterns : List (List ℕ)) 
           occurs.after_start,
         )
 
-    -- where nothing is live, no occurrence that ends further on has begun
+    -- where the live suffix is empty, no occurrence that ends further on has begun
     pub begins_behind : (from at i place : ℕ) → from ≤ at → from ≤ place → at < place + length (pattern_at patterns i)
         → at ≤ span.end
-        → live_suffix Standard words (text_of classes haystack (between from at)) ≡ Some []
+        → live_suffix words (text_of classes haystack (between from at)) ≡ []
         → Occurs patterns ignore_case haystack span i place → at ≤ place
     begins_behind from at i place begin after further inside live o = elim (cases_lt place at) [
       | inr not ↦ not
@@ -177,7 +176,7 @@ module _ (ignore_case : Bool) (classes : List ℕ) (patterns : List (List ℕ)) 
     ]
 
     -- where a walk from the first state on was told of no end, nothing occurs
-    pub nothing_ends : NoneEnds Standard words [] classes haystack span.start span.end
+    pub nothing_ends : NoneEnds words [] classes haystack span.start span.end
         → NothingOccurs patterns ignore_case haystack span
     nothing_ends none = λ i at o.
         let long = some i [] o.is_pattern in

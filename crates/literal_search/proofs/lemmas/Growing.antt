@@ -1,24 +1,21 @@
 -- States, lists and rows, as they grow.
 use Rattle.std.proofs.Common.{◌≡◌, ℕ, ◌+◌, ◌*◌, ◌-◌, ◌<◌, ◌≤◌, ◌^◌, List, [], ◌∷◌, ◌++◌, length, get_or}
-use Rattle.std.proofs.Common.{Option, None, Some, MatchOption, map, take, drop, inl, inr, refl, sym, ap, ◌∙◌, arith}
+use Rattle.std.proofs.Common.{take, drop, inl, inr, refl, sym, ap, ◌∙◌, arith}
 use Rattle.std.proofs.Common.{subst}
 use Rattle.std.proofs.lemmas.Bool.{cases_eq, cases_lt}
 use Rattle.std.proofs.lemmas.List.{drop-append-le, get_or-map, get_or_append_left, get_or_push, length-drop}
 use Rattle.std.proofs.lemmas.List.{length-map, length_push}
 use Rattle.std.proofs.lemmas.List.{length-append, map_push, take-append-le, take_all}
-use Rattle.std.proofs.lemmas.List.Elements.{All-map}
 use Rattle.std.proofs.lemmas.List.FromFn.{get_or-range_with_len, length-range_with_len}
 use Rattle.std.proofs.lemmas.Nat.{mul-add-lt, same_from_place}
 use Rattle.std.proofs.Math.Nat.{mul-le-mul_right}
 use Rattle.std.specs.Global.{Vec}
 use Rattle.std.specs.List.{range_with_len}
 use Rattle.std.specs.Option.{unwrap_or}
-use Rattle.literal_base.specs.Occurs.{NoneIsEmpty, pattern_at}
-use Rattle.literal_base.specs.declared.search.MatchKind.{MatchKind}
-use Rattle.literal_search.specs.Table.{Leads, LeadsTo, Recognises, nothing, stride_of}
-use Rattle.literal_search.specs.Inside.Classes.{symbols_in}
-use Rattle.literal_search.specs.Words.{ending, word_of}
-use Rattle.literal_search.specs.Inside.Grown.{AreRows, IsLonger, LeadsBy, list_for}
+use Rattle.literal_base.specs.Occurs.{pattern_at}
+use Rattle.literal_search.specs.Table.{LeadsTo, Recognises, nothing, stride_of}
+use Rattle.literal_search.specs.Words.{ending, live_suffix, word_of}
+use Rattle.literal_search.specs.Inside.Grown.{AreRows, AreWords, IsLonger, list_for}
 use Rattle.literal_search.specs.Inside.Growing.{AreTexts, IsGrowing, IsStateAt, list_in, texts_of, word_in, words_in}
 use Rattle.literal_search.specs.Inside.Growing.{words_of}
 use Rattle.literal_search.specs.declared.grow.Growing.{Growing}
@@ -49,9 +46,9 @@ longer_push words word = record {
   same = λ state is_state. old_at words word [] state is_state;
 }
 
-module _ (kind : MatchKind) (patterns words longer : List (List ℕ)) (width : ℕ) (more : IsLonger words longer) where
-  to_longer : (code : ℕ) (word : List ℕ) → LeadsTo kind patterns words width code word
-      → LeadsTo kind patterns longer width code word
+module _ (patterns words longer : List (List ℕ)) (width : ℕ) (more : IsLonger words longer) where
+  to_longer : (code : ℕ) (word : List ℕ) → LeadsTo patterns words width code word
+      → LeadsTo patterns longer width code word
   to_longer code word to = record {
     state = to.state;
     is_state = omega (arith, to.is_state, more.more);
@@ -59,21 +56,10 @@ module _ (kind : MatchKind) (patterns words longer : List (List ℕ)) (width : �
     code_is = to.code_is;
   }
 
-  pub leads_longer : (code : ℕ) (o : Option (List ℕ)) → LeadsBy kind patterns words width code o
-      → LeadsBy kind patterns longer width code o
-  leads_longer code None is = is
-  leads_longer code (Some word) to = to_longer code word to
-
-  linked_longer : (code n : ℕ) (o : Option (List ℕ))
-      → MatchOption o (code ≡ nothing) (λ word. (to : LeadsTo kind patterns words width code word) × (to.state < n))
-      → MatchOption o (code ≡ nothing) (λ word. (to : LeadsTo kind patterns longer width code word) × (to.state < n))
-  unfolding to_longer
-  linked_longer code n None is = is
-  linked_longer code n (Some word) to = (to_longer code word to.0, to.1)
-
   state_longer : (n : ℕ) (s : State) (lists lists' : List ℕ)
       → (s.end ≤ length lists → (s.end ≤ length lists') × (list_in lists' s ≡ list_in lists s))
-      → IsStateAt kind patterns words width lists n s → IsStateAt kind patterns longer width lists' n s
+      → IsStateAt patterns words width lists n s → IsStateAt patterns longer width lists' n s
+  unfolding to_longer
   state_longer n s lists lists' kept is = record {
     shallow = is.shallow;
     prefix = is.prefix;
@@ -81,24 +67,23 @@ module _ (kind : MatchKind) (patterns words longer : List (List ℕ)) (width : �
     inside = (kept is.inside).0;
     listed = (kept is.inside).1 ∙ is.listed;
     ended = is.ended;
-    failure_is = λ later. record {
-      some = (is.failure_is later).some;
-      leads = linked_longer s.failure n _ (is.failure_is later).leads;
-    };
+    failure_is = λ later.
+        let was = is.failure_is later in
+        record { some = was.some; to = to_longer s.failure _ was.to; earlier = was.earlier };
   }
 
   rows_longer : (rows : List ℕ) → length rows ≤ length words * stride_of width
-      → AreRows kind patterns words width rows → AreRows kind patterns longer width rows
+      → AreRows patterns words width rows → AreRows patterns longer width rows
   rows_longer rows filled are = record {
     leads = λ state symbol below inside.
         let is_state = state_of_place state symbol (length words) (stride_of width) (omega (arith, filled, inside)) in
-        subst (λ (w : List ℕ). Leads kind patterns longer width (get_or rows (state * stride_of width + symbol) 0)
-        (w ++ symbol ∷ [])) (sym (more.same state is_state))
-        (leads_longer (get_or rows (state * stride_of width + symbol) 0) _ (are.leads state symbol below inside));
+        subst (λ (w : List ℕ). LeadsTo patterns longer width (get_or rows (state * stride_of width + symbol) 0)
+        (live_suffix patterns (w ++ symbol ∷ []))) (sym (more.same state is_state))
+        (to_longer (get_or rows (state * stride_of width + symbol) 0) _ (are.leads state symbol below inside));
     ends = λ state inside.
         let is_state = state_of_place state width (length words) (stride_of width) (omega (arith, filled, inside)) in
         are.ends state inside
-        ∙ ap (λ w. unwrap_or (ending kind patterns w) nothing) (sym (more.same state is_state));
+        ∙ ap (λ w. unwrap_or (ending patterns w) nothing) (sym (more.same state is_state));
   }
 
 -- a list in longer lists
@@ -135,7 +120,7 @@ module _ (t : Texts) where
     each = λ n d below.
         let is = g.each n d below in
         let s = get_or states n d in
-        state_longer t.kind (texts_of t) (words_in t states) (words_in t states) t.width
+        state_longer (texts_of t) (words_in t states) (words_in t states) t.width
         (longer_same (words_in t states))
         n s lists (lists ++ more)
         (λ inside. (omega (arith, length-append lists more), list_kept lists more s is.ordered inside)) is;
@@ -144,7 +129,7 @@ module _ (t : Texts) where
 
   -- one state more
   pub grown_state : (states : List State) (lists rows : List ℕ) (s : State) → IsGrowing t states lists rows
-      → IsStateAt t.kind (texts_of t) (words_in t states) t.width lists (length states) s
+      → IsStateAt (texts_of t) (words_in t states) t.width lists (length states) s
       → (length states + 1) * stride_of t.width ≤ 2 ^ 31 - 1 → IsGrowing t (states ++ s ∷ []) lists rows
   grown_state states lists rows s g is few =
       let longer : IsLonger (words_in t states) (words_in t (states ++ s ∷ [])) =
@@ -165,29 +150,34 @@ module _ (t : Texts) where
         numbers = g.numbers;
         each = λ n d below. elim (cases_lt n (length states)) [
           | inl old ↦
-              subst (IsStateAt t.kind (texts_of t) (words_in t (states ++ s ∷ [])) t.width lists n)
+              subst (IsStateAt (texts_of t) (words_in t (states ++ s ∷ [])) t.width lists n)
               (sym (old_at states s d n old))
-              (state_longer t.kind (texts_of t) (words_in t states) (words_in t (states ++ s ∷ [])) t.width longer n
+              (state_longer (texts_of t) (words_in t states) (words_in t (states ++ s ∷ [])) t.width longer n
               (get_or states n d) lists lists (λ inside. (inside, refl)) (g.each n d old))
           | inr late ↦
               let last : length states ≡ n = omega (arith, more) in
-              subst (IsStateAt t.kind (texts_of t) (words_in t (states ++ s ∷ [])) t.width lists n)
+              subst (IsStateAt (texts_of t) (words_in t (states ++ s ∷ [])) t.width lists n)
               (sym (get_or_push states s d n last))
-              (subst (λ (m : ℕ). IsStateAt t.kind (texts_of t) (words_in t (states ++ s ∷ [])) t.width lists m s) last
-              (state_longer t.kind (texts_of t) (words_in t states) (words_in t (states ++ s ∷ [])) t.width longer
+              (subst (λ (m : ℕ). IsStateAt (texts_of t) (words_in t (states ++ s ∷ [])) t.width lists m s) last
+              (state_longer (texts_of t) (words_in t states) (words_in t (states ++ s ∷ [])) t.width longer
               (length states) s lists lists (λ inside. (inside, refl)) is))
         ];
-        led = rows_longer t.kind (texts_of t) (words_in t states) (words_in t (states ++ s ∷ [])) t.width longer rows
+        led = rows_longer (texts_of t) (words_in t states) (words_in t (states ++ s ∷ [])) t.width longer rows
             (subst (λ (n : ℕ). length rows ≤ n * stride_of t.width) (sym known) g.filled) g.led;
       }
+
+  -- a number leads on from a state with a symbol
+  abbrev LeadsFrom : List State → ℕ → ℕ → ℕ → Type 0
+  LeadsFrom states state symbol number =
+      LeadsTo (texts_of t) (words_in t states) t.width number
+      (live_suffix (texts_of t) (word_of (words_in t states) state ++ symbol ∷ []))
 
   -- one number more in the rows: that for a state and a symbol, or what ends there
   pub grown_number : (states : List State) (lists rows : List ℕ) (state symbol number : ℕ)
       → IsGrowing t states lists rows → length rows ≡ state * stride_of t.width + symbol → state < length states
       → symbol ≤ t.width
-      → (symbol < t.width → Leads t.kind (texts_of t) (words_in t states) t.width number
-      (word_of (words_in t states) state ++ symbol ∷ []))
-      → (symbol ≡ t.width → number ≡ unwrap_or (ending t.kind (texts_of t) (word_of (words_in t states) state)) nothing)
+      → (symbol < t.width → LeadsFrom states state symbol number)
+      → (symbol ≡ t.width → number ≡ unwrap_or (ending (texts_of t) (word_of (words_in t states) state)) nothing)
       → IsGrowing t states lists (rows ++ number ∷ [])
   grown_number states lists rows state symbol number g full is_state is_symbol leads ends =
       let more = length_push rows number in
@@ -207,16 +197,12 @@ module _ (t : Texts) where
                 let same = same_from_place state symbol n c (stride_of t.width) (omega arith) (omega arith)
                 (sym full ∙ sym at) in
                 let last = get_or_push rows number 0 (n * stride_of t.width + c) (sym at) in
-                subst (λ x. Leads t.kind (texts_of t) (words_in t states) t.width x
-                (word_of (words_in t states) n ++ c ∷ [])) (sym last)
-                (subst (λ x. Leads t.kind (texts_of t) (words_in t states) t.width number
-                (word_of (words_in t states) x ++ c ∷ [])) same.0
-                (subst (λ x. Leads t.kind (texts_of t) (words_in t states) t.width number
-                (word_of (words_in t states) state ++ x ∷ [])) same.1 (leads (omega (arith, same.1, below)))))
+                subst (LeadsFrom states n c) (sym last)
+                (subst (λ m. LeadsFrom states m c number) same.0
+                (subst (λ s. LeadsFrom states state s number) same.1 (leads (omega (arith, same.1, below)))))
             | inr isnt ↦
                 let before : n * stride_of t.width + c < length rows = omega (arith, more, inside, isnt) in
-                subst (λ x. Leads t.kind (texts_of t) (words_in t states) t.width x
-                (word_of (words_in t states) n ++ c ∷ []))
+                subst (LeadsFrom states n c)
                 (sym (old_at rows number 0 (n * stride_of t.width + c) before))
                 (g.led.leads n c below before)
           ];
@@ -226,7 +212,7 @@ module _ (t : Texts) where
                 (sym full ∙ sym at) in
                 get_or_push rows number 0 (n * stride_of t.width + t.width) (sym at)
                 ∙ (ends same.1
-                ∙ ap (λ x. unwrap_or (ending t.kind (texts_of t) (word_of (words_in t states) x)) nothing) same.0)
+                ∙ ap (λ x. unwrap_or (ending (texts_of t) (word_of (words_in t states) x)) nothing) same.0)
             | inr isnt ↦
                 let before : n * stride_of t.width + t.width < length rows = omega (arith, more, inside, isnt) in
                 old_at rows number 0 (n * stride_of t.width + t.width) before ∙ g.led.ends n before
@@ -252,7 +238,7 @@ module _ (t : Texts) where
             rw (get_or-range_with_len 0 (length t.patterns.now) k d (omega (arith, long))) (omega (arith, long));
         each = λ n d below.
             let first : 0 ≡ n = omega arith in
-            subst (λ (m : ℕ). IsStateAt t.kind (texts_of t) (words_in t (s ∷ [])) t.width
+            subst (λ (m : ℕ). IsStateAt (texts_of t) (words_in t (s ∷ [])) t.width
             (range_with_len 0 (length t.patterns.now)) m (get_or (s ∷ []) m d)) first record {
               shallow = omega (arith, depth);
               prefix = omega (arith, depth);
@@ -262,9 +248,9 @@ module _ (t : Texts) where
                   ap (λ (n : ℕ). take (s.end - n) (drop n (range_with_len 0 (length t.patterns.now)))) start
                   ∙ (take_all (s.end - 0) (range_with_len 0 (length t.patterns.now)) (omega (arith, end, long))
                   ∙ (ap (range_with_len 0) (sym (length-map t.patterns.now _))
-                  ∙ (sym (list_of_empty t.kind (texts_of t) texts.some)
-                  ∙ ap (list_for t.kind (texts_of t)) (sym root))));
-              ended = none ∙ sym (ap (λ w. unwrap_or (ending t.kind (texts_of t) w) nothing) root);
+                  ∙ (sym (list_of_empty (texts_of t))
+                  ∙ ap (list_for (texts_of t)) (sym root))));
+              ended = none ∙ sym (ap (λ w. unwrap_or (ending (texts_of t) w) nothing) root);
               failure_is = λ later. absurd (omega arith);
             };
         led = record {
@@ -275,7 +261,7 @@ module _ (t : Texts) where
 
   -- where each state has its row, the rows recognise the patterns
   unfoldable pub recognises : (states : List State) (lists rows : List ℕ) → IsGrowing t states lists rows
-      → length rows ≡ length states * stride_of t.width → Recognises t.kind (texts_of t) t.width rows
+      → length rows ≡ length states * stride_of t.width → Recognises (texts_of t) t.width rows
   recognises states lists rows g full =
       let known = words_length states in
       record {
@@ -296,20 +282,14 @@ module _ (t : Texts) where
             in omega (arith, fits, full));
       }
 
--- the symbols of patterns of which none is empty
-pub some_texts : (classes : List ℕ) (patterns : List (Vec ℕ)) → NoneIsEmpty (map (λ pattern. pattern.items) patterns)
-    → NoneIsEmpty (map (λ pattern. symbols_in classes pattern.items) patterns)
-some_texts classes patterns some =
-    All-map (λ (l : List ℕ). 0 < length l) (λ pattern. symbols_in classes pattern.items) patterns
-    (λ k d below.
-    let pattern = get_or patterns k d in
-    let read = get_or-map (λ (p : Vec ℕ). p.items) patterns k d [] below in
-    let inside : k < length (map (λ (p : Vec ℕ). p.items) patterns) =
-    omega (arith, below, length-map patterns (λ (p : Vec ℕ). p.items)) in
-    let long = subst (λ (l : List ℕ). 0 < length l) read (some k [] inside) in
-    omega (arith, long, length-map pattern.items (λ byte. get_or classes byte 0)))
-
 -- words of states that stay the same
 pub words_same : (g g' : Growing) → g'.texts ≡ g.texts → g'.states ≡ g.states → words_of g' ≡ words_of g
 words_same g g' texts states =
     ap (λ t. words_in t g'.states.items) texts ∙ ap (λ (s : Vec State). words_in g.texts s.items) states
+
+pub words_kept : (g g' : Growing) (upto : ℕ) → g'.texts ≡ g.texts → g'.states ≡ g.states
+    → AreWords (texts_of g.texts) (words_of g) g.texts.width upto
+    → AreWords (texts_of g'.texts) (words_of g') g'.texts.width upto
+words_kept g g' upto texts states are =
+    subst (λ (t : Texts). AreWords (texts_of t) (words_of g') t.width upto) (sym texts)
+    (subst (λ words. AreWords (texts_of g.texts) words g.texts.width upto) (sym (words_same g g' texts states)) are)

@@ -8,7 +8,6 @@ use Rattle.std.specs.List.{slice_range}
 use Rattle.std.specs.Result.{IsOkAnd}
 use Rattle.literal_base.specs.MatchValue.{MatchValue}
 use Rattle.literal_base.specs.Occurs.{IsValidSpan, between, pattern_at}
-use Rattle.literal_base.specs.declared.search.MatchKind.TheVariants.{Standard}
 use Rattle.literal_base.specs.declared.search.Span.{Span}
 use Rattle.literal_fingerprints.specs.FingerprintsValue.{AllPass}
 use Rattle.literal_search.specs.Inside.Classes.{AreClasses}
@@ -358,7 +357,7 @@ module _ {search : OverlappingValue} {numbers : List ℕ} (listed : AreListed se
     listed.prepared.tables.tells,
     (
       length inside.rows,
-      subst (λ width. IsRowsLength Standard (texts_in inside) width (length inside.rows)) listed.sized.width
+      subst (λ width. IsRowsLength (texts_in inside) width (length inside.rows)) listed.sized.width
           listed.sized.rows,
       inside.ends,
       inside.starts,

@@ -6,7 +6,6 @@ use Rattle.std.specs.Result.{IsOkAnd}
 use Rattle.std.specs.Option.{option_map}
 use Rattle.std.proofs.lemmas.Bool.{cases_lt}
 use Rattle.literal_base.specs.Occurs.{IsValidSpan, NoneIsEmpty, Occurs, between, pattern_at}
-use Rattle.literal_base.specs.declared.search.MatchKind.TheVariants.{Standard}
 use Rattle.literal_base.specs.declared.search.Span.{Span}
 use Rattle.literal_fingerprints.specs.FingerprintsValue.{AllPass, FingerprintsValue}
 use Rattle.literal_search.specs.Prepared.{ArePrints, fingerprints_by, shortest_by}
@@ -23,14 +22,14 @@ use Rattle.literal_search.specs.declared.walk.Table.{Table}
 use Rattle.literal_search.proofs.lemmas.EndsFound.{begins_behind, end_occurs, nothing_read, occurrence_ends}
 use Rattle.literal_search.proofs.lemmas.Found.{some_symbols}
 use Rattle.literal_search.proofs.lemmas.Scan.{also_ok}
-use Rattle.literal_search.proofs.lemmas.Standard.{first_ends, none_ends}
+use Rattle.literal_search.proofs.lemmas.FirstSuffix.{first_ends, none_ends}
 use Rattle.literal_search.proofs.lemmas.Walk.{at_start, text_halves}
 
--- at the first row nothing is live
-at_root : (patterns : List (List ℕ)) (width : ℕ) (rows : List ℕ) (recognises : Recognises Standard patterns width rows)
-    (text : List ℕ) → IsAt Standard patterns width rows recognises text 0 → live_suffix Standard patterns text ≡ Some []
+-- at the first row the live suffix is empty
+at_root : (patterns : List (List ℕ)) (width : ℕ) (rows : List ℕ) (recognises : Recognises patterns width rows)
+    (text : List ℕ) → IsAt patterns width rows recognises text 0 → live_suffix patterns text ≡ []
 at_root patterns width rows recognises text at =
-    at.live_suffix ∙ ap Some (ap (word_of recognises.words) (first at.state at.place_is) ∙ recognises.root)
+    at.live_suffix ∙ (ap (word_of recognises.words) (first at.state at.place_is) ∙ recognises.root)
   where
     first : (state : ℕ) → 0 ≡ state * stride_of width → state ≡ 0
     first zero is = refl
@@ -44,9 +43,9 @@ stands_first patterns ignore_case classes width rows haystack span = record {
   from = span.start;
   after = omega arith;
   before = omega arith;
-  at = λ recognises. subst (λ text. IsAt Standard (map (symbols_in classes) patterns) width rows recognises text 0)
+  at = λ recognises. subst (λ text. IsAt (map (symbols_in classes) patterns) width rows recognises text 0)
       (sym (nothing_read classes haystack span.start))
-      (at_start Standard (map (symbols_in classes) patterns) width rows recognises);
+      (at_start (map (symbols_in classes) patterns) width rows recognises);
   begins = λ i place o further. o.after_start;
 }
 
@@ -68,7 +67,7 @@ module _ (t : Table) (patterns : List (List ℕ)) (ignore_case : Bool) (is : IsT
     reads_to end further = sym (text_halves (classes_by t) haystack stands.from s.end end stands.before further)
 
     -- what is to come ends behind where no pattern ends
-    none_upto : (upto : ℕ) → NoneEnds Standard texts read (classes_by t) haystack s.end upto → (i place : ℕ)
+    none_upto : (upto : ℕ) → NoneEnds texts read (classes_by t) haystack s.end upto → (i place : ℕ)
         → Occurs patterns ignore_case haystack span i place → s.end < place + length (pattern_at patterns i)
         → upto < place + length (pattern_at patterns i)
     none_upto upto none i place o further =
@@ -77,7 +76,7 @@ module _ (t : Table) (patterns : List (List ℕ)) (ignore_case : Bool) (is : IsT
           | inl past ↦ past
           | inr within ↦ absurd (none_ends texts (some_symbols (classes_by t) patterns is.some)
               (text_of (classes_by t) haystack (between stands.from end))
-              (ap (ending Standard texts) (sym (reads_to end (omega arith))) ∙ none end further within) i
+              (ap (ending texts) (sym (reads_to end (omega arith))) ∙ none end further within) i
               (occurrence_ends ignore_case (classes_by t) patterns is.tells is.some haystack bytes span valid
               stands.from i
               place end (stands.begins i place o further) refl o))
@@ -85,8 +84,8 @@ module _ (t : Table) (patterns : List (List ℕ)) (ignore_case : Bool) (is : IsT
 
     -- where something ends next
     pub next_there : (stop : Stop) → s.end < stop.end
-        → ((recognises : Recognises Standard texts t.width (rows_by t))
-        → IsFirstEnd Standard texts t.width (rows_by t) recognises read (classes_by t) haystack s.end stop)
+        → ((recognises : Recognises texts t.width (rows_by t))
+        → IsFirstEnd texts t.width (rows_by t) recognises read (classes_by t) haystack s.end stop)
         → StandsNext patterns ignore_case (classes_by t) t.width (rows_by t) haystack span behind stop
     next_there stop further finds =
         let first = finds is.recognises in
@@ -97,17 +96,17 @@ module _ (t : Table) (patterns : List (List ℕ)) (ignore_case : Bool) (is : IsT
             from = stands.from;
             after = stands.after;
             before = omega arith;
-            at = λ recognises. subst (λ text. IsAt Standard texts t.width (rows_by t) recognises text stop.place) same
+            at = λ recognises. subst (λ text. IsAt texts t.width (rows_by t) recognises text stop.place) same
                 (finds recognises).at;
             begins = λ i place o to_come. stands.begins i place o (later i place o to_come);
           };
-          ends = subst (λ text. IsSome (ending Standard texts text)) same first.ends;
+          ends = subst (λ text. IsSome (ending texts text)) same first.ends;
           first = λ i place o to_come.
               let past = none_upto (stop.end - 1) first.none i place o (later i place o to_come) in omega arith;
         }
 
     -- where nothing does
-    pub next_nowhere : NoneEnds Standard texts read (classes_by t) haystack s.end span.end → (i place : ℕ)
+    pub next_nowhere : NoneEnds texts read (classes_by t) haystack s.end span.end → (i place : ℕ)
         → Occurs patterns ignore_case haystack span i place → place + length (pattern_at patterns i) ≤ behind
     next_nowhere none i place o = elim (cases_lt behind (place + length (pattern_at patterns i))) [
       | inl to_come ↦
@@ -118,9 +117,9 @@ module _ (t : Table) (patterns : List (List ℕ)) (ignore_case : Bool) (is : IsT
 
     -- where the walk is back in the first state, and then nothing begins before another place
     module _ (at new : ℕ) (after : s.end ≤ at) (on : at ≤ new) (within : new ≤ span.end)
-        (back : (recognises : Recognises Standard texts t.width (rows_by t))
-        → IsAt Standard texts t.width (rows_by t) recognises (read_to read (classes_by t) haystack s.end at) 0
-        × NoneEnds Standard texts read (classes_by t) haystack s.end at)
+        (back : (recognises : Recognises texts t.width (rows_by t))
+        → IsAt texts t.width (rows_by t) recognises (read_to read (classes_by t) haystack s.end at) 0
+        × NoneEnds texts read (classes_by t) haystack s.end at)
         (none : NoneBefore patterns ignore_case haystack (between at span.end) new)
       where
         begins_new : (i place : ℕ) → Occurs patterns ignore_case haystack span i place
@@ -131,7 +130,7 @@ module _ (t : Table) (patterns : List (List ℕ)) (ignore_case : Bool) (is : IsT
             let behind_at = begins_behind ignore_case (classes_by t) patterns is.tells is.some haystack bytes span valid
             stands.from at i place (omega arith) (stands.begins i place o further)
             (none_upto at (back is.recognises).1 i place o further) (omega arith)
-            (ap (live_suffix Standard texts) (sym (reads_to at after)) ∙ live) o in
+            (ap (live_suffix texts) (sym (reads_to at after)) ∙ live) o in
             none i place (record {
               is_pattern = o.is_pattern;
               after_start = behind_at;
@@ -148,9 +147,9 @@ module _ (t : Table) (patterns : List (List ℕ)) (ignore_case : Bool) (is : IsT
               from = new;
               after = omega arith;
               before = omega arith;
-              at = λ recognises. subst (λ text. IsAt Standard texts t.width (rows_by t) recognises text 0)
+              at = λ recognises. subst (λ text. IsAt texts t.width (rows_by t) recognises text 0)
                   (sym (nothing_read (classes_by t) haystack new))
-                  (at_start Standard texts t.width (rows_by t) recognises);
+                  (at_start texts t.width (rows_by t) recognises);
               begins = λ i place o further. begins_new i place o (omega arith);
             }
 
@@ -177,7 +176,7 @@ module _ (patterns : List (List ℕ)) (ignore_case : Bool) (classes : List ℕ) 
     earliest_is (Some stop) next inside =
         let texts = map (symbols_in classes) patterns in
         let text = text_of classes haystack (between next.stands.from stop.end) in
-        let one = some_is (ending Standard texts text) next.ends in
+        let one = some_is (ending texts text) next.ends in
         let first = first_ends texts (some_symbols classes patterns some) text one.0 one.1 in
         let occurs = end_occurs ignore_case classes patterns tells some haystack bytes span valid
         next.stands.from stop.end one.0 next.stands.after next.stands.before inside.1 first.is in

@@ -1,10 +1,9 @@
--- Walks over the bytes of patterns, by rows for all that occurs of them.
+-- Walks over the bytes of patterns, by their rows.
 use Rattle.std.proofs.Common.{◌≡◌, ℕ, ◌+◌, ◌-◌, ◌<◌, ◌≤◌, ◌^◌, List, [], ◌∷◌, ◌++◌, length, get_or, take, drop}
 use Rattle.std.proofs.Common.{inl, inr, ◌⊎◌, sym, ap, subst, ◌∙◌, arith}
 use Rattle.std.proofs.lemmas.List.{get_or-map, length-map}
 use Rattle.std.specs.Global.{Vec}
 use Rattle.std.specs.Option.{unwrap_or}
-use Rattle.literal_base.specs.declared.search.MatchKind.TheVariants.{Standard}
 use Rattle.literal_base.specs.Occurs.{pattern_at}
 use Rattle.literal_search.specs.Inside.Classes.{symbols_in}
 use Rattle.literal_search.specs.Inside.Lists.{Recognise, StandsBehind, symbols_of}
@@ -12,7 +11,7 @@ use Rattle.literal_search.specs.Inside.Walk.{IsAt}
 use Rattle.literal_search.specs.Table.{Recognises, nothing}
 use Rattle.literal_search.specs.Words.{ending}
 use Rattle.literal_search.specs.declared.suffixes.Recognised.{Recognised}
-use Rattle.literal_search.proofs.lemmas.Walk.{always_live, at_dead, at_start, at_with_end, at_without_end, ends_at}
+use Rattle.literal_search.proofs.lemmas.Walk.{at_start, at_with_end, at_without_end, ends_at}
 use Rattle.literal_search.proofs.lemmas.Walk.{row_at, slice_push}
 
 module _ (r : Recognised) (recognise : Recognise r) where
@@ -26,12 +25,12 @@ module _ (r : Recognised) (recognise : Recognise r) where
 
   pub stands_start : (text : List ℕ) → text ≡ [] → StandsBehind r 0 text
   stands_start text none =
-      let at : (recognises : Recognises Standard (symbols_of r) r.width r.rows.now)
-      → IsAt Standard (symbols_of r) r.width r.rows.now recognises text 0 =
-      λ recognises. subst (λ t. IsAt Standard (symbols_of r) r.width r.rows.now recognises t 0) (sym none)
-      (at_start Standard (symbols_of r) r.width r.rows.now recognises) in
+      let at : (recognises : Recognises (symbols_of r) r.width r.rows.now)
+      → IsAt (symbols_of r) r.width r.rows.now recognises text 0 =
+      λ recognises. subst (λ t. IsAt (symbols_of r) r.width r.rows.now recognises t 0) (sym none)
+      (at_start (symbols_of r) r.width r.rows.now recognises) in
       record {
-        row = row_at Standard (symbols_of r) r.width r.rows.now recognise.recognises text 0 (at recognise.recognises);
+        row = row_at (symbols_of r) r.width r.rows.now recognise.recognises text 0 (at recognise.recognises);
         at = at;
       }
 
@@ -39,36 +38,31 @@ module _ (r : Recognised) (recognise : Recognise r) where
   module _ (text : List ℕ) (place symbol code : ℕ) (behind : StandsBehind r place text) (below : symbol < r.width)
       (code_is : code ≡ get_or r.rows.now (place + symbol) 0)
     where
-      alive : (recognises : Recognises Standard (symbols_of r) r.width r.rows.now) → ¬ (code ≡ nothing)
-      alive recognises is = always_live (symbols_of r) (text ++ symbol ∷ [])
-          (at_dead Standard (symbols_of r) r.width r.rows.now recognises text place (behind.at recognises) symbol below
-          code code_is is).0
-
       pub stands_on : (next : ℕ) → ((code < 2 ^ 31) × (next ≡ code)) ⊎ ((2 ^ 31 ≤ code) × (next ≡ code - 2 ^ 31))
           → StandsBehind r next (text ++ symbol ∷ [])
       stands_on next way = record {
-        row = row_at Standard (symbols_of r) r.width r.rows.now recognise.recognises (text ++ symbol ∷ []) next
+        row = row_at (symbols_of r) r.width r.rows.now recognise.recognises (text ++ symbol ∷ []) next
             (by way recognise.recognises);
         at = by way;
       }
         where
           by : ((code < 2 ^ 31) × (next ≡ code)) ⊎ ((2 ^ 31 ≤ code) × (next ≡ code - 2 ^ 31))
-              → (recognises : Recognises Standard (symbols_of r) r.width r.rows.now)
-              → IsAt Standard (symbols_of r) r.width r.rows.now recognises (text ++ symbol ∷ []) next
+              → (recognises : Recognises (symbols_of r) r.width r.rows.now)
+              → IsAt (symbols_of r) r.width r.rows.now recognises (text ++ symbol ∷ []) next
           by (inl small) recognises =
-              subst (λ n. IsAt Standard (symbols_of r) r.width r.rows.now recognises (text ++ symbol ∷ []) n)
-              (sym small.1) (at_without_end Standard (symbols_of r) r.width r.rows.now recognises text place
+              subst (λ n. IsAt (symbols_of r) r.width r.rows.now recognises (text ++ symbol ∷ []) n)
+              (sym small.1) (at_without_end (symbols_of r) r.width r.rows.now recognises text place
               (behind.at recognises) symbol below code code_is small.0).0
           by (inr large) recognises =
-              subst (λ n. IsAt Standard (symbols_of r) r.width r.rows.now recognises (text ++ symbol ∷ []) n)
-              (sym large.1) (at_with_end Standard (symbols_of r) r.width r.rows.now recognises text place
-              (behind.at recognises) symbol below code code_is large.0 (alive recognises)).0
+              subst (λ n. IsAt (symbols_of r) r.width r.rows.now recognises (text ++ symbol ∷ []) n)
+              (sym large.1) (at_with_end (symbols_of r) r.width r.rows.now recognises text place
+              (behind.at recognises) symbol below code code_is large.0).0
 
   -- what ends where a walk stands
   pub ends_there : (text : List ℕ) (place : ℕ) → StandsBehind r place text
-      → get_or r.rows.now (place + r.width) 0 ≡ unwrap_or (ending Standard (symbols_of r) text) nothing
+      → get_or r.rows.now (place + r.width) 0 ≡ unwrap_or (ending (symbols_of r) text) nothing
   ends_there text place behind =
-      ends_at Standard (symbols_of r) r.width r.rows.now recognise.recognises text place
+      ends_at (symbols_of r) r.width r.rows.now recognise.recognises text place
       (behind.at recognise.recognises)
 
   -- a symbol more of a pattern that was read

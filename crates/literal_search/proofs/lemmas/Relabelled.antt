@@ -1,16 +1,15 @@
 -- How many places a search takes does not depend on the numbers of the classes.
 use Rattle.std.proofs.Common.{◌≡◌, ◌↔◌, ◌-◌, ℕ, ◌*◌, ◌<◌, ◌≤◌, ◌⊎◌, Bool, true, List, [], ◌∷◌, ◌++◌, eqb, nat_eq}
 use Rattle.std.proofs.Common.{ap, arith, drop, get_or, inl, inr, length, map, refl, subst, suc, sym, ◌∙◌}
-use Rattle.std.proofs.lemmas.Bool.{cases_lt, eqb-true, false_from_ne_true, false≢true}
+use Rattle.std.proofs.lemmas.Bool.{cases_lt, eqb-true, false≢true}
 use Rattle.std.proofs.lemmas.Bool.Decides.{Decides-eqb, eqb_tells}
 use Rattle.std.proofs.lemmas.List.{get_or-map, get_or-reverse, get_or_past, length-map}
+use Rattle.std.proofs.lemmas.List.Folds.{list_any_at}
 use Rattle.std.proofs.lemmas.List.Sums.{fails_before_first, passes_at_first}
 use Rattle.std.proofs.lemmas.Simd.{map-map}
 use Rattle.std.proofs.lemmas.Slice.Eq.{starts_is}
 use Rattle.std.specs.List.{position_or_len, starts_with}
 use Rattle.literal_base.specs.Occurs.{pattern_at}
-use Rattle.literal_base.specs.declared.search.MatchKind.{MatchKind}
-use Rattle.literal_base.specs.declared.search.MatchKind.TheVariants.{LeftmostFirst, LeftmostLongest, Standard}
 use Rattle.literal_search.specs.Inside.Classes.{Tells, folded, symbols_in}
 use Rattle.literal_search.specs.Prepared.{RefusesToPrepare, TakesPlaces}
 use Rattle.literal_search.specs.SearchValue.{SearchValue, reversed, width_for}
@@ -19,7 +18,7 @@ use Rattle.literal_search.specs.Table.{stride_of}
 use Rattle.literal_search.specs.Words.{begins_one}
 use Rattle.literal_search.specs.declared.prepared.ArrayTooShort.{ArrayTooShort}
 use Rattle.literal_search.proofs.lemmas.Backward.{back_at, back_count, back_long, map_reversed}
-use Rattle.literal_search.proofs.lemmas.Live.{NoEarlierPrefix, any_in_question, any_in_question_at}
+use Rattle.literal_search.proofs.lemmas.Live.{one_begins}
 
 eqb_same : (n : ℕ) → eqb n n ≡ true
 eqb_same n = elim (eqb_tells n n) [
@@ -100,7 +99,7 @@ module _ (ignore_case : Bool) (patterns : List (List ℕ)) where
       ∙ (sym (map-map (relabel one other) (λ b. get_or one b 0) bytes)
       ∙ ap (map (relabel one other)) (sym (text_at one i below))))
 
-module _ (kind : MatchKind) (ignore_case : Bool) (patterns : List (List ℕ)) (one other : List ℕ)
+module _ (ignore_case : Bool) (patterns : List (List ℕ)) (one other : List ℕ)
     (tells_one : Tells ignore_case one patterns) (tells_other : Tells ignore_case other patterns)
     (all_one : length one ≡ 256) (all_other : length other ≡ 256) where
   on : ℕ → ℕ
@@ -123,57 +122,39 @@ module _ (kind : MatchKind) (ignore_case : Bool) (patterns : List (List ℕ)) (o
       (sym (texts_at ignore_case patterns one other tells_one tells_other all_one all_other i below))
       ∙ sym (texts_at ignore_case patterns other one tells_other tells_one all_other all_one i below)
 
-  -- what is a prefix of a text before is one after
-  none_on : (kind : MatchKind) (text : List ℕ) (i : ℕ) → i < length patterns → map back (map on text) ≡ text
-      → NoEarlierPrefix kind texts text i → NoEarlierPrefix kind others (map on text) i
-  unfolding on back
-  none_on Standard text i below fixed none = tt
-  none_on LeftmostFirst text i below fixed none = λ j before.
-      let inside : j < length patterns = omega (arith, before, below) in
-      false_from_ne_true _ (λ stands.
-      let moved = subst (λ (l : List ℕ). starts_with nat_eq (map on text) l ≡ true)
-      (texts_at ignore_case patterns one other tells_one tells_other all_one all_other j inside) stands in
-      let there = starts_on back (map on text) (map on (pattern_at texts j)) moved in
-      false≢true (sym (none j before)
-      ∙ subst (λ (l : List ℕ). starts_with nat_eq text l ≡ true) (fixed_text j inside)
-      (subst (λ (l : List ℕ). starts_with nat_eq l (map back (map on (pattern_at texts j))) ≡ true) fixed there)))
-  none_on LeftmostLongest text i below fixed none = tt
-
-  -- a text with which a pattern begins that may be the match comes back
-  fixed_begun : (text : List ℕ) → begins_one kind texts text ≡ true → map back (map on text) ≡ text
+  -- a text with which a pattern begins comes back
+  fixed_begun : (text : List ℕ) → begins_one texts text ≡ true → map back (map on text) ≡ text
   fixed_begun text begun =
-      let it = any_in_question (λ e. starts_with nat_eq e text) kind texts text begun in
+      let it = one_begins texts text begun in
       let below : it.0 < length patterns =
-      omega (arith, it.1.below, length-map patterns (λ (bytes : List ℕ). symbols_in one bytes)) in
-      let split = (starts_is Decides-eqb (pattern_at texts it.0) text _ refl).0 it.1.passes in
+      omega (arith, it.1, length-map patterns (λ (bytes : List ℕ). symbols_in one bytes)) in
+      let split = (starts_is Decides-eqb (pattern_at texts it.0) text _ refl).0 it.2 in
       fixed_prefix on back text (drop (length text) (pattern_at texts it.0))
       (subst (λ (l : List ℕ). map back (map on l) ≡ l) split (fixed_text it.0 below))
 
-  begun_on : (text : List ℕ) → begins_one kind texts text ≡ true → begins_one kind others (map on text) ≡ true
+  begun_on : (text : List ℕ) → begins_one texts text ≡ true → begins_one others (map on text) ≡ true
   unfolding on
   begun_on text begun =
-      let it = any_in_question (λ e. starts_with nat_eq e text) kind texts text begun in
+      let it = one_begins texts text begun in
       let below : it.0 < length patterns =
-      omega (arith, it.1.below, length-map patterns (λ (bytes : List ℕ). symbols_in one bytes)) in
-      any_in_question_at (λ e. starts_with nat_eq e (map on text)) kind others (map on text) it.0 (record {
-        below = omega (arith, below, length-map patterns (λ (bytes : List ℕ). symbols_in other bytes));
-        passes = subst (λ (l : List ℕ). starts_with nat_eq l (map on text) ≡ true)
-            (sym (texts_at ignore_case patterns one other tells_one tells_other all_one all_other it.0 below))
-            (starts_on on (pattern_at texts it.0) text it.1.passes);
-        in_question = none_on kind text it.0 below (fixed_begun text begun) it.1.in_question;
-      })
+      omega (arith, it.1, length-map patterns (λ (bytes : List ℕ). symbols_in one bytes)) in
+      list_any_at (λ e. starts_with nat_eq e (map on text)) others it.0 []
+      (omega (arith, below, length-map patterns (λ (bytes : List ℕ). symbols_in other bytes)))
+      (subst (λ (l : List ℕ). starts_with nat_eq l (map on text) ≡ true)
+      (sym (texts_at ignore_case patterns one other tells_one tells_other all_one all_other it.0 below))
+      (starts_on on (pattern_at texts it.0) text it.2))
 
-  fixed_state : (text : List ℕ) → (text ≡ []) ⊎ (begins_one kind texts text ≡ true) → map back (map on text) ≡ text
+  fixed_state : (text : List ℕ) → (text ≡ []) ⊎ (begins_one texts text ≡ true) → map back (map on text) ≡ text
   fixed_state text (inl none) = subst (λ (l : List ℕ). map back (map on l) ≡ l) (sym none) refl
   fixed_state text (inr begun) = fixed_begun text begun
 
-  state_on : (text : List ℕ) → (text ≡ []) ⊎ (begins_one kind texts text ≡ true)
-      → (map on text ≡ []) ⊎ (begins_one kind others (map on text) ≡ true)
+  state_on : (text : List ℕ) → (text ≡ []) ⊎ (begins_one texts text ≡ true)
+      → (map on text ≡ []) ⊎ (begins_one others (map on text) ≡ true)
   state_on text (inl none) = inl (ap (map on) none)
   state_on text (inr begun) = inr (begun_on text begun)
 
   -- so there are as many states in the other classes
-  states_on : (states : List (List ℕ)) → AreStates kind texts states → AreStates kind others (map (map on) states)
+  states_on : (states : List (List ℕ)) → AreStates texts states → AreStates others (map (map on) states)
   states_on states are =
       let count = length-map states (λ (text : List ℕ). map on text) in
       record {
@@ -187,12 +168,12 @@ module _ (kind : MatchKind) (ignore_case : Bool) (patterns : List (List ℕ)) (o
             ∙ fixed_state (get_or states j []) (are.begun j [] below)));
         begun = λ i d inside.
             let below : i < length states = omega (arith, inside, count) in
-            subst (λ (t : List ℕ). (t ≡ []) ⊎ (begins_one kind others t ≡ true))
+            subst (λ (t : List ℕ). (t ≡ []) ⊎ (begins_one others t ≡ true))
             (sym (get_or-map (λ (t : List ℕ). map on t) states i [] d below))
             (state_on (get_or states i []) (are.begun i [] below));
       }
 
-  no_more : (n m : ℕ) → IsStateCount kind texts n → IsStateCount kind others m → n ≤ m
+  no_more : (n m : ℕ) → IsStateCount texts n → IsStateCount others m → n ≤ m
   no_more n m first second =
       let fits = second.most (map (map on) first.texts) (states_on first.texts first.are_states) in
       omega (arith, fits, first.count_is, length-map first.texts (λ (text : List ℕ). map on text))
@@ -215,15 +196,15 @@ pub places_once : (search : SearchValue) (n m : ℕ) → TakesPlaces search n �
 unfolding TakesPlaces IsRowsLength
 places_once search n m (one, are_one, tells_one, first) (other, are_other, tells_other, second) =
     let patterns = search.query.patterns in
-    let on_one = subst (λ (texts : List (List ℕ)). IsStateCount Standard texts first.1.0)
+    let on_one = subst (λ (texts : List (List ℕ)). IsStateCount texts first.1.0)
     (sym (map_reversed one patterns)) first.1.1 in
-    let on_other = subst (λ (texts : List (List ℕ)). IsStateCount Standard texts second.1.0)
+    let on_other = subst (λ (texts : List (List ℕ)). IsStateCount texts second.1.0)
     (sym (map_reversed other patterns)) second.1.1 in
     let back_one = tells_back search.ignore_case one patterns tells_one in
     let back_other = tells_back search.ignore_case other patterns tells_other in
-    let up = no_more Standard search.ignore_case (reversed patterns) one other back_one back_other are_one.each
+    let up = no_more search.ignore_case (reversed patterns) one other back_one back_other are_one.each
     are_other.each first.1.0 second.1.0 on_one on_other in
-    let down = no_more Standard search.ignore_case (reversed patterns) other one back_other back_one are_other.each
+    let down = no_more search.ignore_case (reversed patterns) other one back_other back_one are_other.each
     are_one.each second.1.0 first.1.0 on_other on_one in
     let same : first.1.0 ≡ second.1.0 = omega (arith, up, down) in
     let rows = ap (λ k. k * stride_of (width_for search.ignore_case patterns)) same in

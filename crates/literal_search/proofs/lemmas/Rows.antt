@@ -6,16 +6,14 @@ use Rattle.std.proofs.lemmas.List.{ext_get_or, get_or_past, length-drop, length-
 use Rattle.std.specs.List.{count_by, range_with_len, repeat}
 use Rattle.std.specs.Option.{unwrap_or}
 use Rattle.std.specs.Global.{Vec}
-use Rattle.literal_base.specs.declared.search.MatchKind.{MatchKind}
-use Rattle.literal_base.specs.declared.search.MatchKind.TheVariants.{LeftmostFirst, LeftmostLongest, Standard}
 use Rattle.literal_search.specs.SearchValue.{is_in_patterns, width_for}
 use Rattle.literal_search.specs.Inside.Classes.{AreClasses, symbols_in}
 use Rattle.literal_search.specs.Inside.Packed.{unpacked}
 use Rattle.literal_search.specs.Inside.Rows.{ArePacked, RowsValue, behind_rows, classes_of, packed_classes}
 use Rattle.literal_search.specs.Inside.Rows.{rows_of, rows_value}
 use Rattle.literal_search.specs.States.{AreStates, HasTooManyStates, IsRowsLength}
-use Rattle.literal_search.specs.Table.{Leads, Recognises, nothing}
-use Rattle.literal_search.specs.Words.{begins_one, ending, word_of}
+use Rattle.literal_search.specs.Table.{LeadsTo, Recognises, nothing}
+use Rattle.literal_search.specs.Words.{begins_one, ending, live_suffix, word_of}
 use Rattle.literal_search.proofs.lemmas.Packed.{packed_long, unpacked_again}
 use Rattle.literal_search.proofs.lemmas.States.{few_states}
 
@@ -94,41 +92,39 @@ unfolding width_for
 one_class ignore_case = ap (λ n. min (n + 1) 256) (none_counted ignore_case (range_with_len 0 256))
 
 -- whose one symbol leads from the empty word back to it
-leads : (kind : MatchKind) (state symbol : ℕ) → state < 1 → symbol < 1
-    → Leads kind [] ([] ∷ []) 1 (get_or (0 ∷ nothing ∷ []) (state * 2 + symbol) 0)
-    (word_of ([] ∷ []) state ++ symbol ∷ [])
-leads Standard zero zero first one = record { state = 0; is_state = first; word_is = refl; code_is = refl }
-leads LeftmostFirst zero zero first one = record { state = 0; is_state = first; word_is = refl; code_is = refl }
-leads LeftmostLongest zero zero first one = record { state = 0; is_state = first; word_is = refl; code_is = refl }
-leads kind zero (suc symbol) first one = absurd (omega (arith, one))
-leads kind (suc state) symbol first one = absurd (omega (arith, first))
+leads : (state symbol : ℕ) → state < 1 → symbol < 1
+    → LeadsTo [] ([] ∷ []) 1 (get_or (0 ∷ nothing ∷ []) (state * 2 + symbol) 0)
+    (live_suffix [] (word_of ([] ∷ []) state ++ symbol ∷ []))
+leads zero zero first one = record { state = 0; is_state = first; word_is = refl; code_is = refl }
+leads zero (suc symbol) first one = absurd (omega (arith, one))
+leads (suc state) symbol first one = absurd (omega (arith, first))
 
-pub none_recognised : (kind : MatchKind) → Recognises kind [] 1 (0 ∷ nothing ∷ [])
-none_recognised kind = record {
+pub none_recognised : Recognises [] 1 (0 ∷ nothing ∷ [])
+none_recognised = record {
   words = [] ∷ [];
   some = omega arith;
   root = refl;
   full = refl;
   few = omega arith;
-  leads = leads kind;
+  leads = leads;
   ends = ends;
 }
   where
     ends : (state : ℕ) → state < 1 → get_or (0 ∷ nothing ∷ []) (state * 2 + 1) 0
-        ≡ unwrap_or (ending kind [] (word_of ([] ∷ []) state)) nothing
+        ≡ unwrap_or (ending [] (word_of ([] ∷ []) state)) nothing
     ends zero first = refl
     ends (suc state) first = absurd (omega (arith, first))
 
 -- there is no state but that of the empty word
-one_state : (kind : MatchKind) (texts : List (List ℕ)) → AreStates kind [] texts → length texts ≤ 1
+one_state : (texts : List (List ℕ)) → AreStates [] texts → length texts ≤ 1
 unfolding none_recognised
-one_state kind =
-    few_states kind [] 1 (λ i k. subst (λ (l : List ℕ). get_or l k 0 < 1) (sym (get_or_past [] i [] (omega arith)))
-    (omega arith)) (0 ∷ nothing ∷ []) (none_recognised kind)
+one_state =
+    few_states [] 1 (λ i k. subst (λ (l : List ℕ). get_or l k 0 < 1) (sym (get_or_past [] i [] (omega arith)))
+    (omega arith)) (0 ∷ nothing ∷ []) none_recognised
 
-pub none_long : (kind : MatchKind) → IsRowsLength kind [] 1 2
+pub none_long : IsRowsLength [] 1 2
 unfolding IsRowsLength
-none_long kind = (
+none_long = (
   1,
   record {
     texts = [] ∷ [];
@@ -137,19 +133,19 @@ none_long kind = (
       begun = begun;
     };
     count_is = refl;
-    most = one_state kind;
+    most = one_state;
   },
   refl,
 )
   where
     begun : (k : ℕ) (d : List ℕ) → k < 1
-        → (get_or ([] ∷ []) k d ≡ []) ⊎ (begins_one kind [] (get_or ([] ∷ []) k d) ≡ true)
+        → (get_or ([] ∷ []) k d ≡ []) ⊎ (begins_one [] (get_or ([] ∷ []) k d) ≡ true)
     begun zero d first = inl refl
     begun (suc k) d first = absurd (omega (arith, first))
 
-pub none_few : (kind : MatchKind) → HasTooManyStates kind [] 1 → ⊥
-none_few kind many =
-    let one = one_state kind many.0 many.1 in
+pub none_few : HasTooManyStates [] 1 → ⊥
+none_few many =
+    let one = one_state many.0 many.1 in
     omega (arith, one, many.2)
 
 -- what holds of no text, one class and these rows holds where there is no pattern and no number is kept

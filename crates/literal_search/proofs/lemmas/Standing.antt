@@ -6,7 +6,6 @@ use Rattle.std.proofs.lemmas.Bool.{cases_lt}
 use Rattle.std.proofs.lemmas.List.{length-map}
 use Rattle.std.specs.Iterator.{MakesProgress, size}
 use Rattle.std.specs.Option.{unwrap_or}
-use Rattle.literal_base.specs.declared.search.MatchKind.TheVariants.{Standard}
 use Rattle.literal_base.specs.declared.search.Span.{Span}
 use Rattle.literal_base.specs.MatchValue.{MatchValue}
 use Rattle.literal_base.specs.Occurs.{IsValidSpan, NoneIsEmpty, Occurs, between, pattern_at}
@@ -28,8 +27,8 @@ use Rattle.literal_search.specs.declared.walk.Stop.{Stop}
 use Rattle.literal_search.proofs.lemmas.EndsFound.{end_occurs, nothing_read, occurrence_ends}
 use Rattle.literal_search.proofs.lemmas.Found.{some_symbols}
 use Rattle.literal_search.proofs.lemmas.NextEnd.{stands_first}
-use Rattle.literal_search.proofs.lemmas.Standard.{ends_of_first, ends_on, first_ends, first_is_own}
-use Rattle.literal_search.proofs.lemmas.Standard.{end_of_itself, no_end_of_nothing}
+use Rattle.literal_search.proofs.lemmas.FirstSuffix.{ends_of_first, ends_on, first_ends, first_is_own}
+use Rattle.literal_search.proofs.lemmas.FirstSuffix.{end_of_itself, no_end_of_nothing}
 use Rattle.literal_search.proofs.lemmas.Walk.{ends_at, row_at, text_halves}
 
 module _ (p : Tables) (parts : AreTables p) (haystack : List ℕ) (bytes : (i : ℕ) → get_or haystack i 0 < 256)
@@ -102,13 +101,13 @@ module _ (p : Tables) (parts : AreTables p) (haystack : List ℕ) (bytes : (i : 
           abbrev part : List ℕ
           part = text_of p.classes haystack (between next.stands.from stop.end)
 
-          ends_first : ending Standard (texts_in p) part ≡ Some (longest_at p stop)
+          ends_first : ending (texts_in p) part ≡ Some (longest_at p stop)
           ends_first =
-              by (ending Standard (texts_in p) part) refl next.ends
-              (ends_at Standard (texts_in p) p.width p.rows parts.recognises part stop.place
+              by (ending (texts_in p) part) refl next.ends
+              (ends_at (texts_in p) p.width p.rows parts.recognises part stop.place
               (next.stands.at parts.recognises))
             where
-              by : (o : Option ℕ) → ending Standard (texts_in p) part ≡ o → IsSome o
+              by : (o : Option ℕ) → ending (texts_in p) part ≡ o → IsSome o
                   → get_or p.rows (stop.place + p.width) 0 ≡ unwrap_or o nothing
                   → o ≡ Some (get_or p.rows (stop.place + p.width) 0)
               by None is some read = cc
@@ -151,7 +150,7 @@ module _ (p : Tables) (parts : AreTables p) (haystack : List ℕ) (bytes : (i : 
 
           pub row_inside : stop.place + p.width < length p.rows
           row_inside =
-              let row = row_at Standard (texts_in p) p.width p.rows parts.recognises part stop.place
+              let row = row_at (texts_in p) p.width p.rows parts.recognises part stop.place
               (next.stands.at parts.recognises) in
               omega (arith, row.fits)
 

@@ -8,7 +8,7 @@ use Rattle.std.proofs.lemmas.List.{get_or-map, get_or_append_left, get_or_defaul
 use Rattle.std.proofs.lemmas.List.{length-append, length-map, length-take-le}
 use Rattle.std.proofs.lemmas.List.{length_push, same_from_push, take-append-drop, take_all, take_more}
 use Rattle.std.proofs.lemmas.List.Elements.{All-head, All-tail}
-use Rattle.std.proofs.lemmas.List.Folds.{Any-from_list_any}
+use Rattle.std.proofs.lemmas.List.Folds.{Any-from_list_any, list_any_at}
 use Rattle.std.proofs.lemmas.List.FromFn.{get_or-map-range_with_len, length-map-range_with_len}
 use Rattle.std.proofs.lemmas.Map.Keys.{IsDistinct-from_apart}
 use Rattle.std.proofs.lemmas.Map.Steps.{length-le_from_distinct_below}
@@ -16,46 +16,44 @@ use Rattle.std.proofs.lemmas.Slice.Eq.{starts_is}
 use Rattle.std.specs.Global.{Vec}
 use Rattle.std.specs.List.{All, range_with_len, starts_with}
 use Rattle.literal_base.specs.Occurs.{pattern_at}
-use Rattle.literal_base.specs.declared.search.MatchKind.{MatchKind}
-use Rattle.literal_base.specs.declared.search.MatchKind.TheVariants.{LeftmostFirst, LeftmostLongest, Standard}
 use Rattle.literal_search.specs.Inside.Classes.{AreClasses, symbols_in}
-use Rattle.literal_search.specs.Inside.Grown.{AreWords, LeadsBy}
+use Rattle.literal_search.specs.Inside.Grown.{AreWords}
 use Rattle.literal_search.specs.States.{AreStates, HasTooManyStates}
-use Rattle.literal_search.specs.Table.{Recognises, stride_of}
+use Rattle.literal_search.specs.Table.{LeadsTo, Recognises, stride_of}
 use Rattle.literal_search.specs.Words.{begins_one, live_suffix, word_of}
 use Rattle.literal_search.proofs.lemmas.Behind.{live_begun}
-use Rattle.literal_search.proofs.lemmas.Live.{NoEarlierPrefix, any_in_question, any_in_question_at, begins_prefix}
+use Rattle.literal_search.proofs.lemmas.Live.{begins_prefix, one_begins}
 
-module _ (kind : MatchKind) (patterns : List (List ℕ)) (width : ℕ)
+module _ (patterns : List (List ℕ)) (width : ℕ)
     (below : (i k : ℕ) → get_or (pattern_at patterns i) k 0 < width) (rows : List ℕ)
-    (r : Recognises kind patterns width rows) where
+    (r : Recognises patterns width rows) where
   -- each prefix of a text with which a pattern begins has a state
-  state_of_prefix : (text : List ℕ) → begins_one kind patterns text ≡ true → (k : ℕ) → k ≤ length text
+  state_of_prefix : (text : List ℕ) → begins_one patterns text ≡ true → (k : ℕ) → k ≤ length text
       → (n : ℕ) × (n < length r.words) × (word_of r.words n ≡ take k text)
   state_of_prefix text begun zero short = (0, r.some, r.root)
   state_of_prefix text begun (suc k) short =
       let before = state_of_prefix text begun k (omega arith) in
       let symbol = get_or text k 0 in
-      let one = any_in_question (λ e. starts_with nat_eq e text) kind patterns text begun in
+      let one = one_begins patterns text begun in
       let pattern = pattern_at patterns one.0 in
-      let split = (starts_is Decides-eqb pattern text _ refl).0 one.1.passes in
+      let split = (starts_is Decides-eqb pattern text _ refl).0 one.2 in
       let read : get_or pattern k 0 ≡ symbol =
       ap (λ l. get_or l k 0) split ∙ get_or_append_left text (drop (length text) pattern) 0 k (omega arith) in
       let is_symbol : symbol < width = subst (λ s. s < width) read (below one.0 k) in
       let next : suc k ≡ k + 1 = omega arith in
       let more : take (suc k) text ≡ take k text ++ symbol ∷ [] =
       ap (λ n. take n text) next ∙ take_more text k 0 (omega arith) in
-      let prefix_begun = begins_prefix kind patterns (take (suc k) text) (drop (suc k) text)
-      (subst (λ t. begins_one kind patterns t ≡ true) (sym (take-append-drop (suc k) text)) begun) in
+      let prefix_begun = begins_prefix patterns (take (suc k) text) (drop (suc k) text)
+      (subst (λ t. begins_one patterns t ≡ true) (sym (take-append-drop (suc k) text)) begun) in
       let leads = subst
-      (λ t. LeadsBy kind patterns r.words width (get_or rows (before.0 * stride_of width + symbol) 0) t)
-      (ap (λ w. live_suffix kind patterns (w ++ symbol ∷ [])) before.2
-      ∙ (ap (live_suffix kind patterns) (sym more)
-      ∙ live_begun kind patterns (take (suc k) text) prefix_begun))
+      (λ t. LeadsTo patterns r.words width (get_or rows (before.0 * stride_of width + symbol) 0) t)
+      (ap (λ w. live_suffix patterns (w ++ symbol ∷ [])) before.2
+      ∙ (ap (live_suffix patterns) (sym more)
+      ∙ live_begun patterns (take (suc k) text) prefix_begun))
       (r.leads before.0 symbol before.1 is_symbol) in
       (leads.state, leads.is_state, leads.word_is)
 
-  state_of : (text : List ℕ) → (text ≡ []) ⊎ (begins_one kind patterns text ≡ true)
+  state_of : (text : List ℕ) → (text ≡ []) ⊎ (begins_one patterns text ≡ true)
       → (n : ℕ) × (n < length r.words) × (word_of r.words n ≡ text)
   state_of text (inl none) = (0, r.some, r.root ∙ sym none)
   state_of text (inr begun) =
@@ -63,16 +61,16 @@ module _ (kind : MatchKind) (patterns : List (List ℕ)) (width : ℕ)
       (is.0, is.1, is.2 ∙ take_all (length text) text (omega arith))
 
   -- the states of texts
-  states_of : (texts : List (List ℕ)) → All (λ text. (text ≡ []) ⊎ (begins_one kind patterns text ≡ true)) texts
+  states_of : (texts : List (List ℕ)) → All (λ text. (text ≡ []) ⊎ (begins_one patterns text ≡ true)) texts
       → (states : List ℕ) × (length states ≡ length texts)
       × ((k d : ℕ) (e : List ℕ) → k < length texts
       → (get_or states k d < length r.words) × (word_of r.words (get_or states k d) ≡ get_or texts k e))
   states_of [] begun = ([], refl, λ k d e inside. absurd (omega arith))
   states_of (text ∷ texts) begun =
       let first = state_of text
-      (All-head (λ (t : List ℕ). (t ≡ []) ⊎ (begins_one kind patterns t ≡ true)) text texts begun) in
+      (All-head (λ (t : List ℕ). (t ≡ []) ⊎ (begins_one patterns t ≡ true)) text texts begun) in
       let rest = states_of texts
-      (All-tail (λ (t : List ℕ). (t ≡ []) ⊎ (begins_one kind patterns t ≡ true)) text texts begun) in
+      (All-tail (λ (t : List ℕ). (t ≡ []) ⊎ (begins_one patterns t ≡ true)) text texts begun) in
       (first.0 ∷ rest.0, ap suc rest.1, at first rest)
     where
       at : (first : (n : ℕ) × (n < length r.words) × (word_of r.words n ≡ text))
@@ -86,7 +84,7 @@ module _ (kind : MatchKind) (patterns : List (List ℕ)) (width : ℕ)
       at first rest (suc k) d e inside = rest.2 k d e (omega arith)
 
   -- so there are no more texts than states
-  pub few_states : (texts : List (List ℕ)) → AreStates kind patterns texts → length texts ≤ length r.words
+  pub few_states : (texts : List (List ℕ)) → AreStates patterns texts → length texts ≤ length r.words
   few_states texts are =
       let all = states_of texts are.begun in
       let distinct = IsDistinct-from_apart eqb all.0 (λ i j d before inside. ne_eqb _ _ (λ same.
@@ -100,9 +98,9 @@ module _ (kind : MatchKind) (patterns : List (List ℕ)) (width : ℕ)
       omega (arith, fits, all.1)
 
 -- words that are made one by one
-module _ (kind : MatchKind) (patterns words : List (List ℕ)) (width upto : ℕ)
-    (are : AreWords kind patterns words width upto) where
-  pub made_more : (later : ℕ) → upto ≤ later → AreWords kind patterns words width later
+module _ (patterns words : List (List ℕ)) (width upto : ℕ)
+    (are : AreWords patterns words width upto) where
+  pub made_more : (later : ℕ) → upto ≤ later → AreWords patterns words width later
   made_more later more = record {
     root = are.root;
     apart = are.apart;
@@ -151,8 +149,8 @@ module _ (kind : MatchKind) (patterns words : List (List ℕ)) (width upto : ℕ
 
   pub made_next : (state symbol : ℕ) → state < length words → symbol < width
       → upto ≡ state * stride_of width + symbol
-      → begins_one kind patterns (word_of words state ++ symbol ∷ []) ≡ true
-      → AreWords kind patterns (words ++ (word_of words state ++ symbol ∷ []) ∷ []) width (upto + 1)
+      → begins_one patterns (word_of words state ++ symbol ∷ []) ≡ true
+      → AreWords patterns (words ++ (word_of words state ++ symbol ∷ []) ∷ []) width (upto + 1)
   made_next state symbol is_state is_symbol at begun = record {
     root = old 0 (omega arith) ∙ are.root;
     apart = λ i j before inside same. elim (cases_lt j (length words)) [
@@ -161,8 +159,8 @@ module _ (kind : MatchKind) (patterns words : List (List ℕ)) (width upto : ℕ
           (sym (old i (omega (arith, more, inside))) ∙ (same ∙ last j (omega (arith, more, inside))))
     ];
     begun = λ n inside. elim (cases_lt n (length words)) [
-      | inl early ↦ subst (λ w. (w ≡ []) ⊎ (begins_one kind patterns w ≡ true)) (sym (old n early)) (are.begun n early)
-      | inr late ↦ inr (ap (begins_one kind patterns) (last n (omega (arith, more, inside))) ∙ begun)
+      | inl early ↦ subst (λ w. (w ≡ []) ⊎ (begins_one patterns w ≡ true)) (sym (old n early)) (are.begun n early)
+      | inr late ↦ inr (ap (begins_one patterns) (last n (omega (arith, more, inside))) ∙ begun)
     ];
     made = λ n some inside. elim (cases_lt n (length words)) [
       | inl early ↦
@@ -201,15 +199,15 @@ module _ (kind : MatchKind) (patterns words : List (List ℕ)) (width upto : ℕ
       last n is = get_or_push words word [] n is
 
 -- made words are different states
-pub states_made : (kind : MatchKind) (patterns words : List (List ℕ)) (width upto : ℕ)
-    → AreWords kind patterns words width upto → AreStates kind patterns words
-states_made kind patterns words width upto are = record {
+pub states_made : (patterns words : List (List ℕ)) (width upto : ℕ)
+    → AreWords patterns words width upto → AreStates patterns words
+states_made patterns words width upto are = record {
   apart = λ i j d before inside same.
       are.apart i j before inside
       (get_or_default words i [] d (omega (arith, before, inside))
       ∙ (same ∙ get_or_default words j d [] inside));
   begun = λ k d inside.
-      subst (λ (w : List ℕ). (w ≡ []) ⊎ (begins_one kind patterns w ≡ true)) (get_or_default words k [] d inside)
+      subst (λ (w : List ℕ). (w ≡ []) ⊎ (begins_one patterns w ≡ true)) (get_or_default words k [] d inside)
       (are.begun k inside);
 }
 
@@ -246,29 +244,21 @@ symbols_below classes width are patterns i k = elim (cases_lt i (length patterns
     at (p ∷ ps) zero inside = symbol_below p.items
     at (p ∷ ps) (suc j) inside = at ps j (omega arith)
 
--- the prefixes of a pattern, where each of them may lead to the match
-module _ (kind : MatchKind) (patterns : List (List ℕ)) (i : ℕ) (below : i < length patterns)
-    (first : kind ≡ LeftmostFirst → i ≡ 0) where
+-- the prefixes of a pattern
+module _ (patterns : List (List ℕ)) (i : ℕ) (below : i < length patterns) where
   prefix : ℕ → List ℕ
   prefix n = take n (pattern_at patterns i)
 
-  prefix_begins : (n : ℕ) → begins_one kind patterns (prefix n) ≡ true
+  prefix_begins : (n : ℕ) → begins_one patterns (prefix n) ≡ true
   unfolding prefix
-  prefix_begins n = any_in_question_at (λ e. starts_with nat_eq e (prefix n)) kind patterns (prefix n) i record {
-    below = below;
-    passes = (starts_is Decides-eqb (pattern_at patterns i) (prefix n) _ refl).1 (drop n (pattern_at patterns i))
-        (sym (take-append-drop n (pattern_at patterns i)));
-    in_question = by_kind kind first;
-  }
-    where
-      by_kind : (k : MatchKind) → (k ≡ LeftmostFirst → i ≡ 0) → NoEarlierPrefix k patterns (prefix n) i
-      by_kind Standard is = tt
-      by_kind LeftmostFirst is = λ j before. absurd (omega (arith, before, is refl))
-      by_kind LeftmostLongest is = tt
+  prefix_begins n =
+      list_any_at (λ e. starts_with nat_eq e (prefix n)) patterns i [] below
+      ((starts_is Decides-eqb (pattern_at patterns i) (prefix n) _ refl).1 (drop n (pattern_at patterns i))
+      (sym (take-append-drop n (pattern_at patterns i))))
 
   -- where these are too many for rows, all states are
   pub too_many_prefixes : (width : ℕ) → 2 ^ 31 - 1 < (length (pattern_at patterns i) + 1) * stride_of width
-      → HasTooManyStates kind patterns width
+      → HasTooManyStates patterns width
   unfolding prefix
   too_many_prefixes width long = (
     map prefix (range_with_len 0 count),
@@ -286,7 +276,7 @@ module _ (kind : MatchKind) (patterns : List (List ℕ)) (i : ℕ) (below : i < 
           many,
         )))),
       );
-      begun = λ k d inside. inr (subst (λ (text : List ℕ). begins_one kind patterns text ≡ true)
+      begun = λ k d inside. inr (subst (λ (text : List ℕ). begins_one patterns text ≡ true)
           (sym (at k d (omega (arith, inside, many)))) (prefix_begins k));
     },
     subst (λ n. 2 ^ 31 - 1 < n * stride_of width) (sym many) long,

@@ -4,7 +4,6 @@ use Rattle.std.proofs.Common.{length-append, sym, ap, subst, ◌∙◌, arith}
 use Rattle.std.proofs.Math.Seq.{get_or-append_right, get_or-append_seam}
 use Rattle.std.proofs.lemmas.Bool.{cases_lt}
 use Rattle.std.proofs.lemmas.List.{get_or_append_left}
-use Rattle.literal_base.specs.declared.search.MatchKind.TheVariants.{Standard}
 use Rattle.literal_base.specs.Occurs.{pattern_at}
 use Rattle.literal_search.specs.Inside.Suffixes.{AreSuffixes, IsSuffix}
 use Rattle.literal_search.specs.Inside.Lists.{AreLists}
@@ -40,9 +39,9 @@ module _ (patterns : List (List ℕ)) where
 
   -- one list more
   pub lists_more : (ends starts list : List ℕ) (count : ℕ) → AreLists patterns ends starts count
-      → (ending Standard patterns (pattern_at patterns count) ≡ Some count
+      → (ending patterns (pattern_at patterns count) ≡ Some count
       → AreSuffixes patterns (pattern_at patterns count) 0 list 0 (length list))
-      → (¬ (ending Standard patterns (pattern_at patterns count) ≡ Some count) → list ≡ [])
+      → (¬ (ending patterns (pattern_at patterns count) ≡ Some count) → list ≡ [])
       → AreLists patterns (ends ++ list) (starts ++ length (ends ++ list) ∷ []) (count + 1)
   lists_more ends starts list count are here none = record {
     long = omega (arith, length-append starts (length (ends ++ list) ∷ []), are.long);
@@ -86,7 +85,7 @@ module _ (patterns : List (List ℕ)) where
           subst (λ n. AreSuffixes patterns (pattern_at patterns n) 0 (ends ++ list)
           (get_or (started ends starts list) n 0)
           (get_or (started ends starts list) (n + 1) 0)) is
-          (added (subst (λ n. ending Standard patterns (pattern_at patterns n) ≡ Some n) (sym is) first))
+          (added (subst (λ n. ending patterns (pattern_at patterns n) ≡ Some n) (sym is) first))
     ];
     others = λ i below other. elim (cases_lt i count) [
       | inl before ↦
@@ -94,7 +93,7 @@ module _ (patterns : List (List ℕ)) where
       | inr past ↦
           let is : count ≡ i = omega arith in
           let empty = none (λ first. other
-          (subst (λ n. ending Standard patterns (pattern_at patterns n) ≡ Some n) is first)) in
+          (subst (λ n. ending patterns (pattern_at patterns n) ≡ Some n) is first)) in
           subst (λ n. get_or (started ends starts list) n 0 ≡ get_or (started ends starts list) (n + 1) 0) is
           (omega (arith, old count (omega arith), are.last, last, size, ap (λ (l : List ℕ). length l) empty))
     ];
@@ -110,7 +109,7 @@ module _ (patterns : List (List ℕ)) where
       last = ap (λ n. get_or (started ends starts list) n 0) (sym are.long) ∙ get_or-append_seam starts (length (ends
           ++ list)) [] 0
 
-      added : ending Standard patterns (pattern_at patterns count) ≡ Some count
+      added : ending patterns (pattern_at patterns count) ≡ Some count
           → AreSuffixes patterns (pattern_at patterns count) 0 (ends ++ list)
           (get_or (started ends starts list) count 0)
           (get_or (started ends starts list) (count + 1) 0)

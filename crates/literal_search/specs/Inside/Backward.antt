@@ -4,7 +4,6 @@ use Rattle.std.specs.Prelude.{max, reverse, slice_index}
 use Rattle.literal_base.specs.Leftmost.{IsBetter}
 use Rattle.literal_base.specs.MatchValue.{MatchValue}
 use Rattle.literal_base.specs.Occurs.{Occurs, between}
-use Rattle.literal_base.specs.declared.search.MatchKind.TheVariants.{Standard}
 use Rattle.literal_base.specs.declared.search.Span.{Span}
 use Rattle.literal_ids.specs.declared.primitives.pattern_id.TheConstants.PatternID
 use Rattle.literal_search.specs.SearchValue.{SearchValue}
@@ -48,8 +47,8 @@ ForBackward b P = (search : SearchValue) → AreBackFor search b → P (back_tab
 -- a walk stands at the row of what it read of a haystack, from a place down to another
 pub record StandsDown (p : BackTables) (haystack : List ℕ) (from at place : ℕ) : Type 0 where
   pub row : place + p.width < length p.rows
-  pub is_at : (recognises : Recognises Standard (texts_back p) p.width p.rows)
-      → IsAt Standard (texts_back p) p.width p.rows recognises
+  pub is_at : (recognises : Recognises (texts_back p) p.width p.rows)
+      → IsAt (texts_back p) p.width p.rows recognises
       (reverse (text_of p.classes haystack (between at from))) place
 
 -- no pattern begins at a place that lies whole before an end

@@ -4,7 +4,6 @@ use Rattle.std.specs.Option.{unwrap_or}
 use Rattle.literal_base.specs.Leftmost.{IsBetter}
 use Rattle.literal_base.specs.Occurs.{pattern_at}
 use Rattle.literal_base.specs.declared.packed.MatchKind.{MatchKind}
-use Rattle.literal_base.specs.declared.search.MatchKind.TheVariants.{Standard}
 use Rattle.literal_search.specs.Inside.Suffixes.{IsSuffix}
 use Rattle.literal_search.specs.Table.{nothing}
 use Rattle.literal_search.specs.Words.{ending}
@@ -23,7 +22,7 @@ pub record AreBest (kind : MatchKind) (patterns : List (List ℕ)) (best : List 
 pub record AreShorter (patterns : List (List ℕ)) (shorter : List ℕ) (count : ℕ) : Type 0 where
   pub long : length shorter ≡ count
   pub each : (i : ℕ) → i < count
-      → slice_index shorter i ≡ unwrap_or (ending Standard patterns (drop 1 (pattern_at patterns i))) nothing
+      → slice_index shorter i ≡ unwrap_or (ending patterns (drop 1 (pattern_at patterns i))) nothing
 
 -- the smallest number of a pattern that is a suffix of a text, but for the suffixes of the next, which is the first of
 -- its equals
@@ -32,4 +31,4 @@ pub record IsSmallestBut (patterns : List (List ℕ)) (text : List ℕ) (smalles
   pub others : (i : ℕ) → IsSuffix patterns text i
       → (smallest ≤ i) ⊎ ((next ≢ nothing) × IsSuffix patterns (pattern_at patterns next) i)
   pub next_is : (next ≡ nothing)
-      ⊎ (IsSuffix patterns text next × (ending Standard patterns (pattern_at patterns next) ≡ Some next))
+      ⊎ (IsSuffix patterns text next × (ending patterns (pattern_at patterns next) ≡ Some next))

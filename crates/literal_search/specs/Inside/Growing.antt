@@ -1,13 +1,12 @@
 -- The fields of `Growing`.
-use Rattle.std.specs.Prelude.{◌≡◌, ℕ, ◌*◌, ◌-◌, ◌<◌, ◌≤◌, ◌^◌, List, [], Option, MatchOption, length, map}
+use Rattle.std.specs.Prelude.{◌≡◌, ℕ, ◌*◌, ◌-◌, ◌<◌, ◌≤◌, ◌^◌, List, [], ◌∷◌, ◌++◌, length, map}
 use Rattle.std.specs.Prelude.{slice_index_or, slice_range, take}
 use Rattle.std.specs.Option.{unwrap_or}
-use Rattle.literal_base.specs.Occurs.{NoneIsEmpty, pattern_at}
-use Rattle.literal_base.specs.declared.search.MatchKind.{MatchKind}
+use Rattle.literal_base.specs.Occurs.{pattern_at}
 use Rattle.literal_search.specs.Table.{LeadsTo, nothing, stride_of}
 use Rattle.literal_search.specs.Words.{ending, word_of}
 use Rattle.literal_search.specs.Inside.Classes.{AreClasses, symbols_in}
-use Rattle.literal_search.specs.Inside.Grown.{AreRows, LeadsBy, failure_of, list_for}
+use Rattle.literal_search.specs.Inside.Grown.{AreRows, AreWords, failure_of, list_for}
 use Rattle.literal_search.specs.declared.grow.Growing.{Growing}
 use Rattle.literal_search.specs.declared.grow.State.{State}
 use Rattle.literal_search.specs.declared.grow.Texts.{Texts}
@@ -28,39 +27,41 @@ words_in t states = map (word_in (texts_of t)) states
 abbrev pub words_of : Growing → List (List ℕ)
 words_of g = words_in g.texts g.states.items
 
+-- the word of a state and one symbol more
+abbrev pub word_behind : Growing → ℕ → ℕ → List ℕ
+word_behind g state symbol = word_of (words_of g) state ++ symbol ∷ []
+
 -- the patterns of a state's list
 abbrev pub list_in : List ℕ → State → List ℕ
 list_in lists s = slice_range lists s.start s.end
 
--- each byte has a class, no pattern is empty, and there are identifiers for all
+-- each byte has a class, and there are identifiers for all patterns
 pub record AreTexts (t : Texts) : Type 0 where
   pub classes : AreClasses t.classes.now t.width
-  pub some : NoneIsEmpty (texts_of t)
   pub few : length t.patterns.now ≤ 2 ^ 31 - 1
 
--- the number in a row leads to the state of a live suffix, if it leads to one
-abbrev pub IsCode : Growing → ℕ → Type 0
-IsCode g code =
-    (word : Option (List ℕ)) × LeadsBy g.texts.kind (texts_of g.texts) (words_of g) g.texts.width code word
+-- the number in a row leads to the state with this word
+abbrev pub LeadsIn : Growing → ℕ → List ℕ → Type 0
+LeadsIn g code word = LeadsTo (texts_of g.texts) (words_of g) g.texts.width code word
 
 -- a state's word is not empty, and its failure link leads to an earlier state, that of the live suffix behind the
 -- word's first symbol
-pub record HasFailure (kind : MatchKind) (patterns words : List (List ℕ)) (width n : ℕ) (s : State) : Type 0 where
+pub record HasFailure (patterns words : List (List ℕ)) (width n : ℕ) (s : State) : Type 0 where
   pub some : 0 < s.depth
-  pub leads : MatchOption (failure_of kind patterns (word_in patterns s)) (s.failure ≡ nothing)
-      (λ word. (to : LeadsTo kind patterns words width s.failure word) × (to.state < n))
+  pub to : LeadsTo patterns words width s.failure (failure_of patterns (word_in patterns s))
+  pub earlier : to.state < n
 
 -- a state, behind so many others, has a prefix of a pattern, the list of those that begin with it, what ends there,
 -- and a failure link, unless it is the first
-pub record IsStateAt (kind : MatchKind) (patterns words : List (List ℕ)) (width : ℕ) (lists : List ℕ) (n : ℕ)
+pub record IsStateAt (patterns words : List (List ℕ)) (width : ℕ) (lists : List ℕ) (n : ℕ)
     (s : State) : Type 0 where
   pub shallow : s.depth ≤ n
   pub prefix : s.depth ≤ length (pattern_at patterns s.pattern)
   pub ordered : s.start ≤ s.end
   pub inside : s.end ≤ length lists
-  pub listed : list_in lists s ≡ list_for kind patterns (word_in patterns s)
-  pub ended : s.ending ≡ unwrap_or (ending kind patterns (word_in patterns s)) nothing
-  pub failure_is : 0 < n → HasFailure kind patterns words width n s
+  pub listed : list_in lists s ≡ list_for patterns (word_in patterns s)
+  pub ended : s.ending ≡ unwrap_or (ending patterns (word_in patterns s)) nothing
+  pub failure_is : 0 < n → HasFailure patterns words width n s
 
 -- each state is right, the first has the empty word, and so are the rows, as far as they are filled
 pub record IsGrowing (t : Texts) (states : List State) (lists rows : List ℕ) : Type 0 where
@@ -71,9 +72,18 @@ pub record IsGrowing (t : Texts) (states : List State) (lists rows : List ℕ) :
   pub filled : length rows ≤ length states * stride_of t.width
   pub numbers : (k d : ℕ) → k < length lists → slice_index_or lists k d < length t.patterns.now
   pub each : (n : ℕ) (d : State) → n < length states
-      → IsStateAt t.kind (texts_of t) (words_in t states) t.width lists n (slice_index_or states n d)
-  pub led : AreRows t.kind (texts_of t) (words_in t states) t.width rows
+      → IsStateAt (texts_of t) (words_in t states) t.width lists n (slice_index_or states n d)
+  pub led : AreRows (texts_of t) (words_in t states) t.width rows
 
 -- the fields are so
 abbrev pub Grows : Growing → Type 0
 Grows g = IsGrowing g.texts g.states.items g.lists.items g.rows.items
+
+-- a state may be the next one
+abbrev pub IsNextState : Growing → State → Type 0
+IsNextState g s =
+    IsStateAt (texts_of g.texts) (words_of g) g.texts.width g.lists.items (length g.states.items) s
+
+-- the words are those of different states, made as far as the rows are filled
+abbrev pub AreWordsIn : Growing → Type 0
+AreWordsIn g = AreWords (texts_of g.texts) (words_of g) g.texts.width (length g.rows.items)

@@ -1,7 +1,6 @@
 -- The fields of `Recognised` and `Lists`.
 use Rattle.std.specs.Prelude.{[], ◌∷◌, ◌≡◌, ℕ, ◌+◌, ◌-◌, ◌<◌, ◌≤◌, ◌^◌, List, Some, length, map, slice_index}
 use Rattle.literal_base.specs.Occurs.{NoneIsEmpty, pattern_at}
-use Rattle.literal_base.specs.declared.search.MatchKind.TheVariants.{Standard}
 use Rattle.literal_search.specs.Inside.Classes.{AreClasses, symbols_in}
 use Rattle.literal_search.specs.Inside.Suffixes.{AreSuffixes, IsOutputLink, IsNextEqual}
 use Rattle.literal_search.specs.Inside.Walk.{IsAt, IsRow}
@@ -13,10 +12,10 @@ use Rattle.literal_search.specs.declared.suffixes.Recognised.{Recognised}
 abbrev pub symbols_of : Recognised → List (List ℕ)
 symbols_of r = map (λ pattern. symbols_in r.classes.now pattern.items) r.patterns.now
 
--- the rows are for all that occurs of the patterns, none of which is empty
+-- the rows are those of the patterns, none of which is empty
 pub record Recognise (r : Recognised) : Type 0 where
   pub classes : AreClasses r.classes.now r.width
-  pub recognises : Recognises Standard (symbols_of r) r.width r.rows.now
+  pub recognises : Recognises (symbols_of r) r.width r.rows.now
   pub some : NoneIsEmpty (symbols_of r)
   pub few : length r.patterns.now ≤ 2 ^ 31 - 1
 
@@ -32,9 +31,9 @@ pub record AreLists (patterns : List (List ℕ)) (ends starts : List ℕ) (count
   pub ordered : (i : ℕ) → i < count → slice_index starts i ≤ slice_index starts (i + 1)
   pub inside : (i : ℕ) → i ≤ count → slice_index starts i ≤ length ends
   pub last : slice_index starts count ≡ length ends
-  pub each : (i : ℕ) → i < count → ending Standard patterns (pattern_at patterns i) ≡ Some i
+  pub each : (i : ℕ) → i < count → ending patterns (pattern_at patterns i) ≡ Some i
       → AreSuffixes patterns (pattern_at patterns i) 0 ends (slice_index starts i) (slice_index starts (i + 1))
-  pub others : (i : ℕ) → i < count → ¬ (ending Standard patterns (pattern_at patterns i) ≡ Some i)
+  pub others : (i : ℕ) → i < count → ¬ (ending patterns (pattern_at patterns i) ≡ Some i)
       → slice_index starts i ≡ slice_index starts (i + 1)
 
 -- where the lists begin and the last ends, by those places that are kept: none are where there is no list
@@ -45,11 +44,11 @@ starts_of (start ∷ more) = start ∷ more
 -- a walk that read a text stands at a row
 pub record StandsBehind (r : Recognised) (place : ℕ) (text : List ℕ) : Type 0 where
   pub row : IsRow r.width r.rows.now place
-  pub at : (recognises : Recognises Standard (symbols_of r) r.width r.rows.now)
-      → IsAt Standard (symbols_of r) r.width r.rows.now recognises text place
+  pub at : (recognises : Recognises (symbols_of r) r.width r.rows.now)
+      → IsAt (symbols_of r) r.width r.rows.now recognises text place
 
 -- each pattern that is the first of its equals has the first of them from one on
 pub record AreNextEquals (patterns : List (List ℕ)) (heads : List ℕ) (from : ℕ) : Type 0 where
   pub long : length heads ≡ length patterns
-  pub each : (i : ℕ) → i < length patterns → ending Standard patterns (pattern_at patterns i) ≡ Some i
+  pub each : (i : ℕ) → i < length patterns → ending patterns (pattern_at patterns i) ≡ Some i
       → IsNextEqual patterns i from (slice_index heads i)

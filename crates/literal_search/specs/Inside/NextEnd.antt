@@ -3,7 +3,6 @@ use Rattle.std.specs.Prelude.{ℕ, ◌+◌, ◌*◌, ◌<◌, ◌≤◌, Bool, L
 use Rattle.std.specs.Prelude.{IsSome}
 use Rattle.std.specs.Result.{IsOkAnd}
 use Rattle.literal_base.specs.Occurs.{Occurs, between, pattern_at}
-use Rattle.literal_base.specs.declared.search.MatchKind.TheVariants.{Standard}
 use Rattle.literal_base.specs.declared.search.Span.{Span}
 use Rattle.literal_search.specs.Prepared.{ArePrints}
 use Rattle.literal_search.specs.Inside.Classes.{symbols_in}
@@ -22,8 +21,8 @@ pub record Stands (patterns : List (List ℕ)) (ignore_case : Bool) (classes : L
   pub from : ℕ
   pub after : span.start ≤ from
   pub before : from ≤ stop.end
-  pub at : (recognises : Recognises Standard (map (symbols_in classes) patterns) width rows)
-      → IsAt Standard (map (symbols_in classes) patterns) width rows recognises
+  pub at : (recognises : Recognises (map (symbols_in classes) patterns) width rows)
+      → IsAt (map (symbols_in classes) patterns) width rows recognises
       (text_of classes haystack (between from stop.end)) stop.place
   pub begins : (i place : ℕ) → Occurs patterns ignore_case haystack span i place
       → behind < place + length (pattern_at patterns i) → from ≤ place
@@ -32,7 +31,7 @@ pub record Stands (patterns : List (List ℕ)) (ignore_case : Bool) (classes : L
 pub record StandsNext (patterns : List (List ℕ)) (ignore_case : Bool) (classes : List ℕ) (width : ℕ)
     (rows haystack : List ℕ) (span : Span) (behind : ℕ) (stop : Stop) : Type 0 where
   pub stands : Stands patterns ignore_case classes width rows haystack span behind stop
-  pub ends : IsSome (ending Standard (map (symbols_in classes) patterns)
+  pub ends : IsSome (ending (map (symbols_in classes) patterns)
       (text_of classes haystack (between stands.from stop.end)))
   pub first : (i place : ℕ) → Occurs patterns ignore_case haystack span i place
       → behind < place + length (pattern_at patterns i) → stop.end ≤ place + length (pattern_at patterns i)

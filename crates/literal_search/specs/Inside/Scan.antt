@@ -1,7 +1,6 @@
 -- The numbers of an automaton, and what is passed over by them.
 use Rattle.std.specs.Prelude.{◌≡◌, ℕ, ◌*◌, ◌≤◌, Bool, List, false, map}
 use Rattle.literal_base.specs.Occurs.{NoneIsEmpty, Occurs}
-use Rattle.literal_base.specs.declared.search.MatchKind.TheVariants.{Standard}
 use Rattle.literal_base.specs.declared.search.Span.{Span}
 use Rattle.literal_search.specs.SearchValue.{longest_of}
 use Rattle.literal_search.specs.Inside.Classes.{AreClasses, Tells, symbols_in}
@@ -15,7 +14,7 @@ use Rattle.literal_search.specs.declared.walk.Table.{Table}
 pub record IsTableFor (t : Table) (patterns : List (List ℕ)) (ignore_case : Bool) : Type 0 where
   pub classes : AreClasses (classes_by t) t.width
   pub tells : Tells ignore_case (classes_by t) patterns
-  pub recognises : Recognises Standard (map (symbols_in (classes_by t)) patterns) t.width (rows_by t)
+  pub recognises : Recognises (map (symbols_in (classes_by t)) patterns) t.width (rows_by t)
   pub some : NoneIsEmpty patterns
   pub longest : t.longest ≡ longest_of patterns
 

@@ -2,7 +2,6 @@
 use Rattle.std.specs.Prelude.{◌≡◌, ◌<◌, ◌≤◌, ℕ, List, ◌++◌, length, map}
 use Rattle.literal_base.specs.MatchValue.{MatchValue}
 use Rattle.literal_base.specs.Occurs.{between}
-use Rattle.literal_base.specs.declared.search.MatchKind.TheVariants.{Standard}
 use Rattle.literal_base.specs.declared.search.Span.{Span}
 use Rattle.literal_search.specs.SearchValue.{SearchValue, search_by, shortest_of, width_for}
 use Rattle.literal_base.specs.Greedy.{IsGreedyIn}
@@ -32,7 +31,7 @@ pub record AreKept (search : SearchValue) (numbers : List ℕ) : Type 0 where
   pub prepared : IsPrepared search numbers
   pub long : length numbers ≡ prepared_len numbers
   pub width : width_in numbers ≡ width_for search.ignore_case search.query.patterns
-  pub rows : IsRowsLength Standard (texts_back (back_tables_in search numbers)) (width_in numbers)
+  pub rows : IsRowsLength (texts_back (back_tables_in search numbers)) (width_in numbers)
       (length (rows_in numbers))
 
 -- what the fields keep: numbers for the search

@@ -1,17 +1,13 @@
 -- What a walk through the rows of an automaton finds.
-use Rattle.std.specs.Prelude.{◌≡◌, ℕ, ◌+◌, ◌*◌, ◌-◌, ◌<◌, ◌≤◌, ◌⊎◌, ◌^◌, List, [], ◌++◌}
-use Rattle.std.specs.Prelude.{⊤, None, Result, Some}
-use Rattle.std.specs.Prelude.{IsSome, length}
-use Rattle.std.specs.Prelude.{if◌then◌else◌, nat_lt, slice_index, slice_range}
+use Rattle.std.specs.Prelude.{◌≡◌, ℕ, ◌+◌, ◌*◌, ◌-◌, ◌<◌, ◌≤◌, ◌^◌, List, [], ◌++◌}
+use Rattle.std.specs.Prelude.{⊤, IsSome, None, Result, length, slice_range}
 use Rattle.std.specs.Result.{IsOkAnd}
-use Rattle.literal_base.specs.declared.search.MatchKind as search
-use Rattle.literal_base.specs.declared.search.MatchKind.TheVariants.{Standard}
 use Rattle.literal_base.specs.declared.search.Span.{Span}
 use Rattle.literal_base.specs.Occurs.{between}
 use Rattle.literal_search.specs.Inside.Classes.{symbols_in}
 use Rattle.literal_search.specs.Inside.Packed.{unpacked}
 use Rattle.literal_search.specs.Inside.Rows.{rows_of}
-use Rattle.literal_search.specs.Table.{Recognises, nothing, stride_of}
+use Rattle.literal_search.specs.Table.{Recognises, stride_of}
 use Rattle.literal_search.specs.Words.{ending, live_suffix, word_of}
 use Rattle.literal_search.specs.declared.prepared.Damaged.{Damaged}
 use Rattle.literal_search.specs.declared.walk.Reached.{Reached}
@@ -25,74 +21,62 @@ pub record IsRow (width : ℕ) (rows : List ℕ) (place : ℕ) : Type 0 where
   pub place_is : place ≡ state * stride_of width
   pub fits : place + stride_of width ≤ length rows
 
--- where the row of a state begins, by its number in a row
-abbrev pub place_of : ℕ → ℕ
-place_of code = if nat_lt code (2 ^ 31) then code else code - 2 ^ 31
-
--- the rows are whole, there is one, and each number for a class in them leads to one or to none
-pub record IsTable (width : ℕ) (rows : List ℕ) : Type 0 where
-  pub some : IsRow width rows 0
-  pub few : length rows ≤ 2 ^ 31 - 1
-  pub leads : (place class : ℕ) → IsRow width rows place → class < width
-      → (slice_index rows (place + class) ≡ nothing) ⊎ IsRow width rows (place_of (slice_index rows (place + class)))
-
 -- the classes of the bytes of a span
 abbrev pub text_of : List ℕ → List ℕ → Span → List ℕ
 text_of classes haystack span = symbols_in classes (slice_range haystack span.start span.end)
 
 -- a walk that read a text stands at the state of its live suffix
-pub record IsAt (kind : search.MatchKind) (patterns : List (List ℕ)) (width : ℕ) (rows : List ℕ)
-    (recognises : Recognises kind patterns width rows) (text : List ℕ) (place : ℕ) : Type 0 where
+pub record IsAt (patterns : List (List ℕ)) (width : ℕ) (rows : List ℕ) (recognises : Recognises patterns width rows)
+    (text : List ℕ) (place : ℕ) : Type 0 where
   pub state : ℕ
   pub is_state : state < length recognises.words
   pub place_is : place ≡ state * stride_of width
-  pub live_suffix : live_suffix kind patterns text ≡ Some (word_of recognises.words state)
+  pub live_suffix : live_suffix patterns text ≡ word_of recognises.words state
 
 -- a text that goes on with the classes of the haystack's bytes from one place to another
 abbrev pub read_to : List ℕ → List ℕ → List ℕ → ℕ → ℕ → List ℕ
 read_to text classes haystack start end = text ++ text_of classes haystack (between start end)
 
 -- no pattern ends with it as far as it goes on
-abbrev pub NoneEnds : search.MatchKind → List (List ℕ) → List ℕ → List ℕ → List ℕ → ℕ → ℕ → Type 0
-NoneEnds kind patterns text classes haystack start upto =
-    (end : ℕ) → start < end → end ≤ upto → ending kind patterns (read_to text classes haystack start end) ≡ None
+abbrev pub NoneEnds : List (List ℕ) → List ℕ → List ℕ → List ℕ → ℕ → ℕ → Type 0
+NoneEnds patterns text classes haystack start upto =
+    (end : ℕ) → start < end → end ≤ upto → ending patterns (read_to text classes haystack start end) ≡ None
 
 -- where a pattern ends first as it goes on, and the row of the state there
-pub record IsFirstEnd (kind : search.MatchKind) (patterns : List (List ℕ)) (width : ℕ) (rows : List ℕ)
-    (recognises : Recognises kind patterns width rows) (text classes haystack : List ℕ) (start : ℕ) (stop : Stop)
+pub record IsFirstEnd (patterns : List (List ℕ)) (width : ℕ) (rows : List ℕ)
+    (recognises : Recognises patterns width rows) (text classes haystack : List ℕ) (start : ℕ) (stop : Stop)
     : Type 0 where
-  pub none : NoneEnds kind patterns text classes haystack start (stop.end - 1)
-  pub ends : IsSome (ending kind patterns (read_to text classes haystack start stop.end))
-  pub at : IsAt kind patterns width rows recognises (read_to text classes haystack start stop.end) stop.place
+  pub none : NoneEnds patterns text classes haystack start (stop.end - 1)
+  pub ends : IsSome (ending patterns (read_to text classes haystack start stop.end))
+  pub at : IsAt patterns width rows recognises (read_to text classes haystack start stop.end) stop.place
 
 -- what a walk has reached that reads a span: the first place where a pattern ends, or a place where it is back in the
 -- first state, or the end of the span, and no pattern ended before
-abbrev pub HasReached : (patterns : List (List ℕ)) (width : ℕ) (rows : List ℕ) → Recognises Standard patterns width rows
+abbrev pub HasReached : (patterns : List (List ℕ)) (width : ℕ) (rows : List ℕ) → Recognises patterns width rows
     → List ℕ → List ℕ → List ℕ → Span → Reached → Type 0
 HasReached patterns width rows recognises text classes haystack span (Ends stop) =
-    IsFirstEnd Standard patterns width rows recognises text classes haystack span.start stop
+    IsFirstEnd patterns width rows recognises text classes haystack span.start stop
 HasReached patterns width rows recognises text classes haystack span (Back at) =
-    IsAt Standard patterns width rows recognises (read_to text classes haystack span.start at) 0
-    × NoneEnds Standard patterns text classes haystack span.start at
+    IsAt patterns width rows recognises (read_to text classes haystack span.start at) 0
+    × NoneEnds patterns text classes haystack span.start at
 HasReached patterns width rows recognises text classes haystack span Nowhere =
-    NoneEnds Standard patterns text classes haystack span.start span.end
+    NoneEnds patterns text classes haystack span.start span.end
 
--- the same for all patterns that the rows recognise where all that occurs is wanted, from all texts whose state has the
--- row at which the walk stood
+-- the same for all patterns that the rows recognise, from all texts whose state has the row at which the walk stood
 abbrev pub Reaches : ℕ → List ℕ → ℕ → List ℕ → List ℕ → Span → Result Reached Damaged → Type 0
 Reaches width rows from classes haystack span result =
-    (patterns : List (List ℕ)) (recognises : Recognises Standard patterns width rows) (text : List ℕ)
-    → IsAt Standard patterns width rows recognises text from
+    (patterns : List (List ℕ)) (recognises : Recognises patterns width rows) (text : List ℕ)
+    → IsAt patterns width rows recognises text from
     → IsOkAnd result (HasReached patterns width rows recognises text classes haystack span)
 
 -- a walk that stood at a row stands at another, and no pattern has ended since, for all patterns that the rows
 -- recognise, from all texts whose state has the first of these rows
 abbrev pub WalksOn : ℕ → List ℕ → ℕ → List ℕ → List ℕ → ℕ → ℕ → ℕ → Type 0
 WalksOn width rows from classes haystack start at place =
-    (kind : search.MatchKind) (patterns : List (List ℕ)) (recognises : Recognises kind patterns width rows)
-    (text : List ℕ) → IsAt kind patterns width rows recognises text from
-    → IsAt kind patterns width rows recognises (read_to text classes haystack start at) place
-    × NoneEnds kind patterns text classes haystack start at
+    (patterns : List (List ℕ)) (recognises : Recognises patterns width rows) (text : List ℕ)
+    → IsAt patterns width rows recognises text from
+    → IsAt patterns width rows recognises (read_to text classes haystack start at) place
+    × NoneEnds patterns text classes haystack start at
 
 -- the rows of a table, behind which stand the classes
 abbrev pub rows_by : Table → List ℕ
@@ -105,8 +89,8 @@ classes_by t = unpacked t.classes.now
 -- no pattern ends from one place up to another, for all patterns that the rows recognise
 abbrev pub NoneEndsIn : Table → List ℕ → ℕ → ℕ → Type 0
 NoneEndsIn t haystack start end =
-    (patterns : List (List ℕ)) → Recognises Standard patterns t.width (rows_by t)
-    → NoneEnds Standard patterns [] (classes_by t) haystack start end
+    (patterns : List (List ℕ)) → Recognises patterns t.width (rows_by t)
+    → NoneEnds patterns [] (classes_by t) haystack start end
 
 -- nor in any of four spans of one length that begin one block behind another
 abbrev pub NoneInFour : Table → List ℕ → ℕ → ℕ → ℕ → Type 0

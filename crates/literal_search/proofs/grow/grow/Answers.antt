@@ -4,23 +4,9 @@ use Rattle.literal_search.specs.Inside.Growing.{texts_of, words_of}
 use Rattle.literal_search.specs.States.{IsRowsLength}
 use Rattle.literal_search.specs.Table.{Recognises, stride_of}
 use Rattle.literal_search.specs.declared.grow.Texts.{Texts}
-use Rattle.literal_search.proofs.lemmas.Growing.{recognises, some_texts}
+use Rattle.literal_search.proofs.lemmas.Growing.{recognises}
 use Rattle.literal_search.proofs.lemmas.States.{few_states, states_made, symbols_below}
 use Rattle.literal_search.proofs.grow.grow.Goals as goal
-
-pub has_too_long-requires : goal.has_too_long-requires
-has_too_long-requires c = record {
-  classes = c.requires.classes;
-  some = some_texts c.args.classes.now c.args.patterns.now c.requires.some;
-  few = c.requires.few;
-}
-
-pub start-requires : goal.start-requires
-start-requires c = record {
-  classes = c.requires.classes;
-  some = some_texts c.args.classes.now c.args.patterns.now c.requires.some;
-  few = c.requires.few;
-}
 
 pub returns-clause-recognises : goal.returns-clause-recognises
 returns-clause-recognises c =
@@ -29,7 +15,7 @@ returns-clause-recognises c =
     let known = c.len.ensures ∙ g.states.ok.0 in
     let late = c.loop-state-test.false in
     let all : c.loop-state.state ≡ length g.states.items = omega (arith, known, late, said.states) in
-    subst (λ (t : Texts). Recognises t.kind (texts_of t) t.width g.rows.items)
+    subst (λ (t : Texts). Recognises (texts_of t) t.width g.rows.items)
     (said.texts ∙ c.in_ok-growing.ensures.texts)
     (recognises g.texts g.states.items g.lists.items g.rows.items said.grows
     (said.filled ∙ ap (λ n. n * stride_of g.texts.width) all))
@@ -45,14 +31,14 @@ returns-clause-states c =
     let all : c.loop-state.state ≡ length g.states.items = omega (arith, known, late, said.states) in
     let are = recognises t g.states.items g.lists.items g.rows.items said.grows
     (said.filled ∙ ap (λ n. n * stride_of t.width) all) in
-    subst (λ (t : Texts). IsRowsLength t.kind (texts_of t) t.width (length g.rows.items))
+    subst (λ (t : Texts). IsRowsLength (texts_of t) t.width (length g.rows.items))
     (said.texts ∙ c.in_ok-growing.ensures.texts) (
       length (words_of g),
       record {
         texts = words_of g;
-        are_states = states_made t.kind (texts_of t) (words_of g) t.width (length g.rows.items) said.words;
+        are_states = states_made (texts_of t) (words_of g) t.width (length g.rows.items) said.words;
         count_is = refl;
-        most = few_states t.kind (texts_of t) t.width
+        most = few_states (texts_of t) t.width
             (symbols_below t.classes.now t.width said.grows.texts.classes t.patterns.now) g.rows.items are;
       },
       are.full,

@@ -25,7 +25,7 @@ returns-clause-grows c =
       depth = 0;
       start = 0;
       end = c.len.result;
-      failure = 4294967295;
+      failure = 0;
       ending = 4294967295;
     } in
     started c.args.texts first c.push.new.self.items c.in_ok-lists.lists.items c.new.result.items c.requires refl refl

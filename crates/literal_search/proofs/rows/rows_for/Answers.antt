@@ -18,24 +18,24 @@ returns-then-is_empty-clause-classes c =
 
 pub returns-then-is_empty-clause-recognises : goal.returns-then-is_empty-clause-recognises
 returns-then-is_empty-clause-recognises c =
-    for_none (λ texts width rows. Recognises c.args.kind texts width rows) c.args.classes.now.table
+    for_none Recognises c.args.classes.now.table
     c.args.classes.now.width c.args.patterns.now c.new.result.items
     (eqb-true _ _ (sym c.is_empty.ensures ∙ c.if-is_empty.true)) c.requires.one c.new.ensures.items
-    (none_recognised c.args.kind)
+    none_recognised
 
 pub returns-then-is_empty-clause-states : goal.returns-then-is_empty-clause-states
 returns-then-is_empty-clause-states c =
-    for_none (λ texts width rows. IsRowsLength c.args.kind texts width (length rows)) c.args.classes.now.table
+    for_none (λ texts width rows. IsRowsLength texts width (length rows)) c.args.classes.now.table
     c.args.classes.now.width c.args.patterns.now c.new.result.items
     (eqb-true _ _ (sym c.is_empty.ensures ∙ c.if-is_empty.true)) c.requires.one c.new.ensures.items
-    (none_long c.args.kind)
+    none_long
 
 pub returns-then-is_empty-clause-few : goal.returns-then-is_empty-clause-few
 returns-then-is_empty-clause-few c =
-    for_none (λ texts width rows. HasTooManyStates c.args.kind texts width → ⊥) c.args.classes.now.table
+    for_none (λ texts width rows. HasTooManyStates texts width → ⊥) c.args.classes.now.table
     c.args.classes.now.width c.args.patterns.now c.new.result.items
     (eqb-true _ _ (sym c.is_empty.ensures ∙ c.if-is_empty.true)) c.requires.one c.new.ensures.items
-    (none_few c.args.kind)
+    none_few
 
 pub invariant_of-result-2 : goal.invariant_of-result-2
 unfolding AreKeptRows
@@ -56,7 +56,7 @@ returns-clause-recognises c =
     let is = ap (λ (l : List ℕ). (rows_value l).rows) c.in_ok-push_classes.ensures
     ∙ ap (λ (v : RowsValue). v.rows) (both_kept c.in_ok-numbers.numbers.items table c.args.classes.now.width
     c.requires.classes) in
-    subst (λ (rows : List ℕ). Recognises c.args.kind
+    subst (λ (rows : List ℕ). Recognises
     (map (λ (pattern : Vec ℕ). symbols_in table pattern.items) c.args.patterns.now) c.args.classes.now.width rows)
     (sym is) c.in_ok-numbers.ensures.recognises
 
@@ -66,6 +66,6 @@ returns-clause-states c =
     let is = ap (λ (l : List ℕ). (rows_value l).rows) c.in_ok-push_classes.ensures
     ∙ ap (λ (v : RowsValue). v.rows) (both_kept c.in_ok-numbers.numbers.items table c.args.classes.now.width
     c.requires.classes) in
-    subst (λ (rows : List ℕ). IsRowsLength c.args.kind
+    subst (λ (rows : List ℕ). IsRowsLength
     (map (λ (pattern : Vec ℕ). symbols_in table pattern.items) c.args.patterns.now) c.args.classes.now.width
     (length rows)) (sym is) c.in_ok-numbers.ensures.states

@@ -2,10 +2,10 @@ use Rattle.std.proofs.Common.{◌≡◌, ◌+◌, ◌<◌, ◌∙◌, ◌++◌, 
 use Rattle.std.specs.Global.{Vec}
 use Rattle.literal_search.specs.Inside.Grown.{AreWords}
 use Rattle.literal_search.specs.Inside.Growing.{texts_of, words_of}
-use Rattle.literal_search.specs.Table.{Leads}
-use Rattle.literal_search.specs.Words.{word_of}
+use Rattle.literal_search.specs.Table.{LeadsTo}
+use Rattle.literal_search.specs.Words.{live_suffix, word_of}
 use Rattle.literal_search.specs.declared.grow.Texts.{Texts}
-use Rattle.literal_search.proofs.lemmas.Growing.{words_length, words_same}
+use Rattle.literal_search.proofs.lemmas.Growing.{words_kept, words_length}
 use Rattle.literal_search.proofs.grow.Growing.add_place.Goals as goal
 
 pub push_next-requires-clause-leads : goal.push_next-requires-clause-leads
@@ -15,10 +15,10 @@ push_next-requires-clause-leads c =
     let said = c.in_ok-next.ensures in
     let below : c.args.state < length (words_of g) =
     omega (arith, c.requires.is_state, words_length g.texts g.states.items) in
-    subst (λ (u : Texts). Leads u.kind (texts_of u) (words_of g') u.width c.in_ok-next.next
-    (word_of (words_of g') c.args.state ++ c.args.class ∷ [])) (sym said.same.0)
-    (subst (λ w. Leads g.texts.kind (texts_of g.texts) (words_of g') g.texts.width c.in_ok-next.next
-    (w ++ c.args.class ∷ [])) (sym (said.kept.same c.args.state below)) said.leads)
+    subst (λ (u : Texts). LeadsTo (texts_of u) (words_of g') u.width c.in_ok-next.next
+    (live_suffix (texts_of u) (word_of (words_of g') c.args.state ++ c.args.class ∷ []))) (sym said.same.0)
+    (subst (λ w. LeadsTo (texts_of g.texts) (words_of g') g.texts.width c.in_ok-next.next
+    (live_suffix (texts_of g.texts) (w ++ c.args.class ∷ []))) (sym (said.kept.same c.args.state below)) said.leads)
 
 pub returns-clause-words : goal.returns-clause-words
 returns-clause-words c =
@@ -27,6 +27,7 @@ returns-clause-words c =
     let pushed = c.in_ok-push_next.ensures in
     let rows : length c.push_next.new.self.rows.items ≡ length g.rows.items + 1 =
     pushed.filled ∙ ap (λ (v : Vec ℕ). length v.items + 1) next.same.1 in
-    subst (AreWords g.texts.kind (texts_of g.texts) (words_of c.push_next.new.self) g.texts.width) (sym rows)
-    (subst (λ words. AreWords g.texts.kind (texts_of g.texts) words g.texts.width (length g.rows.items + 1))
-    (sym (words_same c.next.new.self c.push_next.new.self pushed.same.0 pushed.same.1)) next.words)
+    words_kept c.next.new.self c.push_next.new.self (length c.push_next.new.self.rows.items) pushed.same.0 pushed.same.1
+    (subst (λ (t : Texts). AreWords (texts_of t) (words_of c.next.new.self) t.width
+    (length c.push_next.new.self.rows.items)) (sym next.same.0)
+    (subst (AreWords (texts_of g.texts) (words_of c.next.new.self) g.texts.width) (sym rows) next.words))

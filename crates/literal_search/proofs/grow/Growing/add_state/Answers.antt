@@ -19,8 +19,8 @@ returns-clause-code c =
       is_state = omega (arith, known, ap (λ (l : List (List ℕ)). length l) words, length_push (words_of g) word);
       word_is = ap (λ (l : List (List ℕ)). word_of l n) words ∙ get_or_push (words_of g) word [] n known;
       code_is =
-          c.code_for.ensures (ending g.texts.kind (texts_of g.texts) word) c.requires.state.ended
+          c.code_for.ensures (ending (texts_of g.texts) word) c.requires.state.ended
           (ending_is_small g.texts g.states.items g.lists.items g.rows.items c.requires.grows word)
-          ∙ ap (λ m. code_of (m * stride_of g.texts.width) (ending g.texts.kind (texts_of g.texts) word))
+          ∙ ap (λ m. code_of (m * stride_of g.texts.width) (ending (texts_of g.texts) word))
           (c.len.ensures ∙ g.states.ok.0);
     }

@@ -1,44 +1,34 @@
-use Rattle.std.proofs.Common.{◌≡◌, ◌+◌, ◌<◌, ◌^◌, ◌∙◌, ap, arith, get_or, length, ℕ, Option, sym, subst}
+use Rattle.std.proofs.Common.{◌≡◌, ◌+◌, ◌<◌, ◌^◌, ◌∙◌, ◌++◌, ◌∷◌, [], ap, arith, get_or, length, ℕ, Option, sym, subst}
 use Rattle.std.proofs.lemmas.List.{get_or_read}
-use Rattle.literal_search.specs.Inside.Grown.{LeadsBy, fallback}
+use Rattle.literal_search.specs.Inside.Grown.{failure_of}
 use Rattle.literal_search.specs.Inside.Growing.{texts_of, words_in}
-use Rattle.literal_search.specs.Table.{code_of}
+use Rattle.literal_search.specs.Table.{LeadsTo, code_of}
 use Rattle.literal_search.specs.Words.{word_of}
 use Rattle.literal_search.specs.declared.grow.State.{State}
-use Rattle.literal_search.proofs.lemmas.Failures.{else_of_link, else_of_none, else_of_root}
+use Rattle.literal_search.proofs.lemmas.Failures.{link_of_next, link_of_root}
 use Rattle.literal_search.proofs.grow.Growing.behind_failure.Goals as goal
 
 pub returns-then-state-eq0 : goal.returns-then-state-eq0
 returns-then-state-eq0 c =
     let g = c.args.self.now in
-    subst (λ (n : ℕ). LeadsBy g.texts.kind (texts_of g.texts) (words_in g.texts g.states.items) g.texts.width 0
-    (fallback g.texts.kind (texts_of g.texts) (word_of (words_in g.texts g.states.items) n) c.args.class))
+    subst (λ (n : ℕ). LeadsTo (texts_of g.texts) (words_in g.texts g.states.items) g.texts.width 0
+    (failure_of (texts_of g.texts) (word_of (words_in g.texts g.states.items) n ++ c.args.class ∷ [])))
     (sym c.if-state-eq0.true)
-    (else_of_root g.texts g.states.items g.lists.items g.rows.items c.requires.grows c.args.class)
-
-pub returns-then-failure : goal.returns-then-failure
-returns-then-failure c =
-    let g = c.args.self.now in
-    let isnt = c.if-state-eq0.false in
-    else_of_none g.texts g.states.items g.lists.items g.rows.items c.requires.grows c.args.state c.args.class
-    c.index.result.now (omega (arith, isnt)) c.requires.is_state
-    (ap (λ (s : State). s.failure) (sym c.index.ensures) ∙ c.if-failure.true)
+    (link_of_root g.texts g.states.items g.lists.items g.rows.items c.requires.grows c.args.class)
 
 -- where the failure link leads
 link_at : (c : goal.After-place_of)
     → let g = c.args.self.now in let here = get_or g.states.items c.args.state c.index.result.now in
     (place : ℕ) × (pattern : Option ℕ) × (here.failure ≡ code_of place pattern) × (place < 2 ^ 31)
     × (place + c.args.class < length g.rows.items)
-    × LeadsBy g.texts.kind (texts_of g.texts) (words_in g.texts g.states.items) g.texts.width
+    × LeadsTo (texts_of g.texts) (words_in g.texts g.states.items) g.texts.width
     (get_or g.rows.items (place + c.args.class) 0)
-    (fallback g.texts.kind (texts_of g.texts) (word_of (words_in g.texts g.states.items) c.args.state) c.args.class)
+    (failure_of (texts_of g.texts) (word_of (words_in g.texts g.states.items) c.args.state ++ c.args.class ∷ []))
 link_at c =
     let g = c.args.self.now in
     let isnt = c.if-state-eq0.false in
-    else_of_link g.texts g.states.items g.lists.items g.rows.items c.requires.grows c.args.state c.args.class
-    c.index.result.now (omega (arith, isnt)) c.requires.is_state
-    (λ none. c.if-failure.false (ap (λ (s : State). s.failure) c.index.ensures
-    ∙ none)) c.requires.is_class c.requires.filled
+    link_of_next g.texts g.states.items g.lists.items g.rows.items c.requires.grows c.args.state c.args.class
+    c.index.result.now (omega (arith, isnt)) c.requires.is_state c.requires.is_class c.requires.filled
 
 place_is : (c : goal.After-place_of) → c.place_of.result ≡ (link_at c).0
 place_is c =
@@ -63,16 +53,13 @@ pub returns : goal.returns
 returns c =
     let g = c.args.self.now in
     let isnt = c.if-state-eq0.false in
-    let at = else_of_link g.texts g.states.items g.lists.items g.rows.items c.requires.grows c.args.state c.args.class
-    c.index.result.now (omega (arith, isnt)) c.requires.is_state
-    (λ none. c.if-failure.false (ap (λ (s : State). s.failure) c.index.ensures
-    ∙ none)) c.requires.is_class c.requires.filled
-    in
+    let at = link_of_next g.texts g.states.items g.lists.items g.rows.items c.requires.grows c.args.state c.args.class
+    c.index.result.now (omega (arith, isnt)) c.requires.is_state c.requires.is_class c.requires.filled in
     let place_is : c.place_of.result ≡ at.0 =
     c.place_of.ensures at.0 at.1 at.3 (ap (λ (s : State). s.failure) c.index.ensures ∙ at.2) in
     let read : c.index-2.result.now ≡ get_or g.rows.items (at.0 + c.args.class) 0 =
     get_or_read g.rows.items (at.0 + c.args.class) c.index-2.result.now at.4
     (c.index-2.ensures ∙ ap (λ p. get_or g.rows.items (p + c.args.class) c.index-2.result.now) place_is) 0 in
-    subst (λ n. LeadsBy g.texts.kind (texts_of g.texts) (words_in g.texts g.states.items) g.texts.width n
-    (fallback g.texts.kind (texts_of g.texts) (word_of (words_in g.texts g.states.items) c.args.state) c.args.class))
+    subst (λ n. LeadsTo (texts_of g.texts) (words_in g.texts g.states.items) g.texts.width n
+    (failure_of (texts_of g.texts) (word_of (words_in g.texts g.states.items) c.args.state ++ c.args.class ∷ [])))
     (sym read) at.5

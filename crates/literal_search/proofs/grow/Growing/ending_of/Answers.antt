@@ -5,4 +5,4 @@ pub returns : goal.returns
 returns c =
     let g = c.args.self.now in
     ending_by_place g.texts g.states.items g.lists.items g.rows.items c.requires.grows c.args.code c.place_of.result
-    c.index.result.now c.if-code-eq-NOTHING.false c.place_of.ensures c.index.ensures
+    c.index.result.now c.place_of.ensures c.index.ensures

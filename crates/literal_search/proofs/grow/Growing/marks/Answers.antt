@@ -6,7 +6,7 @@ use Rattle.literal_search.specs.Inside.Grown.{goes_on, list_for}
 use Rattle.literal_search.specs.Inside.Growing.{list_in, texts_of, words_of}
 use Rattle.literal_search.specs.Words.{word_of}
 use Rattle.literal_search.specs.declared.grow.State.{State}
-use Rattle.literal_search.proofs.lemmas.Grown.{unlisted}
+use Rattle.literal_search.proofs.lemmas.Grown.{list_longer}
 use Rattle.literal_search.proofs.lemmas.Failures.{list_at, long_word}
 use Rattle.literal_search.proofs.grow.Growing.marks.Goals as goal
 
@@ -37,6 +37,6 @@ returns c class unmarked =
     ∙ list_at g.texts g.states.items g.lists.items g.rows.items c.requires.grows c.args.state here c.requires.is_state
     in
     let w = word_of (words_of g) c.args.state in
-    unlisted g.texts.kind (texts_of g.texts) w class
-    (ap (λ n. filter (test n) (list_for g.texts.kind (texts_of g.texts) w)) word
+    sym (list_longer (texts_of g.texts) w class)
+    ∙ (ap (λ n. filter (test n) (list_for (texts_of g.texts) w)) word
     ∙ (ap (filter (test here.depth)) (sym listed) ∙ all))

@@ -1,54 +1,65 @@
 use Rattle.std.proofs.Common.{◌≡◌, ◌+◌, ◌*◌, ◌<◌, ◌∙◌, ◌++◌, ◌∷◌, [], ap, arith, length, List, ℕ, sym, subst, true}
 use Rattle.std.proofs.lemmas.List.{length-append, nil_from_length}
-use Rattle.literal_search.specs.Inside.Grown.{AreWords, LeadsBy, list_for}
-use Rattle.literal_search.specs.Inside.Growing.{IsGrowing, texts_of, word_in, words_of}
+use Rattle.literal_search.specs.Inside.Grown.{AreWords, list_for}
+use Rattle.literal_search.specs.Inside.Growing.{AreWordsIn, IsGrowing, texts_of, word_behind, word_in, words_of}
 use Rattle.literal_search.specs.States.{AreStates}
 use Rattle.literal_search.specs.Table.{LeadsTo, stride_of}
 use Rattle.literal_search.specs.Words.{begins_one, live_suffix, word_of}
 use Rattle.literal_search.specs.declared.grow.Growing.{Growing}
+use Rattle.literal_search.specs.declared.grow.State.{State}
 use Rattle.literal_search.specs.declared.grow.Texts.{Texts}
-use Rattle.literal_search.proofs.lemmas.Behind.{live_begun, live_by_else}
+use Rattle.literal_search.proofs.lemmas.Behind.{live_begun, live_unbegun}
 use Rattle.literal_search.proofs.lemmas.Grown.{begun_by_length, unbegun_by_list}
 use Rattle.literal_search.proofs.lemmas.Growing.{words_length, words_same}
 use Rattle.literal_search.proofs.lemmas.States.{made_more, made_next, states_made}
 use Rattle.literal_search.proofs.grow.Growing.next.Goals as goal
 
+-- where the lists got longer, a pattern begins with the word
+begun_by : (g : Growing) (text longer : List ℕ) (len start : ℕ)
+    → longer ≡ g.lists.items ++ list_for (texts_of g.texts) text → len ≡ length longer → start ≡ length g.lists.items
+    → (len ≡ start → ⊥) → begins_one (texts_of g.texts) text ≡ true
+begun_by g text longer len start lists now was isnt =
+    let list = list_for (texts_of g.texts) text in
+    let long = ap (λ (l : List ℕ). length l) lists ∙ length-append g.lists.items list in
+    begun_by_length (texts_of g.texts) text (omega (arith, isnt, now, was, long))
+
 -- the state of a place makes a word
-made : (g : Growing) (state class : ℕ) → IsGrowing g.texts g.states.items g.lists.items g.rows.items
-    → AreWords g.texts.kind (texts_of g.texts) (words_of g) g.texts.width (length g.rows.items)
+made : (g : Growing) (state class : ℕ) → IsGrowing g.texts g.states.items g.lists.items g.rows.items → AreWordsIn g
     → state < length g.states.items → class < g.texts.width
     → length g.rows.items ≡ state * stride_of g.texts.width + class
-    → begins_one g.texts.kind (texts_of g.texts) (word_of (words_of g) state ++ class ∷ []) ≡ true
-    → AreWords g.texts.kind (texts_of g.texts) (words_of g ++ (word_of (words_of g) state ++ class ∷ []) ∷ [])
-    g.texts.width (length g.rows.items + 1)
+    → begins_one (texts_of g.texts) (word_behind g state class) ≡ true
+    → AreWords (texts_of g.texts) (words_of g ++ word_behind g state class ∷ []) g.texts.width
+    (length g.rows.items + 1)
 made g state class grows words is_state is_class filled begun =
-    made_next g.texts.kind (texts_of g.texts) (words_of g) g.texts.width (length g.rows.items) words state class
+    made_next (texts_of g.texts) (words_of g) g.texts.width (length g.rows.items) words state class
     (omega (arith, is_state, words_length g.texts g.states.items)) is_class filled begun
 
+-- the words with one more are the same, of texts and states that stay the same
+words_with : (g g' : Growing) (next : State) (state class : ℕ) → g'.texts ≡ g.texts → g'.states ≡ g.states
+    → word_in (texts_of g'.texts) next ≡ word_behind g' state class
+    → words_of g' ++ word_in (texts_of g'.texts) next ∷ [] ≡ words_of g ++ word_behind g state class ∷ []
+words_with g g' next state class texts states is =
+    let same = words_same g g' texts states in
+    ap (λ words. words ++ word_in (texts_of g'.texts) next ∷ []) same
+    ∙ ap (λ w. words_of g ++ w ∷ []) (is ∙ ap (λ words. word_of words state ++ class ∷ []) same)
+
 states_same : (t t' : Texts) (words words' : List (List ℕ)) → t' ≡ t → words' ≡ words
-    → AreStates t.kind (texts_of t) words → AreStates t'.kind (texts_of t') words'
+    → AreStates (texts_of t) words → AreStates (texts_of t') words'
 states_same t t' words words' texts same are =
-    subst (AreStates t'.kind (texts_of t')) (sym same)
-    (subst (λ u. AreStates u.kind (texts_of u) words) (sym texts) are)
+    subst (AreStates (texts_of t')) (sym same) (subst (λ u. AreStates (texts_of u) words) (sym texts) are)
 
 pub add_state-requires-clause-different : goal.add_state-requires-clause-different
 add_state-requires-clause-different c =
     let g = c.args.self.now in
     let g' = c.push_list.new.self in
     let said = c.in_ok-whole.ensures in
-    let text = word_of (words_of g) c.args.state ++ c.args.class ∷ [] in
-    let list = list_for g.texts.kind (texts_of g.texts) text in
-    let isnt = c.if-len-start.false in
-    let now = c.len.ensures ∙ g'.lists.ok.0 in
-    let was = c.len-start.ensures ∙ g.lists.ok.0 in
-    let long = ap (λ (l : List ℕ). length l) said.lists ∙ length-append g.lists.items list in
-    let begun = begun_by_length g.texts.kind (texts_of g.texts) text (omega (arith, isnt, now, was, long)) in
-    let same = words_same g g' said.same.0 said.same.1 in
+    let text = word_behind g c.args.state c.args.class in
+    let begun = begun_by g text g'.lists.items c.len.result c.len-start.result said.lists
+    (c.len.ensures ∙ g'.lists.ok.0) (c.len-start.ensures ∙ g.lists.ok.0) c.if-len-start.false in
     states_same g.texts g'.texts (words_of g ++ text ∷ []) _ said.same.0
-    (ap (λ words. words ++ word_in (texts_of g'.texts) c.state_behind-next.result ∷ []) same
-    ∙ ap (λ w. words_of g ++ w ∷ []) (c.state_behind-next.ensures.word
-    ∙ ap (λ words. word_of words c.args.state ++ c.args.class ∷ []) same))
-    (states_made g.texts.kind (texts_of g.texts) (words_of g ++ text ∷ []) g.texts.width (length g.rows.items + 1)
+    (words_with g g' c.state_behind-next.result c.args.state c.args.class said.same.0 said.same.1
+    c.state_behind-next.ensures.word)
+    (states_made (texts_of g.texts) (words_of g ++ text ∷ []) g.texts.width (length g.rows.items + 1)
     (made g c.args.state c.args.class c.requires.grows c.requires.words c.requires.is_state c.requires.is_class
     c.requires.filled begun))
 
@@ -57,87 +68,72 @@ returns-clause-words c =
     let g = c.args.self.now in
     let g' = c.push_list.new.self in
     let said = c.in_ok-whole.ensures in
-    let text = word_of (words_of g) c.args.state ++ c.args.class ∷ [] in
-    let list = list_for g.texts.kind (texts_of g.texts) text in
-    let isnt = c.if-len-start.false in
-    let now = c.len.ensures ∙ g'.lists.ok.0 in
-    let was = c.len-start.ensures ∙ g.lists.ok.0 in
-    let long = ap (λ (l : List ℕ). length l) said.lists ∙ length-append g.lists.items list in
-    let begun = begun_by_length g.texts.kind (texts_of g.texts) text (omega (arith, isnt, now, was, long)) in
-    let same = words_same g g' said.same.0 said.same.1 in
-    subst (λ words. AreWords g.texts.kind (texts_of g.texts) words g.texts.width (length g.rows.items + 1))
-    (sym (c.in_ok-code.ensures.words
-    ∙ (ap (λ words. words ++ word_in (texts_of g'.texts) c.state_behind-next.result ∷ []) same
-    ∙ ap (λ w. words_of g ++ w ∷ []) (c.state_behind-next.ensures.word
-    ∙ ap (λ words. word_of words c.args.state ++ c.args.class ∷ []) same))))
+    let begun = begun_by g (word_behind g c.args.state c.args.class) g'.lists.items c.len.result c.len-start.result
+    said.lists (c.len.ensures ∙ g'.lists.ok.0) (c.len-start.ensures ∙ g.lists.ok.0) c.if-len-start.false in
+    subst (λ words. AreWords (texts_of g.texts) words g.texts.width (length g.rows.items + 1))
+    (sym (c.in_ok-code.ensures.words ∙ words_with g g' c.state_behind-next.result c.args.state c.args.class
+    said.same.0 said.same.1 c.state_behind-next.ensures.word))
     (made g c.args.state c.args.class c.requires.grows c.requires.words c.requires.is_state c.requires.is_class
     c.requires.filled begun)
 
 pub returns-then-not-is_marked-clause-words : goal.returns-then-not-is_marked-clause-words
 returns-then-not-is_marked-clause-words c =
     let g = c.args.self.now in
-    made_more g.texts.kind (texts_of g.texts) (words_of g) g.texts.width (length g.rows.items) c.requires.words
+    made_more (texts_of g.texts) (words_of g) g.texts.width (length g.rows.items) c.requires.words
     (length g.rows.items + 1) (omega arith)
 
 pub returns-then-len-start-clause-words : goal.returns-then-len-start-clause-words
 returns-then-len-start-clause-words c =
     let g = c.args.self.now in
     let said = c.in_ok-whole.ensures in
-    subst (λ words. AreWords g.texts.kind (texts_of g.texts) words g.texts.width (length g.rows.items + 1))
+    subst (λ words. AreWords (texts_of g.texts) words g.texts.width (length g.rows.items + 1))
     (sym (words_same g c.push_list.new.self said.same.0 said.same.1))
-    (made_more g.texts.kind (texts_of g.texts) (words_of g) g.texts.width (length g.rows.items) c.requires.words
+    (made_more (texts_of g.texts) (words_of g) g.texts.width (length g.rows.items) c.requires.words
     (length g.rows.items + 1) (omega arith))
 
 pub returns-then-not-is_marked-clause-leads : goal.returns-then-not-is_marked-clause-leads
 returns-then-not-is_marked-clause-leads c =
     let g = c.args.self.now in
-    let text = word_of (words_of g) c.args.state ++ c.args.class ∷ [] in
-    let unbegun = unbegun_by_list g.texts.kind (texts_of g.texts) text (c.requires.unmarked c.if-not-is_marked.true) in
-    subst (LeadsBy g.texts.kind (texts_of g.texts) (words_of g) g.texts.width c.behind_failure-behind.result)
-    (sym (live_by_else g.texts.kind (texts_of g.texts) (word_of (words_of g) c.args.state) c.args.class
-    c.requires.grows.texts.some unbegun)) c.behind_failure-behind.ensures
+    let text = word_behind g c.args.state c.args.class in
+    let unbegun = unbegun_by_list (texts_of g.texts) text (c.requires.unmarked c.if-not-is_marked.true) in
+    subst (LeadsTo (texts_of g.texts) (words_of g) g.texts.width c.behind_failure-failure.result)
+    (sym (live_unbegun (texts_of g.texts) text unbegun)) c.behind_failure-failure.ensures
 
 pub returns-then-len-start-clause-leads : goal.returns-then-len-start-clause-leads
 returns-then-len-start-clause-leads c =
     let g = c.args.self.now in
     let g' = c.push_list.new.self in
     let said = c.in_ok-whole.ensures in
-    let text = word_of (words_of g) c.args.state ++ c.args.class ∷ [] in
-    let list = list_for g.texts.kind (texts_of g.texts) text in
+    let text = word_behind g c.args.state c.args.class in
+    let list = list_for (texts_of g.texts) text in
     let same : c.len.result ≡ c.len-start.result = c.if-len-start.true in
     let now = c.len.ensures ∙ g'.lists.ok.0 in
     let was = c.len-start.ensures ∙ g.lists.ok.0 in
     let long = ap (λ (l : List ℕ). length l) said.lists ∙ length-append g.lists.items list in
     let none = nil_from_length list (omega (arith, same, now, was, long)) in
-    let unbegun = unbegun_by_list g.texts.kind (texts_of g.texts) text none in
-    subst (λ words. LeadsBy g.texts.kind (texts_of g.texts) words g.texts.width c.behind_failure-behind.result
-    (live_suffix g.texts.kind (texts_of g.texts) text))
-    (sym (words_same g g' said.same.0 said.same.1))
-    (subst (LeadsBy g.texts.kind (texts_of g.texts) (words_of g) g.texts.width c.behind_failure-behind.result)
-    (sym (live_by_else g.texts.kind (texts_of g.texts) (word_of (words_of g) c.args.state) c.args.class
-    c.requires.grows.texts.some unbegun)) c.behind_failure-behind.ensures)
+    let unbegun = unbegun_by_list (texts_of g.texts) text none in
+    subst (λ words. LeadsTo (texts_of g.texts) words g.texts.width c.behind_failure-failure.result
+    (live_suffix (texts_of g.texts) text)) (sym (words_same g g' said.same.0 said.same.1))
+    (subst (LeadsTo (texts_of g.texts) (words_of g) g.texts.width c.behind_failure-failure.result)
+    (sym (live_unbegun (texts_of g.texts) text unbegun)) c.behind_failure-failure.ensures)
 
 -- a number leads to a word, of texts that stay the same
 leads_same : (t t' : Texts) (words : List (List ℕ)) (code : ℕ) (word word' : List ℕ) → t' ≡ t → word' ≡ word
-    → LeadsTo t'.kind (texts_of t') words t'.width code word' → LeadsTo t.kind (texts_of t) words t.width code word
+    → LeadsTo (texts_of t') words t'.width code word' → LeadsTo (texts_of t) words t.width code word
 leads_same t t' words code word word' texts same leads =
-    subst (LeadsTo t.kind (texts_of t) words t.width code) same
-    (subst (λ u. LeadsTo u.kind (texts_of u) words u.width code word') texts leads)
+    subst (LeadsTo (texts_of t) words t.width code) same
+    (subst (λ u. LeadsTo (texts_of u) words u.width code word') texts leads)
 
 pub returns-clause-leads : goal.returns-clause-leads
 returns-clause-leads c =
     let g = c.args.self.now in
     let g' = c.push_list.new.self in
     let said = c.in_ok-whole.ensures in
-    let text = word_of (words_of g) c.args.state ++ c.args.class ∷ [] in
-    let list = list_for g.texts.kind (texts_of g.texts) text in
-    let isnt = c.if-len-start.false in
-    let now = c.len.ensures ∙ g'.lists.ok.0 in
-    let was = c.len-start.ensures ∙ g.lists.ok.0 in
-    let long = ap (λ (l : List ℕ). length l) said.lists ∙ length-append g.lists.items list in
-    let begun = begun_by_length g.texts.kind (texts_of g.texts) text (omega (arith, isnt, now, was, long)) in
-    subst (LeadsBy g.texts.kind (texts_of g.texts) (words_of c.add_state.new.self) g.texts.width c.in_ok-code.code)
-    (sym (live_begun g.texts.kind (texts_of g.texts) text begun))
+    let text = word_behind g c.args.state c.args.class in
+    let begun = begun_by g text g'.lists.items c.len.result c.len-start.result said.lists
+    (c.len.ensures ∙ g'.lists.ok.0) (c.len-start.ensures ∙ g.lists.ok.0) c.if-len-start.false in
+    subst (LeadsTo (texts_of g.texts) (words_of c.add_state.new.self) g.texts.width c.in_ok-code.code)
+    (sym (live_begun (texts_of g.texts) text begun))
     (leads_same g.texts g'.texts (words_of c.add_state.new.self) c.in_ok-code.code text _ said.same.0
     (c.state_behind-next.ensures.word
     ∙ ap (λ words. word_of words c.args.state ++ c.args.class ∷ []) (words_same g g' said.same.0 said.same.1))

@@ -16,5 +16,5 @@ returns-clause-grows c =
     c.requires.grows c.requires.filled c.requires.is_state (omega arith) (λ below. absurd (omega arith))
     (λ last. ap (λ (s : State). s.ending) c.index.ensures
     ∙ ((c.requires.grows.each c.args.state here c.requires.is_state).ended
-    ∙ ap (λ w. unwrap_or (ending old.texts.kind (texts_of old.texts) w) nothing)
+    ∙ ap (λ w. unwrap_or (ending (texts_of old.texts) w) nothing)
     (sym (word_at old.texts old.states.items c.args.state here c.requires.is_state)))))

@@ -38,7 +38,7 @@ returns-clause-lists c =
     in
     c.in_ok-whole.ensures.lists
     ∙ ap (λ l. g.lists.items ++ l)
-    (list_by_list (texts_of g.texts) _ c.args.class g.texts.kind here.depth _ word listed)
+    (list_by_list (texts_of g.texts) _ c.args.class here.depth _ word listed)
 
 pub returns-clause-whole : goal.returns-clause-whole
 returns-clause-whole c =
@@ -51,4 +51,4 @@ returns-clause-whole c =
     let listed = ap (list_in g.lists.items) c.index-here.ensures
     ∙ list_at g.texts g.states.items g.lists.items g.rows.items c.requires.grows c.args.state here c.requires.is_state
     in
-    c.in_ok-whole.ensures.whole ∙ whole_by_list (texts_of g.texts) _ c.args.class g.texts.kind here.depth _ word listed
+    c.in_ok-whole.ensures.whole ∙ whole_by_list (texts_of g.texts) _ c.args.class here.depth _ word listed

@@ -1,18 +1,13 @@
-use denote.Enum.Bare.{same_true, sameb}
-use Rattle.std.proofs.Common.{◌≡◌, ◌+◌, ◌<◌, ◌≤◌, ◌∙◌, ◌++◌, ◌∷◌, ◌&&◌, [], Bool, List, ap, arith, eqb, if◌then◌else◌}
-use Rattle.std.proofs.Common.{length, ℕ, rules}
-use Rattle.std.proofs.Common.{false, sym, subst, true}
-use Rattle.std.proofs.lemmas.Bool.{false≢true}
+use Rattle.std.proofs.Common.{◌≡◌, ◌+◌, ◌<◌, ◌≤◌, ◌∙◌, ◌++◌, ◌∷◌, ◌&&◌, [], Bool, List, arith, eqb, if◌then◌else◌}
+use Rattle.std.proofs.Common.{length, ℕ, sym, subst}
 use Rattle.std.specs.List.{All}
-use Rattle.literal_base.specs.contracts.search.MatchKind.{the_type}
-use Rattle.literal_base.specs.declared.search.MatchKind.TheVariants.{LeftmostFirst}
 use Rattle.literal_base.specs.Occurs.{pattern_at}
 use Rattle.literal_search.specs.Inside.Grown.{goes_on}
 use Rattle.literal_search.specs.Inside.Growing.{texts_of}
 use Rattle.literal_search.specs.declared.grow.Texts.{Texts}
-use Rattle.literal_search.proofs.lemmas.Grown.{added_all, added_more, found_first, found_none, found_yet}
+use Rattle.literal_search.proofs.lemmas.Grown.{added_more, found_none, found_yet}
 use Rattle.literal_search.proofs.lemmas.Lists.{longer_kept, longer_long, numbers_more}
-use Rattle.literal_search.proofs.grow.Growing.push_longer.Goals.{else-branch, then-branch+else-eq}
+use Rattle.literal_search.proofs.grow.Growing.push_longer.Goals.{else-branch, then-branch}
 use Rattle.literal_search.proofs.grow.Growing.push_longer.Goals as goal
 
 -- what is known of a pattern, of texts that stay the same
@@ -30,46 +25,6 @@ whole_by : (t t' : Texts) (depth class x : ℕ) (whole : Bool) → t ≡ t'
 whole_by t t' depth class x whole same is =
     subst (λ (u : Texts). whole
     ≡ (goes_on (pattern_at (texts_of u) x) depth class && eqb (length (pattern_at (texts_of u) x)) (depth + 1))) same is
-
-first_kind : (a b c : Texts) → a ≡ b → b ≡ c → true ≡ sameb the_type a.kind LeftmostFirst → c.kind ≡ LeftmostFirst
-first_kind a b c same other is =
-    sym (ap (λ (t : Texts). t.kind) (same ∙ other)) ∙ same_true the_type (search rules) _ _ (sym is)
-
-no_first_kind : (a b c : Texts) → a ≡ b → b ≡ c → false ≡ sameb the_type a.kind LeftmostFirst
-    → c.kind ≡ LeftmostFirst → ⊥
-no_first_kind a b c same other isnt is =
-    false≢true (isnt ∙ ap (λ k. sameb the_type k LeftmostFirst) (ap (λ (t : Texts). t.kind) (same ∙ other) ∙ is))
-
-pub returns-then-eq-clause-lists : goal.returns-then-eq-clause-lists
-returns-then-eq-clause-lists c =
-    let t = c.args.self.now.texts in
-    let old = c.args.self.now.lists.items in
-    let so_far = c.loop-place.invariant in
-    let x = c.index-pattern.result.now in
-    let place = c.loop-place.place in
-    let before = c.loop-place-test.true in
-    let said = c.in_ok-push_if_longer.ensures in
-    let both = sym (whole_by _ t c.args.here.depth c.args.class x _ so_far.texts said.whole) ∙ c.if-branch.true in
-    added_all t.kind _ _ old c.args.here.start c.args.here.end place x before c.requires.inside
-    (c.index-pattern.ensures ∙ so_far.kept place x (omega (arith, before, c.requires.inside)))
-    c.loop-place.self.lists.items c.push_if_longer.new.self.lists.items
-    (lists_by _ t c.args.here.depth c.args.class x _ _ so_far.texts said.lists) both
-    (first_kind _ _ t said.same.0 so_far.texts c.if-eq.ensures) so_far.lists
-
-pub returns-then-eq-clause-whole : goal.returns-then-eq-clause-whole
-returns-then-eq-clause-whole c =
-    let t = c.args.self.now.texts in
-    let old = c.args.self.now.lists.items in
-    let so_far = c.loop-place.invariant in
-    let x = c.index-pattern.result.now in
-    let place = c.loop-place.place in
-    let before = c.loop-place-test.true in
-    let said = c.in_ok-push_if_longer.ensures in
-    let both = sym (whole_by _ t c.args.here.depth c.args.class x _ so_far.texts said.whole) ∙ c.if-branch.true in
-    c.or-whole.ensures
-    ∙ found_first t.kind _ _ old c.args.here.start c.args.here.end place x before c.requires.inside
-    (c.index-pattern.ensures ∙ so_far.kept place x (omega (arith, before, c.requires.inside))) c.loop-place.whole both
-    so_far.whole
 
 pub loop-place-preserved : goal.loop-place-preserved
 loop-place-preserved c =
@@ -91,20 +46,15 @@ loop-place-preserved c =
     (sym said.same.0) so_far.numbers in
     record {
       lists =
-          added_more t.kind _ _ old c.args.here.start c.args.here.end place x before c.requires.inside read
+          added_more _ old c.args.here.start c.args.here.end place x before c.requires.inside read
           c.loop-place.self.lists.items c.push_if_longer.new.self.lists.items
-          (lists_by _ t c.args.here.depth c.args.class x _ _ so_far.texts said.lists)
-          (λ both first. elim c.if-branch.branch [
-            | then-branch+else-eq w ↦ no_first_kind _ _ t said.same.0 so_far.texts w.if-eq.ensures first
-            | else-branch w ↦ false≢true (sym w.if-branch.false ∙ (is_whole ∙ both))
-          ]) so_far.lists;
+          (lists_by _ t c.args.here.depth c.args.class x _ _ so_far.texts said.lists) so_far.lists;
       whole = elim c.if-branch.branch [
-        | then-branch+else-eq w ↦
-            found_yet t.kind _ _ old c.args.here.start c.args.here.end place x before c.requires.inside read
-            c.loop-place.whole c.if-branch.whole (w.whole-is ∙ w.or-whole.ensures) (sym is_whole ∙ w.if-branch.true)
-            so_far.whole
+        | then-branch w ↦
+            found_yet _ old c.args.here.start c.args.here.end place x before c.requires.inside read _ c.loop-place.whole
+            c.if-branch.whole (w.whole-is ∙ w.or-whole.ensures) (sym is_whole ∙ w.if-branch.true) so_far.whole
         | else-branch w ↦
-            found_none t.kind _ _ old c.args.here.start c.args.here.end place x before c.requires.inside read
+            found_none _ old c.args.here.start c.args.here.end place x before c.requires.inside read _
             c.loop-place.whole c.if-branch.whole w.whole-is (sym is_whole ∙ w.if-branch.false) so_far.whole
       ];
       long = omega (arith, long, more);

@@ -2,7 +2,7 @@ use Rattle.std.proofs.Common.{◌≡◌, ◌+◌, ◌<◌, ◌≤◌, ◌++◌, 
 use Rattle.std.specs.List.{filter, find, slice_range}
 use Rattle.std.specs.Option.{option_or}
 use Rattle.literal_base.specs.Occurs.{pattern_at}
-use Rattle.literal_search.specs.Inside.Grown.{goes_on, up_to_whole}
+use Rattle.literal_search.specs.Inside.Grown.{goes_on}
 use Rattle.literal_search.specs.Inside.Growing.{texts_of}
 use Rattle.literal_search.proofs.grow.Growing.push_longer.Given as goal
 
@@ -13,8 +13,8 @@ invariant-loop-place l =
     let whole = λ (i : ℕ). eqb (length (pattern_at (texts_of l.fn.self.texts) i)) (l.here.depth + 1) in
     record {
       lists : l.self.lists.items
-          ++ up_to_whole l.fn.self.texts.kind whole (filter goes (slice_range old l.place l.here.end))
-          ≡ old ++ up_to_whole l.fn.self.texts.kind whole (filter goes (slice_range old l.here.start l.here.end));
+          ++ filter goes (slice_range old l.place l.here.end)
+          ≡ old ++ filter goes (slice_range old l.here.start l.here.end);
       whole : option_or l.whole (find whole (filter goes (slice_range old l.place l.here.end)))
           ≡ find whole (filter goes (slice_range old l.here.start l.here.end));
       long : length old ≤ length l.self.lists.items;

@@ -10,5 +10,5 @@ pub returns-then-is_too_long : goal.returns-then-is_too_long
 returns-then-is_too_long c = λ yes.
     let t = c.args.self.now in
     let known = length-map t.patterns.now (λ (p : Vec ℕ). symbols_in t.classes.now p.items) in
-    too_many_prefixes t.kind (texts_of t) c.loop-pattern.pattern (omega (arith, known, c.loop-pattern-test.true))
-    c.loop-pattern.invariant t.width (c.is_too_long.ensures c.if-is_too_long.true)
+    too_many_prefixes (texts_of t) c.loop-pattern.pattern (omega (arith, known, c.loop-pattern-test.true))
+    t.width (c.is_too_long.ensures c.if-is_too_long.true)

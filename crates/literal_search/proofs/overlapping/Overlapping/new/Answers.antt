@@ -5,7 +5,6 @@ use Rattle.std.proofs.lemmas.List.{get_or_past, length-map}
 use Rattle.std.specs.Global.{Global}
 use Rattle.std.specs.declared.vec.Vec.{Vec}
 use Rattle.literal_base.specs.Occurs.{NoneIsEmpty}
-use Rattle.literal_base.specs.declared.search.MatchKind.TheVariants.{Standard}
 use Rattle.literal_search.specs.Prepared.{AreShort}
 use Rattle.literal_search.proofs.lemmas.BackTables.{short_forward}
 use Rattle.literal_search.specs.SearchValue.{NeedTooManyStates, width_for}
@@ -41,10 +40,10 @@ returns-in_err-rows-clause-error g c =
       ap (λ (p : List (Vec ℕ Global)). length p) c.deref-2.ensures.value,
       length-map patterns (λ (pattern : Vec ℕ Global). pattern.items),
     )) c.in_err-rows.field-0.0
-    (λ is. holds_in (HasTooManyStates Standard) c.args.ignore_case classes.table classes.width c.deref.result.now
+    (λ is. holds_in HasTooManyStates c.args.ignore_case classes.table classes.width c.deref.result.now
     patterns c.deref.ensures.value c.classes_for-classes.ensures.classes c.classes_for-classes.ensures.tells
     c.classes_for-classes.ensures.width
-    (subst (λ (texts : List (List ℕ)). HasTooManyStates Standard texts classes.width)
+    (subst (λ (texts : List (List ℕ)). HasTooManyStates texts classes.width)
     (same_texts classes.table c.deref-2.result.now patterns c.deref-2.ensures.value)
     (c.in_err-rows.ensures.too_many is)))
     c.from_residual-in_err-rows.result c.from_residual-in_err-rows.ensures.1
@@ -72,9 +71,9 @@ lists-requires g c =
     let texts = map (λ (pattern : Vec ℕ Global). symbols_in classes.table pattern.items) in
     record {
       classes = c.classes_for-classes.ensures.classes;
-      recognises = subst (λ (rows : List ℕ). Recognises Standard (texts lent) classes.width rows)
+      recognises = subst (λ (rows : List ℕ). Recognises (texts lent) classes.width rows)
           (sym c.without_classes.ensures)
-          (subst (λ (p : List (Vec ℕ Global)). Recognises Standard (texts p) classes.width c.in_ok-rows.rows.rows)
+          (subst (λ (p : List (Vec ℕ Global)). Recognises (texts p) classes.width c.in_ok-rows.rows.rows)
           (c.deref-2.ensures.value ∙ sym c.deref-3.ensures.value) c.in_ok-rows.ensures.recognises);
       some = subst (λ (t : List (List ℕ)). NoneIsEmpty t)
           (sym (same_texts classes.table lent patterns c.deref-3.ensures.value))
@@ -117,7 +116,7 @@ invariant_of-result g c =
       tells = subst (λ (patterns : List (Vec ℕ Global)). Tells c.args.ignore_case classes.table
           (map (λ (pattern : Vec ℕ Global). pattern.items) patterns)) c.deref.ensures.value
           c.classes_for-classes.ensures.tells;
-      recognises = subst (λ (texts : List (List ℕ)). Recognises Standard texts classes.width rows) texts_are
+      recognises = subst (λ (texts : List (List ℕ)). Recognises texts classes.width rows) texts_are
           c.in_ok-rows.ensures.recognises;
       lists = subst (AreLists (map (symbols_in classes.table) bytes) ends starts)
           (ap (λ (p : List (Vec ℕ Global)). length p) c.deref-3.ensures.value
@@ -131,7 +130,7 @@ invariant_of-result g c =
       width = c.classes_for-classes.ensures.width
           ∙ ap (λ (patterns : List (Vec ℕ Global)). width_for c.args.ignore_case
           (map (λ (pattern : Vec ℕ Global). pattern.items) patterns)) c.deref.ensures.value;
-      rows = subst (λ (texts : List (List ℕ)). IsRowsLength Standard texts classes.width (length rows)) texts_are
+      rows = subst (λ (texts : List (List ℕ)). IsRowsLength texts classes.width (length rows)) texts_are
           c.in_ok-rows.ensures.states;
     } in
     let prints = c.fingerprint_numbers-prints.result in
@@ -185,10 +184,10 @@ pub returns-clause-few : goal.returns-clause-few
 returns-clause-few g c =
     let classes = c.classes_for-classes.result in
     let patterns = c.in_ok-patterns.patterns.items in
-    holds_in (λ texts width. ¬ HasTooManyStates Standard texts width) c.args.ignore_case classes.table classes.width
+    holds_in (λ texts width. ¬ HasTooManyStates texts width) c.args.ignore_case classes.table classes.width
     c.deref.result.now patterns c.deref.ensures.value c.classes_for-classes.ensures.classes
     c.classes_for-classes.ensures.tells c.classes_for-classes.ensures.width
-    (subst (λ (texts : List (List ℕ)). ¬ HasTooManyStates Standard texts classes.width)
+    (subst (λ (texts : List (List ℕ)). ¬ HasTooManyStates texts classes.width)
     (same_texts classes.table c.deref-2.result.now patterns c.deref-2.ensures.value) c.in_ok-rows.ensures.few)
 
 pub numbers_for-requires-clause-short : goal.numbers_for-requires-clause-short
@@ -198,5 +197,5 @@ numbers_for-requires-clause-short g c =
     subst (λ (p : List (Vec ℕ Global)). AreShort (map (λ (pattern : Vec ℕ Global). pattern.items) p))
     (sym c.deref-6.ensures.value)
     (short_forward classes.table classes.width (map (λ (pattern : Vec ℕ Global). pattern.items) patterns)
-    (subst (λ (texts : List (List ℕ)). ¬ HasTooManyStates Standard texts classes.width)
+    (subst (λ (texts : List (List ℕ)). ¬ HasTooManyStates texts classes.width)
     (same_texts classes.table c.deref-2.result.now patterns c.deref-2.ensures.value) c.in_ok-rows.ensures.few))

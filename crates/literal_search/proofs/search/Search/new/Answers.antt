@@ -4,7 +4,6 @@ use Rattle.std.specs.Global.{Global}
 use Rattle.std.specs.declared.vec.Vec.{Vec}
 use Rattle.literal_base.specs.Occurs.{NoneIsEmpty}
 use Rattle.literal_fingerprints.specs.FingerprintsValue.{AllPass}
-use Rattle.literal_base.specs.declared.search.MatchKind.TheVariants.{Standard}
 use Rattle.literal_search.specs.SearchValue.{longest_of, search_by, width_for}
 use Rattle.literal_search.specs.Inside.Search.{AreKept}
 use Rattle.literal_search.specs.Inside.Prepared.{numbers_for}
@@ -17,7 +16,7 @@ use Rattle.literal_search.specs.Inside.Classes.{Tells, symbols_in}
 use Rattle.literal_search.specs.SearchValue.{NeedTooManyReversed, reversed}
 use Rattle.literal_search.specs.States.{HasTooManyStates, IsRowsLength}
 use Rattle.literal_search.specs.Table.{Recognises}
-use Rattle.literal_search.proofs.lemmas.Backward.{count_lent, some_back, some_lent, texts_lent}
+use Rattle.literal_search.proofs.lemmas.Backward.{count_lent, some_back, texts_lent}
 use Rattle.literal_search.proofs.lemmas.Built.{holds_in, refused_lists, refused_rows}
 use Rattle.literal_search.proofs.lemmas.Found.{some_symbols}
 use Rattle.literal_search.proofs.lemmas.Prepared.{prints_let_pass}
@@ -44,15 +43,6 @@ rows_for-requires-clause-one g c none =
     (map (λ (pattern : Vec ℕ Global). pattern.items) p)) (c.deref.ensures.value ∙ empty)
     ∙ one_class c.args.ignore_case)
 
-pub rows_for-requires-clause-some : goal.rows_for-requires-clause-some
-rows_for-requires-clause-some g c =
-    let patterns = c.in_ok-patterns.patterns.items in
-    let copies = c.in_ok-backward.ensures.copies
-    ∙ ap (λ (p : List (Vec ℕ Global)). reversed (map (λ (pattern : Vec ℕ Global). pattern.items) p))
-    c.deref-2.ensures.value in
-    some_lent c.deref-3.result.now c.in_ok-backward.backward.items patterns c.deref-3.ensures.value copies
-    c.in_ok-patterns.ensures.ok.5.some
-
 pub returns-in_err-rows-clause-error : goal.returns-in_err-rows-clause-error
 unfolding NeedTooManyReversed
 returns-in_err-rows-clause-error g c =
@@ -69,10 +59,10 @@ returns-in_err-rows-clause-error g c =
     (NeedTooManyReversed c.args.ignore_case)
     (map (λ (pattern : Vec ℕ Global). pattern.items) patterns) c.in_ok-patterns.ensures.ok
     (omega (arith, count, c.in_err-rows.ensures.not_empty)) c.in_err-rows.field-0.0
-    (λ is. holds_in (λ texts width. HasTooManyStates Standard (reversed texts) width) c.args.ignore_case classes.table
+    (λ is. holds_in (λ texts width. HasTooManyStates (reversed texts) width) c.args.ignore_case classes.table
     classes.width c.deref.result.now patterns c.deref.ensures.value c.classes_for-classes.ensures.classes
     c.classes_for-classes.ensures.tells c.classes_for-classes.ensures.width
-    (subst (λ (texts : List (List ℕ)). HasTooManyStates Standard texts classes.width) texts_are
+    (subst (λ (texts : List (List ℕ)). HasTooManyStates texts classes.width) texts_are
     (c.in_err-rows.ensures.too_many is)))
     c.from_residual-in_err-rows.result c.from_residual-in_err-rows.ensures.1
 
@@ -91,9 +81,9 @@ best_suffixes-requires g c =
     let count = count_lent lent backward patterns c.deref-4.ensures.value copies in
     record {
       classes = c.classes_for-classes.ensures.classes;
-      recognises = subst (λ (rows : List ℕ). Recognises Standard (texts lent) classes.width rows)
+      recognises = subst (λ (rows : List ℕ). Recognises (texts lent) classes.width rows)
           (sym c.without_classes.ensures)
-          (subst (λ (p : List (Vec ℕ Global)). Recognises Standard (texts p) classes.width c.in_ok-rows.rows.rows)
+          (subst (λ (p : List (Vec ℕ Global)). Recognises (texts p) classes.width c.in_ok-rows.rows.rows)
           (c.deref-3.ensures.value ∙ sym c.deref-4.ensures.value) c.in_ok-rows.ensures.recognises);
       some = subst (λ (t : List (List ℕ)). NoneIsEmpty t) (sym texts_are)
           (some_back (map (symbols_in classes.table) (map (λ (pattern : Vec ℕ Global). pattern.items) patterns))
@@ -140,7 +130,7 @@ invariant_of-result g c =
       tells = subst (λ (p : List (Vec ℕ Global)). Tells c.args.ignore_case classes.table
           (map (λ (pattern : Vec ℕ Global). pattern.items) p)) c.deref.ensures.value
           c.classes_for-classes.ensures.tells;
-      recognises = subst (λ (texts : List (List ℕ)). Recognises Standard texts classes.width c.in_ok-rows.rows.rows)
+      recognises = subst (λ (texts : List (List ℕ)). Recognises texts classes.width c.in_ok-rows.rows.rows)
           rows_are c.in_ok-rows.ensures.recognises;
       best = subst (AreBest c.args.kind (reversed (map (symbols_in classes.table) bytes)) c.in_ok-best.best.items)
           count
@@ -171,7 +161,7 @@ invariant_of-result g c =
     c.fingerprint_numbers-prints.ensures)
     (c.classes_for-classes.ensures.width ∙ ap (λ (p : List (Vec ℕ Global)). width_for c.args.ignore_case
     (map (λ (pattern : Vec ℕ Global). pattern.items) p)) c.deref.ensures.value)
-    (subst (λ (texts : List (List ℕ)). IsRowsLength Standard texts classes.width (length c.in_ok-rows.rows.rows))
+    (subst (λ (texts : List (List ℕ)). IsRowsLength texts classes.width (length c.in_ok-rows.rows.rows))
     rows_are c.in_ok-rows.ensures.states))
 
 pub numbers_for-requires-clause-short : goal.numbers_for-requires-clause-short
@@ -186,7 +176,7 @@ numbers_for-requires-clause-short g c =
     subst (λ (p : List (Vec ℕ Global)). AreShort (map (λ (pattern : Vec ℕ Global). pattern.items) p))
     (sym c.deref-7.ensures.value)
     (short_by classes.table classes.width (map (λ (pattern : Vec ℕ Global). pattern.items) patterns)
-    (subst (λ (texts : List (List ℕ)). ¬ HasTooManyStates Standard texts classes.width) rows_are
+    (subst (λ (texts : List (List ℕ)). ¬ HasTooManyStates texts classes.width) rows_are
     c.in_ok-rows.ensures.few))
 
 pub numbers_for-requires-clause-best : goal.numbers_for-requires-clause-best
@@ -229,8 +219,8 @@ returns-clause-few g c =
     c.deref-2.ensures.value in
     let texts_are = texts_lent c.deref-3.result.now c.in_ok-backward.backward.items patterns c.deref-3.ensures.value
     copies classes.table in
-    holds_in (λ texts width. ¬ HasTooManyStates Standard (reversed texts) width) c.args.ignore_case classes.table
+    holds_in (λ texts width. ¬ HasTooManyStates (reversed texts) width) c.args.ignore_case classes.table
     classes.width c.deref.result.now patterns c.deref.ensures.value c.classes_for-classes.ensures.classes
     c.classes_for-classes.ensures.tells c.classes_for-classes.ensures.width
-    (subst (λ (texts : List (List ℕ)). ¬ HasTooManyStates Standard texts classes.width) texts_are
+    (subst (λ (texts : List (List ℕ)). ¬ HasTooManyStates texts classes.width) texts_are
     c.in_ok-rows.ensures.few)

@@ -4,7 +4,6 @@ use Rattle.std.specs.Global.{Vec}
 use Rattle.literal_base.specs.Occurs.{pattern_at}
 use Rattle.literal_base.specs.declared.packed.MatchKind.{MatchKind}
 use Rattle.literal_base.specs.declared.packed.MatchKind.TheVariants.{LeftmostFirst}
-use Rattle.literal_base.specs.declared.search.MatchKind.TheVariants.{Standard}
 use Rattle.literal_search.specs.Inside.Best.{IsBestSuffix}
 use Rattle.literal_search.specs.Inside.Classes.{symbols_in}
 use Rattle.literal_search.specs.Inside.Lists.{Recognise, symbols_of}
@@ -53,4 +52,4 @@ returns-in-LeftmostLongest c =
     c.longest_suffix-longest.result) (sym c.in-LeftmostLongest.is)
     (longest_is_best (symbols_of r) c.requires.recognise.some (few r c.requires.recognise)
     (pattern_at (symbols_of r) c.args.pattern) c.longest_suffix-longest.result
-    (ap (ending Standard (symbols_of r)) (sym one.same) ∙ one.first_is))
+    (ap (ending (symbols_of r)) (sym one.same) ∙ one.first_is))

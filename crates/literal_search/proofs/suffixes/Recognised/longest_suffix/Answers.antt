@@ -3,7 +3,6 @@ use Rattle.std.proofs.Common.{length, arith, refl, sym, ap, subst}
 use Rattle.std.specs.Global.{Vec}
 use Rattle.std.specs.Option.{unwrap_or}
 use Rattle.std.proofs.lemmas.List.{length-drop, length-map, take_all}
-use Rattle.literal_base.specs.declared.search.MatchKind.TheVariants.{Standard}
 use Rattle.literal_base.specs.Occurs.{pattern_at}
 use Rattle.literal_search.specs.Inside.Lists.{StandsBehind, symbols_of}
 use Rattle.literal_search.specs.Table.{nothing}
@@ -66,5 +65,5 @@ returns c =
     ) in
     ends_there r c.requires.recognise (take (c.loop-at.at - c.args.from) (drop c.args.from text)) c.loop-at.place
     c.loop-at.invariant
-    ∙ ap (λ t. unwrap_or (ending Standard (symbols_of r) t) nothing) (take_all (c.loop-at.at - c.args.from) (drop
+    ∙ ap (λ t. unwrap_or (ending (symbols_of r) t) nothing) (take_all (c.loop-at.at - c.args.from) (drop
     c.args.from text) long)

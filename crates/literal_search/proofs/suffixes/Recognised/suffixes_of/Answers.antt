@@ -4,7 +4,6 @@ use Rattle.std.proofs.lemmas.List.{length-map}
 use Rattle.std.specs.Global.{Vec}
 use Rattle.std.specs.Option.{unwrap_or}
 use Rattle.literal_base.specs.Occurs.{pattern_at}
-use Rattle.literal_base.specs.declared.search.MatchKind.TheVariants.{Standard}
 use Rattle.literal_search.specs.Inside.Classes.{symbols_in}
 use Rattle.literal_search.specs.Inside.Suffixes.{HasUpTo}
 use Rattle.literal_search.specs.Inside.Lists.{symbols_of}
@@ -27,8 +26,8 @@ loop-next-init c =
     let few : length texts ≤ 2 ^ 31 - 1 = omega (arith, known, c.requires.recognise.few) in
     let below : c.args.pattern < length texts = omega (arith, known, c.requires.is_pattern) in
     let is = first_equal_of texts some few c.args.pattern c.longest_suffix.result below c.longest_suffix.ensures in
-    let first : ending Standard texts (pattern_at texts c.args.pattern) ≡ Some c.args.pattern =
-    subst (λ (f : ℕ). ending Standard texts (pattern_at texts f)
+    let first : ending texts (pattern_at texts c.args.pattern) ≡ Some c.args.pattern =
+    subst (λ (f : ℕ). ending texts (pattern_at texts f)
     ≡ Some f) c.if-longest_suffix-pattern.false is.first_is in
     subst (λ (list : List ℕ). HasUpTo texts (pattern_at texts c.args.pattern) list c.args.pattern)
     (sym c.new-list.ensures.items) (up_to_first texts some few c.args.pattern first)
@@ -83,6 +82,6 @@ returns-clause-none c = λ other.
     let below : c.args.pattern < length texts = omega (arith, known, c.requires.is_pattern) in
     let is = first_equal_of texts c.requires.recognise.some few c.args.pattern c.longest_suffix.result below
     c.longest_suffix.ensures in
-    absurd (other (subst (λ (f : ℕ). ending Standard texts (pattern_at texts f)
+    absurd (other (subst (λ (f : ℕ). ending texts (pattern_at texts f)
     ≡ Some f) c.if-longest_suffix-pattern.false
     is.first_is))

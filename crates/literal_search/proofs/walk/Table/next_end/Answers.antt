@@ -1,7 +1,6 @@
 use Rattle.std.proofs.Common.{IfSome, MatchOption, None, Option, Some, ◌≡◌, ◌+◌, ◌-◌, ◌<◌, ◌^◌, ℕ, Bool, List, arith}
 use Rattle.std.proofs.Common.{get_or, map, refl, subst}
 use Rattle.literal_base.specs.Occurs.{IsValidSpan, between}
-use Rattle.literal_base.specs.declared.search.MatchKind.TheVariants.{Standard}
 use Rattle.literal_base.specs.declared.search.Span.{Span}
 use Rattle.literal_fingerprints.specs.FingerprintsValue.{FingerprintsValue}
 use Rattle.literal_search.specs.Inside.Classes.{symbols_in}
@@ -112,7 +111,7 @@ loop-fingerprints-preserved c =
           in
           let none = passed.none patterns ignore_case is (kept_pass patterns ignore_case c.args.prints.now
           c.kept_or_read-fingerprints.result c.kept_or_read-fingerprints.ensures pass) in
-          let back = λ (recognises : Recognises Standard words t.width (rows_by t)). subst (HasReached words t.width
+          let back = λ (recognises : Recognises words t.width (rows_by t)). subst (HasReached words t.width
           (rows_by t) recognises (text_of (classes_by t) haystack (between come.0.from here.end)) (classes_by t)
           haystack rest) c.in-Back.is (told.reaches is.classes words recognises _ (come.0.at recognises)) in (
             stands_new t patterns ignore_case is haystack bytes whole valid here so_far.inside come.0 c.args.span.start

@@ -1,7 +1,6 @@
 use Rattle.std.proofs.Common.{[], ◌≡◌, ◌+◌, ◌*◌, ◌<◌, ◌∙◌, ◌^◌, ℕ, List, ap, arith, get_or, length, subst, suc, sym}
 use Rattle.std.proofs.Common.{zero}
 use Rattle.literal_base.specs.Counts.{Counts}
-use Rattle.literal_base.specs.declared.search.MatchKind.TheVariants.{Standard}
 use Rattle.literal_search.specs.Inside.Classes.{AreClasses}
 use Rattle.literal_search.specs.Inside.Walk.{NoneEndsIn, WalksOn, classes_by, rows_by}
 use Rattle.literal_search.specs.declared.walk.Table.{Table}
@@ -97,8 +96,8 @@ whole : (t : Table) (haystack : List ℕ) (start start' step len place : ℕ) �
 whole t haystack start start' step len place same all walks =
     subst (λ (from : ℕ). NoneEndsIn t haystack from (from + len)) same
     (subst (λ (n : ℕ). NoneEndsIn t haystack start (start + n)) all
-    (λ patterns recognises. (walks Standard patterns recognises []
-    (at_start Standard patterns t.width (rows_by t) recognises)).1))
+    (λ patterns recognises. (walks patterns recognises []
+    (at_start patterns t.width (rows_by t) recognises)).1))
 
 pub returns-clause-none : goal.returns-clause-none
 returns-clause-none c = λ _ are k below.

@@ -1,10 +1,6 @@
-use Rattle.std.proofs.Common.{◌≡◌, ◌⊎◌, ◌+◌, ◌-◌, ◌<◌, ◌≤◌, ◌^◌, ◌∙◌, ℕ, ap, arith}
-use Rattle.std.proofs.Common.{get_or, inl, inr, length, min, subst, sym}
-use Rattle.std.proofs.lemmas.Bool.{cond-false, cond-true, le-ltb, lt-ltb}
+use Rattle.std.proofs.Common.{◌≡◌, ◌+◌, ◌-◌, ◌<◌, ◌∙◌, ℕ, ap, arith, get_or, inl, inr, length, subst, sym}
 use Rattle.literal_base.specs.Counts.{Counts}
-use Rattle.literal_base.specs.declared.search.MatchKind.TheVariants.{Standard}
-use Rattle.literal_search.specs.Inside.Walk.{IsFirstEnd, NoneEnds, WalksOn, classes_by, place_of, rows_by}
-use Rattle.literal_search.specs.Table.{stride_of}
+use Rattle.literal_search.specs.Inside.Walk.{IsFirstEnd, NoneEnds, WalksOn, classes_by, rows_by}
 use Rattle.literal_search.proofs.lemmas.Walk.{number_leads, reaches_end, walks_further, walks_start}
 use Rattle.literal_search.proofs.walk.Table.reach.Goals as goal
 
@@ -53,15 +49,7 @@ returns-then-code-eq0-clause-reaches c = λ are patterns recognises text begins.
     (c.loop-at.invariant.walks are) c.loop-at.auto.at inside
     (are.below (get_or haystack at 0) (omega (arith, c.type_inv.haystack at))) c.code_at-code.result
     (c.code_at-code.ensures.number are)
-    (omega (arith, c.if-code-eq0.true))) Standard patterns recognises text begins
-
--- a number that leads to a row is below the limit, or 2^31 above what is
-no_row : (code limit width len : ℕ) → limit ≡ min len (2 ^ 31) → place_of code + stride_of width ≤ len
-    → len ≤ 2 ^ 31 - 1 → limit ≤ code → (code < 2 ^ 31) ⊎ (2 ^ 31 + limit ≤ code) → ⊥
-no_row code limit width len limit_is fits few above (inl small) =
-    let place_is : place_of code ≡ code = cond-true _ _ _ (lt-ltb code (2 ^ 31) small) in omega arith
-no_row code limit width len limit_is fits few above (inr large) =
-    let place_is : place_of code ≡ code - 2 ^ 31 = cond-false _ _ _ (le-ltb code (2 ^ 31) (omega arith)) in omega arith
+    (omega (arith, c.if-code-eq0.true))) patterns recognises text begins
 
 pub returns-in_err-place-clause-reaches : goal.returns-in_err-place-clause-reaches
 returns-in_err-place-clause-reaches c = λ are patterns recognises text begins.
@@ -69,13 +57,18 @@ returns-in_err-place-clause-reaches c = λ are patterns recognises text begins.
     let haystack = c.args.haystack.now in
     let at = c.loop-at.at in
     let inside : at < length haystack = omega (arith, c.loop-at-test.true, c.requires.valid.in_haystack) in
-    let row = number_leads t.width (rows_by t) c.args.from (classes_by t) haystack c.args.span.start at c.loop-at.place
+    let limit_is = c.in_ok-limit.ensures.2 in
+    let few = recognises.few in
+    elim (number_leads t.width (rows_by t) c.args.from (classes_by t) haystack c.args.span.start at c.loop-at.place
     (c.loop-at.invariant.walks are) c.loop-at.auto.at inside
     (are.below (get_or haystack at 0) (omega (arith, c.type_inv.haystack at))) c.code_at-code.result
-    (c.code_at-code.ensures.number are)
-    patterns recognises text begins in
-    absurd (no_row c.code_at-code.result c.in_ok-limit.limit t.width (length (rows_by t)) c.in_ok-limit.ensures.2
-    row.fits recognises.few c.if-code-limit.true c.in_err-place.ensures)
+    (c.code_at-code.ensures.number are) patterns recognises text begins) [
+      | inl one ↦ absurd (omega (arith, one.0, one.1.fits, limit_is, few, c.if-code-limit.true))
+      | inr one ↦ elim c.in_err-place.ensures [
+        | inl small ↦ absurd (omega (arith, one.0, small))
+        | inr large ↦ absurd (omega (arith, one.1.fits, limit_is, few, large))
+      ]
+    ]
 
 pub returns-then-code-limit-clause-reaches : goal.returns-then-code-limit-clause-reaches
 returns-then-code-limit-clause-reaches c = λ are patterns recognises text begins.
@@ -84,20 +77,18 @@ returns-then-code-limit-clause-reaches c = λ are patterns recognises text begin
     let at = c.loop-at.at in
     let start = c.args.span.start in
     let inside : at < length haystack = omega (arith, c.loop-at-test.true, c.requires.valid.in_haystack) in
-    let few = recognises.few in
-    subst (λ (place : ℕ). IsFirstEnd Standard patterns t.width (rows_by t) recognises text (classes_by t) haystack start
+    subst (λ (place : ℕ). IsFirstEnd patterns t.width (rows_by t) recognises text (classes_by t) haystack start
     (record { place = place; end = at + 1 })) (sym c.in_ok-place.ensures.1)
     (reaches_end t.width (rows_by t) c.args.from (classes_by t) haystack start at c.loop-at.place
     (c.loop-at.invariant.walks are) c.loop-at.auto.at inside
     (are.below (get_or haystack at 0) (omega (arith, c.type_inv.haystack at))) c.code_at-code.result
     (c.code_at-code.ensures.number are)
-    patterns recognises text begins c.in_ok-place.ensures.0
-    (λ is. omega (arith, is, c.in_ok-place.ensures.1, c.in_ok-place.ensures.2, c.in_ok-limit.ensures.2)))
+    patterns recognises text begins c.in_ok-place.ensures.0)
 
 pub returns-clause-reaches : goal.returns-clause-reaches
 returns-clause-reaches c = λ are patterns recognises text begins.
     let t = c.args.self.now in
     let end : c.loop-at.at ≡ c.args.span.end =
     omega (arith, c.loop-at-test.false, c.loop-at.auto.at-end c.requires.valid.ordered) in
-    subst (λ (upto : ℕ). NoneEnds Standard patterns text (classes_by t) c.args.haystack.now c.args.span.start upto) end
-    (c.loop-at.invariant.walks are Standard patterns recognises text begins).1
+    subst (λ (upto : ℕ). NoneEnds patterns text (classes_by t) c.args.haystack.now c.args.span.start upto) end
+    (c.loop-at.invariant.walks are patterns recognises text begins).1

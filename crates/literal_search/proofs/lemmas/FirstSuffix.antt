@@ -1,20 +1,19 @@
--- The pattern that ends with a text, where all occurrences are wanted.
+-- The pattern that ends with a text: the first of those that are a suffix of it.
 use Rattle.std.proofs.Common.{◌≡◌, ℕ, ◌+◌, ◌-◌, ◌<◌, ◌≤◌, ◌&&◌, List, [], ◌∷◌, ◌++◌, length, drop, take, nat_eq}
 use Rattle.std.proofs.Common.{Option, Some, None, inl, inr, ◌⊎◌, append_assoc, length-append, refl, sym, ap, ◌∙◌, arith}
-use Rattle.std.proofs.lemmas.Bool.{and_parts, cases_lt, false≢true}
+use Rattle.std.proofs.lemmas.Bool.{and_parts, cases_lt, cond-true, false≢true, lt-ltb}
 use Rattle.std.proofs.lemmas.Bool.Decides.{Decides-eqb}
 use Rattle.std.proofs.Math.Seq.{drop-append_seam}
 use Rattle.std.proofs.lemmas.List.{drop-drop, take-append-drop}
 use Rattle.std.proofs.lemmas.List.Quantifiers.{position-Some}
+use Rattle.std.proofs.lemmas.List.Sums.{fails_before_first}
 use Rattle.std.proofs.lemmas.Slice.Eq.{starts_is}
-use Rattle.std.specs.List.{starts_with}
+use Rattle.std.specs.List.{position_or_len, starts_with}
 use Rattle.std.specs.Option.{option_or}
-use Rattle.literal_base.specs.declared.search.MatchKind.TheVariants.{Standard}
 use Rattle.literal_base.specs.Occurs.{NoneIsEmpty, pattern_at}
 use Rattle.literal_search.specs.Inside.Suffixes.{HasSuffix, IsSuffix, IsFirstSuffix}
 use Rattle.literal_search.specs.Words.{ending, first_equal}
 use Rattle.literal_search.proofs.lemmas.Ends.{equal_if, whole_if_long}
-use Rattle.literal_search.proofs.lemmas.Live.{none_any, none_position}
 
 -- a suffix of a suffix is one
 pub ends_on : (text middle end : List ℕ) → HasSuffix text middle → HasSuffix middle end → HasSuffix text end
@@ -79,14 +78,20 @@ module _ (patterns : List (List ℕ)) (some : NoneIsEmpty patterns) where
       let long = some i [] is.is_pattern in
       omega (arith, long, ends_length [] (pattern_at patterns i) is.ends)
 
-  not_equal : (text : List ℕ) (i : ℕ) → first_equal Standard patterns text ≡ None → i < length patterns
+  not_equal : (text : List ℕ) (i : ℕ) → first_equal patterns text ≡ None → i < length patterns
       → ¬ (text ≡ pattern_at patterns i)
   not_equal text i none below same =
-      false≢true (sym (none_any (λ pattern. starts_with nat_eq pattern text && starts_with nat_eq text pattern) patterns
-      [] i (none_position _ patterns none) below) ∙ equal_if text (pattern_at patterns i) same)
+      let test = λ (pattern : List ℕ). starts_with nat_eq pattern text && starts_with nat_eq text pattern in
+      elim (cases_lt (position_or_len test patterns) (length patterns)) [
+        | inl early ↦
+            let found : first_equal patterns text ≡ Some (position_or_len test patterns) =
+            cond-true _ _ None (lt-ltb _ _ early) in cc
+        | inr late ↦ false≢true (sym (fails_before_first test patterns i [] (omega arith))
+            ∙ equal_if text (pattern_at patterns i) same)
+      ]
 
   -- the first that is a text
-  equal_is_first : (text : List ℕ) (first : ℕ) → first_equal Standard patterns text ≡ Some first
+  equal_is_first : (text : List ℕ) (first : ℕ) → first_equal patterns text ≡ Some first
       → IsFirstSuffix patterns text first
   equal_is_first text first is =
       let test = λ (pattern : List ℕ). starts_with nat_eq pattern text && starts_with nat_eq text pattern in
@@ -123,14 +128,14 @@ module _ (patterns : List (List ℕ)) (some : NoneIsEmpty patterns) where
       }
 
   -- where no pattern ends none is a suffix of the text
-  pub none_ends : (text : List ℕ) → ending Standard patterns text ≡ None → (i : ℕ) → ¬ IsSuffix patterns text i
+  pub none_ends : (text : List ℕ) → ending patterns text ≡ None → (i : ℕ) → ¬ IsSuffix patterns text i
   none_ends [] none i is = no_end_of_nothing i is
   none_ends (symbol ∷ more) none i is =
-      by_first (first_equal Standard patterns (symbol ∷ more)) refl none (none_ends more)
+      by_first (first_equal patterns (symbol ∷ more)) refl none (none_ends more)
     where
-      by_first : (o : Option ℕ) → first_equal Standard patterns (symbol ∷ more) ≡ o
-          → option_or o (ending Standard patterns more) ≡ None
-          → (ending Standard patterns more ≡ None → (i : ℕ) → ¬ IsSuffix patterns more i) → ⊥
+      by_first : (o : Option ℕ) → first_equal patterns (symbol ∷ more) ≡ o
+          → option_or o (ending patterns more) ≡ None
+          → (ending patterns more ≡ None → (i : ℕ) → ¬ IsSuffix patterns more i) → ⊥
       by_first (Some first) equal none further = cc
       by_first None equal none further = elim (end_splits symbol more i is) [
         | inl same ↦ not_equal (symbol ∷ more) i equal is.is_pattern same
@@ -138,15 +143,15 @@ module _ (patterns : List (List ℕ)) (some : NoneIsEmpty patterns) where
       ]
 
   -- and where one does it comes first of all that are
-  pub first_ends : (text : List ℕ) (first : ℕ) → ending Standard patterns text ≡ Some first
+  pub first_ends : (text : List ℕ) (first : ℕ) → ending patterns text ≡ Some first
       → IsFirstSuffix patterns text first
   first_ends [] first is = cc
   first_ends (symbol ∷ more) first is =
-      by_first (first_equal Standard patterns (symbol ∷ more)) refl is (first_ends more)
+      by_first (first_equal patterns (symbol ∷ more)) refl is (first_ends more)
     where
-      by_first : (o : Option ℕ) → first_equal Standard patterns (symbol ∷ more) ≡ o
-          → option_or o (ending Standard patterns more) ≡ Some first
-          → ((first : ℕ) → ending Standard patterns more ≡ Some first → IsFirstSuffix patterns more first)
+      by_first : (o : Option ℕ) → first_equal patterns (symbol ∷ more) ≡ o
+          → option_or o (ending patterns more) ≡ Some first
+          → ((first : ℕ) → ending patterns more ≡ Some first → IsFirstSuffix patterns more first)
           → IsFirstSuffix patterns (symbol ∷ more) first
       by_first (Some equal) whole found further =
           equal_is_first (symbol ∷ more) first (whole ∙ found)
@@ -166,13 +171,13 @@ module _ (patterns : List (List ℕ)) (some : NoneIsEmpty patterns) where
 
   -- the first of the ends of a text is the first of its own
   pub first_is_own : (text : List ℕ) (first : ℕ) → IsFirstSuffix patterns text first
-      → ending Standard patterns (pattern_at patterns first) ≡ Some first
-  first_is_own text first is = by (ending Standard patterns (pattern_at patterns first)) refl
+      → ending patterns (pattern_at patterns first) ≡ Some first
+  first_is_own text first is = by (ending patterns (pattern_at patterns first)) refl
     where
       own : IsSuffix patterns (pattern_at patterns first) first
       own = end_of_itself first is.is.is_pattern
 
-      by : (o : Option ℕ) → ending Standard patterns (pattern_at patterns first) ≡ o → o ≡ Some first
+      by : (o : Option ℕ) → ending patterns (pattern_at patterns first) ≡ o → o ≡ Some first
       by None none = absurd (none_ends (pattern_at patterns first) none first own)
       by (Some other) found =
           let one = first_ends (pattern_at patterns first) other found in
