@@ -54,7 +54,7 @@ pub const LITERAL_NO_SEARCHER: i32 = 2;
 pub const LITERAL_OUT_OF_MEMORY: i32 = 3;
 /// Status: the arguments contradict each other.
 pub const LITERAL_BAD_ARGUMENTS: i32 = 4;
-/// Status: the patterns need more states than there are numbers for them, some billions of bytes.
+/// Status: the table of the search would have 2^31 places or more.
 pub const LITERAL_TOO_LARGE: i32 = 5;
 /// Status: the array that was lent is shorter than it has to be.
 pub const LITERAL_TOO_SHORT: i32 = 6;
@@ -170,7 +170,9 @@ pub extern "C" fn literal_find(
 /// All matches in the haystack from an offset on, as many as there is room for: first the leftmost match of the bytes
 /// from there on, and after each match the leftmost one of the bytes behind it. The page says how many were written,
 /// from which offset the next call goes on, and whether nothing is left. The rest of the array stays as it was. With
-/// patterns of at most 1,024 bytes a call looks up at most three times as many bytes as there are from that offset on.
+/// patterns of at most 1,024 bytes a call looks up at most three times the bytes from that offset on. With a longer
+/// pattern it looks up at most eleven times these bytes, and, for each match that it finds, 108 more than 18 times that
+/// pattern's length.
 /// [`LITERAL_BAD_ARGUMENTS`] comes where the kind is none, the ends fall or pass the buffer, or the offset is above
 /// the haystack's length; else [`LITERAL_NO_SEARCHER`] where the patterns can't be searched for. After any status but
 /// [`LITERAL_OK`] what was lent is as it was.
@@ -336,8 +338,7 @@ pub extern "C" fn literal_prepare(
 
 /// The same for everything that occurs: a search by which [`literal_find_overlapping_in`] searches. The statuses come
 /// as from [`literal_prepare`], and [`LITERAL_OUT_OF_MEMORY`] also where the lists of the patterns that are a suffix of
-/// another have 2^32 numbers or more. The array takes one place more for each pattern, and in lists one for each other
-/// that is a suffix of it.
+/// another have 2^32 numbers or more. The array also lists, for each pattern, the patterns that are a suffix of it.
 #[unsafe(no_mangle)]
 pub extern "C" fn literal_prepare_overlapping(
     alloc: Global,

@@ -5,8 +5,8 @@
 //! `find_iter` is the greedy list of these, `find_all_in` lists the same matches, and `Overlapping` gives each
 //! occurrence once. A search, and a list, looks up at most three times the bytes of its span, whatever the
 //! patterns are and however many matches; an iteration too if no pattern has more than 1,024 bytes, and else
-//! at most eleven times, and for each match 36 times a first part. A search by an array into which the
-//! `Search` is written answers as it does.
+//! at most eleven times, and for each match 36 times the larger of 16, and of 3 more than half the longest
+//! pattern's length. A search by an array into which the `Search` is written answers as it does.
 //!
 //! The contract of [`search_any_list`] says all of this.
 ghost use Rattle.std.specs.Prelude.{◌≡◌, ◌+◌, ◌<◌, ◌≤◌, IfErr, IfOk, MatchResult, OnErr, length};

@@ -195,9 +195,8 @@ impl Overlapping {
         Some(first.end())
     }
 
-    /// Writes the search into the first places of an array, and answers how many these are: about as many as the
-    /// automaton has numbers. [`PreparedOverlapping`](crate::PreparedOverlapping) searches by them. After an error the
-    /// array is as it was.
+    /// Writes the numbers of the search into the first places of an array, and answers how many these are.
+    /// [`PreparedOverlapping`](crate::PreparedOverlapping) searches by them. After an error the array is unchanged.
     pub fn prepare(&self, array: &mut [u32]) -> Result<usize, ArrayTooShort>
         ensures ok { IfOk result (WritesOverlapping self.now array.old array.new) }
         ensures error { IfErr result (RefusesOverlapping self.now array.old) }

@@ -224,8 +224,8 @@ impl<'s, 'p, 'h> PreparedMatches<'s, 'p, 'h> {
     }
 
     /// Answers as `next_match`, and adds each byte that it looks up to a tally, as
-    /// [`Matches::next_counted`](crate::Matches::next_counted) does: a whole iteration looks up at most
-    /// three times the bytes of the span, whatever the numbers are.
+    /// [`Matches::next_counted`](crate::Matches::next_counted) does. A whole iteration looks up at most three times the
+    /// bytes of the span, whatever the other numbers are, if by the numbers no pattern has more than 1,024 bytes.
     pub fn next_counted(&mut self, tally: &mut Tally) -> Result<Option<Match>, Damaged>
         ensures prepared { ForPrepared self.old.numbers (λ search. IsOkAnd result (λ answer.
             GivesMatch (matches_for search self.old) answer (matches_for search self.new))) }

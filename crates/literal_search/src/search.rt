@@ -44,10 +44,13 @@ use std::marker::Model;
 /// Searches for leftmost matches of any number of patterns at once. Contracts see the kind of match, the patterns, and
 /// whether ASCII case is ignored.
 ///
-/// A search, and a list of all matches, looks up at most three times as many bytes as there are, whatever the patterns
-/// are, and however many matches there are. It walks through a block of the haystack from its end, by an automaton of
-/// the reversed patterns, which tells at each place what begins there. The automaton has a state for each suffix of a
-/// pattern, and a row of numbers for each state: one for each byte that stands in a pattern, and two more.
+/// A search, and a list of all matches, looks up at most three times the bytes of the haystack, whatever the patterns
+/// are, and however many matches there are. So does an iteration, if no pattern has more than 1,024 bytes; otherwise
+/// each match is searched for anew.
+///
+/// A search walks through a block of the haystack from its end, by an automaton of the reversed patterns: its state at
+/// an offset says which patterns begin there. The automaton has a state for each different suffix of a pattern, and a
+/// row of numbers for each state: one for each different byte of the patterns, and two more (one, if all 256 occur).
 ///
 /// ```rust
 /// let words = [b"password".as_slice(), b"secret"];
@@ -288,9 +291,8 @@ impl Search {
         self.parts.all_in(haystack, span, &mut numbers, tally)
     }
 
-    /// Writes the search into the first places of an array, and answers how many these are: about as many as the
-    /// automaton has numbers. [`Prepared`](crate::Prepared) searches by them, without this automaton. After an error
-    /// the array is as it was.
+    /// Writes the numbers of the search into the first places of an array, and answers how many these are.
+    /// [`Prepared`](crate::Prepared) searches by them. After an error the array is unchanged.
     pub fn prepare(&self, array: &mut [u32]) -> Result<usize, ArrayTooShort>
         ensures ok { IfOk result (WritesPrepared self.now array.old array.new) }
         ensures error { IfErr result (RefusesToPrepare self.now array.old) }
