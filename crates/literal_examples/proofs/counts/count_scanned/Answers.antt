@@ -29,10 +29,10 @@ returns-clause-count c =
       run.0,
       c.iterations_scan_at_most.ensures.greedy _ _ _ run.0 run.1
           (record {
-      gives = c.in_default.ensures.gives;
-      looks = c.in_default.ensures.looks;
-      scans = c.in_default.ensures.scans;
-    }),
+            gives = c.in_default.ensures.gives;
+            looks = c.in_default.ensures.looks;
+            scans = c.in_default.ensures.scans;
+          }),
       run.2,
     )
 
