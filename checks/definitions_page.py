@@ -5,7 +5,10 @@
 
 A heading of the page names a crate and files of its specs, the first with its folder and the others in the same one.
 The table below it gets a row for each definition in these files: its name, and the comment above it. A name that has a
-row keeps its place, and the arguments that stand there; the others come last. All else on the page stays.
+row keeps its place, and the arguments that stand there; the others come last.
+
+A table with examples is a choice of such definitions: its rows and examples are written by hand, and stay. Only the
+comments are written anew. A definition that has a row there gets none in a later table. All else on the page stays.
 """
 import re
 from pathlib import Path
@@ -14,7 +17,11 @@ PATH = "docs/DEFINITIONS.md"
 
 # A definition in a file of specs: the comment above it, and its name.
 DEFINITION = re.compile(r"((?:^ *-- .*\n)*)^ *(?:abbrev pub|unfoldable pub|pub (?:record|data)) ([^\s:(]+)", re.M)
-TABLE = re.compile(r"(?<=^\| Name \| Meaning \|\n\|---\|---\|\n)(?:\|.*\n)*", re.M)
+WITH_EXAMPLES = "| Name | Meaning | Example |\n|---|---|---|\n"
+TABLE = re.compile(rf"^(\| Name \| Meaning \|\n\|---\|---\|\n|{re.escape(WITH_EXAMPLES)})((?:\|.*\n)*)", re.M)
+
+# The comment of a row with an example where no file that the heading names has the definition.
+MISSING = "there is no such definition"
 
 
 def sections_of(page):
@@ -32,16 +39,38 @@ def definitions_in(text):
         yield name, " ".join(line.strip().removeprefix("-- ") for line in comment.splitlines())
 
 
+def name_in(row):
+    """The name of the definition of a row."""
+    return re.match(r"\| `([^\s`]+)", row)[1]
+
+
+def with_examples(rows, said):
+    """The rows with examples, with the comments that are said of the names."""
+    for row in rows:
+        yield f"{row.split(' | ')[0]} | {said.get(name_in(row), MISSING)} | {row.rpartition(' | ')[2]}"
+
+
+def with_all(rows, said):
+    """A row for each name of which something is said, those that have a row first."""
+    cells = {name_in(row): row.split(" | ")[0] for row in rows}
+    for name in [*cells, *(name for name in said if name not in cells)]:
+        if name in said:
+            yield f"{cells.get(name, f'| `{name}`')} | {said[name]} |\n"
+
+
 def written(page, texts):
     """The page with its tables written anew, by the texts of the files by their paths."""
-    parts = []
+    parts, shown = [], set()
     for part, paths in sections_of(page):
-        cells = re.findall(r"^\| `([^`]+)` \|", part, re.M)
-        said = {name: comment for path in paths for name, comment in definitions_in(texts.get(path, ""))}
-        known = [cell for cell in cells if cell.split()[0] in said]
-        new = [name for name in said if name not in (cell.split()[0] for cell in cells)]
-        rows = [f"| `{cell}` | {said[cell.split()[0]]} |\n" for cell in known + new]
-        parts.append(TABLE.sub(lambda _: "".join(rows), part))
+        said = {name: comment for path in paths for name, comment in definitions_in(texts.get(path, ""))
+                if (path, name) not in shown}
+        table = TABLE.search(part)
+        if table:
+            rows, chosen = table[2].splitlines(keepends=True), table[1] == WITH_EXAMPLES
+            shown |= {(path, name_in(row)) for path in paths for row in rows if chosen}
+            new = with_examples(rows, said) if chosen else with_all(rows, said)
+            part = part[: table.end(1)] + "".join(new) + part[table.end() :]
+        parts.append(part)
     return "".join(parts)
 
 

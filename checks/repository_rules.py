@@ -35,6 +35,7 @@ NOT_READ = re.compile(
 
 LONGEST_FILE, LONGEST_README = 800, 130
 WIDE = re.compile(r"^.{121,}")
+MISSING = re.compile(re.escape(f"| {definitions_page.MISSING} |"))
 
 # Where an example on the page for callers, of code or of a proof, may stand.
 EXAMPLES = {
@@ -107,11 +108,16 @@ def unsafe(texts):
 
 def definitions(texts):
     """docs/DEFINITIONS.md is as checks/definitions_page.py writes it, and names each file of definitions but those that
-    models and private functions alone cite. Each definition has a comment."""
+    models and private functions alone cite. Each definition has a comment, and each row with an example a definition.
+    """
     page = texts[definitions_page.PATH]
-    if definitions_page.written(page, texts) != page:
+    written = definitions_page.written(page, texts)
+    if written != page:
         yield f"{definitions_page.PATH} says otherwise than the files of specs: run checks/definitions_page.py"
-    named = {path for _, paths in definitions_page.sections_of(page) for path in paths}
+    for number, _ in lines_with(MISSING, written):
+        yield f"{definitions_page.PATH}:{number}: {definitions_page.MISSING}"
+    named = {path for part, paths in definitions_page.sections_of(page) for path in paths
+             if definitions_page.WITH_EXAMPLES not in part}
     for path, text in texts.items():
         found = list(definitions_page.definitions_in(text)) if re.match(r"crates/\w+/specs/.*\.antt$", path) else []
         if found and path not in named and not re.search(r"/Inside\b", path) and "/literal_compared/" not in path:

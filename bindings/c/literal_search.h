@@ -21,19 +21,23 @@
  * for machines of the same byte order. If the format differs between two versions of the library, an array of the other
  * version is LITERAL_DAMAGED: its first number is the format. Then prepare the search again.
  *
- * The look-ups are bounded. A search for the leftmost match looks up at most three times the bytes to search. If it
- * finds a match, a second bound is eleven times the bytes before the match, and 576 more, or 108 more than 18 times the
- * length of the longest pattern, whichever is more. A call for all matches, or their count, looks up at most three
- * times the bytes to search, if no pattern has more than 1,024 bytes. With a longer pattern it searches anew after each
- * match: it looks up at most eleven times the bytes, and, for each match that it finds (a page also finds the next),
- * 108 more than 18 times that length. A call for every occurrence looks up at most three times the bytes.
+ * A call looks up at most three times the bytes to search, with one exception: if a pattern has more than 1,024 bytes,
+ * a call for all matches, or their count, searches anew after each match. Then it looks up at most eleven times the
+ * bytes, and, for each match that it finds (a page also finds the next), 108 more than 18 times the length of the
+ * longest pattern. A call for the leftmost match that finds one also looks up at most eleven times the bytes before it,
+ * and 576 more, or 108 more than 18 times that length, whichever is more.
  *
  * Each call checks its arguments and returns one of the statuses below. It checks in this order: LITERAL_BAD_ARGUMENTS,
  * LITERAL_NO_SEARCHER, then, while the search is built, LITERAL_OUT_OF_MEMORY and LITERAL_TOO_LARGE, then
- * LITERAL_TOO_SHORT. A call writes only if it returns LITERAL_OK; after any other status the lent memory is unchanged.
- * There are exceptions: with LITERAL_TOO_SHORT, calls that prepare an array report the length that it needs; with
- * LITERAL_NONE, literal_find_so_far_in reports where to go on; with LITERAL_DAMAGED, some of the places for matches or
- * answers may be written.
+ * LITERAL_TOO_SHORT. Each call that builds a search may return LITERAL_NO_SEARCHER, LITERAL_OUT_OF_MEMORY and
+ * LITERAL_TOO_LARGE; and LITERAL_BAD_ARGUMENTS, if the ends decrease or exceed the buffer, or the kind is none of the
+ * two. Each call whose name ends in _in may return LITERAL_DAMAGED. The comments of these functions list the other
+ * statuses.
+ *
+ * A call writes only if it returns LITERAL_OK; after any other status the lent memory is unchanged. There are
+ * exceptions: with LITERAL_TOO_SHORT, calls that prepare an array report the length that it needs; with LITERAL_NONE,
+ * literal_find_so_far_in reports where to go on; with LITERAL_DAMAGED, some of the places for matches or answers may be
+ * written.
  *
  * The table of a search has a row for each different suffix of a pattern (for every occurrence: each different prefix).
  * A row has a place for each different byte of the patterns, and two more (one, if all 256 occur). So LITERAL_TOO_LARGE
@@ -54,10 +58,9 @@
  *   - malloc, realloc and free are from one allocator. malloc and realloc align a block to each power of two up to 16
  *     that divides its size.
  *
- * The library runs on x86-64-v2 processors (SSE4.2 and POPCNT: Intel since Nehalem, AMD since Bulldozer), on Linux with
- * glibc 2.34 or newer. On an older processor glibc refuses to start a program, or to load the shared library: "CPU ISA
- * level is lower than required". It does not refuse a static program, or one linked by lld: there the first search ends
- * with an illegal instruction (SIGILL).
+ * The library runs on Linux with glibc 2.34 or newer, on x86-64-v2 processors (SSE4.2 and POPCNT). On an older
+ * processor glibc refuses to start a program, or to load the shared library, except a static program or one linked by
+ * lld: there the first search ends with an illegal instruction (SIGILL).
  */
 #ifndef LITERAL_SEARCH_H
 #define LITERAL_SEARCH_H
@@ -80,7 +83,7 @@ extern "C" {
 #define LITERAL_NONE 1           /* no pattern occurs */
 #define LITERAL_NO_SEARCHER 2    /* the patterns can't be searched for: one is empty, or there are 2^31 or more */
 #define LITERAL_OUT_OF_MEMORY 3  /* malloc or realloc refused a request; there are patterns that can be searched for */
-#define LITERAL_BAD_ARGUMENTS 4  /* the arguments contradict each other, as each function says */
+#define LITERAL_BAD_ARGUMENTS 4  /* the arguments contradict each other, as said above and by each function */
 #define LITERAL_TOO_LARGE 5      /* only where the table of the search would have 2^31 places or more */
 #define LITERAL_TOO_SHORT 6      /* the lent array is too short */
 #define LITERAL_DAMAGED 7        /* the array is not as it was written for such a call */
@@ -146,11 +149,7 @@ int32_t literal_can_search(const uint8_t *patterns, size_t patterns_len, const s
  *
  * LITERAL_OK             found holds the match
  * LITERAL_NONE           no pattern occurs there
- * LITERAL_NO_SEARCHER    the patterns can't be searched for
- * LITERAL_OUT_OF_MEMORY  there is not enough memory for the search
- * LITERAL_TOO_LARGE      the table of the search would have 2^31 places or more
- * LITERAL_BAD_ARGUMENTS  the ends decrease or exceed the buffer; start is above end, or end above haystack_len; or the
- *                        kind is none of the two */
+ * LITERAL_BAD_ARGUMENTS  start is above end, or end above haystack_len */
 int32_t literal_find(uint32_t kind, bool ignore_case, const uint8_t *patterns, size_t patterns_len,
                      const size_t *ends, size_t ends_len, const uint8_t *haystack, size_t haystack_len,
                      size_t start, size_t end, literal_match *found);
@@ -168,11 +167,7 @@ int32_t literal_find(uint32_t kind, bool ignore_case, const uint8_t *patterns, s
  * if there are many; for a single match literal_find is faster.
  *
  * LITERAL_OK             found and page are written, also if no pattern occurs (then page->written is 0)
- * LITERAL_NO_SEARCHER    the patterns can't be searched for
- * LITERAL_OUT_OF_MEMORY  there is not enough memory for the search
- * LITERAL_TOO_LARGE      the table of the search would have 2^31 places or more
- * LITERAL_BAD_ARGUMENTS  the ends decrease or exceed the buffer, from is above haystack_len, or the kind is none of the
- *                        two */
+ * LITERAL_BAD_ARGUMENTS  from is above haystack_len */
 int32_t literal_find_all(uint32_t kind, bool ignore_case, const uint8_t *patterns, size_t patterns_len,
                          const size_t *ends, size_t ends_len, const uint8_t *haystack, size_t haystack_len,
                          size_t from, literal_match *found, size_t found_len, literal_page *page);
@@ -183,10 +178,7 @@ int32_t literal_find_all(uint32_t kind, bool ignore_case, const uint8_t *pattern
  * are written. page->is_last is 1 if there are no more, else 0: then call again with more room, from the same start.
  *
  * LITERAL_OK             found and page are written, also if no pattern occurs (then page->written is 0)
- * LITERAL_NO_SEARCHER    the patterns can't be searched for
- * LITERAL_OUT_OF_MEMORY  there is not enough memory for the search
- * LITERAL_TOO_LARGE      the table of the search would have 2^31 places or more
- * LITERAL_BAD_ARGUMENTS  the ends decrease or exceed the buffer; or start is above end, or end above haystack_len */
+ * LITERAL_BAD_ARGUMENTS  start is above end, or end above haystack_len */
 int32_t literal_find_overlapping(bool ignore_case, const uint8_t *patterns, size_t patterns_len, const size_t *ends,
                                  size_t ends_len, const uint8_t *haystack, size_t haystack_len, size_t start,
                                  size_t end, literal_match *found, size_t found_len, literal_page *page);
@@ -195,11 +187,8 @@ int32_t literal_find_overlapping(bool ignore_case, const uint8_t *patterns, size
  * them. answers[i] is the answer for haystack i, with offsets from the beginning of that haystack.
  *
  * LITERAL_OK             every answer is written
- * LITERAL_NO_SEARCHER    the patterns can't be searched for
- * LITERAL_OUT_OF_MEMORY  there is not enough memory for the search
- * LITERAL_TOO_LARGE      the table of the search would have 2^31 places or more
- * LITERAL_BAD_ARGUMENTS  the ends of the patterns or of the haystacks decrease or exceed their buffer, answers_len is
- *                        not the number of haystacks, or the kind is none of the two */
+ * LITERAL_BAD_ARGUMENTS  the ends of the haystacks decrease or exceed their buffer, or answers_len is not the number of
+ *                        haystacks */
 int32_t literal_find_each(uint32_t kind, bool ignore_case, const uint8_t *patterns, size_t patterns_len,
                           const size_t *ends, size_t ends_len, const uint8_t *haystacks, size_t haystacks_len,
                           const size_t *haystack_ends, size_t haystack_ends_len, literal_answer *answers,
@@ -210,11 +199,7 @@ int32_t literal_find_each(uint32_t kind, bool ignore_case, const uint8_t *patter
  * places.
  *
  * LITERAL_OK             prepared and needed are written
- * LITERAL_TOO_SHORT      the array has fewer than *needed places, and is unchanged
- * LITERAL_NO_SEARCHER    the patterns can't be searched for
- * LITERAL_OUT_OF_MEMORY  there is not enough memory to build the search
- * LITERAL_TOO_LARGE      the table of the search would have 2^31 places or more
- * LITERAL_BAD_ARGUMENTS  the ends decrease or exceed the buffer, or the kind is none of the two */
+ * LITERAL_TOO_SHORT      the array has fewer than *needed places, and is unchanged */
 int32_t literal_prepare(uint32_t kind, bool ignore_case, const uint8_t *patterns, size_t patterns_len,
                         const size_t *ends, size_t ends_len, uint32_t *prepared, size_t prepared_len, size_t *needed);
 
@@ -223,10 +208,7 @@ int32_t literal_prepare(uint32_t kind, bool ignore_case, const uint8_t *patterns
  *
  * LITERAL_OK             prepared and needed are written
  * LITERAL_TOO_SHORT      the array has fewer than *needed places, and is unchanged
- * LITERAL_NO_SEARCHER    the patterns can't be searched for
- * LITERAL_OUT_OF_MEMORY  there is not enough memory to build the search, or the lists would have 2^32 numbers or more
- * LITERAL_TOO_LARGE      the table of the search would have 2^31 places or more
- * LITERAL_BAD_ARGUMENTS  the ends decrease or exceed the buffer */
+ * LITERAL_OUT_OF_MEMORY  also if the lists would have 2^32 numbers or more */
 int32_t literal_prepare_overlapping(bool ignore_case, const uint8_t *patterns, size_t patterns_len, const size_t *ends,
                                     size_t ends_len, uint32_t *prepared, size_t prepared_len, size_t *needed);
 
@@ -253,8 +235,7 @@ int32_t literal_check_overlapping(const uint32_t *prepared, size_t prepared_len)
  *
  * LITERAL_OK             found holds the match
  * LITERAL_NONE           no pattern occurs there
- * LITERAL_BAD_ARGUMENTS  start is above end, or end above haystack_len
- * LITERAL_DAMAGED        the array is not as it was written */
+ * LITERAL_BAD_ARGUMENTS  start is above end, or end above haystack_len */
 int32_t literal_find_in(const uint32_t *prepared, size_t prepared_len, const uint8_t *haystack, size_t haystack_len,
                         size_t start, size_t end, literal_match *found);
 
@@ -270,26 +251,23 @@ int32_t literal_find_in(const uint32_t *prepared, size_t prepared_len, const uin
  *
  * LITERAL_OK             found holds the match, and next its end
  * LITERAL_NONE           whatever follows, no match begins before next; found is unchanged
- * LITERAL_BAD_ARGUMENTS  start is above haystack_len
- * LITERAL_DAMAGED        the array is not as it was written */
+ * LITERAL_BAD_ARGUMENTS  start is above haystack_len */
 int32_t literal_find_so_far_in(const uint32_t *prepared, size_t prepared_len, const uint8_t *haystack,
                                size_t haystack_len, size_t start, bool more, literal_match *found, size_t *next);
 
 /* Like literal_find_all, in the bytes of the haystack from start up to and not including end. To go on, call again with
- * page->next as start. If no pattern has more than 1,024 bytes, by the array, a call looks up at most three times these
- * bytes, even if other numbers of the array were changed.
+ * page->next as start. If no pattern has more than 1,024 bytes, by the array, the bound of three times holds even if
+ * other numbers of the array were changed.
  *
  * LITERAL_OK             found and page are written, also if no pattern occurs (then page->written is 0)
- * LITERAL_BAD_ARGUMENTS  start is above end, or end above haystack_len
- * LITERAL_DAMAGED        the array is not as it was written */
+ * LITERAL_BAD_ARGUMENTS  start is above end, or end above haystack_len */
 int32_t literal_find_all_in(const uint32_t *prepared, size_t prepared_len, const uint8_t *haystack, size_t haystack_len,
                             size_t start, size_t end, literal_match *found, size_t found_len, literal_page *page);
 
 /* Like literal_find_overlapping, by an array of literal_prepare_overlapping.
  *
  * LITERAL_OK             found and page are written, also if no pattern occurs (then page->written is 0)
- * LITERAL_BAD_ARGUMENTS  start is above end, or end above haystack_len
- * LITERAL_DAMAGED        the array is not as it was written */
+ * LITERAL_BAD_ARGUMENTS  start is above end, or end above haystack_len */
 int32_t literal_find_overlapping_in(const uint32_t *prepared, size_t prepared_len, const uint8_t *haystack,
                                     size_t haystack_len, size_t start, size_t end, literal_match *found,
                                     size_t found_len, literal_page *page);
@@ -298,8 +276,7 @@ int32_t literal_find_overlapping_in(const uint32_t *prepared, size_t prepared_le
  *
  * LITERAL_OK             every answer is written
  * LITERAL_BAD_ARGUMENTS  the ends of the haystacks decrease or exceed their buffer, or answers_len is not the number of
- *                        haystacks
- * LITERAL_DAMAGED        the array is not as it was written */
+ *                        haystacks */
 int32_t literal_find_each_in(const uint32_t *prepared, size_t prepared_len, const uint8_t *haystacks,
                              size_t haystacks_len, const size_t *haystack_ends, size_t haystack_ends_len,
                              literal_answer *answers, size_t answers_len);
@@ -307,8 +284,7 @@ int32_t literal_find_each_in(const uint32_t *prepared, size_t prepared_len, cons
 /* How many matches literal_find_all_in would write in all, without an array for them, with as few look-ups.
  *
  * LITERAL_OK             count holds the number
- * LITERAL_BAD_ARGUMENTS  start is above end, or end above haystack_len
- * LITERAL_DAMAGED        the array is not as it was written */
+ * LITERAL_BAD_ARGUMENTS  start is above end, or end above haystack_len */
 int32_t literal_count_in(const uint32_t *prepared, size_t prepared_len, const uint8_t *haystack, size_t haystack_len,
                          size_t start, size_t end, size_t *count);
 
