@@ -30,7 +30,7 @@ returns-clause-count c =
       c.iterations_scan_at_most.ensures.greedy _ _ _ run.0 run.1
           (record {
             gives = c.in_default.ensures.gives;
-                  scans = c.in_default.ensures.scans;
+            scans = c.in_default.ensures.scans;
           }),
       run.2,
     )
