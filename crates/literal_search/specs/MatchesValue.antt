@@ -23,27 +23,27 @@ abbrev pub place_behind : Span → Option MatchValue → ℕ
 place_behind span None = span.end
 place_behind span (Some found) = found.end
 
+-- it has looked no less far than before, and not past the span; each byte before the place where it goes on was looked
+-- up
+pub record LooksOn (longest : ℕ) (span : Span) (known upto : ℕ) (answer : Option MatchValue) : Type 0 where
+  pub further : known ≤ upto
+  pub inside : upto ≤ span.end
+  pub looked : place_behind span answer ≤ looked_by longest span upto
+
 -- what `next` gives: the leftmost match of the rest of the span, which is not empty, or None where nothing occurs in
--- it; it goes on behind that, whatever it has looked up
+-- it; it goes on behind that, and says how far it has looked
 pub record GivesMatch (old : MatchesValue) (answer : Option MatchValue) (new : MatchesValue)
     : Type 0 where
   pub leftmost : IsLeftmost old.search.query old.search.ignore_case old.haystack (between old.at old.span.end) answer
   pub not_empty : IfSome answer (λ found. found.start < found.end)
   pub known : ℕ
   pub goes_on : new ≡ record old { at = place_behind old.span answer; known = known }
+  pub looks : LooksOn (longest_of old.search.query.patterns) old.span old.known new.known answer
 
--- it has looked no less far than before, and not behind the span; what stands before the place where it goes on was
--- looked up
-pub record LooksOn (longest : ℕ) (span : Span) (known upto : ℕ) (answer : Option MatchValue) : Type 0 where
-  pub further : known ≤ upto
-  pub inside : upto ≤ span.end
-  pub looked : place_behind span answer ≤ looked_by longest span upto
-
--- a step of an iteration that counts: what `next` gives, how far it looks, and what it scans
+-- a step of an iteration that counts: what `next` gives, and what it scans
 pub record GivesCounted (old : MatchesValue × Counts) (answer : Option MatchValue)
     (new : MatchesValue × Counts) : Type 0 where
   pub gives : GivesMatch old.0 answer new.0
-  pub looks : LooksOn (longest_of old.0.search.query.patterns) old.0.span old.0.known new.0.known answer
   pub scans : ScansNext (longest_of old.0.search.query.patterns) old.0.span old.0.at old.0.known new.0.known answer
       old.1 new.1
 

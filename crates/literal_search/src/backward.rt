@@ -1,6 +1,6 @@
 //! Walks through a span from its end, by an automaton of the reversed patterns. The numbers may be lent, and so any:
 //! they are damaged where one leads out of the rows.
-ghost use Rattle.std.specs.Prelude.{◌≡◌, ◌⊎◌, ◌+◌, ◌-◌, ◌*◌, ◌<◌, ◌≤◌, ◌^◌, ◌%◌, [], length, max, min};
+ghost use Rattle.std.specs.Prelude.{◌≡◌, ◌+◌, ◌-◌, ◌*◌, ◌<◌, ◌≤◌, ◌^◌, ◌%◌, length, max, min};
 ghost use Rattle.std.specs.Prelude.{ℕ, IfOk, IfSome, MatchOption, None, slice_index};
 ghost use Rattle.std.specs.Result.{IsOkAnd};
 ghost use Rattle.literal_base.specs.Leftmost.{IsLeftmost, IsLeftmostMatch};
@@ -22,11 +22,10 @@ use literal_base::{Match, Span};
 /// How long a block is at least, if the span is.
 pub(crate) const LEAST: usize = 1024;
 
-/// The length of each of the four parts of a block that is marked, if as much is left, once the blocks before it
-/// followed one another.
+/// The largest length of the four parts of a marked block. Parts double up to it while blocks follow one another.
 pub(crate) const MARKED: usize = LEAST / 4;
 
-/// The least length of such a part, where the block before is far.
+/// The length from which parts begin to double, where the block before is far. At the end of a span they are shorter.
 const FIRST_MARKED: usize = 16;
 
 /// What a search from the right reads.
@@ -49,8 +48,8 @@ pub struct Begun {
     pub code: u32,
 }
 
-/// Which numbers of a list are marks: that of the place `first` stands first, and each is for the next place, up to
-/// `upto`. From there on nothing begins up to `known`.
+/// Which numbers of a list are marks: number i is the mark of offset `first` + i, for offsets before `upto`. From
+/// `upto` up to `known` no pattern begins.
 #[derive(Clone, Copy)]
 pub struct Marks {
     pub first: usize,
@@ -493,8 +492,8 @@ impl<'t> Backward<'t> {
         part.max(self.table.longest.saturating_add(4)).min(MARKED)
     }
 
-    /// How long each of four parts is that are marked at once, at most so long, where so many bytes are left; and none
-    /// where these are few, or the longest pattern is longer than such a part.
+    /// The length of four parts that are marked at once, at most `most`, where `left` bytes are left; and none if a
+    /// part would be shorter than the least one, or than the longest pattern and four bytes.
     pub(crate) fn part_for_marks(&self, left: usize, most: usize) -> Option<usize>
         requires { most ≤ MARKED }
         ensures inside { IfSome result (λ part. 4 * part + self.now.table.longest ≤ left) }

@@ -1,5 +1,5 @@
 //! Classes of bytes: numbers that tell the bytes of the patterns from each other and from all others.
-ghost use Rattle.std.specs.Prelude.{◌≡◌, ◌+◌, ◌<◌, ◌≤◌, ℕ, true, false, length, map, slice_index_or};
+ghost use Rattle.std.specs.Prelude.{◌≡◌, ◌+◌, ◌<◌, ℕ, true, false, length, map, slice_index_or};
 ghost use Rattle.std.specs.Prelude.{◌⊎◌, count_by, min};
 ghost use Rattle.literal_search.specs.SearchValue.{width_for};
 ghost use Rattle.literal_search.specs.Inside.Classes.{AreClasses, AreNumbers, IsFoldOfOne, Marks, Tells};

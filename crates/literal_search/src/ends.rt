@@ -1,5 +1,5 @@
-//! From one end of patterns to the next by the numbers of an automaton: by one walk, and where that
-//! is back in the first state, by passing over bytes with which nothing begins.
+//! From one end of patterns to the next by the numbers of an automaton: by one walk, and where that is back in the
+//! first state, by passing over bytes with which nothing begins.
 ghost use Rattle.std.specs.Prelude.{◌≡◌, ◌+◌, ◌-◌, ◌*◌, ◌<◌, ◌≤◌, ◌^◌, IfOk, IfSome, MatchOption, length};
 ghost use Rattle.literal_base.specs.Occurs.{IsValidSpan};
 ghost use Rattle.literal_search.specs.Prepared.{fingerprints_by, shortest_by};

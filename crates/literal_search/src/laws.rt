@@ -13,13 +13,11 @@ ghost use Rattle.literal_base.specs.Occurs.{NoneIsEmpty, Occurs, between, patter
 ghost use Rattle.literal_base.specs.Query.{Query};
 ghost use Rattle.literal_base.specs.Greedy.{IsGreedyIn};
 ghost use Rattle.literal_search.specs.SearchValue.{ScansThrice, looked_upto};
-ghost use Rattle.literal_search.specs.MatchesValue.{GivesMatch, GivesCounted, MatchesValue};
 ghost use Rattle.literal_search.specs.MatchesValue.{GivesCounted, GivesMatch, MatchesValue};
 ghost use Rattle.literal_search.specs.Overlapping.{IsOverlapping, OverlappingValue};
 ghost use Rattle.literal_search.specs.OverlappingMatchesValue.{GivesOverlapping, OverlappingMatchesValue};
-ghost use Rattle.literal_search.specs.Prepared.{IsPrepared, IsWhole, RefusesToPrepare, TakesPlaces};
-ghost use Rattle.literal_search.specs.Prepared.{check_of, prepared_len};
-ghost use Rattle.literal_search.specs.Prepared.{IsPrepared, IsWhole, prepared_len};
+ghost use Rattle.literal_search.specs.Prepared.{IsPrepared, IsWhole, RefusesToPrepare, TakesPlaces, check_of};
+ghost use Rattle.literal_search.specs.Prepared.{prepared_len};
 ghost use Rattle.literal_search.specs.PreparedOverlapping.{IsPreparedOverlapping, IsWholeOverlapping};
 ghost use Rattle.literal_search.specs.PreparedOverlapping.{overlapping_len};
 ghost use Rattle.literal_search.specs.Replaced.{replaced};

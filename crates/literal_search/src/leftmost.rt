@@ -26,14 +26,14 @@ use literal_fingerprints::Fingerprints;
 /// The least length of the parts of the first block through which four walks go at once.
 const FIRST: usize = 16;
 
-/// The parts of each block are twice as long as those of the block before, until they have this length.
+/// Parts double from block to block until they have at least this length.
 const LAST: usize = 1024;
 
 /// Four walks go through the last block if its parts have at least this length.
 pub(crate) const LEAST_PART: usize = 6;
 
 /// Before one walk looks at a candidate, fingerprints passed over this many bytes, or as many as the longest pattern
-/// has.
+/// has, whichever is more.
 pub(crate) const PRICE: usize = 48;
 
 /// The largest number of bytes that count as passed over.

@@ -1,7 +1,7 @@
 //! A search for leftmost matches by numbers in an array that its caller lends: written once, and then searched by, with
 //! no memory of its own. It does not trust the array: where a number leads out of it, the search says so.
 ghost use Rattle.std.specs.Prelude.{◌≡◌, ◌+◌, ◌-◌, ◌*◌, ◌<◌, ◌≤◌, ◌↔◌, slice_index};
-ghost use Rattle.std.specs.Prelude.{IfOk, IfSome, IsTrue, MatchResult, None, ⊤};
+ghost use Rattle.std.specs.Prelude.{IfOk, IfSome, IsTrue, MatchResult, None};
 ghost use Rattle.std.specs.Result.{IsOkAnd};
 ghost use Rattle.literal_base.specs.Occurs.{IsValidSpan, between};
 ghost use Rattle.literal_search.specs.SearchValue.{LooksFor, ScansNext, looked_by};
@@ -216,7 +216,7 @@ impl<'s, 'p, 'h> PreparedMatches<'s, 'p, 'h> {
         ensures pattern { IfOk result (λ answer. IfSome answer
             (λ found. found.pattern < slice_index self.old.numbers 3)) }
         ensures goes_on { MatchResult result (λ answer. self.new.at ≡ place_behind self.old.span answer)
-            (λ _. self.new.at ≡ self.old.span.end) }
+            (λ _. (self.new.at ≡ self.old.span.end) × (self.new.known ≡ self.old.span.end)) }
         ensures ended { self.old.at ≡ self.old.span.end → IsOkAnd result (λ answer. answer ≡ None) }
         ensures same { self.new ≡ record self.old { at = self.new.at; known = self.new.known } }
     {
@@ -233,7 +233,7 @@ impl<'s, 'p, 'h> PreparedMatches<'s, 'p, 'h> {
         ensures pattern { IfOk result (λ answer. IfSome answer
             (λ found. found.pattern < slice_index self.old.numbers 3)) }
         ensures goes_on { MatchResult result (λ answer. self.new.at ≡ place_behind self.old.span answer)
-            (λ _. self.new.at ≡ self.old.span.end) }
+            (λ _. (self.new.at ≡ self.old.span.end) × (self.new.known ≡ self.old.span.end)) }
         ensures ended { self.old.at ≡ self.old.span.end → IsOkAnd result (λ answer. answer ≡ None) }
         ensures same { self.new ≡ record self.old { at = self.new.at; known = self.new.known } }
         ensures further { (self.old.known ≤ self.new.known) × (self.new.known ≤ self.old.span.end) }

@@ -1,5 +1,5 @@
 //! Bytes with which nothing begins are passed over: by fingerprints of few patterns, or else by four walks at once.
-//! Which, is decided in `Table::pass_over` and `Table::can_pass`.
+//! `Table::pass_over` and `Table::can_pass` decide which.
 ghost use Rattle.std.specs.Prelude.{◌≡◌, ◌+◌, ◌-◌, ◌*◌, ◌<◌, ◌≤◌, ◌^◌};
 ghost use Rattle.std.specs.Prelude.{IfOk, IfSome, None, false, length, true};
 ghost use Rattle.std.specs.Result.{IsOkAnd};

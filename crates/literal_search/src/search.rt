@@ -12,7 +12,7 @@ ghost use Rattle.literal_search.specs.SearchValue.{BuildsSearch, CanBeKept, MayR
 ghost use Rattle.literal_search.specs.SearchValue.{NeedTooManyReversed, RefusesSearch, ScansNext, ScansThrice};
 ghost use Rattle.literal_search.specs.SearchValue.{ScansWithin};
 ghost use Rattle.literal_search.specs.SearchValue.{longest_of, looked_upto, reversed, shortest_of};
-ghost use Rattle.literal_search.specs.MatchesValue.{GivesMatch, LooksOn, most_to_come, place_behind};
+ghost use Rattle.literal_search.specs.MatchesValue.{GivesMatch, most_to_come, place_behind};
 ghost use Rattle.literal_search.specs.Memory.{TakesBytes};
 ghost use Rattle.literal_search.specs.Prepared.{AreShort, RefusesToPrepare, TakesPlaces, WritesPrepared, longest_in};
 ghost use Rattle.literal_search.specs.Inside.Backward.{AreBackFor, AreMarked, IsPlaced, IsSafe, back_tables_by};
@@ -161,9 +161,9 @@ impl Search {
     }
 
     /// Answers as [`Search::find_in`], and adds each byte that it looks up to a tally, as scanned: at most three times
-    /// the bytes of the span. It looks up at least those of the span, or with a match those up to its end. With a match
-    /// it also looks up at most eleven times the bytes before it, and 36 times the bytes of a first part, which are 16,
-    /// or 3 more than half the bytes of the longest pattern, whichever is more.
+    /// the bytes of the span, and at least these, or with a match those up to its end. If there is a match, it also
+    /// looks up no more than eleven times the bytes before it, plus 36 times the bytes of a first part: 16, or half the
+    /// longest pattern's length plus 3, whichever is more.
     pub fn find_in_counted(&self, haystack: &[u8], span: Span, tally: &mut Tally) -> Option<Match>
         requires { IsValidSpan haystack.now span }
         ensures leftmost { IsLeftmost self.now.query self.now.ignore_case haystack.now span result }
@@ -634,15 +634,12 @@ impl<'s, 'h> Model for Matches<'s, 'h> {
 }
 
 impl<'s, 'h> Matches<'s, 'h> {
-    /// Answers as `next`, and adds each byte that it looks up to a tally, as scanned: at most three times as many as
-    /// those up to which it looks further than before, and at least those by which it reads further, which is as far
-    /// ahead as a pattern may reach. A whole iteration so looks up at least the bytes of the span, and at most three
-    /// times as many. If a pattern has more than 1,024 bytes, it is what [`Search::find_in_counted`] looks up in the
-    /// rest.
+    /// Answers as `next`, and adds each byte that it looks up to a tally, as scanned. A call looks up at most three
+    /// times the bytes by which `known` grows. A whole iteration looks up at least the bytes of the span, and at most
+    /// three times as many. If a pattern has more than 1,024 bytes, a call looks up what [`Search::find_in_counted`]
+    /// looks up in the rest.
     pub fn next_counted(&mut self, tally: &mut Tally) -> Option<Match>
         ensures gives { GivesMatch self.old result self.new }
-        ensures looks { LooksOn (longest_of self.old.search.query.patterns) self.old.span self.old.known
-            self.new.known result }
         ensures scans { ScansNext (longest_of self.old.search.query.patterns) self.old.span self.old.at self.old.known
             self.new.known result tally.old tally.new }
     {

@@ -27,7 +27,7 @@ scans_thrice_from_yields m [] n o short stays last =
     subst (λ (it : MatchesValue × Counts). ScansThrice (between it.0.known it.0.span.end) it.1 o.1) (sym stays)
     (record {
       others = last.scans.others;
-      most = omega (arith, last.scans.marked short_here, last.looks.further, last.looks.inside);
+      most = omega (arith, last.scans.marked short_here, last.gives.looks.further, last.gives.looks.inside);
     })
 scans_thrice_from_yields m (found ∷ more) n o short run last =
     let step = run.1 in
@@ -38,7 +38,7 @@ scans_thrice_from_yields m (found ∷ more) n o short run last =
     (scans_thrice_from_yields run.0 more n o short_then run.2 last) in
     record {
       others = scanned_on m.1 run.0.1 o.1 step.scans.others rest.others;
-      most = omega (arith, step.scans.marked short, rest.most, step.looks.further, step.looks.inside);
+      most = omega (arith, step.scans.marked short, rest.most, step.gives.looks.further, step.gives.looks.inside);
     }
 
 -- and at least each byte that it had not looked up
@@ -51,7 +51,7 @@ scans_each_from_yields m [] n o short stays last =
     short in
     subst (λ (it : MatchesValue × Counts). it.1.scanned + it.0.span.end
     ≤ o.1.scanned + looked_upto it.0.search.query.patterns it.0.span it.0.known) (sym stays) (
-    omega (arith, last.scans.least short_here, last.looks.looked)
+    omega (arith, last.scans.least short_here, last.gives.looks.looked)
     )
 scans_each_from_yields m (found ∷ more) n o short run last =
     let step = run.1 in

@@ -15,7 +15,7 @@ loop-count-preserved c =
       run = (
         all ++ found ∷ [],
         c.iterations_scan_at_most.ensures.more _ _ _ all found so_far.run.1
-            (record { gives = step.gives; looks = step.looks; scans = step.scans }),
+            (record { gives = step.gives; scans = step.scans }),
         ap (λ n. n + 1) so_far.run.2 ∙ sym (length_push all found),
       );
       text_is = ap (λ m. m.haystack) step.gives.goes_on ∙ so_far.text_is;
@@ -30,7 +30,6 @@ returns-clause-count c =
       c.iterations_scan_at_most.ensures.greedy _ _ _ run.0 run.1
           (record {
             gives = c.in_default.ensures.gives;
-            looks = c.in_default.ensures.looks;
             scans = c.in_default.ensures.scans;
           }),
       run.2,
@@ -42,7 +41,6 @@ returns-clause-least c =
     let each = (c.iterations_scan_at_most.ensures.whole _ _ _ run.0 refl refl run.1
     (record {
       gives = c.in_default.ensures.gives;
-      looks = c.in_default.ensures.looks;
       scans = c.in_default.ensures.scans;
     })).0 in
     omega (arith, each)
@@ -53,7 +51,6 @@ returns-clause-bounded c =
     let scans = (c.iterations_scan_at_most.ensures.whole _ _ _ run.0 refl refl run.1
     (record {
       gives = c.in_default.ensures.gives;
-      looks = c.in_default.ensures.looks;
       scans = c.in_default.ensures.scans;
     })).1 in
     subst (λ n. ScansListAtMost c.args.search.now.query.patterns (length c.args.text.now) n c.args.tally.now

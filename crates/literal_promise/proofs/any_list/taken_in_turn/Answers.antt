@@ -8,7 +8,7 @@ loop-found-preserved c =
     let step = c.in-Some.ensures in
     record {
       run = rw (sym c.in_ok-push.ensures.items) at (c.iterations_scan_at_most.ensures.more _ _ _ _ c.in-Some.found
-          so_far.run (record { gives = step.gives; looks = step.looks; scans = step.scans }));
+          so_far.run (record { gives = step.gives; scans = step.scans }));
       haystack_is = ap (λ m. m.haystack) step.gives.goes_on ∙ so_far.haystack_is;
       end_is = ap (λ m. m.span.end) step.gives.goes_on ∙ so_far.end_is;
       search_is = ap (λ m. m.search) step.gives.goes_on ∙ so_far.search_is;
@@ -19,7 +19,6 @@ returns-clause-greedy c =
     c.iterations_scan_at_most.ensures.greedy _ _ _ _ c.loop-found.invariant.run
     (record {
       gives = c.in_default.ensures.gives;
-      looks = c.in_default.ensures.looks;
       scans = c.in_default.ensures.scans;
     })
 
@@ -28,7 +27,6 @@ returns-clause-bounded c =
     let scans = (c.iterations_scan_at_most.ensures.whole _ _ _ _ refl refl c.loop-found.invariant.run
     (record {
       gives = c.in_default.ensures.gives;
-      looks = c.in_default.ensures.looks;
       scans = c.in_default.ensures.scans;
     })).1 in
     record {
@@ -49,7 +47,6 @@ returns-clause-each c =
     let each = (c.iterations_scan_at_most.ensures.whole _ _ _ _ refl refl c.loop-found.invariant.run
     (record {
       gives = c.in_default.ensures.gives;
-      looks = c.in_default.ensures.looks;
       scans = c.in_default.ensures.scans;
     })).0 in
     omega (arith, each)

@@ -1,4 +1,4 @@
-use Rattle.std.proofs.Common.{◌+◌, ◌-◌, ◌<◌, ◌≤◌, ◌^◌, arith, inl, inr}
+use Rattle.std.proofs.Common.{◌-◌, ◌^◌, arith, inl, inr}
 use Rattle.std.proofs.lemmas.Bool.{cases_lt}
 use Rattle.literal_search.proofs.lemmas.Leftmost.{eight_small}
 use Rattle.literal_search.proofs.backward.pass_unmarked.Goals as goal

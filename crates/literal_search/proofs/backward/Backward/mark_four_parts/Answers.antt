@@ -1,4 +1,4 @@
-use Rattle.std.proofs.Common.{◌+◌, ◌*◌, arith}
+use Rattle.std.proofs.Common.{arith}
 use Rattle.literal_search.specs.Inside.Backward.{back_tables_by}
 use Rattle.literal_search.proofs.lemmas.Leftmost.{cleared_marks}
 use Rattle.literal_search.proofs.backward.Backward.mark_four_parts.Goals as goal

@@ -55,6 +55,11 @@ returns-in-Ok-clause-prepared c = λ search given.
       not_empty = some_by c.backward-backward.result.now m.span m.at c.in-Ok.answer told.lies;
       known = c.next_in-answer.new.marks.known;
       goes_on = ap new_at c.place_after-self-inside.ensures;
+      looks = record {
+        further = told.further.0;
+        inside = told.further.1;
+        looked = omega (arith, told.looked, c.backward-backward.ensures.longest, is.tables.longest);
+      };
     })
 
 pub returns-in-Err-clause-prepared : goal.returns-in-Err-clause-prepared

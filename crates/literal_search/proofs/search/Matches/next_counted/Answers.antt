@@ -1,9 +1,8 @@
 use Rattle.std.proofs.Common.{ℕ, ap, arith, subst, sym}
 use Rattle.literal_search.specs.Inside.Backward.{AreMarked, IsAhead}
 use Rattle.literal_search.specs.Inside.Search.{search_value, tables_of}
-use Rattle.literal_search.specs.MatchesValue.{GivesMatch, LooksOn, MatchesValue, place_behind}
+use Rattle.literal_search.specs.MatchesValue.{GivesMatch, MatchesValue, place_behind}
 use Rattle.literal_search.specs.Prepared.{BackTables}
-use Rattle.literal_search.specs.SearchValue.{longest_of}
 use Rattle.literal_search.proofs.lemmas.Prepared.{some_by}
 use Rattle.literal_search.proofs.search.Matches.next_counted.Goals as goal
 
@@ -59,20 +58,9 @@ returns-clause-gives c =
       not_empty = some_by c.backward-backward.result m.span m.at c.in-Ok.answer told.lies;
       known = c.next_in-next.new.marks.known;
       goes_on = ap new_at c.place_after-self-inside.ensures;
-    })
-
-pub returns-clause-looks : goal.returns-clause-looks
-returns-clause-looks c =
-    let m = c.self.inside in
-    let told = c.in-Ok.ensures in
-    subst (λ (v : MatchesValue). LooksOn (longest_of v.search.query.patterns) v.span v.known
-    c.next_in-next.new.marks.known c.in-Ok.answer) c.self.view_is (record {
-      further = told.further.0;
-      inside = told.further.1;
-      looked = omega (
-        arith,
-        told.looked,
-        c.backward-backward.ensures.longest,
-        c.self.invariant.0.prepared.tables.longest,
-      );
+      looks = record {
+        further = told.further.0;
+        inside = told.further.1;
+        looked = omega (arith, told.looked, longest, old.0.prepared.tables.longest);
+      };
     })
