@@ -42,6 +42,7 @@ pub mod Standing
 pub mod States
 pub mod Streams
 pub mod Texts
+pub mod Unmarked
 pub mod Walk
 pub mod Windows
 pub mod Written

@@ -8,7 +8,7 @@ ghost use Rattle.literal_base.specs.Occurs.{IsValidSpan, between};
 ghost use Rattle.literal_search.specs.SearchValue.{ScansNext, ScansThrice, looked_by};
 ghost use Rattle.literal_search.specs.MatchesValue.{place_behind};
 ghost use Rattle.literal_search.specs.Inside.Backward.{AreMarked, AreMarks, ForBackward, IsAhead, IsBlock};
-ghost use Rattle.literal_search.specs.Inside.Backward.{IsBlockMarked};
+ghost use Rattle.literal_search.specs.Inside.Backward.{HasLookedAhead, IsBlockMarked};
 ghost use Rattle.literal_search.specs.Inside.Backward.{IsMark, IsMatchBy, IsPlaced, IsSafe, NoneFrom};
 ghost use Rattle.literal_search.specs.Inside.Leftmost.{AreLanes, AreMarksBehind, HasBytes, HaveRows, IsLimit, IsPart};
 ghost use Rattle.literal_search.specs.declared.backward.TheConstants.{MARKED};
@@ -18,6 +18,7 @@ use crate::prepared::{Damaged, fingerprints_in};
 use crate::walk::{ENDS, Table};
 use literal_base::count::Tally;
 use literal_base::{Match, Span};
+use std::simd::prelude::*;
 
 /// How long a block is at least, if the span is.
 pub(crate) const LEAST: usize = 1024;
@@ -27,6 +28,9 @@ pub(crate) const MARKED: usize = LEAST / 4;
 
 /// The length from which parts begin to double, where the block before is far. At the end of a span they are shorter.
 const FIRST_MARKED: usize = 16;
+
+/// How many marks are read at once.
+const LANES: usize = 16;
 
 /// What a search from the right reads.
 #[derive(Clone, Copy)]
@@ -167,9 +171,8 @@ impl<'t> Backward<'t> {
     }
 
     /// Looks further ahead from a place, unless it is known what begins there, and answers a place before which nothing
-    /// begins. Fingerprints pass over bytes. Where they stop, the place alone is marked, if they passed over enough;
-    /// else a block. It is called, and not put in its place, so that the next match in a marked block costs little.
-    #[inline(never)]
+    /// begins.
+    #[inline(always)]
     fn mark_from(
         &self,
         haystack: &[u8],
@@ -184,20 +187,37 @@ impl<'t> Backward<'t> {
         requires more { from < span.end }
         requires room { max self.now.table.longest LEAST ≤ length numbers.old }
         requires placed { IsPlaced self.now.table.longest span from marks.old }
-        ensures later { IfOk result (λ at. (from ≤ at) × (at ≤ marks.new.known)) }
-        ensures none { ForBackward self.now (λ tables. IsOkAnd result (NoneFrom tables haystack.now span.end from)) }
-        ensures marked { ForBackward self.now (λ tables. AreMarked tables haystack.now span from numbers.old marks.old
-            → IfOk result (λ at. AreMarked tables haystack.now span at numbers.new marks.new)) }
-        ensures placed { IfOk result (λ at. IsPlaced self.now.table.longest span at marks.new) }
-        ensures known { IfOk result (λ _. from < marks.new.known) }
-        ensures further { (marks.old.known ≤ marks.new.known) × (marks.new.known ≤ span.end) }
-        ensures bounded { ScansThrice (between marks.old.known marks.new.known) tally.old tally.new }
-        ensures least { IfOk result (λ _. tally.old.scanned + looked_by self.now.table.longest span marks.new.known
-            ≤ tally.new.scanned + looked_by self.now.table.longest span marks.old.known) }
+        ensures { HasLookedAhead self.now haystack.now span from numbers.old numbers.new marks.old marks.new tally.old
+            tally.new result }
     {
         if from < marks.known {
             return Ok(from);
         }
+        self.mark_ahead(haystack, span, from, numbers, marks, tally)
+    }
+
+    /// The same where it isn't known. Fingerprints pass over bytes. Where they stop, the place alone is marked, if they
+    /// passed over enough; else a block. It is called, and not put in its place, so that the next match in a marked
+    /// block costs little.
+    #[inline(never)]
+    fn mark_ahead(
+        &self,
+        haystack: &[u8],
+        span: Span,
+        from: usize,
+        numbers: &mut [u32],
+        marks: &mut Marks,
+        tally: &mut Tally,
+    ) -> Result<usize, Damaged>
+        requires safe { IsSafe self.now }
+        requires valid { IsValidSpan haystack.now span }
+        requires more { from < span.end }
+        requires unknown { marks.old.known ≤ from }
+        requires room { max self.now.table.longest LEAST ≤ length numbers.old }
+        requires placed { IsPlaced self.now.table.longest span from marks.old }
+        ensures { HasLookedAhead self.now haystack.now span from numbers.old numbers.new marks.old marks.new tally.old
+            tally.new result }
+    {
         let fingerprints = &fingerprints_in(self.prints);
         let rest = Span {
             start: from,
@@ -576,7 +596,7 @@ fn clear(marks: &mut [u32], upto: usize)
     marks[..upto].fill(0);
 }
 
-/// A place up to which, from another on, no mark says that a pattern begins: eight marks are read at once.
+/// A place up to which, from another on, no mark says that a pattern begins: so many marks are read at once.
 #[inline(always)]
 fn pass_unmarked(numbers: &[u32], first: usize, from: usize, upto: usize) -> usize
     requires ordered { from ≤ upto }
@@ -586,17 +606,30 @@ fn pass_unmarked(numbers: &[u32], first: usize, from: usize, upto: usize) -> usi
     ensures none { (at : ℕ) → from ≤ at → at < result → slice_index numbers.now (at - first) < 2 ^ 31 }
 {
     let mut at = from;
-    while upto - at >= 8 {
-        let one = at - first;
-        let five = one + 4;
-        let four = numbers[one] | numbers[one + 1] | numbers[one + 2] | numbers[one + 3];
-        let more = numbers[five] | numbers[five + 1] | numbers[five + 2] | numbers[five + 3];
-        if four | more >= ENDS {
+    while upto - at >= LANES {
+        let unmarked = unmarked_from(numbers, at - first);
+        at += unmarked;
+        if unmarked < LANES {
             break;
         }
-        at += 8;
     }
     at
+}
+
+/// How many of the 16 marks from one on come before the first that says that a pattern begins.
+#[inline(always)]
+fn unmarked_from(numbers: &[u32], at: usize) -> usize
+    requires { at + 16 ≤ length numbers.now }
+    ensures few { result ≤ 16 }
+    ensures none { (i : ℕ) → at ≤ i → i < at + result → slice_index numbers.now i < 2 ^ 31 }
+{
+    let marks = u32x16::from_slice(&numbers[at..]);
+    let begun = marks.simd_ge(u32x16::splat(ENDS)).to_bitmask();
+    if begun == 0 {
+        LANES
+    } else {
+        begun.trailing_zeros() as usize
+    }
 }
 
 /// No marks, where nothing is known from a place on.
