@@ -1,19 +1,21 @@
 //! Walks through a span from its end, by an automaton of the reversed patterns. The numbers may be lent, and so any:
 //! they are damaged where one leads out of the rows.
 ghost use Rattle.std.specs.Prelude.{◌≡◌, ◌+◌, ◌-◌, ◌*◌, ◌<◌, ◌≤◌, ◌^◌, ◌%◌, length, max, min};
-ghost use Rattle.std.specs.Prelude.{ℕ, IfOk, IfSome, MatchOption, None, slice_index};
+ghost use Rattle.std.specs.Prelude.{ℕ, IfOk, IfSome, List, MatchOption, None, slice_index};
 ghost use Rattle.std.specs.Result.{IsOkAnd};
 ghost use Rattle.literal_base.specs.Leftmost.{IsLeftmost, IsLeftmostMatch};
 ghost use Rattle.literal_base.specs.Occurs.{IsValidSpan, between};
+ghost use Rattle.literal_base.specs.declared.search.Span.{Span};
 ghost use Rattle.literal_search.specs.SearchValue.{ScansNext, ScansThrice, looked_by};
 ghost use Rattle.literal_search.specs.MatchesValue.{place_behind};
 ghost use Rattle.literal_search.specs.Inside.Backward.{AreMarked, AreMarks, ForBackward, IsAhead, IsBlock};
 ghost use Rattle.literal_search.specs.Inside.Backward.{HasLookedAhead, IsBlockMarked};
 ghost use Rattle.literal_search.specs.Inside.Backward.{IsMark, IsMatchBy, IsPlaced, IsSafe, NoneFrom};
-ghost use Rattle.literal_search.specs.Inside.Leftmost.{AreLanes, AreMarksBehind, HasBytes, HaveRows, IsLimit, IsPart};
+ghost use Rattle.literal_search.specs.Inside.Leftmost.{AreLanes, AreMarksBehind, AreSteps, HasBytes, HaveRows};
+ghost use Rattle.literal_search.specs.Inside.Leftmost.{IsLimit, IsPart};
 ghost use Rattle.literal_search.specs.declared.backward.TheConstants.{MARKED};
 
-use crate::leftmost::{Block, LEAST_PART, OVERLAP, PRICE, Passed};
+use crate::leftmost::{Block, LEAST_PART, Lanes, OVERLAP, PRICE, Passed};
 use crate::prepared::{Damaged, fingerprints_in};
 use crate::walk::{ENDS, Table};
 use literal_base::count::Tally;
@@ -349,13 +351,54 @@ impl<'t> Backward<'t> {
         for at in (block.start..block.end).rev() {
             let code = self.step(classes, place, haystack, at, limit, tally)?;
             numbers[at - block.start] = code;
-            place = (code % ENDS) as usize;
+            place = code % ENDS;
         }
         Ok(())
     }
 
-    /// Marks each place of four neighbouring parts, by four walks at once that passed through some places of each.
-    /// These places are marked. For the length that most parts have there is a loop of its own.
+    /// Marks the last places that four walks read, one of each of four neighbouring parts, and answers at which rows
+    /// the walks stand then.
+    #[inline(always)]
+    fn mark_last(
+        &self,
+        part: usize,
+        passed: Passed,
+        limit: usize,
+        marks: &mut [u32],
+    ) -> Result<Lanes, Damaged>
+        requires limit { IsLimit self.now limit }
+        requires some { 0 < passed.left }
+        requires left { passed.left ≤ part }
+        requires room { 4 * part ≤ length marks.old }
+        ensures rows { IfOk result (HaveRows limit) }
+        ensures lanes { ForBackward self.now (λ tables. (haystack : List ℕ) (span : Span) (at : ℕ)
+            → AreSteps tables haystack span at part (passed.left - 1) passed.codes
+            → IsOkAnd result (AreLanes tables haystack span at part (passed.left - 1))) }
+        ensures marks { ForBackward self.now (λ tables. (haystack : List ℕ) (span : Span) (at : ℕ)
+            → AreSteps tables haystack span at part (passed.left - 1) passed.codes
+            → AreMarksBehind tables haystack span.end marks.old at part passed.left
+            → AreMarksBehind tables haystack span.end marks.new at part (passed.left - 1)) }
+        ensures long { length marks.new ≡ length marks.old }
+    {
+        let (codes, last) = (passed.codes, passed.left - 1);
+        marks[last] = codes.first;
+        marks[last + part] = codes.second;
+        marks[last + 2 * part] = codes.third;
+        marks[last + 3 * part] = codes.fourth;
+        let lanes = Lanes {
+            first: codes.first % ENDS,
+            second: codes.second % ENDS,
+            third: codes.third % ENDS,
+            fourth: codes.fourth % ENDS,
+        };
+        if !lanes.are_rows(limit) {
+            return Err(Damaged);
+        }
+        Ok(lanes)
+    }
+
+    /// Marks each place of four neighbouring parts that is left, by four walks at once. The others are marked. For the
+    /// length that most parts have there is a loop of its own.
     #[inline(never)]
     fn mark_in_four(
         &self,
@@ -364,7 +407,8 @@ impl<'t> Backward<'t> {
         span: Span,
         at: usize,
         part: usize,
-        passed: Passed,
+        left: usize,
+        lanes: Lanes,
         limit: usize,
         marks: &mut [u32],
         tally: &mut Tally,
@@ -372,26 +416,25 @@ impl<'t> Backward<'t> {
         requires safe { IsSafe self.now }
         requires same { HasBytes self.now classes.now }
         requires limit { IsLimit self.now limit }
-        requires rows { HaveRows limit passed.lanes }
+        requires rows { HaveRows limit lanes }
         requires valid { IsValidSpan haystack.now span }
         requires inside { at + 4 * part ≤ span.end }
-        requires left { passed.left ≤ part }
+        requires left { left ≤ part }
         requires room { 4 * part ≤ length marks.old }
-        ensures marks { ForBackward self.now (λ tables.
-            AreLanes tables haystack.now span at part passed.left passed.lanes
-            → AreMarksBehind tables haystack.now span.end marks.old at part passed.left
+        ensures marks { ForBackward self.now (λ tables. AreLanes tables haystack.now span at part left lanes
+            → AreMarksBehind tables haystack.now span.end marks.old at part left
             → IsOkAnd result (λ _. AreMarks tables haystack.now span.end marks.new at at (at + 4 * part))) }
         ensures others { tally.new ≡ record tally.old { scanned = tally.new.scanned } }
-        ensures most { tally.new.scanned ≤ tally.old.scanned + 4 * passed.left }
-        ensures all { IfOk result (λ _. tally.new.scanned ≡ tally.old.scanned + 4 * passed.left) }
+        ensures most { tally.new.scanned ≤ tally.old.scanned + 4 * left }
+        ensures all { IfOk result (λ _. tally.new.scanned ≡ tally.old.scanned + 4 * left) }
     {
         if part == MARKED {
             return self.mark_parts(
-                classes, haystack, span, at, MARKED, passed, limit, marks, tally,
+                classes, haystack, span, at, MARKED, left, lanes, limit, marks, tally,
             );
         }
         self.mark_parts(
-            classes, haystack, span, at, part, passed, limit, marks, tally,
+            classes, haystack, span, at, part, left, lanes, limit, marks, tally,
         )
     }
 
@@ -404,7 +447,8 @@ impl<'t> Backward<'t> {
         span: Span,
         at: usize,
         part: usize,
-        passed: Passed,
+        left: usize,
+        lanes: Lanes,
         limit: usize,
         marks: &mut [u32],
         tally: &mut Tally,
@@ -412,36 +456,35 @@ impl<'t> Backward<'t> {
         requires safe { IsSafe self.now }
         requires same { HasBytes self.now classes.now }
         requires limit { IsLimit self.now limit }
-        requires rows { HaveRows limit passed.lanes }
+        requires rows { HaveRows limit lanes }
         requires valid { IsValidSpan haystack.now span }
         requires inside { at + 4 * part ≤ span.end }
-        requires left { passed.left ≤ part }
+        requires left { left ≤ part }
         requires room { 4 * part ≤ length marks.old }
-        ensures marks { ForBackward self.now (λ tables.
-            AreLanes tables haystack.now span at part passed.left passed.lanes
-            → AreMarksBehind tables haystack.now span.end marks.old at part passed.left
+        ensures marks { ForBackward self.now (λ tables. AreLanes tables haystack.now span at part left lanes
+            → AreMarksBehind tables haystack.now span.end marks.old at part left
             → IsOkAnd result (λ _. AreMarks tables haystack.now span.end marks.new at at (at + 4 * part))) }
         ensures others { tally.new ≡ record tally.old { scanned = tally.new.scanned } }
-        ensures most { tally.new.scanned ≤ tally.old.scanned + 4 * passed.left }
-        ensures all { IfOk result (λ _. tally.new.scanned ≡ tally.old.scanned + 4 * passed.left) }
+        ensures most { tally.new.scanned ≤ tally.old.scanned + 4 * left }
+        ensures all { IfOk result (λ _. tally.new.scanned ≡ tally.old.scanned + 4 * left) }
     {
-        let (mut first, mut second) = (passed.lanes.first, passed.lanes.second);
-        let (mut third, mut fourth) = (passed.lanes.third, passed.lanes.fourth);
+        let (mut first, mut second) = (lanes.first, lanes.second);
+        let (mut third, mut fourth) = (lanes.third, lanes.fourth);
         let search = *self; // (a copy: what is written to the marks does not change it)
-        for step in (0..passed.left).rev() {
+        for step in (0..left).rev() {
             let here = at + step;
             let one = search.step(classes, first, haystack, here, limit, tally)?;
             marks[step] = one;
-            first = (one % ENDS) as usize;
+            first = one % ENDS;
             let two = search.step(classes, second, haystack, here + part, limit, tally)?;
             marks[step + part] = two;
-            second = (two % ENDS) as usize;
+            second = two % ENDS;
             let three = search.step(classes, third, haystack, here + 2 * part, limit, tally)?;
             marks[step + 2 * part] = three;
-            third = (three % ENDS) as usize;
+            third = three % ENDS;
             let four = search.step(classes, fourth, haystack, here + 3 * part, limit, tally)?;
             marks[step + 3 * part] = four;
-            fourth = (four % ENDS) as usize;
+            fourth = four % ENDS;
         }
         Ok(())
     }
@@ -486,8 +529,10 @@ impl<'t> Backward<'t> {
         let mut upto = from;
         if passed.left > 0 {
             clear(numbers, 4 * part);
+            let lanes = self.mark_last(part, passed, limit, numbers)?;
+            let left = passed.left - 1;
             self.mark_in_four(
-                classes, haystack, span, from, part, passed, limit, numbers, tally,
+                classes, haystack, span, from, part, left, lanes, limit, numbers, tally,
             )?;
             upto = known;
         }

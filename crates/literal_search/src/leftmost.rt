@@ -1,7 +1,7 @@
 //! The leftmost match of a span, by walks from the right by an automaton of the reversed patterns. No memory is asked
 //! for. The numbers may be lent, and so any: they are damaged where one leads out of the rows.
 ghost use Rattle.std.specs.Prelude.{◌≡◌, ◌⊎◌, ◌+◌, ◌-◌, ◌*◌, ◌/◌, ◌<◌, ◌≤◌, ◌^◌, ◌%◌, ℕ, length, max, min};
-ghost use Rattle.std.specs.Prelude.{IfOk, IfSome, IsNone, IsTrue, MatchOption, Some, ◌↔◌};
+ghost use Rattle.std.specs.Prelude.{IfOk, IfSome, IsNone, IsTrue, List, MatchOption, Some, ◌↔◌};
 ghost use Rattle.std.specs.Result.{IsOkAnd};
 ghost use Rattle.literal_base.specs.Leftmost.{IsLeftmost};
 ghost use Rattle.literal_base.specs.Occurs.{IsValidSpan, between, rest_from};
@@ -9,7 +9,7 @@ ghost use Rattle.literal_base.specs.declared.search.Span.{Span};
 ghost use Rattle.literal_search.specs.At.{IsMatchAt};
 ghost use Rattle.literal_search.specs.Inside.Backward.{ForBackward, IsMatchBy};
 ghost use Rattle.literal_search.specs.Inside.Backward.{IsSafe, NoneFrom};
-ghost use Rattle.literal_search.specs.Inside.Leftmost.{AreLanes, HasBytes, HavePassed, HaveRows, IsFirstBegun};
+ghost use Rattle.literal_search.specs.Inside.Leftmost.{AreLanes, AreSteps, HasBytes, HavePassed, HaveRows, IsFirstBegun};
 ghost use Rattle.literal_search.specs.Inside.Leftmost.{IsFourParts, NoneBehind};
 ghost use Rattle.literal_search.specs.Inside.Leftmost.{IsLane, IsLed};
 ghost use Rattle.literal_search.specs.Inside.Leftmost.{IsFront, IsLimit, IsPaid, IsPart, IsStep, LiesInPart, ReadsFor};
@@ -42,22 +42,24 @@ const MOST_CREDIT: usize = 2048;
 /// Fingerprints look up at most this many bytes more than they pass over.
 pub(crate) const OVERLAP: usize = 19;
 
-/// At which rows four walks stand, each in one of four neighbouring parts of a span.
+/// At which rows four walks stand, each in one of four neighbouring parts of a span, or the numbers that they read last.
 #[derive(Clone, Copy)]
 pub struct Lanes {
-    pub first: usize,
-    pub second: usize,
-    pub third: usize,
-    pub fourth: usize,
+    pub first: u32,
+    pub second: u32,
+    pub third: u32,
+    pub fourth: u32,
 }
 
 impl Lanes {
     /// Whether all four are rows below a limit.
     #[inline(always)]
-    fn are_rows(&self, limit: usize) -> bool
+    pub(crate) fn are_rows(&self, limit: usize) -> bool
         ensures { IsTrue result ↔ HaveRows limit self.now }
     {
-        self.first < limit && self.second < limit && self.third < limit && self.fourth < limit
+        let (first, second) = (self.first as usize, self.second as usize);
+        let (third, fourth) = (self.third as usize, self.fourth as usize);
+        first < limit && second < limit && third < limit && fourth < limit
     }
 }
 
@@ -72,9 +74,11 @@ pub struct Led {
 /// How far four walks have gone through their parts.
 #[derive(Clone, Copy)]
 pub struct Passed {
-    /// The number of places of each part before which its walk stands.
+    /// The number of places of each part that are left, with the one that was read last; and 0 if nothing begins in
+    /// the parts.
     pub left: usize,
-    pub lanes: Lanes,
+    /// The numbers that the walks read last.
+    pub codes: Lanes,
 }
 
 /// A block of a span through which four walks go at once.
@@ -112,7 +116,7 @@ impl<'t> Backward<'t> {
     pub(crate) fn step(
         &self,
         classes: &[u8; 256],
-        place: usize,
+        place: u32,
         haystack: &[u8],
         at: usize,
         limit: usize,
@@ -129,7 +133,9 @@ impl<'t> Backward<'t> {
         ensures leads { IfOk result (λ code. code % 2 ^ 31 < limit) }
         ensures ticks { tally.new ≡ record tally.old { scanned = tally.old.scanned + 1 } }
     {
-        let code = self.table.code_by(classes, place, haystack, at, tally);
+        let code = self
+            .table
+            .code_by(classes, place as usize, haystack, at, tally);
         if (code % ENDS) as usize >= limit {
             return Err(Damaged);
         }
@@ -141,13 +147,13 @@ impl<'t> Backward<'t> {
     fn follow(
         &self,
         classes: &[u8; 256],
-        place: usize,
+        place: u32,
         haystack: &[u8],
         at: usize,
         limit: usize,
         begun: &mut Option<Begun>,
         tally: &mut Tally,
-    ) -> Result<usize, Damaged>
+    ) -> Result<u32, Damaged>
         requires safe { IsSafe self.now }
         requires same { HasBytes self.now classes.now }
         requires limit { IsLimit self.now limit }
@@ -166,12 +172,37 @@ impl<'t> Backward<'t> {
         ensures leads { IfOk result (λ on. on < limit) }
         ensures ticks { tally.new ≡ record tally.old { scanned = tally.old.scanned + 1 } }
     {
-        let code = self.table.code_by(classes, place, haystack, at, tally);
+        let code = self
+            .table
+            .code_by(classes, place as usize, haystack, at, tally);
+        self.go_on(code, at, limit, begun)
+    }
+
+    /// Where a walk goes on that read a number for the byte at a place. If a pattern begins there, that is noted.
+    #[inline(always)]
+    fn go_on(
+        &self,
+        code: u32,
+        at: usize,
+        limit: usize,
+        begun: &mut Option<Begun>,
+    ) -> Result<u32, Damaged>
+        requires limit { IsLimit self.now limit }
+        ensures lane { ForBackward self.now (λ tables. (haystack : List ℕ) (span : Span) (end to : ℕ) → to ≡ at
+            → IsStep tables haystack span end to code → IsOkAnd result (IsLane tables haystack span end to)) }
+        ensures first { ForBackward self.now (λ tables. (haystack : List ℕ) (span : Span) (end next to upto : ℕ)
+            → next ≡ at + 1 → to ≡ at → at < end → IsStep tables haystack span end to code
+            → IsFirstBegun tables haystack span.end (between next upto) begun.old
+            → IsFirstBegun tables haystack span.end (between to upto) begun.new) }
+        ensures lies { (next to upto : ℕ) → next ≡ at + 1 → to ≡ at → at < upto → LiesInPart next upto begun.old
+            → LiesInPart to upto begun.new }
+        ensures leads { IfOk result (λ on. on < limit) }
+    {
         if (code as usize) < limit {
-            return Ok(code as usize);
+            return Ok(code);
         }
-        let on = (code % ENDS) as usize;
-        if on >= limit {
+        let on = code % ENDS;
+        if on as usize >= limit {
             return Err(Damaged);
         }
         *begun = Some(Begun { at, code });
@@ -187,7 +218,7 @@ impl<'t> Backward<'t> {
         end: usize,
         limit: usize,
         tally: &mut Tally,
-    ) -> Result<usize, Damaged>
+    ) -> Result<u32, Damaged>
         requires safe { IsSafe self.now }
         requires same { HasBytes self.now classes.now }
         requires limit { IsLimit self.now limit }
@@ -206,12 +237,13 @@ impl<'t> Backward<'t> {
         let mut place = 0;
         for at in (end..from).rev() {
             let code = self.step(classes, place, haystack, at, limit, tally)?;
-            place = (code % ENDS) as usize;
+            place = code % ENDS;
         }
         Ok(place)
     }
 
-    /// The first place of a part of a span at which a pattern begins, by a walk that stands at the part's end.
+    /// The first place at which a pattern begins of a part of a span, and of what is known to begin behind it, by a walk
+    /// that stands at the part's end.
     #[inline(always)]
     fn first_in(
         &self,
@@ -219,7 +251,8 @@ impl<'t> Backward<'t> {
         haystack: &[u8],
         span: Span,
         part: Span,
-        from: usize,
+        from: u32,
+        behind: Option<Begun>,
         limit: usize,
         tally: &mut Tally,
     ) -> Result<Option<Begun>, Damaged>
@@ -229,15 +262,18 @@ impl<'t> Backward<'t> {
         requires valid { IsValidSpan haystack.now span }
         requires part { IsPart span part }
         requires row { from < limit }
-        ensures first { ForBackward self.now (λ tables. IsLane tables haystack.now span part.end part.end from
-            → IsOkAnd result (IsFirstBegun tables haystack.now span.end part)) }
-        ensures inside { IfOk result (LiesInPart part.start part.end) }
+        ensures first { ForBackward self.now (λ tables. (end upto : ℕ) → part.end ≤ end
+            → IsLane tables haystack.now span end part.end from
+            → IsFirstBegun tables haystack.now span.end (between part.end upto) behind
+            → IsOkAnd result (IsFirstBegun tables haystack.now span.end (between part.start upto))) }
+        ensures inside { (upto : ℕ) → part.end ≤ upto → LiesInPart part.end upto behind
+            → IfOk result (LiesInPart part.start upto) }
         ensures others { tally.new ≡ record tally.old { scanned = tally.new.scanned } }
         ensures most { tally.new.scanned + part.start ≤ tally.old.scanned + part.end }
         ensures all { IfOk result (λ _. tally.new.scanned + part.start ≡ tally.old.scanned + part.end) }
     {
         let mut place = from;
-        let mut first = None;
+        let mut first = behind;
         for at in (part.start..part.end).rev() {
             place = self.follow(classes, place, haystack, at, limit, &mut first, tally)?;
         }
@@ -273,7 +309,7 @@ impl<'t> Backward<'t> {
             end: at + 1,
         };
         let place = self.walk_back(classes, haystack, span, part.end, limit, tally)?;
-        self.first_in(classes, haystack, span, part, place, limit, tally)
+        self.first_in(classes, haystack, span, part, place, None, limit, tally)
     }
 
     /// A place of a span, or its end, before which no pattern begins, by the fingerprints, if there are any.
@@ -350,7 +386,7 @@ impl<'t> Backward<'t> {
     }
 
     /// The same walks through the parts, up to the first step at which a number does not lead on: where a pattern
-    /// begins, or where it is damaged. They stop before that step. For the lengths that most parts have there is a loop
+    /// begins, or where it is damaged. They stop with that step. For the lengths that most parts have there is a loop
     /// of its own, in which no register holds the length.
     #[inline(never)]
     pub(crate) fn pass_in_four(
@@ -370,7 +406,7 @@ impl<'t> Backward<'t> {
         requires rows { HaveRows limit lanes }
         requires valid { IsValidSpan haystack.now span }
         requires inside { at + 4 * part ≤ span.end }
-        ensures { HavePassed self.now haystack.now span at part lanes limit tally.old tally.new result }
+        ensures { HavePassed self.now haystack.now span at part lanes tally.old tally.new result }
     {
         match part {
             MARKED => { self.pass_parts(classes, haystack, span, at, MARKED, lanes, limit, tally) }
@@ -398,55 +434,36 @@ impl<'t> Backward<'t> {
         requires rows { HaveRows limit lanes }
         requires valid { IsValidSpan haystack.now span }
         requires inside { at + 4 * part ≤ span.end }
-        ensures left { result.left ≤ part }
-        ensures rows { HaveRows limit result.lanes }
-        ensures lanes { ForBackward self.now (λ tables. AreLanes tables haystack.now span at part part lanes
-            → AreLanes tables haystack.now span at part result.left result.lanes) }
-        ensures none { ForBackward self.now (λ tables. AreLanes tables haystack.now span at part part lanes
-            → NoneBehind tables haystack.now span.end at part result.left) }
-        ensures some { 0 < result.left → ForBackward self.now (λ tables.
-            AreLanes tables haystack.now span at part part lanes
-            → ¬ NoneFrom tables haystack.now span.end at (at + 4 * part)) }
-        ensures others { tally.new ≡ record tally.old { scanned = tally.new.scanned } }
-        ensures most { tally.new.scanned ≤ tally.old.scanned + 4 * part }
-        ensures least { tally.old.scanned + 4 * (part - result.left) ≤ tally.new.scanned }
-        ensures all { result.left ≡ 0 → tally.new.scanned ≡ tally.old.scanned + 4 * part }
+        ensures { HavePassed self.now haystack.now span at part lanes tally.old tally.new result }
     {
         let mut now = lanes;
         for step in 0..part {
-            let here = at + (part - 1 - step);
-            let first = self
-                .table
-                .next_at(classes, now.first, haystack, here, tally);
-            let second = self
-                .table
-                .next_at(classes, now.second, haystack, here + part, tally);
-            let third = self
-                .table
-                .next_at(classes, now.third, haystack, here + 2 * part, tally);
-            let fourth = self
-                .table
-                .next_at(classes, now.fourth, haystack, here + 3 * part, tally);
-            let next = Lanes {
+            let left = part - step;
+            let here = at + (left - 1);
+            let (two, three, four) = (here + part, here + 2 * part, here + 3 * part);
+            let table = &self.table;
+            let first = table.code_by(classes, now.first as usize, haystack, here, tally);
+            let second = table.code_by(classes, now.second as usize, haystack, two, tally);
+            let third = table.code_by(classes, now.third as usize, haystack, three, tally);
+            let fourth = table.code_by(classes, now.fourth as usize, haystack, four, tally);
+            now = Lanes {
                 first,
                 second,
                 third,
                 fourth,
             };
-            if !next.are_rows(limit) {
-                let left = part - step;
-                return Passed { left, lanes: now };
+            if !now.are_rows(limit) {
+                return Passed { left, codes: now };
             }
-            now = next;
         }
         Passed {
             left: 0,
-            lanes: now,
+            codes: now,
         }
     }
 
-    /// The first place of four neighbouring parts at which a pattern begins, by four walks that passed through some
-    /// places of each. Each is followed alone, from the left, up to the one that finds something.
+    /// The first place of four neighbouring parts at which a pattern begins, by four walks that stopped at some place of
+    /// each. Each is followed alone, from the left, up to the one that finds something.
     #[inline(never)]
     fn first_of_lanes(
         &self,
@@ -462,52 +479,84 @@ impl<'t> Backward<'t> {
         requires safe { IsSafe self.now }
         requires same { HasBytes self.now classes.now }
         requires limit { IsLimit self.now limit }
-        requires rows { HaveRows limit passed.lanes }
         requires valid { IsValidSpan haystack.now span }
         requires after { span.start ≤ at }
         requires inside { at + 4 * part ≤ span.end }
+        requires some { 0 < passed.left }
         requires left { passed.left ≤ part }
         ensures first { ForBackward self.now (λ tables.
-            AreLanes tables haystack.now span at part passed.left passed.lanes
+            AreSteps tables haystack.now span at part (passed.left - 1) passed.codes
             → NoneBehind tables haystack.now span.end at part passed.left
             → IsOkAnd result (IsFirstBegun tables haystack.now span.end (between at (at + 4 * part)))) }
         ensures inside { IfOk result (LiesInPart at (at + 4 * part)) }
         ensures others { tally.new ≡ record tally.old { scanned = tally.new.scanned } }
-        ensures most { tally.new.scanned ≤ tally.old.scanned + 4 * passed.left }
+        ensures most { tally.new.scanned ≤ tally.old.scanned + 4 * (passed.left - 1) }
         ensures least { IfOk result (λ first. IfSome first
-            (λ begun. tally.old.scanned + begun.at < tally.new.scanned + at + 3 * (part - passed.left))) }
+            (λ begun. tally.old.scanned + begun.at ≤ tally.new.scanned + at + 3 * (part - (passed.left - 1)))) }
     {
-        let (lanes, left) = (passed.lanes, passed.left);
+        let (codes, last) = (passed.codes, passed.left - 1);
         let (two, three, four) = (at + part, at + 2 * part, at + 3 * part);
         let part = Span {
             start: at,
-            end: at + left,
+            end: at + last,
         };
-        let first = self.first_in(classes, haystack, span, part, lanes.first, limit, tally)?;
+        let first = self.first_before(classes, haystack, span, part, codes.first, limit, tally)?;
         if first.is_some() {
             return Ok(first);
         }
         let part = Span {
             start: two,
-            end: two + left,
+            end: two + last,
         };
-        let first = self.first_in(classes, haystack, span, part, lanes.second, limit, tally)?;
+        let first = self.first_before(classes, haystack, span, part, codes.second, limit, tally)?;
         if first.is_some() {
             return Ok(first);
         }
         let part = Span {
             start: three,
-            end: three + left,
+            end: three + last,
         };
-        let first = self.first_in(classes, haystack, span, part, lanes.third, limit, tally)?;
+        let first = self.first_before(classes, haystack, span, part, codes.third, limit, tally)?;
         if first.is_some() {
             return Ok(first);
         }
         let part = Span {
             start: four,
-            end: four + left,
+            end: four + last,
         };
-        self.first_in(classes, haystack, span, part, lanes.fourth, limit, tally)
+        self.first_before(classes, haystack, span, part, codes.fourth, limit, tally)
+    }
+
+    /// The first place of a part of a span at which a pattern begins, or the place behind it if one begins there, by a
+    /// walk that read a number for that place.
+    #[inline(always)]
+    fn first_before(
+        &self,
+        classes: &[u8; 256],
+        haystack: &[u8],
+        span: Span,
+        part: Span,
+        code: u32,
+        limit: usize,
+        tally: &mut Tally,
+    ) -> Result<Option<Begun>, Damaged>
+        requires safe { IsSafe self.now }
+        requires same { HasBytes self.now classes.now }
+        requires limit { IsLimit self.now limit }
+        requires valid { IsValidSpan haystack.now span }
+        requires part { IsPart span part }
+        ensures first { ForBackward self.now (λ tables. (end upto : ℕ) → part.end < end
+            → IsStep tables haystack.now span end part.end code
+            → NoneFrom tables haystack.now span.end (part.end + 1) upto
+            → IsOkAnd result (IsFirstBegun tables haystack.now span.end (between part.start upto))) }
+        ensures inside { IfOk result (LiesInPart part.start (part.end + 1)) }
+        ensures others { tally.new ≡ record tally.old { scanned = tally.new.scanned } }
+        ensures most { tally.new.scanned + part.start ≤ tally.old.scanned + part.end }
+        ensures all { IfOk result (λ _. tally.new.scanned + part.start ≡ tally.old.scanned + part.end) }
+    {
+        let mut behind = None;
+        let place = self.go_on(code, part.end, limit, &mut behind)?;
+        self.first_in(classes, haystack, span, part, place, behind, limit, tally)
     }
 
     /// The first place of a block at which a pattern begins, by four walks at once, and where these find something by
@@ -725,7 +774,7 @@ impl<'t> Backward<'t> {
             start: front.at,
             end: span.end,
         };
-        self.first_in(classes, haystack, span, rest, 0, limit, tally)
+        self.first_in(classes, haystack, span, rest, 0, None, limit, tally)
     }
 
     /// The leftmost match of a span.

@@ -85,21 +85,24 @@ pub record NoneBehind (p : BackTables) (haystack : List ℕ) (end at part left :
   pub third : NoneFrom p haystack end (at + 2 * part + left) (at + 3 * part)
   pub fourth : NoneFrom p haystack end (at + 3 * part + left) (at + 4 * part)
 
+-- four walks have each read a number for the byte before so many places of its part
+pub record AreSteps (p : BackTables) (haystack : List ℕ) (span : Span) (at part left : ℕ) (codes : Lanes) : Type 0 where
+  pub first : IsStep p haystack span (at + part) (at + left) codes.first
+  pub second : IsStep p haystack span (at + 2 * part) (at + part + left) codes.second
+  pub third : IsStep p haystack span (at + 3 * part) (at + 2 * part + left) codes.third
+  pub fourth : IsStep p haystack span (at + 4 * part) (at + 3 * part + left) codes.fourth
+
 -- four walks passed through four neighbouring parts, up to where something begins in them, or to their starts
-pub record HavePassed (b : Backward) (haystack : List ℕ) (span : Span) (at part : ℕ) (begin : Lanes) (limit : ℕ)
+pub record HavePassed (b : Backward) (haystack : List ℕ) (span : Span) (at part : ℕ) (begin : Lanes)
     (old new : Counts) (passed : Passed) : Type 0 where
   pub left : passed.left ≤ part
-  pub rows : HaveRows limit passed.lanes
-  pub lanes : ForBackward b (λ tables. AreLanes tables haystack span at part part begin
-      → AreLanes tables haystack span at part passed.left passed.lanes)
+  pub steps : 0 < passed.left → ForBackward b (λ tables. AreLanes tables haystack span at part part begin
+      → AreSteps tables haystack span at part (passed.left - 1) passed.codes)
   pub none : ForBackward b (λ tables. AreLanes tables haystack span at part part begin
       → NoneBehind tables haystack span.end at part passed.left)
   pub some : 0 < passed.left → ForBackward b (λ tables. AreLanes tables haystack span at part part begin
       → ¬ NoneFrom tables haystack span.end at (at + 4 * part))
-  pub others : new ≡ record old { scanned = new.scanned }
-  pub most : new.scanned ≤ old.scanned + 4 * part
-  pub least : old.scanned + 4 * (part - passed.left) ≤ new.scanned
-  pub all : passed.left ≡ 0 → new.scanned ≡ old.scanned + 4 * part
+  pub counted : new ≡ record old { scanned = old.scanned + 4 * (part - (passed.left - 1)) }
 
 -- of each place of four neighbouring parts behind as many bytes of each there is a mark, in a list that has that of the
 -- first of these places first

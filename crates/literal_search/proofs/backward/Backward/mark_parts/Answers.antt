@@ -5,7 +5,8 @@ use Rattle.literal_base.specs.Counts.{Counts}
 use Rattle.literal_search.specs.Inside.Backward.{AreBackFor, back_tables_by}
 use Rattle.literal_search.specs.Inside.Leftmost.{AreLanes, AreMarksBehind, IsStep}
 use Rattle.literal_search.specs.SearchValue.{SearchValue}
-use Rattle.literal_search.proofs.lemmas.Leftmost.{marks_kept, marks_of_four, marks_on, one_more}
+use Rattle.literal_search.specs.declared.leftmost.Lanes.{Lanes}
+use Rattle.literal_search.proofs.lemmas.Leftmost.{marks_in_four, marks_of_four, one_more}
 use Rattle.literal_search.proofs.backward.Backward.mark_parts.Goals as goal
 
 pub returns-in_err-one-clause-marks : goal.returns-in_err-one-clause-marks
@@ -46,7 +47,7 @@ loop-step-preserved c =
     let end = span.end in
     let at = c.args.at in
     let part = c.args.part in
-    let left = c.args.passed.left in
+    let left = c.args.left in
     let next = c.loop-step.step in
     let step = next - 1 in
     let valid = c.requires.valid.in_haystack in
@@ -61,7 +62,13 @@ loop-step-preserved c =
     let long2 : length marks2 ≡ length marks0 = length-set marks1 (step + part) c.in_ok-two.two ∙ long1 in
     let long3 : length marks3 ≡ length marks0 = length-set marks2 (step + 2 * part) c.in_ok-three.three ∙ long2 in
     let tables = λ (search : SearchValue). back_tables_by search c.args.self.now in
-    let Start = λ (search : SearchValue). AreLanes (tables search) haystack span at part left c.args.passed.lanes in
+    let codes : Lanes = record {
+      first = c.in_ok-one.one;
+      second = c.in_ok-two.two;
+      third = c.in_ok-three.three;
+      fourth = c.in_ok-four.four;
+    } in
+    let Start = λ (search : SearchValue). AreLanes (tables search) haystack span at part left c.args.lanes in
     let one : (search : SearchValue) → AreBackFor search c.args.self.now → Start search
     → IsStep (tables search) haystack span (at + part) (at + step) c.in_ok-one.one =
     λ search is lanes. c.in_ok-one.ensures.step search is span (at + part) (at + next) (at + step) valid (omega arith)
@@ -97,53 +104,13 @@ loop-step-preserved c =
         fourth = (four search is lanes).lane;
       };
       marks = λ search is lanes marked.
-          let p = tables search in
-          let are = so_far.marks search is lanes marked in
-          record {
-            first =
-                marks_kept p haystack end marks3 at (at + step) (at + part) (step + 3 * part) c.in_ok-four.four
-                (omega arith) (inr (omega arith))
-                (marks_kept p haystack end marks2 at (at + step) (at + part) (step + 2 * part) c.in_ok-three.three
-                (omega arith) (inr (omega arith))
-                (marks_kept p haystack end marks1 at (at + step) (at + part) (step + part) c.in_ok-two.two (omega arith)
-                (inr (omega arith))
-                (marks_on p haystack end marks0 at (at + step) (at + next) (at + part) step c.in_ok-one.one (omega
-                arith)
-                (omega arith) (omega arith) (omega (arith, room, before))
-                ((one search is lanes).mark (omega (arith, before))) are.first)));
-            second =
-                marks_kept p haystack end marks3 at (at + part + step) (at + 2 * part) (step + 3 * part)
-                c.in_ok-four.four
-                (omega arith) (inr (omega arith))
-                (marks_kept p haystack end marks2 at (at + part + step) (at + 2 * part) (step + 2 * part)
-                c.in_ok-three.three (omega arith) (inr (omega arith))
-                (marks_on p haystack end marks1 at (at + part + step) (at + part + next) (at + 2 * part) (step + part)
-                c.in_ok-two.two (omega arith) (omega arith) (omega arith) (omega (arith, room, before, long1))
-                ((two search is lanes).mark (omega (arith, before)))
-                (marks_kept p haystack end marks0 at (at + part + next) (at + 2 * part) step c.in_ok-one.one (omega
-                arith)
-                (inl (omega (arith, before))) are.second)));
-            third =
-                marks_kept p haystack end marks3 at (at + 2 * part + step) (at + 3 * part) (step + 3 * part)
-                c.in_ok-four.four (omega arith) (inr (omega arith))
-                (marks_on p haystack end marks2 at (at + 2 * part + step) (at + 2 * part + next) (at + 3 * part)
-                (step + 2 * part) c.in_ok-three.three (omega arith) (omega arith) (omega arith)
-                (omega (arith, room, before, long2)) ((three search is lanes).mark (omega (arith, before)))
-                (marks_kept p haystack end marks1 at (at + 2 * part + next) (at + 3 * part) (step + part)
-                c.in_ok-two.two (omega arith) (inl (omega (arith, before)))
-                (marks_kept p haystack end marks0 at (at + 2 * part + next) (at + 3 * part) step c.in_ok-one.one
-                (omega arith) (inl (omega (arith, before))) are.third)));
-            fourth =
-                marks_on p haystack end marks3 at (at + 3 * part + step) (at + 3 * part + next) (at + 4 * part)
-                (step + 3 * part) c.in_ok-four.four (omega arith) (omega arith) (omega arith)
-                (omega (arith, room, before, long3)) ((four search is lanes).mark (omega (arith, before)))
-                (marks_kept p haystack end marks2 at (at + 3 * part + next) (at + 4 * part) (step + 2 * part)
-                c.in_ok-three.three (omega arith) (inl (omega (arith, before)))
-                (marks_kept p haystack end marks1 at (at + 3 * part + next) (at + 4 * part) (step + part)
-                c.in_ok-two.two (omega arith) (inl (omega (arith, before)))
-                (marks_kept p haystack end marks0 at (at + 3 * part + next) (at + 4 * part) step c.in_ok-one.one
-                (omega arith) (inl (omega (arith, before))) are.fourth)));
-          };
+          marks_in_four (tables search) haystack span at part step next marks0 codes (omega arith)
+          (omega (arith, before, c.requires.left)) room (record {
+            first = one search is lanes;
+            second = two search is lanes;
+            third = three search is lanes;
+            fourth = four search is lanes;
+          }) (so_far.marks search is lanes marked);
       counted = c.in_ok-four.ensures.ticks
           ∙ (one_more _ _ (c.in_ok-three.ensures.ticks
           ∙ one_more _ _ (c.in_ok-two.ensures.ticks
