@@ -351,7 +351,7 @@ impl<'t> Backward<'t> {
         for at in (block.start..block.end).rev() {
             let code = self.step(classes, place, haystack, at, limit, tally)?;
             numbers[at - block.start] = code;
-            place = code % ENDS;
+            place = (code % ENDS) as usize;
         }
         Ok(())
     }
@@ -369,6 +369,7 @@ impl<'t> Backward<'t> {
         requires limit { IsLimit self.now limit }
         requires some { 0 < passed.left }
         requires left { passed.left ≤ part }
+        requires fits { HaveRows (2 ^ 32) passed.codes }
         requires room { 4 * part ≤ length marks.old }
         ensures rows { IfOk result (HaveRows limit) }
         ensures lanes { ForBackward self.now (λ tables. (haystack : List ℕ) (span : Span) (at : ℕ)
@@ -380,16 +381,18 @@ impl<'t> Backward<'t> {
             → AreMarksBehind tables haystack span.end marks.new at part (passed.left - 1)) }
         ensures long { length marks.new ≡ length marks.old }
     {
-        let (codes, last) = (passed.codes, passed.left - 1);
-        marks[last] = codes.first;
-        marks[last + part] = codes.second;
-        marks[last + 2 * part] = codes.third;
-        marks[last + 3 * part] = codes.fourth;
+        let last = passed.left - 1;
+        let (first, second) = (passed.codes.first as u32, passed.codes.second as u32);
+        let (third, fourth) = (passed.codes.third as u32, passed.codes.fourth as u32);
+        marks[last] = first;
+        marks[last + part] = second;
+        marks[last + 2 * part] = third;
+        marks[last + 3 * part] = fourth;
         let lanes = Lanes {
-            first: codes.first % ENDS,
-            second: codes.second % ENDS,
-            third: codes.third % ENDS,
-            fourth: codes.fourth % ENDS,
+            first: (first % ENDS) as usize,
+            second: (second % ENDS) as usize,
+            third: (third % ENDS) as usize,
+            fourth: (fourth % ENDS) as usize,
         };
         if !lanes.are_rows(limit) {
             return Err(Damaged);
@@ -475,16 +478,16 @@ impl<'t> Backward<'t> {
             let here = at + step;
             let one = search.step(classes, first, haystack, here, limit, tally)?;
             marks[step] = one;
-            first = one % ENDS;
+            first = (one % ENDS) as usize;
             let two = search.step(classes, second, haystack, here + part, limit, tally)?;
             marks[step + part] = two;
-            second = two % ENDS;
+            second = (two % ENDS) as usize;
             let three = search.step(classes, third, haystack, here + 2 * part, limit, tally)?;
             marks[step + 2 * part] = three;
-            third = three % ENDS;
+            third = (three % ENDS) as usize;
             let four = search.step(classes, fourth, haystack, here + 3 * part, limit, tally)?;
             marks[step + 3 * part] = four;
-            fourth = four % ENDS;
+            fourth = (four % ENDS) as usize;
         }
         Ok(())
     }

@@ -45,10 +45,10 @@ pub(crate) const OVERLAP: usize = 19;
 /// At which rows four walks stand, each in one of four neighbouring parts of a span, or the numbers that they read last.
 #[derive(Clone, Copy)]
 pub struct Lanes {
-    pub first: u32,
-    pub second: u32,
-    pub third: u32,
-    pub fourth: u32,
+    pub first: usize,
+    pub second: usize,
+    pub third: usize,
+    pub fourth: usize,
 }
 
 impl Lanes {
@@ -57,9 +57,7 @@ impl Lanes {
     pub(crate) fn are_rows(&self, limit: usize) -> bool
         ensures { IsTrue result ↔ HaveRows limit self.now }
     {
-        let (first, second) = (self.first as usize, self.second as usize);
-        let (third, fourth) = (self.third as usize, self.fourth as usize);
-        first < limit && second < limit && third < limit && fourth < limit
+        self.first < limit && self.second < limit && self.third < limit && self.fourth < limit
     }
 }
 
@@ -116,7 +114,7 @@ impl<'t> Backward<'t> {
     pub(crate) fn step(
         &self,
         classes: &[u8; 256],
-        place: u32,
+        place: usize,
         haystack: &[u8],
         at: usize,
         limit: usize,
@@ -133,9 +131,7 @@ impl<'t> Backward<'t> {
         ensures leads { IfOk result (λ code. code % 2 ^ 31 < limit) }
         ensures ticks { tally.new ≡ record tally.old { scanned = tally.old.scanned + 1 } }
     {
-        let code = self
-            .table
-            .code_by(classes, place as usize, haystack, at, tally);
+        let code = self.table.code_by(classes, place, haystack, at, tally);
         if (code % ENDS) as usize >= limit {
             return Err(Damaged);
         }
@@ -147,13 +143,13 @@ impl<'t> Backward<'t> {
     fn follow(
         &self,
         classes: &[u8; 256],
-        place: u32,
+        place: usize,
         haystack: &[u8],
         at: usize,
         limit: usize,
         begun: &mut Option<Begun>,
         tally: &mut Tally,
-    ) -> Result<u32, Damaged>
+    ) -> Result<usize, Damaged>
         requires safe { IsSafe self.now }
         requires same { HasBytes self.now classes.now }
         requires limit { IsLimit self.now limit }
@@ -172,9 +168,7 @@ impl<'t> Backward<'t> {
         ensures leads { IfOk result (λ on. on < limit) }
         ensures ticks { tally.new ≡ record tally.old { scanned = tally.old.scanned + 1 } }
     {
-        let code = self
-            .table
-            .code_by(classes, place as usize, haystack, at, tally);
+        let code = self.table.code_by(classes, place, haystack, at, tally);
         self.go_on(code, at, limit, begun)
     }
 
@@ -186,7 +180,7 @@ impl<'t> Backward<'t> {
         at: usize,
         limit: usize,
         begun: &mut Option<Begun>,
-    ) -> Result<u32, Damaged>
+    ) -> Result<usize, Damaged>
         requires limit { IsLimit self.now limit }
         ensures lane { ForBackward self.now (λ tables. (haystack : List ℕ) (span : Span) (end to : ℕ) → to ≡ at
             → IsStep tables haystack span end to code → IsOkAnd result (IsLane tables haystack span end to)) }
@@ -199,10 +193,10 @@ impl<'t> Backward<'t> {
         ensures leads { IfOk result (λ on. on < limit) }
     {
         if (code as usize) < limit {
-            return Ok(code);
+            return Ok(code as usize);
         }
-        let on = code % ENDS;
-        if on as usize >= limit {
+        let on = (code % ENDS) as usize;
+        if on >= limit {
             return Err(Damaged);
         }
         *begun = Some(Begun { at, code });
@@ -218,7 +212,7 @@ impl<'t> Backward<'t> {
         end: usize,
         limit: usize,
         tally: &mut Tally,
-    ) -> Result<u32, Damaged>
+    ) -> Result<usize, Damaged>
         requires safe { IsSafe self.now }
         requires same { HasBytes self.now classes.now }
         requires limit { IsLimit self.now limit }
@@ -237,7 +231,7 @@ impl<'t> Backward<'t> {
         let mut place = 0;
         for at in (end..from).rev() {
             let code = self.step(classes, place, haystack, at, limit, tally)?;
-            place = code % ENDS;
+            place = (code % ENDS) as usize;
         }
         Ok(place)
     }
@@ -251,7 +245,7 @@ impl<'t> Backward<'t> {
         haystack: &[u8],
         span: Span,
         part: Span,
-        from: u32,
+        from: usize,
         behind: Option<Begun>,
         limit: usize,
         tally: &mut Tally,
@@ -437,15 +431,15 @@ impl<'t> Backward<'t> {
         ensures { HavePassed self.now haystack.now span at part lanes tally.old tally.new result }
     {
         let mut now = lanes;
+        let table = &self.table;
         for step in 0..part {
             let left = part - step;
             let here = at + (left - 1);
             let (two, three, four) = (here + part, here + 2 * part, here + 3 * part);
-            let table = &self.table;
-            let first = table.code_by(classes, now.first as usize, haystack, here, tally);
-            let second = table.code_by(classes, now.second as usize, haystack, two, tally);
-            let third = table.code_by(classes, now.third as usize, haystack, three, tally);
-            let fourth = table.code_by(classes, now.fourth as usize, haystack, four, tally);
+            let first = table.next_at(classes, now.first, haystack, here, tally);
+            let second = table.next_at(classes, now.second, haystack, two, tally);
+            let third = table.next_at(classes, now.third, haystack, three, tally);
+            let fourth = table.next_at(classes, now.fourth, haystack, four, tally);
             now = Lanes {
                 first,
                 second,
@@ -484,6 +478,7 @@ impl<'t> Backward<'t> {
         requires inside { at + 4 * part ≤ span.end }
         requires some { 0 < passed.left }
         requires left { passed.left ≤ part }
+        requires fits { HaveRows (2 ^ 32) passed.codes }
         ensures first { ForBackward self.now (λ tables.
             AreSteps tables haystack.now span at part (passed.left - 1) passed.codes
             → NoneBehind tables haystack.now span.end at part passed.left
@@ -536,7 +531,7 @@ impl<'t> Backward<'t> {
         haystack: &[u8],
         span: Span,
         part: Span,
-        code: u32,
+        code: usize,
         limit: usize,
         tally: &mut Tally,
     ) -> Result<Option<Begun>, Damaged>
@@ -545,6 +540,7 @@ impl<'t> Backward<'t> {
         requires limit { IsLimit self.now limit }
         requires valid { IsValidSpan haystack.now span }
         requires part { IsPart span part }
+        requires fits { code < 2 ^ 32 }
         ensures first { ForBackward self.now (λ tables. (end upto : ℕ) → part.end < end
             → IsStep tables haystack.now span end part.end code
             → NoneFrom tables haystack.now span.end (part.end + 1) upto
@@ -555,7 +551,7 @@ impl<'t> Backward<'t> {
         ensures all { IfOk result (λ _. tally.new.scanned + part.start ≡ tally.old.scanned + part.end) }
     {
         let mut behind = None;
-        let place = self.go_on(code, part.end, limit, &mut behind)?;
+        let place = self.go_on(code as u32, part.end, limit, &mut behind)?;
         self.first_in(classes, haystack, span, part, place, behind, limit, tally)
     }
 

@@ -57,7 +57,7 @@ pub record IsLimit (b : Backward) (limit : ℕ) : Type 0 where
 abbrev pub HasBytes : Backward → List ℕ → Type 0
 HasBytes b classes = classes ≡ classes_by b.table
 
--- four walks stand at rows
+-- four walks stand at rows below a limit
 pub record HaveRows (limit : ℕ) (l : Lanes) : Type 0 where
   pub first : l.first < limit
   pub second : l.second < limit
@@ -98,6 +98,7 @@ pub record HavePassed (b : Backward) (haystack : List ℕ) (span : Span) (at par
   pub left : passed.left ≤ part
   pub steps : 0 < passed.left → ForBackward b (λ tables. AreLanes tables haystack span at part part begin
       → AreSteps tables haystack span at part (passed.left - 1) passed.codes)
+  pub fits : 0 < passed.left → HaveRows (2 ^ 32) passed.codes
   pub none : ForBackward b (λ tables. AreLanes tables haystack span at part part begin
       → NoneBehind tables haystack span.end at part passed.left)
   pub some : 0 < passed.left → ForBackward b (λ tables. AreLanes tables haystack span at part part begin
