@@ -16,7 +16,7 @@ ghost use Rattle.literal_search.specs.Inside.Leftmost.{IsFront, IsLimit, IsPaid,
 ghost use Rattle.literal_search.specs.Inside.Leftmost.{AreFor, owed_by};
 ghost use Rattle.literal_search.specs.SearchValue.{LooksFor};
 
-use crate::backward::{Backward, Begun, MARKED};
+use crate::backward::{Backward, Begun};
 use crate::prepared::{Damaged, fingerprints_in};
 use crate::walk::ENDS;
 use literal_base::count::Tally;
@@ -380,38 +380,9 @@ impl<'t> Backward<'t> {
     }
 
     /// The same walks through the parts, up to the first step at which a number does not lead on: where a pattern
-    /// begins, or where it is damaged. They stop with that step. For the lengths that most parts have there is a loop
-    /// of its own, in which no register holds the length.
+    /// begins, or where it is damaged. They stop with that step.
     #[inline(never)]
     pub(crate) fn pass_in_four(
-        &self,
-        classes: &[u8; 256],
-        haystack: &[u8],
-        span: Span,
-        at: usize,
-        part: usize,
-        lanes: Lanes,
-        limit: usize,
-        tally: &mut Tally,
-    ) -> Passed
-        requires safe { IsSafe self.now }
-        requires same { HasBytes self.now classes.now }
-        requires limit { IsLimit self.now limit }
-        requires rows { HaveRows limit lanes }
-        requires valid { IsValidSpan haystack.now span }
-        requires inside { at + 4 * part ≤ span.end }
-        ensures { HavePassed self.now haystack.now span at part lanes tally.old tally.new result }
-    {
-        match part {
-            MARKED => { self.pass_parts(classes, haystack, span, at, MARKED, lanes, limit, tally) }
-            LAST => self.pass_parts(classes, haystack, span, at, LAST, lanes, limit, tally),
-            _ => self.pass_parts(classes, haystack, span, at, part, lanes, limit, tally),
-        }
-    }
-
-    /// [`Backward::pass_in_four`], by one loop.
-    #[inline(always)]
-    fn pass_parts(
         &self,
         classes: &[u8; 256],
         haystack: &[u8],

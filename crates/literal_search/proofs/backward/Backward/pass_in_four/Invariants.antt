@@ -1,7 +1,7 @@
 use Rattle.std.proofs.Common.{◌≡◌, ◌+◌, ◌-◌, ◌*◌}
 use Rattle.literal_search.specs.Inside.Backward.{ForBackward}
 use Rattle.literal_search.specs.Inside.Leftmost.{AreLanes, HaveRows, NoneBehind}
-use Rattle.literal_search.proofs.backward.Backward.pass_parts.Given as goal
+use Rattle.literal_search.proofs.backward.Backward.pass_in_four.Given as goal
 
 abbrev pub invariant-loop-step : goal.invariant-loop-step
 invariant-loop-step l = record {
