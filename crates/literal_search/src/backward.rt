@@ -471,23 +471,28 @@ impl<'t> Backward<'t> {
         ensures most { tally.new.scanned ≤ tally.old.scanned + 4 * left }
         ensures all { IfOk result (λ _. tally.new.scanned ≡ tally.old.scanned + 4 * left) }
     {
-        let (mut first, mut second) = (lanes.first, lanes.second);
-        let (mut third, mut fourth) = (lanes.third, lanes.fourth);
-        let search = *self; // (a copy: what is written to the marks does not change it)
+        let mut now = lanes;
+        let table = self.table; // (a copy: what is written to the marks does not change it)
         for step in (0..left).rev() {
             let here = at + step;
-            let one = search.step(classes, first, haystack, here, limit, tally)?;
-            marks[step] = one;
-            first = (one % ENDS) as usize;
-            let two = search.step(classes, second, haystack, here + part, limit, tally)?;
-            marks[step + part] = two;
-            second = (two % ENDS) as usize;
-            let three = search.step(classes, third, haystack, here + 2 * part, limit, tally)?;
-            marks[step + 2 * part] = three;
-            third = (three % ENDS) as usize;
-            let four = search.step(classes, fourth, haystack, here + 3 * part, limit, tally)?;
-            marks[step + 3 * part] = four;
-            fourth = (four % ENDS) as usize;
+            let (two, three, four) = (here + part, here + 2 * part, here + 3 * part);
+            let first = table.code_by(classes, now.first, haystack, here, tally);
+            marks[step] = first;
+            let second = table.code_by(classes, now.second, haystack, two, tally);
+            marks[step + part] = second;
+            let third = table.code_by(classes, now.third, haystack, three, tally);
+            marks[step + 2 * part] = third;
+            let fourth = table.code_by(classes, now.fourth, haystack, four, tally);
+            marks[step + 3 * part] = fourth;
+            now = Lanes {
+                first: (first % ENDS) as usize,
+                second: (second % ENDS) as usize,
+                third: (third % ENDS) as usize,
+                fourth: (fourth % ENDS) as usize,
+            };
+            if !now.are_rows(limit) {
+                return Err(Damaged);
+            }
         }
         Ok(())
     }

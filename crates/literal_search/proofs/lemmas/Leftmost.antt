@@ -162,6 +162,27 @@ steps_in_four p are haystack bytes span valid at part next left here now codes n
           codes.fourth (omega (arith, next_is, here_is)) (omega (arith, here_is)) lanes.fourth four;
     }
 
+-- the rows to which they lead are below the limit
+pub rows_of_steps : (b : Backward) (search : SearchValue) (haystack : List ℕ) (span : Span) (at part left limit : ℕ)
+    (codes : Lanes) → IsLimit b limit → AreSteps (back_tables_by search b) haystack span at part left codes
+    → HaveRows limit (record {
+      first = codes.first % 2 ^ 31;
+      second = codes.second % 2 ^ 31;
+      third = codes.third % 2 ^ 31;
+      fourth = codes.fourth % 2 ^ 31;
+    })
+rows_of_steps b search haystack span at part left limit codes limit_is steps =
+    let below : (end to code : ℕ) → IsStep (back_tables_by search b) haystack span end to code → code % 2 ^ 31 < limit =
+    λ end to code step.
+    let row = step.lane.stands.row in
+    omega (arith, row, limit_is.is) in
+    record {
+      first = below (at + part) (at + left) codes.first steps.first;
+      second = below (at + 2 * part) (at + part + left) codes.second steps.second;
+      third = below (at + 3 * part) (at + 2 * part + left) codes.third steps.third;
+      fourth = below (at + 4 * part) (at + 3 * part + left) codes.fourth steps.fourth;
+    }
+
 -- where nothing begins in the parts, the numbers lead on
 pub rows_if_none : (b : Backward) (search : SearchValue) → AreBackFor search b → (haystack : List ℕ) (span : Span)
     (at part left limit : ℕ) (codes : Lanes) → IsLimit b limit → left < part

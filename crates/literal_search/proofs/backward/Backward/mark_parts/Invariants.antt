@@ -7,20 +7,10 @@ abbrev pub invariant-loop-step : goal.invariant-loop-step
 invariant-loop-step l = record {
   before : l.step ≤ l.fn.left;
   long : length l.marks ≡ length l.fn.marks;
-  rows : HaveRows l.fn.limit (record {
-    first = l.first;
-    second = l.second;
-    third = l.third;
-    fourth = l.fourth;
-  });
+  rows : HaveRows l.fn.limit l.now;
   lanes : ForBackward l.fn.self (λ tables. AreLanes tables l.fn.haystack l.fn.span l.fn.at l.fn.part l.fn.left
       l.fn.lanes
-      → AreLanes tables l.fn.haystack l.fn.span l.fn.at l.fn.part l.step (record {
-        first = l.first;
-        second = l.second;
-        third = l.third;
-        fourth = l.fourth;
-      }));
+      → AreLanes tables l.fn.haystack l.fn.span l.fn.at l.fn.part l.step l.now);
   marks : ForBackward l.fn.self (λ tables. AreLanes tables l.fn.haystack l.fn.span l.fn.at l.fn.part l.fn.left
       l.fn.lanes
       → AreMarksBehind tables l.fn.haystack l.fn.span.end l.fn.marks l.fn.at l.fn.part l.fn.left
