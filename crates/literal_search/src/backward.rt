@@ -2,6 +2,7 @@
 //! they are damaged where one leads out of the rows.
 ghost use Rattle.std.specs.Prelude.{◌≡◌, ◌+◌, ◌-◌, ◌*◌, ◌<◌, ◌≤◌, ◌^◌, ◌%◌, length, max, min};
 ghost use Rattle.std.specs.Prelude.{ℕ, IfOk, IfSome, List, MatchOption, None, slice_index};
+ghost use Rattle.std.specs.Option.{unwrap_or};
 ghost use Rattle.std.specs.Result.{IsOkAnd};
 ghost use Rattle.literal_base.specs.Leftmost.{IsLeftmost, IsLeftmostMatch};
 ghost use Rattle.literal_base.specs.Occurs.{IsValidSpan, between};
@@ -660,28 +661,27 @@ fn pass_unmarked(numbers: &[u32], first: usize, from: usize, upto: usize) -> usi
 {
     let mut at = from;
     while upto - at >= LANES {
-        let unmarked = unmarked_from(numbers, at - first);
-        at += unmarked;
-        if unmarked < LANES {
-            break;
+        if let Some(before) = first_begun_of(numbers, at - first) {
+            return at + before;
         }
+        at += LANES;
     }
     at
 }
 
-/// How many of the 16 marks from one on come before the first that says that a pattern begins.
+/// How many of 16 marks, from one on, come before the first that says that a pattern begins.
 #[inline(always)]
-fn unmarked_from(numbers: &[u32], at: usize) -> usize
+fn first_begun_of(numbers: &[u32], at: usize) -> Option<usize>
     requires { at + 16 ≤ length numbers.now }
-    ensures few { result ≤ 16 }
-    ensures none { (i : ℕ) → at ≤ i → i < at + result → slice_index numbers.now i < 2 ^ 31 }
+    ensures few { IfSome result (λ before. before ≤ 16) }
+    ensures none { (i : ℕ) → at ≤ i → i < at + unwrap_or result 16 → slice_index numbers.now i < 2 ^ 31 }
 {
     let marks = u32x16::from_slice(&numbers[at..]);
     let begun = marks.simd_ge(u32x16::splat(ENDS)).to_bitmask();
     if begun == 0 {
-        LANES
+        None
     } else {
-        begun.trailing_zeros() as usize
+        Some(begun.trailing_zeros() as usize)
     }
 }
 
