@@ -9,7 +9,7 @@ pub mod Callers
 pub mod Chains
 pub mod Check
 pub mod Classes
-pub mod Copied
+pub mod NoPattern
 pub mod SuffixLists
 pub mod Ends
 pub mod EndsFound

@@ -1,5 +1,5 @@
 //! The best of the patterns that are a suffix of a pattern.
-ghost use Rattle.std.specs.Prelude.{◌≡◌, ◌<◌, IfOk, OnErr, Some, length};
+ghost use Rattle.std.specs.Prelude.{◌≡◌, ◌<◌, IfOk, Some, length};
 ghost use Rattle.literal_base.specs.Occurs.{pattern_at};
 ghost use Rattle.literal_search.specs.Inside.Best.{AreBest, AreShorter, IsBestSuffix};
 ghost use Rattle.literal_search.specs.Inside.Lists.{Recognise, symbols_of};
@@ -11,17 +11,15 @@ use literal_base::packed::MatchKind;
 use std::alloc::{AllocError, Global};
 
 impl<'p> Recognised<'p> {
-    /// For each pattern the best, by a kind of match, of those that are a suffix of it. Where there is no pattern, no
-    /// memory is asked for.
+    /// For each pattern the best, by a kind of match, of those that are a suffix of it.
     pub(crate) fn best_suffixes(
         &self,
         alloc: Global,
         kind: MatchKind,
     ) -> Result<Vec<u32>, AllocError>
         requires { Recognise self.now }
-        ensures best { IfOk result (λ best. AreBest kind (symbols_of self.now) best.items
+        ensures { IfOk result (λ best. AreBest kind (symbols_of self.now) best.items
             (length self.now.patterns.now)) }
-        ensures not_empty { OnErr result (0 < length self.now.patterns.now) }
     {
         let shorter = self.shorter_suffixes(alloc)?;
         let mut best = Vec::new(alloc);
@@ -34,9 +32,8 @@ impl<'p> Recognised<'p> {
     /// For each pattern the longest of those that are a suffix of it and shorter, and of equals the first.
     fn shorter_suffixes(&self, alloc: Global) -> Result<Vec<u32>, AllocError>
         requires { Recognise self.now }
-        ensures shorter { IfOk result (λ shorter. AreShorter (symbols_of self.now) shorter.items
+        ensures { IfOk result (λ shorter. AreShorter (symbols_of self.now) shorter.items
             (length self.now.patterns.now)) }
-        ensures not_empty { OnErr result (0 < length self.now.patterns.now) }
     {
         let mut shorter = Vec::new(alloc);
         for pattern in 0..self.patterns.len() {
