@@ -304,7 +304,10 @@ impl<'s, 'h> OverlappingMatches<'s, 'h> {
         let next = self
             .lent
             .next_from(self.haystack, self.span, self.standing, tally);
-        let Some(next) = next.unwrap_or(None) else {
+        let Ok(next) = next else {
+            unreachable!();
+        };
+        let Some(next) = next else {
             self.standing = self.lent.behind_all(self.haystack, self.span);
             return None;
         };

@@ -136,8 +136,10 @@ impl Search {
         ensures not_empty { IfSome result (λ found. found.start < found.end) }
         ensures bounded { ScansWithin self.now.query.patterns span result tally.old tally.new }
     {
-        let answer = self.parts.backward().find_in(haystack, span, tally);
-        answer.unwrap_or(None)
+        match self.parts.backward().find_in(haystack, span, tally) {
+            Ok(answer) => answer,
+            Err(_) => unreachable!(),
+        }
     }
 
     /// Whether a pattern occurs in the haystack.
@@ -167,8 +169,10 @@ impl Search {
         ensures not_empty { IfSome result (λ found. found.start < found.end) }
         ensures bounded { ScansAt self.now.query.patterns at result tally.old tally.new }
     {
-        let answer = self.parts.backward().find_at(haystack, at, tally);
-        answer.unwrap_or(None)
+        match self.parts.backward().find_at(haystack, at, tally) {
+            Ok(answer) => answer,
+            Err(_) => unreachable!(),
+        }
     }
 
     /// All matches in the haystack, from the left, none of which overlaps another: first the leftmost match of the
