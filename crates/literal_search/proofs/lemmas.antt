@@ -1,5 +1,4 @@
 -- Lemmas that several proofs share, by topic.
-pub mod Anew
 pub mod BackTables
 pub mod Backward
 pub mod Behind

@@ -45,7 +45,7 @@ impl<'p> Recognised<'p> {
     }
 
     /// For each pattern the next that is a suffix of it: one of its equals that comes later, or else a shorter one.
-    fn links(&self, alloc: Global) -> Result<Vec<u32>, AllocError>
+    pub(crate) fn links(&self, alloc: Global) -> Result<Vec<u32>, AllocError>
         requires { Recognise self.now }
         ensures { IfOk result (λ links. AreOutputLinks (symbols_of self.now) links.items 0) }
     {
