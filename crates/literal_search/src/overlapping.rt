@@ -157,9 +157,10 @@ impl Overlapping {
         ensures end { IsEarliestEnd self.now.patterns self.now.ignore_case haystack.now span result }
         ensures bounded { ScansToEndWithin span result tally.old tally.new }
     {
-        let mut matches = self.find_overlapping_in(haystack, span);
-        let first = matches.next_counted(tally)?;
-        Some(first.end())
+        match self.parts.lent().earliest_end(haystack, span, tally) {
+            Ok(end) => end,
+            Err(_) => unreachable!(),
+        }
     }
 
     /// Writes the numbers of the search into the first places of an array, and answers how many these are.
