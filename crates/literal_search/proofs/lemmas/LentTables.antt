@@ -62,21 +62,7 @@ pub same_tables : (search : OverlappingValue) (classes classes' : List ℕ) (wid
       ends = ends';
       starts = starts';
     }
-same_tables search classes classes' width width' rows rows' ends ends' starts starts' a b c d e =
-    let of = λ (k : List ℕ) (w : ℕ) (r n s : List ℕ). let t : Tables = record {
-      patterns = search.patterns;
-      ignore_case = search.ignore_case;
-      classes = k;
-      width = w;
-      rows = r;
-      ends = n;
-      starts = s;
-    } in t in
-    ap (λ k. of k width rows ends starts) a
-    ∙ (ap (λ w. of classes' w rows ends starts) b
-    ∙ (ap (λ r. of classes' width' r ends starts) c
-    ∙ (ap (λ n. of classes' width' rows' n starts) d
-    ∙ ap (λ s. of classes' width' rows' ends' s) e)))
+same_tables search classes classes' width width' rows rows' ends ends' starts starts' a b c d e = cc
 
 -- the parts of an array that is prepared for a search are for it
 pub are_for : (p : LentTables) → AreLent p → (search : OverlappingValue)
