@@ -104,10 +104,6 @@ abbrev pub longest_of : List (List ℕ) → ℕ
 longest_of [] = 0
 longest_of (bytes ∷ more) = max (length bytes) (longest_of more)
 
--- no pattern is shorter than so many bytes
-abbrev pub NoneIsShorter : ℕ → List (List ℕ) → Type 0
-NoneIsShorter n patterns = (i : ℕ) → i < length patterns → n ≤ length (pattern_at patterns i)
-
 -- how long the shortest of some patterns is, and 0 where there is none
 abbrev pub shortest_of : List (List ℕ) → ℕ
 shortest_of [] = 0

@@ -9,9 +9,9 @@ ghost use Rattle.literal_search.specs.Prepared.{AreShort, HasParts};
 ghost use Rattle.literal_search.specs.Prepared.{check_of, fingerprints_by, shortest_by};
 ghost use Rattle.literal_search.specs.Inside.Prepared.{IsHeader, Puts, numbers_for, header_table};
 ghost use Rattle.literal_search.specs.Inside.Packed.{packed, unpacked};
-ghost use Rattle.literal_search.specs.Inside.Rows.{ArePacked, classes_of, rows_of};
+ghost use Rattle.literal_search.specs.Inside.Rows.{packed_classes};
 
-use crate::classes::{CLASSES_LEN, PACKED_LEN};
+use crate::classes::{CLASSES_LEN, Classes, PACKED_LEN};
 use crate::longest_len;
 use crate::walk::{NOTHING, Table};
 use literal_base::count::Tally;
@@ -242,11 +242,11 @@ pub(crate) fn unpack(numbers: &[u32], bytes: &mut [u8])
     }
 }
 
-/// Writes a search of a version into the first places of an array. Behind its rows and the classes behind these may
-/// stand lists, of which `starts` says where each begins, and behind all others the numbers of its fingerprints.
+/// Writes a search of a version into the first places of an array. Behind its rows and classes may stand lists, of
+/// which `starts` says where each begins, and behind all others the numbers of its fingerprints.
 pub fn write(
     version: u32,
-    width: usize,
+    classes: &Classes,
     patterns: &[Vec<u8>],
     rows: &[u32],
     starts: &[usize],
@@ -254,27 +254,28 @@ pub fn write(
     prints: &[u32; FINGERPRINTS_LEN],
     array: &mut [u32],
 )
-    requires classes { ArePacked rows.now }
-    requires width { width < 2 ^ 32 }
+    requires width { classes.now.width < 2 ^ 32 }
     requires patterns { length patterns.now < 2 ^ 32 }
-    requires rows { length (rows_of rows.now) < 2 ^ 32 }
+    requires rows { length rows.now < 2 ^ 32 }
     requires starts { length starts.now ≤ 2 ^ 32 }
     requires ends { length ends.now < 2 ^ 32 }
     requires inside { (i : ℕ) → slice_index starts.now i ≤ length ends.now }
     requires short { AreShort (map (λ pattern. pattern.items) patterns.now) }
-    requires room { LENGTHS_AT + length patterns.now + length rows.now + length starts.now + length ends.now
-        + FINGERPRINTS_LEN ≤ length array.old }
-    ensures { Puts 0 (numbers_for version (classes_of rows.now) width (map (λ pattern. pattern.items) patterns.now)
-        (rows_of rows.now) starts.now (ends.now ++ prints.now)) array.old array.new }
+    requires room { LENGTHS_AT + length patterns.now + length rows.now + CLASSES_LEN + length starts.now
+        + length ends.now + FINGERPRINTS_LEN ≤ length array.old }
+    ensures { Puts 0 (numbers_for version classes.now.table classes.now.width
+        (map (λ pattern. pattern.items) patterns.now) rows.now starts.now (ends.now ++ prints.now)) array.old
+        array.new }
 {
     let longest = longest_len(patterns);
     let rows_at = LENGTHS_AT + patterns.len();
-    let starts_at = rows_at + rows.len();
+    let classes_at = rows_at + rows.len();
+    let starts_at = classes_at + CLASSES_LEN;
     let ends_at = starts_at + starts.len();
     let prints_at = ends_at + ends.len();
     let end = prints_at + FINGERPRINTS_LEN;
-    let width = width as u32;
-    let (count, places) = (patterns.len() as u32, (rows.len() - CLASSES_LEN) as u32);
+    let width = classes.width as u32;
+    let (count, places) = (patterns.len() as u32, rows.len() as u32);
     put_numbers(
         array,
         0,
@@ -282,6 +283,7 @@ pub fn write(
     );
     put_lengths(array, patterns);
     put_numbers(array, rows_at, rows);
+    put_classes(array, classes_at, &classes.table);
     put_starts(array, starts_at, starts);
     put_numbers(array, ends_at, ends);
     put_numbers(array, prints_at, prints);
@@ -305,6 +307,16 @@ fn put_lengths(array: &mut [u32], patterns: &[Vec<u8>])
     for (i, pattern) in patterns.iter().enumerate() {
         array[LENGTHS_AT + i] = pattern.len() as u32;
     }
+}
+
+/// Writes the class of each byte, from a place on.
+fn put_classes(array: &mut [u32], at: usize, classes: &[u8; 256])
+    requires { at + CLASSES_LEN ≤ length array.old }
+    ensures { Puts at (packed_classes classes.now) array.old array.new }
+{
+    let mut packed = [0; CLASSES_LEN];
+    pack(classes, &mut packed[..PACKED_LEN]);
+    put_numbers(array, at, &packed);
 }
 
 /// Writes where lists begin, from a place on.

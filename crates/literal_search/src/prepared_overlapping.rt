@@ -104,6 +104,7 @@ impl<'p> PreparedOverlapping<'p> {
     /// Answers as [`PreparedOverlapping::earliest_end`], and adds each byte that it looks up to a tally, as scanned:
     /// whatever the numbers are, at least as many as there are up to that end, or in the span where it answers none,
     /// and at most three times as many; and at most three times the bytes of the span before [`Damaged`].
+    #[tactic(auto, using(crate::proofs::lemmas::LentTables::are_for))]
     pub fn earliest_end_counted(
         &self,
         haystack: &[u8],
@@ -118,14 +119,7 @@ impl<'p> PreparedOverlapping<'p> {
         ensures others { tally.new ≡ record tally.old { scanned = tally.new.scanned } }
         ensures most { tally.new.scanned ≤ tally.old.scanned + 3 * (span.end - span.start) }
     {
-        match self
-            .lent
-            .table()
-            .next_end(self.lent.prints, haystack, 0, span, tally)?
-        {
-            Some(stop) => Ok(Some(stop.end)),
-            None => Ok(None),
-        }
+        self.lent.earliest_end(haystack, span, tally)
     }
 
     /// Every occurrence in a span of the haystack, for which the same holds as for
@@ -193,6 +187,31 @@ impl<'p> LentTables<'p> {
         ensures rows { rows_by result ≡ rows_of self.now.header.rows.now }
     {
         self.header.table()
+    }
+
+    /// The earliest end of an occurrence in a span.
+    pub fn earliest_end(
+        &self,
+        haystack: &[u8],
+        span: Span,
+        tally: &mut Tally,
+    ) -> Result<Option<usize>, Damaged>
+        requires lent { AreLent self.now }
+        requires valid { IsValidSpan haystack.now span }
+        ensures prepared { (search : OverlappingValue) → AreFor search self.now
+            → IsOkAnd result (IsEarliestEnd search.patterns search.ignore_case haystack.now span) }
+        ensures inside { IfOk result (λ answer. IfSome answer (λ end. (span.start < end) × (end ≤ span.end))) }
+        ensures bounded { IfOk result (λ answer. ScansToEndWithin span answer tally.old tally.new) }
+        ensures others { tally.new ≡ record tally.old { scanned = tally.new.scanned } }
+        ensures most { tally.new.scanned ≤ tally.old.scanned + 3 * (span.end - span.start) }
+    {
+        let found = self
+            .table()
+            .next_end(self.prints, haystack, 0, span, tally)?;
+        match found {
+            Some(stop) => Ok(Some(stop.end)),
+            None => Ok(None),
+        }
     }
 
     /// Where a search stands before all that occurs in the span.

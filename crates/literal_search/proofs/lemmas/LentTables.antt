@@ -1,6 +1,6 @@
 -- Searches for everything that occurs by an array that is lent.
 use Rattle.std.proofs.Common.{◌≡◌, ℕ, ◌+◌, ◌++◌, ◌-◌, ◌<◌, ◌≤◌, List, [], drop, length, get_or, take}
-use Rattle.std.proofs.Common.{None, Result, Some, refl, sym, ap, subst}
+use Rattle.std.proofs.Common.{◌^◌, IfOk, IfSome, MatchOption, None, Result, Some, refl, sym, ap, subst}
 use Rattle.std.proofs.Common.{◌∙◌, Option, append-nil, append_assoc, arith, length-append}
 use Rattle.std.proofs.lemmas.List.{get_or-drop, get_or-map, get_or-take, length-drop, length-map, length-take-le}
 use Rattle.std.proofs.lemmas.List.{take-append-drop, take_all}
@@ -18,7 +18,7 @@ use Rattle.literal_search.specs.Inside.Prepared.{IsHeader, header_table, numbers
 use Rattle.literal_search.specs.Inside.Rows.{rows_of}
 use Rattle.literal_search.specs.Inside.Scan.{IsTableFor}
 use Rattle.literal_search.specs.Inside.Standing.{IsStanding, longest_at, overlapping_value, standing_at}
-use Rattle.literal_search.specs.Inside.NextEnd.{FindsNext, IsNextStop, Stands, StandsNext}
+use Rattle.literal_search.specs.Inside.NextEnd.{FindsNext, IsNextStop, Stands}
 use Rattle.literal_search.specs.Inside.Walk.{classes_by, rows_by}
 use Rattle.literal_search.specs.Overlapping.{OverlappingValue}
 use Rattle.literal_search.specs.PreparedOverlapping.{AreSized, AreTables}
@@ -38,6 +38,7 @@ use Rattle.literal_search.proofs.lemmas.Numbers.{check_written, classes_written,
 use Rattle.literal_search.proofs.lemmas.Numbers.{numbers_long, rows_written}
 use Rattle.literal_search.proofs.lemmas.Numbers.{part_at, starts_written}
 use Rattle.literal_search.proofs.lemmas.Prepared.{length_part, rows_are}
+use Rattle.literal_search.proofs.lemmas.Scan.{also_ok}
 use Rattle.literal_search.proofs.lemmas.Standing.{is_pattern, longest_below, next_is, none_to_come, nothing_to_come}
 use Rattle.literal_search.proofs.lemmas.Standing.{row_inside, same_to_come, some_left, stands_next, stands_there}
 
@@ -61,21 +62,7 @@ pub same_tables : (search : OverlappingValue) (classes classes' : List ℕ) (wid
       ends = ends';
       starts = starts';
     }
-same_tables search classes classes' width width' rows rows' ends ends' starts starts' a b c d e =
-    let of = λ (k : List ℕ) (w : ℕ) (r n s : List ℕ). let t : Tables = record {
-      patterns = search.patterns;
-      ignore_case = search.ignore_case;
-      classes = k;
-      width = w;
-      rows = r;
-      ends = n;
-      starts = s;
-    } in t in
-    ap (λ k. of k width rows ends starts) a
-    ∙ (ap (λ w. of classes' w rows ends starts) b
-    ∙ (ap (λ r. of classes' width' r ends starts) c
-    ∙ (ap (λ n. of classes' width' rows' n starts) d
-    ∙ ap (λ s. of classes' width' rows' ends' s) e)))
+same_tables search classes classes' width width' rows rows' ends ends' starts starts' a b c d e = cc
 
 -- the parts of an array that is prepared for a search are for it
 pub are_for : (p : LentTables) → AreLent p → (search : OverlappingValue)
@@ -125,6 +112,12 @@ pub lengths_for : {search : OverlappingValue} {p : LentTables} → AreFor search
 lengths_for {search} are =
     ap (λ (l : List ℕ). length l) are.lengths ∙ length-map search.patterns (λ (bytes : List ℕ). length bytes)
 
+-- where a walk finds the next end, if there is one: its row and list lie in the tables
+abbrev pub IsFoundThere : Tables → List ℕ → Span → Standing → Option Stop → Type 0
+IsFoundThere t haystack span s answer = MatchOption answer (IsNextEnd t haystack span s None)
+    (λ stop. (stop.place + t.width < length t.rows) × (longest_at t stop + 1 < length t.starts)
+    × IsNextEnd t haystack span s (Some (standing_at t stop)))
+
 -- where a search by the parts stands
 module _ {search : OverlappingValue} {p : LentTables} (are : AreFor search p) (haystack : List ℕ)
     (bytes : (i : ℕ) → get_or haystack i 0 < 256) (span : Span) (valid : IsValidSpan haystack span) (s : Standing)
@@ -141,51 +134,46 @@ module _ {search : OverlappingValue} {p : LentTables} (are : AreFor search p) (h
       to_come = nothing_to_come t are.tables haystack bytes span valid s standing empty last;
     }
 
-    -- what a walk by it finds from there on
-    pub finds_there : s.at < span.end → (table : Table)
+    -- what a walk by it finds from there on: where it finds no end, there is none, and else the next end is where the
+    -- walk stops, whose row and list lie in the array
+    pub found_there : s.end ≤ s.next → s.at < span.end → (table : Table)
         → IsTableFor table search.patterns search.ignore_case → classes_by table ≡ t.classes
         → table.width ≡ t.width → rows_by table ≡ t.rows → (result : Result (Option Stop) Damaged)
         → FindsNext table p.prints.now haystack s.place (between s.at span.end) result
-        → IsOkAnd result (IsNextStop search.patterns search.ignore_case t.classes t.width t.rows haystack span s.at)
-    finds_there more table is classes width rows result finds =
+        → IfOk result (λ answer. IfSome answer
+        (λ stop. (s.at < stop.end) × (stop.end ≤ span.end) × (stop.place < 2 ^ 32)))
+        → IsOkAnd result (IsFoundThere t haystack span s)
+    found_there empty more table is classes width rows result finds inside =
         let Finds : List ℕ → ℕ → List ℕ → Type 0 = λ c w r.
         Stands search.patterns search.ignore_case c w r haystack span s.at (record { place = s.place; end = s.at })
         → IsOkAnd result (IsNextStop search.patterns search.ignore_case c w r haystack span s.at) in
-        subst (λ r. Finds t.classes t.width r) rows
+        also_ok result (IsNextStop search.patterns search.ignore_case t.classes t.width t.rows haystack span s.at) _
+        (IsFoundThere t haystack span s) there
+        (subst (λ r. Finds t.classes t.width r) rows
         (subst (λ w. Finds t.classes w (rows_by table)) width
         (subst (λ c. Finds c table.width (rows_by table)) classes
-        (finds search.patterns search.ignore_case is are.prints span.start))) (standing.stands more)
-
-    module _ (empty : s.end ≤ s.next) where
-      -- where it finds no end, there is none
-      pub next_nowhere : IsNextStop search.patterns search.ignore_case t.classes t.width t.rows haystack span s.at None
-          → IsNextEnd t haystack span s None
-      next_nowhere none = record {
-        stands = tt;
-        more = tt;
-        to_come = none_to_come t are.tables haystack bytes span valid s standing none empty;
-      }
-
-      -- and else it is where the walk stops, whose row and list lie in the array
-      module _ (stop : Stop)
-          (next : StandsNext search.patterns search.ignore_case t.classes t.width t.rows haystack span s.at stop)
-          (after : s.at < stop.end) (inside : stop.end ≤ span.end)
-        where
-          pub row_there : stop.place + t.width < length t.rows
-          row_there = row_inside t are.tables haystack bytes span valid s standing stop next after inside
-
-          pub list_there : longest_at t stop + 1 < length t.starts
-          list_there =
-              let below = longest_below t are.tables haystack bytes span valid s standing stop next after inside in
-              let long = are.tables.lists.long in
-              omega (arith, below, long)
-
-          pub next_there : IsNextEnd t haystack span s (Some (standing_at t stop))
-          next_there = record {
-            stands = stands_there t are.tables haystack bytes span valid s standing stop next after inside;
-            more = some_left t are.tables haystack bytes span valid s standing stop next after inside;
-            to_come = same_to_come t are.tables haystack bytes span valid s standing stop next after inside empty;
-          }
+        (finds search.patterns search.ignore_case is are.prints span.start))) (standing.stands more)) inside
+      where
+        there : (answer : Option Stop)
+            → IsNextStop search.patterns search.ignore_case t.classes t.width t.rows haystack span s.at answer
+            → IfSome answer (λ stop. (s.at < stop.end) × (stop.end ≤ span.end) × (stop.place < 2 ^ 32))
+            → IsFoundThere t haystack span s answer
+        there None none inside = record {
+          stands = tt;
+          more = tt;
+          to_come = none_to_come t are.tables haystack bytes span valid s standing none empty;
+        }
+        there (Some stop) next (after, upto, small) =
+            let below = longest_below t are.tables haystack bytes span valid s standing stop next after upto in
+            let long = are.tables.lists.long in (
+              row_inside t are.tables haystack bytes span valid s standing stop next after upto,
+              omega (arith, below, long),
+              record {
+                stands = stands_there t are.tables haystack bytes span valid s standing stop next after upto;
+                more = some_left t are.tables haystack bytes span valid s standing stop next after upto;
+                to_come = same_to_come t are.tables haystack bytes span valid s standing stop next after upto empty;
+              },
+            )
 
     -- where the list has more
     module _ (left : s.next < s.end) where

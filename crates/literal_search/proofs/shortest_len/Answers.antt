@@ -34,12 +34,6 @@ loop-pattern-preserved c =
     let inside : i < length all = omega (arith, c.loop-pattern-test.true, length-map patterns (λ (p : Vec ℕ). p.items))
     in
     record {
-      none = λ k below. elim (cases_lt k i) [
-        | inl before ↦ omega (arith, so_far.none k before, c.min-shortest.ensures)
-        | inr not ↦
-            let last : k ≡ i = omega arith in
-            omega (arith, here, ap (λ n. length (get_or all n [])) last, c.min-shortest.ensures)
-      ];
       first = λ none. absurd (omega arith);
       shortest = λ some. subst (λ (l : List (List ℕ)). c.min-shortest.result ≡ shortest_of l)
           (sym (take_more all i [] inside))
@@ -50,16 +44,8 @@ loop-pattern-preserved c =
           (omega (arith, here, c.min-shortest.ensures)));
     }
 
-pub returns-clause-none : goal.returns-clause-none
-returns-clause-none c = λ i below. c.loop-pattern.invariant.none i (omega (
-  arith,
-  below,
-  c.loop-pattern-test.false,
-  length-map c.args.patterns.now (λ (p : Vec ℕ). p.items),
-))
-
-pub returns-clause-shortest : goal.returns-clause-shortest
-returns-clause-shortest c =
+pub returns : goal.returns
+returns c =
     let all = map (λ (p : Vec ℕ). p.items) c.args.patterns.now in
     subst (IsShortestOf c.loop-pattern.shortest) (take_all c.loop-pattern.pattern-index all
     (omega (arith, c.loop-pattern-test.false, length-map c.args.patterns.now (λ (p : Vec ℕ). p.items))))
