@@ -19,8 +19,8 @@ ghost use Rattle.literal_search.specs.Inside.Rows.{rows_value};
 
 use crate::classes::classes_for;
 use crate::prepared::{
-    ArrayTooShort, FINGERPRINTS_LEN, LENGTHS_AT, NO_LISTED, OVERLAPPING_VERSION,
-    fingerprint_numbers, put_numbers, write,
+    ArrayTooShort, LENGTHS_AT, NO_LISTED, OVERLAPPING_VERSION, SCAN_LEN, put_numbers, scan_numbers,
+    write,
 };
 use crate::prepared_overlapping::{LentTables, lent_in};
 use crate::rows::{Rows, rows_for};
@@ -29,7 +29,7 @@ use crate::suffixes::Recognised;
 use crate::{BuildError, copies, shortest_len, total_bytes};
 use literal_base::count::Tally;
 use literal_base::{Match, Span};
-use literal_fingerprints::Fingerprints;
+use literal_fingerprints::CandidateScan;
 use std::alloc::{AllocError, Global};
 use std::fmt;
 use std::marker::Model;
@@ -113,8 +113,8 @@ impl Overlapping {
             patterns: &patterns,
         };
         let lists = recognised.lists(alloc)?;
-        let fingerprints = Fingerprints::new(ignore_case, &patterns);
-        let prints = fingerprint_numbers(shortest_len(&patterns), fingerprints.as_ref());
+        let scan = CandidateScan::new(ignore_case, &patterns);
+        let prints = scan_numbers(shortest_len(&patterns), scan.as_ref());
         let (width, starts) = (classes.width, lists.starts());
         let numbers = numbers_for(alloc, width, &patterns, &rows, starts, &lists.ends, &prints)?;
         let parts = Parts {
@@ -283,7 +283,7 @@ fn numbers_for(
     rows: &Rows,
     starts: &[usize],
     ends: &[u32],
-    prints: &[u32; FINGERPRINTS_LEN],
+    prints: &[u32; SCAN_LEN],
 ) -> Result<Numbers, AllocError>
     requires width { width ≤ 256 }
     requires patterns { length patterns.now ≤ 2 ^ 31 - 1 }
@@ -292,7 +292,7 @@ fn numbers_for(
     requires starts { length starts.now ≡ length patterns.now + 1 }
     requires inside { (i : ℕ) → slice_index starts.now i ≤ length ends.now }
     requires none { patterns.now ≡ [] → (width ≡ 1) × (rows.now ≡ rows_value []) × (starts.now ≡ 0 ∷ [])
-        × (ends.now ≡ []) × (prints.now ≡ repeat FINGERPRINTS_LEN (0 ∷ [])) }
+        × (ends.now ≡ []) × (prints.now ≡ repeat SCAN_LEN (0 ∷ [])) }
     ensures numbers { IfOk result (λ numbers. numbers ≡ numbers_for OVERLAPPING_VERSION rows.now.classes width
         (map (λ pattern. pattern.items) patterns.now) rows.now.rows starts.now (ends.now ++ prints.now)) }
     ensures no_memory { OnErr result (0 < length patterns.now) }
@@ -307,7 +307,7 @@ fn numbers_for(
     }
     let rows = rows.as_slice();
     let lists_at = LENGTHS_AT + patterns.len() + rows.len();
-    let needed = lists_at + starts.len() + ends.len() + FINGERPRINTS_LEN;
+    let needed = lists_at + starts.len() + ends.len() + SCAN_LEN;
     let mut kept = vec![in alloc; 0u32; needed]?;
     write(
         OVERLAPPING_VERSION,

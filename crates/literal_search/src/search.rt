@@ -25,8 +25,8 @@ ghost use Rattle.literal_search.specs.declared.backward.TheConstants.{LEAST};
 use crate::backward::{Backward, LEAST, Marks, no_marks, place_after};
 use crate::classes::{CLASSES_LEN, classes_for};
 use crate::prepared::{
-    ArrayTooShort, FINGERPRINTS_LEN, LENGTHS_AT, NO_PATTERN, PREPARED_VERSION, fingerprint_numbers,
-    put_numbers, write,
+    ArrayTooShort, LENGTHS_AT, NO_PATTERN, PREPARED_VERSION, SCAN_LEN, put_numbers, scan_numbers,
+    write,
 };
 use crate::prepared_search::backward_in;
 use crate::rows::{Rows, rows_for};
@@ -35,7 +35,7 @@ use crate::{BuildError, copies, push_copy, shortest_len, total_bytes};
 use literal_base::count::Tally;
 use literal_base::packed::MatchKind;
 use literal_base::{Match, Span};
-use literal_fingerprints::Fingerprints;
+use literal_fingerprints::CandidateScan;
 use literal_ids::PatternID;
 use std::alloc::{AllocError, Global};
 use std::fmt;
@@ -127,8 +127,8 @@ impl Search {
             patterns: &backward,
         };
         let best = recognised.best_suffixes(alloc, kind)?;
-        let fingerprints = Fingerprints::new(ignore_case, &patterns);
-        let prints = fingerprint_numbers(shortest_len(&patterns), fingerprints.as_ref());
+        let scan = CandidateScan::new(ignore_case, &patterns);
+        let prints = scan_numbers(shortest_len(&patterns), scan.as_ref());
         let numbers = numbers_for(alloc, classes.width, &patterns, &rows, &best, &prints)?;
         let parts = Parts {
             kind,
@@ -526,7 +526,7 @@ fn numbers_for(
     patterns: &[Vec<u8>],
     rows: &Rows,
     best: &[u32],
-    prints: &[u32; FINGERPRINTS_LEN],
+    prints: &[u32; SCAN_LEN],
 ) -> Result<Numbers, AllocError>
     requires width { width ≤ 256 }
     requires patterns { length patterns.now ≤ 2 ^ 31 - 1 }
@@ -534,7 +534,7 @@ fn numbers_for(
     requires rows { length rows.now.rows ≤ 2 ^ 31 - 1 }
     requires best { length best.now ≡ length patterns.now }
     requires none { patterns.now ≡ [] → (width ≡ 1) × (rows.now ≡ rows_value [])
-        × (prints.now ≡ repeat FINGERPRINTS_LEN (0 ∷ [])) }
+        × (prints.now ≡ repeat SCAN_LEN (0 ∷ [])) }
     ensures numbers { IfOk result (λ numbers. numbers ≡ numbers_for PREPARED_VERSION rows.now.classes width
         (map (λ pattern. pattern.items) patterns.now) rows.now.rows [] (best.now ++ prints.now)) }
     ensures no_memory { OnErr result (0 < length patterns.now) }
@@ -545,7 +545,7 @@ fn numbers_for(
         });
     }
     let rows = rows.as_slice();
-    let needed = LENGTHS_AT + patterns.len() + rows.len() + best.len() + FINGERPRINTS_LEN;
+    let needed = LENGTHS_AT + patterns.len() + rows.len() + best.len() + SCAN_LEN;
     let mut kept = vec![in alloc; 0u32; needed]?;
     write(
         PREPARED_VERSION,

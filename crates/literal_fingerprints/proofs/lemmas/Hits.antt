@@ -1,6 +1,6 @@
 -- Places at which a haystack has no pair of bytes.
-use Rattle.std.proofs.Common.{◌≡◌, ◌≢◌, ◌⊎◌, ℕ, ◌+◌, ◌-◌, ◌<◌, ◌≤◌, ◌∙◌, List, ap, arith, bit_and, bit_or, cond}
-use Rattle.std.proofs.Common.{◌*◌, [], Bool, eqb, false, get_or, inl, inr, min, refl, replicate, subst, sym, true}
+use Rattle.std.proofs.Common.{◌≡◌, ◌≢◌, ℕ, ◌+◌, ◌-◌, ◌<◌, ◌≤◌, ◌∙◌, List, ap, arith, bit_and, bit_or, cond}
+use Rattle.std.proofs.Common.{[], Bool, eqb, false, get_or, inl, inr, min, refl, replicate, subst, sym, true}
 use Rattle.std.proofs.lemmas.Bool.{cases_lt, eq-eqb, eqb-true, le-ltb, lt-ltb}
 use Rattle.std.proofs.lemmas.Nat.{le_or_l, le_or_r}
 use Rattle.std.proofs.lemmas.Simd.{get_or-replicate}

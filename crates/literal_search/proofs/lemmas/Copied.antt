@@ -7,7 +7,7 @@ use Rattle.literal_search.specs.Inside.Search.{AreKept}
 use Rattle.literal_search.specs.Prepared.{AreBackTables, BackTables}
 use Rattle.literal_search.specs.SearchValue.{search_by}
 use Rattle.literal_search.specs.Table.{nothing}
-use Rattle.literal_search.specs.declared.prepared.TheConstants.{FINGERPRINTS_LEN}
+use Rattle.literal_search.specs.declared.prepared.TheConstants.{SCAN_LEN}
 use Rattle.literal_search.proofs.lemmas.BackTables.{kept_all}
 use Rattle.literal_search.proofs.lemmas.Rows.{none_long, none_recognised, one_class, zeros_classes}
 
@@ -33,5 +33,5 @@ none_are_kept kind ignore_case =
       longest = refl;
       kept = record { some = λ i d below. absurd (omega (arith, below)); few = omega arith };
     } in
-    kept_all (no_tables kind ignore_case) are (repeat FINGERPRINTS_LEN (0 ∷ [])) refl
+    kept_all (no_tables kind ignore_case) are (repeat SCAN_LEN (0 ∷ [])) refl
     (λ some. absurd (omega (arith, some))) (sym (one_class ignore_case)) none_long

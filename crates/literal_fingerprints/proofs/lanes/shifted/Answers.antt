@@ -1,4 +1,4 @@
-use Rattle.std.proofs.Common.{◌≡◌, ◌+◌, ◌-◌, ap, arith, sym, subst, List, ℕ}
+use Rattle.std.proofs.Common.{◌+◌, ◌-◌, arith, sym, subst, List, ℕ}
 use Rattle.literal_fingerprints.specs.Inside.Lanes.{HasLanes}
 use Rattle.literal_fingerprints.proofs.lemmas.Lanes.{lanes_from}
 use Rattle.literal_fingerprints.proofs.lanes.shifted.Goals as goal

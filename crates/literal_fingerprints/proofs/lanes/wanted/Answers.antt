@@ -1,7 +1,6 @@
 use Rattle.std.proofs.Common.{◌∙◌, ap, bit_or, cond, eqb, get_or, replicate, subst, sym, w8}
 use Rattle.std.proofs.lemmas.Simd.{tops_compared}
 use Rattle.std.specs.Simd.Lanes.{sel_l, zip2}
-use Rattle.literal_fingerprints.specs.Inside.Hits.{hit}
 use Rattle.literal_fingerprints.specs.Inside.Lanes.{HasLanes}
 use Rattle.literal_fingerprints.proofs.lemmas.Lanes.{lanes_of_choice, lanes_of_splat}
 use Rattle.literal_fingerprints.proofs.lanes.wanted.Goals as goal

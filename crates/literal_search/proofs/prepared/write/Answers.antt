@@ -42,7 +42,7 @@ returns c =
     let long : length table ≡ places + 256 = omega (arith, length_rows table c.requires.classes) in
     let listed = 6 + length patterns + length table + length starts in
     let last = c.put_numbers-4.new.array in
-    let all_behind : listed + length ends + 33 ≡ listed + length behind = omega (arith, length-append ends prints) in
+    let all_behind : listed + length ends + 35 ≡ listed + length behind = omega (arith, length-append ends prints) in
     let both = puts_both listed ends prints c.put_starts.new.array c.put_numbers-3.new.array last (omega arith)
     c.put_numbers-3.ensures c.put_numbers-4.ensures in
     let written = puts_all version width (length patterns) places longest lengths table starts behind old each long

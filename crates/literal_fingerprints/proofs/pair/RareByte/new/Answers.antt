@@ -1,4 +1,4 @@
-use Rattle.std.proofs.Common.{◌∙◌, ap, bit_or, inl, inr, ℕ}
+use Rattle.std.proofs.Common.{◌∙◌, ap, bit_or, inl, inr}
 use Rattle.std.specs.Int.Bits.{bit_xor}
 use Rattle.literal_fingerprints.proofs.lemmas.Sets.{same_once_set}
 use Rattle.literal_fingerprints.proofs.pair.RareByte.new.Goals as goal

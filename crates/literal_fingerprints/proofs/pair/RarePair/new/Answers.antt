@@ -1,4 +1,4 @@
-use Rattle.std.proofs.Common.{◌≡◌, ◌+◌, ◌-◌, ◌<◌, arith, get_or, length, min, subst, sym, true, ℕ}
+use Rattle.std.proofs.Common.{◌≡◌, ◌+◌, ◌-◌, ◌<◌, arith, get_or, length, min, subst, true, ℕ}
 use Rattle.literal_base.specs.Occurs.{same_byte}
 use Rattle.literal_fingerprints.specs.RarePairs.{IsRare}
 use Rattle.literal_fingerprints.proofs.pair.RarePair.new.Goals as goal

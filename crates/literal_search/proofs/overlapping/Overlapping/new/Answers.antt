@@ -11,7 +11,7 @@ use Rattle.literal_search.specs.SearchValue.{NeedTooManyStates, width_for}
 use Rattle.literal_search.specs.Inside.Classes.{Tells, symbols_in}
 use Rattle.literal_search.specs.Inside.Lists.{AreLists, starts_of}
 use Rattle.literal_search.specs.States.{HasTooManyStates, IsRowsLength}
-use Rattle.literal_fingerprints.specs.FingerprintsValue.{AllPass}
+use Rattle.literal_fingerprints.specs.CandidateScans.{StopsAtEach}
 use Rattle.literal_search.specs.Inside.Overlapping.{AreListed}
 use Rattle.literal_search.specs.Inside.Prepared.{numbers_for}
 use Rattle.literal_search.specs.Inside.Standing.{overlapping_value}
@@ -133,7 +133,7 @@ invariant_of-result g c =
       rows = subst (λ (texts : List (List ℕ)). IsRowsLength texts classes.width (length rows)) texts_are
           c.in_ok-rows.ensures.states;
     } in
-    let prints = c.fingerprint_numbers-prints.result in
+    let prints = c.scan_numbers-prints.result in
     let All = λ (k : List ℕ) (p : List (Vec ℕ Global)) (s e : List ℕ). numbers_for OVERLAPPING_VERSION k classes.width
     (map (λ (pattern : Vec ℕ Global). pattern.items) p) rows s (e ++ prints) in
     let lent = c.deref-6.result.now in
@@ -143,15 +143,15 @@ invariant_of-result g c =
     ∙ (ap (λ p. All classes.table p c.starts-starts.result.now c.deref-7.result.now) c.deref-6.ensures.value
     ∙ (ap (λ s. All classes.table patterns s c.deref-7.result.now) c.starts-starts.ensures
     ∙ ap (λ e. All classes.table patterns starts e) c.deref-7.ensures.value))) in
-    let pass : IfSome c.new-fingerprints.result (λ f. AllPass f c.args.ignore_case bytes) =
-    subst (λ (p : List (Vec ℕ Global)). IfSome c.new-fingerprints.result
-    (λ f. AllPass f c.args.ignore_case (map (λ (pattern : Vec ℕ Global). pattern.items) p))) c.deref-4.ensures.value
-    c.new-fingerprints.ensures.pass in
-    let lent_pass = behind_reference c.as_ref.result c.new-fingerprints.result
-    (λ f. AllPass f c.args.ignore_case bytes) c.as_ref.ensures.value pass in
+    let pass : IfSome c.new-scan.result (λ f. StopsAtEach f c.args.ignore_case bytes) =
+    subst (λ (p : List (Vec ℕ Global)). IfSome c.new-scan.result
+    (λ f. StopsAtEach f c.args.ignore_case (map (λ (pattern : Vec ℕ Global). pattern.items) p))) c.deref-4.ensures.value
+    c.new-scan.ensures.stops in
+    let lent_pass = behind_reference c.as_ref.result c.new-scan.result
+    (λ f. StopsAtEach f c.args.ignore_case bytes) c.as_ref.ensures.value pass in
     subst (AreListed (overlapping_value t)) (sym numbers_are) (listed_all t are prints (omega arith)
     (prints_let_pass c.shortest_len.result c.args.ignore_case bytes c.as_ref.result prints lent_pass
-    c.fingerprint_numbers-prints.ensures) sized)
+    c.scan_numbers-prints.ensures) sized)
 
 pub numbers_for-requires-clause-inside : goal.numbers_for-requires-clause-inside
 numbers_for-requires-clause-inside g c i =

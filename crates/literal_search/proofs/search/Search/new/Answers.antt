@@ -3,7 +3,7 @@ use Rattle.std.proofs.lemmas.List.{length-map, nil_from_length}
 use Rattle.std.specs.Global.{Global}
 use Rattle.std.specs.declared.vec.Vec.{Vec}
 use Rattle.literal_base.specs.Occurs.{NoneIsEmpty}
-use Rattle.literal_fingerprints.specs.FingerprintsValue.{AllPass}
+use Rattle.literal_fingerprints.specs.CandidateScans.{StopsAtEach}
 use Rattle.literal_search.specs.SearchValue.{longest_of, search_by, width_for}
 use Rattle.literal_search.specs.Inside.Search.{AreKept}
 use Rattle.literal_search.specs.Inside.Prepared.{numbers_for}
@@ -139,7 +139,7 @@ invariant_of-result g c =
       longest = refl;
       kept = c.in_ok-patterns.ensures.ok.5;
     } in
-    let prints = c.fingerprint_numbers-prints.result in
+    let prints = c.scan_numbers-prints.result in
     let All = λ (k : List ℕ) (p : List (Vec ℕ Global)) (b : List ℕ). numbers_for PREPARED_VERSION k classes.width
     (map (λ (pattern : Vec ℕ Global). pattern.items) p) c.in_ok-rows.rows.rows b prints in
     let lent = c.deref-7.result.now in
@@ -150,15 +150,15 @@ invariant_of-result g c =
     ∙ (ap (λ k. All k lent c.deref-8.result.now) c.in_ok-rows.ensures.classes
     ∙ (ap (λ p. All classes.table p c.deref-8.result.now) c.deref-7.ensures.value
     ∙ ap (λ b. All classes.table patterns b) c.deref-8.ensures.value))) in
-    let pass : IfSome c.new-fingerprints.result (λ f. AllPass f c.args.ignore_case bytes) =
-    subst (λ (p : List (Vec ℕ Global)). IfSome c.new-fingerprints.result
-    (λ f. AllPass f c.args.ignore_case (map (λ (pattern : Vec ℕ Global). pattern.items) p))) c.deref-5.ensures.value
-    c.new-fingerprints.ensures.pass in
-    let lent_pass = behind_reference c.as_ref.result c.new-fingerprints.result
-    (λ f. AllPass f c.args.ignore_case bytes) c.as_ref.ensures.value pass in
+    let pass : IfSome c.new-scan.result (λ f. StopsAtEach f c.args.ignore_case bytes) =
+    subst (λ (p : List (Vec ℕ Global)). IfSome c.new-scan.result
+    (λ f. StopsAtEach f c.args.ignore_case (map (λ (pattern : Vec ℕ Global). pattern.items) p))) c.deref-5.ensures.value
+    c.new-scan.ensures.stops in
+    let lent_pass = behind_reference c.as_ref.result c.new-scan.result
+    (λ f. StopsAtEach f c.args.ignore_case bytes) c.as_ref.ensures.value pass in
     subst (AreKept t.search) (sym numbers_are) (kept_all t are prints (omega arith)
     (prints_let_pass c.shortest_len.result c.args.ignore_case bytes c.as_ref.result prints lent_pass
-    c.fingerprint_numbers-prints.ensures)
+    c.scan_numbers-prints.ensures)
     (c.classes_for-classes.ensures.width ∙ ap (λ (p : List (Vec ℕ Global)). width_for c.args.ignore_case
     (map (λ (pattern : Vec ℕ Global). pattern.items) p)) c.deref.ensures.value)
     (subst (λ (texts : List (List ℕ)). IsRowsLength texts classes.width (length c.in_ok-rows.rows.rows))
