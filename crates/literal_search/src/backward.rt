@@ -17,7 +17,7 @@ ghost use Rattle.literal_search.specs.Inside.Leftmost.{IsLimit, IsPart};
 ghost use Rattle.literal_search.specs.declared.backward.TheConstants.{MARKED};
 
 use crate::leftmost::{Block, LEAST_PART, Lanes, OVERLAP, PRICE, Passed};
-use crate::prepared::{Damaged, fingerprints_in};
+use crate::prepared::{Damaged, scan_in};
 use crate::walk::{ENDS, Table};
 use literal_base::count::Tally;
 use literal_base::{Match, Span};
@@ -44,7 +44,7 @@ pub struct Backward<'t> {
     pub best: &'t [u32],
     /// How long each pattern is.
     pub lens: &'t [u32],
-    /// The numbers of the fingerprints by which a search passes over places, if there are any.
+    /// The numbers of the scan for candidates by which a search passes over places, if there is one.
     pub prints: &'t [u32],
 }
 
@@ -199,8 +199,8 @@ impl<'t> Backward<'t> {
         self.mark_ahead(haystack, span, from, numbers, marks, tally)
     }
 
-    /// The same where it isn't known. Fingerprints pass over bytes. Where they stop, the place alone is marked, if they
-    /// passed over enough; else a block. It is called, and not put in its place, so that the next match in a marked
+    /// The same where it isn't known. A scan for candidates passes over bytes. Where it stops, the place alone is
+    /// marked, if it passed over enough; else a block. It is called, and not put in its place, so that the next match in a marked
     /// block costs little.
     #[inline(never)]
     fn mark_ahead(
@@ -221,12 +221,12 @@ impl<'t> Backward<'t> {
         ensures { HasLookedAhead self.now haystack.now span from numbers.old numbers.new marks.old marks.new tally.old
             tally.new result }
     {
-        let fingerprints = &fingerprints_in(self.prints);
+        let scan = &scan_in(self.prints);
         let rest = Span {
             start: from,
             end: span.end,
         };
-        let at = self.pass_over(fingerprints, haystack, rest, tally);
+        let at = self.pass_over(scan, haystack, rest, tally);
         let part = self.part_after(marks.part, at - from);
         *marks = no_marks(span.end);
         if at == span.end {

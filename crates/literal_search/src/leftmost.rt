@@ -13,15 +13,15 @@ ghost use Rattle.literal_search.specs.Inside.Leftmost.{AreLanes, AreSteps, HasBy
 ghost use Rattle.literal_search.specs.Inside.Leftmost.{IsFourParts, NoneBehind};
 ghost use Rattle.literal_search.specs.Inside.Leftmost.{IsLane, IsLed};
 ghost use Rattle.literal_search.specs.Inside.Leftmost.{IsFront, IsLimit, IsPaid, IsPart, IsStep, LiesInPart, ReadsFor};
-ghost use Rattle.literal_search.specs.Inside.Leftmost.{AreFor, owed_by};
+ghost use Rattle.literal_search.specs.Inside.Leftmost.{AreFor, ahead_by, owed_by};
 ghost use Rattle.literal_search.specs.SearchValue.{LooksFor};
 
 use crate::backward::{Backward, Begun};
-use crate::prepared::{Damaged, fingerprints_in};
+use crate::prepared::{Damaged, scan_in};
 use crate::walk::ENDS;
 use literal_base::count::Tally;
 use literal_base::{Match, Span};
-use literal_fingerprints::Fingerprints;
+use literal_fingerprints::CandidateScan;
 
 /// The least length of the parts of the first block through which four walks go at once.
 const FIRST: usize = 16;
@@ -32,14 +32,14 @@ const LAST: usize = 1024;
 /// Four walks go through the last block if its parts have at least this length.
 pub(crate) const LEAST_PART: usize = 6;
 
-/// Before one walk looks at a candidate, fingerprints passed over this many bytes, or as many as the longest pattern
-/// has, whichever is more.
+/// Before one walk looks at a candidate, a scan passed over this many bytes, or as many as the longest pattern has,
+/// whichever is more.
 pub(crate) const PRICE: usize = 48;
 
 /// The largest number of bytes that count as passed over.
 const MOST_CREDIT: usize = 2048;
 
-/// Fingerprints look up at most this many bytes more than they pass over.
+/// A scan for candidates looks up at most this many bytes more than three times those that it passes over.
 pub(crate) const OVERLAP: usize = 19;
 
 /// At which rows four walks stand, each in one of four neighbouring parts of a span, or the numbers that they read last.
@@ -95,7 +95,7 @@ pub struct Block {
 pub struct Front {
     /// Nothing begins before this place.
     pub at: usize,
-    /// The number of bytes that fingerprints passed over, less what they paid for.
+    /// The number of bytes that a scan passed over, less what they paid for.
     pub credit: usize,
     /// The length of each of the four parts of the next block.
     pub part: usize,
@@ -306,27 +306,29 @@ impl<'t> Backward<'t> {
         self.first_in(classes, haystack, span, part, place, None, limit, tally)
     }
 
-    /// A place of a span, or its end, before which no pattern begins, by the fingerprints, if there are any.
+    /// A place of a span, or its end, before which no pattern begins, by the scan for candidates, if there is one.
     #[inline(always)]
     pub(crate) fn pass_over(
         &self,
-        fingerprints: &Option<Fingerprints>,
+        scan: &Option<CandidateScan>,
         haystack: &[u8],
         span: Span,
         tally: &mut Tally,
     ) -> usize
         requires valid { IsValidSpan haystack.now span }
-        requires for_patterns { AreFor self.now fingerprints.now }
+        requires for_patterns { AreFor self.now scan.now }
         ensures none { ForBackward self.now (λ tables.
             NoneFrom tables haystack.now span.end span.start result) }
         ensures inside { (span.start ≤ result) × (result ≤ span.end) }
         ensures others { tally.new ≡ record tally.old { scanned = tally.new.scanned } }
-        ensures most { tally.new.scanned + span.start
-            ≤ tally.old.scanned + result + min (owed_by fingerprints.now) (span.end - result) }
+        ensures most { tally.new.scanned + 3 * span.start
+            ≤ tally.old.scanned + 3 * result + min (owed_by scan.now) (span.end - result) }
+        ensures ahead { tally.new.scanned + span.start
+            ≤ tally.old.scanned + result + min (ahead_by scan.now) (span.end - result) }
         ensures least { tally.old.scanned + result ≤ tally.new.scanned + span.start }
     {
-        match fingerprints {
-            Some(fingerprints) => fingerprints.next(haystack, span, tally),
+        match scan {
+            Some(scan) => scan.next(haystack, span, tally),
             None => span.start,
         }
     }
@@ -603,32 +605,33 @@ impl<'t> Backward<'t> {
         Some(Block { part, lead, end })
     }
 
-    /// How far a search is that passes on by fingerprints.
+    /// How far a search is that passes on by a scan for candidates.
     #[inline(always)]
     fn pass_on(
         &self,
-        fingerprints: &Option<Fingerprints>,
+        scan: &Option<CandidateScan>,
         haystack: &[u8],
         span: Span,
         front: Front,
         tally: &mut Tally,
     ) -> Front
         requires valid { IsValidSpan haystack.now span }
-        requires for_patterns { AreFor self.now fingerprints.now }
+        requires for_patterns { AreFor self.now scan.now }
         requires after { span.start ≤ front.at }
         requires inside { front.at ≤ span.end }
         ensures none { ForBackward self.now (λ tables. NoneFrom tables haystack.now span.end front.at result.at) }
         ensures later { (front.at ≤ result.at) × (result.at ≤ span.end) }
         ensures front { (base : ℕ) → IsFront self.now span 0 base tally.old.scanned front
-            → IsFront self.now span (owed_by fingerprints.now) base tally.new.scanned result }
+            → IsFront self.now span (owed_by scan.now) base tally.new.scanned result }
         ensures others { tally.new ≡ record tally.old { scanned = tally.new.scanned } }
     {
         let rest = Span {
             start: front.at,
             end: span.end,
         };
-        let at = self.pass_over(fingerprints, haystack, rest, tally);
-        let credit = MOST_CREDIT.min(front.credit.saturating_add(at - front.at));
+        let at = self.pass_over(scan, haystack, rest, tally);
+        let passed = credited(scan, at - front.at);
+        let credit = MOST_CREDIT.min(front.credit.saturating_add(passed));
         Front {
             at,
             credit,
@@ -698,9 +701,9 @@ impl<'t> Backward<'t> {
         Ok(Looked { first, front })
     }
 
-    /// The first place of a span at which a pattern begins. Fingerprints pass over bytes. Where they stop, one walk
-    /// looks at the place, if they passed over enough; else four walks go through a block, from its end. Each block is
-    /// twice as long as the one before it, up to a limit.
+    /// The first place of a span at which a pattern begins. A scan for candidates passes over bytes. Where it stops, one
+    /// walk looks at the place, if it passed over enough; else four walks go through a block, from its end. Each block
+    /// is twice as long as the one before it, up to a limit.
     fn first_begun(
         &self,
         haystack: &[u8],
@@ -717,14 +720,14 @@ impl<'t> Backward<'t> {
         ensures counted { IfOk result
             (ReadsFor self.now.table.longest span tally.old.scanned tally.new.scanned) }
     {
-        let fingerprints = &fingerprints_in(self.prints);
-        let owed = owed_by(fingerprints);
+        let scan = &scan_in(self.prints);
+        let owed = owed_by(scan);
         let begin = Front {
             at: span.start,
             credit: 0,
             part: FIRST.max(self.table.longest / 2 + 3),
         };
-        let mut front = self.pass_on(fingerprints, haystack, span, begin, tally);
+        let mut front = self.pass_on(scan, haystack, span, begin, tally);
         if front.at == span.end {
             return Ok(None);
         }
@@ -735,7 +738,7 @@ impl<'t> Backward<'t> {
             if looked.first.is_some() {
                 return Ok(looked.first);
             }
-            front = self.pass_on(fingerprints, haystack, span, looked.front, tally);
+            front = self.pass_on(scan, haystack, span, looked.front, tally);
         }
         let rest = Span {
             start: front.at,
@@ -800,12 +803,22 @@ impl<'t> Backward<'t> {
     }
 }
 
-/// How many bytes a pass by fingerprints may look up more than it passes over.
-fn owed_by(fingerprints: &Option<Fingerprints>) -> usize
-    ensures { result ≡ owed_by fingerprints.now }
+/// How many bytes a pass by a scan may look up more than three times those that it passes over.
+fn owed_by(scan: &Option<CandidateScan>) -> usize
+    ensures { result ≡ owed_by scan.now }
 {
-    match fingerprints {
+    match scan {
         Some(_) => OVERLAP,
         None => 0,
+    }
+}
+
+/// How many bytes count as passed over, where a scan passed over so many: fewer where it reads far ahead.
+fn credited(scan: &Option<CandidateScan>, passed: usize) -> usize
+    ensures { result ≡ passed - (ahead_by scan.now - OVERLAP) }
+{
+    match scan {
+        Some(scan) => passed.saturating_sub(scan.ahead() - OVERLAP),
+        None => passed,
     }
 }

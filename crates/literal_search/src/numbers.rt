@@ -7,11 +7,10 @@ ghost use Rattle.literal_search.specs.Inside.Kept.{numbers_kept};
 
 use crate::classes::{CLASSES_LEN, Classes};
 use crate::prepared::{
-    ArrayTooShort, FINGERPRINTS_LEN, LENGTHS_AT, NO_LISTED, NO_PATTERN, fingerprint_numbers,
-    put_numbers, write,
+    ArrayTooShort, LENGTHS_AT, NO_LISTED, NO_PATTERN, SCAN_LEN, put_numbers, scan_numbers, write,
 };
 use crate::shortest_len;
-use literal_fingerprints::Fingerprints;
+use literal_fingerprints::CandidateScan;
 use std::alloc::{AllocError, Global};
 use std::marker::Model;
 
@@ -51,7 +50,7 @@ impl Numbers {
         rows: &[u32],
         starts: &[usize],
         ends: &[u32],
-        prints: &[u32; FINGERPRINTS_LEN],
+        prints: &[u32; SCAN_LEN],
     ) -> Result<Numbers, AllocError>
         requires width { classes.now.width < 2 ^ 32 }
         requires patterns { length patterns.now ≤ 2 ^ 31 - 1 }
@@ -64,7 +63,7 @@ impl Numbers {
             (map (λ pattern. pattern.items) patterns.now) rows.now starts.now (ends.now ++ prints.now)) }
     {
         let lists_at = LENGTHS_AT + patterns.len() + rows.len() + CLASSES_LEN;
-        let needed = lists_at + starts.len() + ends.len() + FINGERPRINTS_LEN;
+        let needed = lists_at + starts.len() + ends.len() + SCAN_LEN;
         let mut kept = vec![in alloc; 0u32; needed]?;
         write(
             version, classes, patterns, rows, starts, ends, prints, &mut kept,
@@ -112,10 +111,10 @@ impl Numbers {
     }
 }
 
-/// The numbers of the fingerprints of patterns.
-pub fn prints_for(ignore_case: bool, patterns: &[Vec<u8>]) -> [u32; FINGERPRINTS_LEN]
+/// The numbers of the scan for patterns.
+pub fn prints_for(ignore_case: bool, patterns: &[Vec<u8>]) -> [u32; SCAN_LEN]
     ensures { ArePrints (map (λ pattern. pattern.items) patterns.now) ignore_case result }
 {
-    let fingerprints = Fingerprints::new(ignore_case, patterns);
-    fingerprint_numbers(shortest_len(patterns), fingerprints.as_ref())
+    let scan = CandidateScan::new(ignore_case, patterns);
+    scan_numbers(shortest_len(patterns), scan.as_ref())
 }

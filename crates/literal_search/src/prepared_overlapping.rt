@@ -22,8 +22,7 @@ ghost use Rattle.literal_search.specs.Inside.Walk.{classes_by, rows_by};
 ghost use Rattle.literal_search.specs.declared.standing.Standing.{Standing};
 
 use crate::prepared::{
-    Damaged, FINGERPRINTS_LEN, Header, LENGTHS_AT, OVERLAPPING_VERSION, fingerprints_in,
-    is_checked, split,
+    Damaged, Header, LENGTHS_AT, OVERLAPPING_VERSION, SCAN_LEN, is_checked, scan_in, split,
 };
 use crate::standing::Standing;
 use crate::walk::{Stop, Table};
@@ -45,7 +44,7 @@ pub struct LentTables<'p> {
     /// Where the list of each pattern begins, and the last ends.
     starts: &'p [u32],
     ends: &'p [u32],
-    /// The numbers of the fingerprints, by which a search passes over bytes, if there are any.
+    /// The numbers of the scan for candidates by which a search passes over bytes, if there is one.
     prints: &'p [u32],
 }
 
@@ -85,7 +84,7 @@ impl<'p> PreparedOverlapping<'p> {
             ..
         } = &self.lent;
         let lists_at = LENGTHS_AT + header.lengths.len() + header.rows.len();
-        let end = lists_at + starts.len() + ends.len() + FINGERPRINTS_LEN;
+        let end = lists_at + starts.len() + ends.len() + SCAN_LEN;
         is_checked(header.numbers, end)
     }
 
@@ -162,7 +161,7 @@ pub fn lent_in(numbers: &[u32]) -> Result<LentTables<'_>, Damaged>
         return Err(Damaged);
     }
     let (ends_at, listed) = (last + 1, numbers[last] as usize);
-    if numbers.len() - ends_at < listed + FINGERPRINTS_LEN {
+    if numbers.len() - ends_at < listed + SCAN_LEN {
         return Err(Damaged);
     }
     let prints_at = ends_at + listed;
@@ -170,7 +169,7 @@ pub fn lent_in(numbers: &[u32]) -> Result<LentTables<'_>, Damaged>
         header,
         starts: &numbers[starts_at..ends_at],
         ends: &numbers[ends_at..prints_at],
-        prints: &numbers[prints_at..prints_at + FINGERPRINTS_LEN],
+        prints: &numbers[prints_at..prints_at + SCAN_LEN],
     })
 }
 

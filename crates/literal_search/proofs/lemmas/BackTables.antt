@@ -20,7 +20,7 @@ use Rattle.literal_search.specs.Prepared.{ArePrints, TakesPlaces, best_end, best
 use Rattle.literal_search.specs.Prepared.{texts_back}
 use Rattle.literal_search.specs.SearchValue.{SearchValue}
 use Rattle.literal_search.specs.States.{HasTooManyStates, IsRowsLength}
-use Rattle.literal_search.specs.declared.prepared.TheConstants.{FINGERPRINTS_LEN, PREPARED_VERSION}
+use Rattle.literal_search.specs.declared.prepared.TheConstants.{SCAN_LEN, PREPARED_VERSION}
 use Rattle.literal_search.proofs.lemmas.Numbers.{check_written, classes_written, ends_written, lengths_written}
 use Rattle.literal_search.proofs.lemmas.Numbers.{starts_written}
 use Rattle.literal_search.proofs.lemmas.Numbers.{numbers_long, rows_written}
@@ -59,8 +59,8 @@ both_behind version width classes rows one two patterns =
     ap (λ l. checked version (width ∷ length patterns ∷ length rows ∷ longest_of patterns ∷ l))
     (ap (λ l. l ++ (one ++ two)) (append-nil before) ∙ sym (append_assoc before one two))
 
--- what is written for tables is prepared for their search, with fingerprints
-module _ (t : BackTables) (are : AreBackTables t) (prints : List ℕ) (long : length prints ≡ FINGERPRINTS_LEN)
+-- what is written for tables is prepared for their search, with a scan for candidates
+module _ (t : BackTables) (are : AreBackTables t) (prints : List ℕ) (long : length prints ≡ SCAN_LEN)
     (pass : ArePrints t.search.query.patterns t.search.ignore_case prints)
   where
     abbrev pub all_of : List ℕ
@@ -129,7 +129,7 @@ module _ (t : BackTables) (are : AreBackTables t) (prints : List ℕ) (long : le
 module _ {search : SearchValue} {numbers : List ℕ} (kept : AreKept search numbers) where
   -- so many numbers these are
   pub kept_long : length numbers ≡ 6 + length search.query.patterns + length (rows_in numbers) + 256
-      + length search.query.patterns + FINGERPRINTS_LEN
+      + length search.query.patterns + SCAN_LEN
   kept_long =
       let fits = kept.prepared.whole.parts.fits in
       let places = length_part numbers (rows_at numbers) (rows_end numbers) (omega arith) (omega arith) in

@@ -9,7 +9,7 @@ use Rattle.std.specs.Result.{IsOkAnd}
 use Rattle.literal_base.specs.MatchValue.{MatchValue}
 use Rattle.literal_base.specs.Occurs.{IsValidSpan, between, pattern_at}
 use Rattle.literal_base.specs.declared.search.Span.{Span}
-use Rattle.literal_fingerprints.specs.FingerprintsValue.{AllPass}
+use Rattle.literal_fingerprints.specs.CandidateScans.{StopsAtEach}
 use Rattle.literal_search.specs.Inside.Classes.{AreClasses}
 use Rattle.literal_search.specs.Inside.Overlapping.{AreListed}
 use Rattle.literal_search.specs.Inside.Packed.{unpacked}
@@ -25,11 +25,11 @@ use Rattle.literal_search.specs.PreparedOverlapping.{AreSized, AreTables}
 use Rattle.literal_search.specs.PreparedOverlapping.{IsPreparedOverlapping, Tables, tables_in}
 use Rattle.literal_search.specs.PreparedOverlapping.{TakesListedPlaces, ends_at, ends_in}
 use Rattle.literal_search.specs.PreparedOverlapping.{listed_len, overlapping_len, prints_behind, starts_in, texts_in}
-use Rattle.literal_search.specs.Prepared.{ArePrints, classes_end, fingerprints_by, rows_at, rows_end, shortest_by}
+use Rattle.literal_search.specs.Prepared.{ArePrints, classes_end, scan_by, rows_at, rows_end, shortest_by}
 use Rattle.literal_search.specs.States.{IsRowsLength}
 use Rattle.literal_search.specs.declared.prepared.Header.{Header}
 use Rattle.literal_search.specs.declared.prepared.Damaged.{Damaged}
-use Rattle.literal_search.specs.declared.prepared.TheConstants.{FINGERPRINTS_LEN, OVERLAPPING_VERSION}
+use Rattle.literal_search.specs.declared.prepared.TheConstants.{SCAN_LEN, OVERLAPPING_VERSION}
 use Rattle.literal_search.specs.declared.prepared_overlapping.LentTables.{LentTables}
 use Rattle.literal_search.specs.declared.standing.Standing.{Standing}
 use Rattle.literal_search.specs.declared.walk.Stop.{Stop}
@@ -220,8 +220,8 @@ module _ {search : OverlappingValue} {p : LentTables} (are : AreFor search p) (h
           }))
 
 -- what is written of tables is prepared for their search
-module _ (t : Tables) (tables : AreTables t) (prints : List ℕ) (prints_long : length prints ≡ FINGERPRINTS_LEN)
-    (pass : 0 < shortest_by prints → AllPass (fingerprints_by prints) t.ignore_case t.patterns)
+module _ (t : Tables) (tables : AreTables t) (prints : List ℕ) (prints_long : length prints ≡ SCAN_LEN)
+    (pass : 0 < shortest_by prints → StopsAtEach (scan_by prints) t.ignore_case t.patterns)
   where
     abbrev pub all_of : List ℕ
     all_of = numbers_for OVERLAPPING_VERSION t.classes t.width t.patterns t.rows t.starts (t.ends ++ prints)
@@ -251,7 +251,7 @@ module _ (t : Tables) (tables : AreTables t) (prints : List ℕ) (prints_long : 
     listed_is : listed_len all_of ≡ classes_end all_of + length t.starts + length t.ends
     listed_is = ap (λ n. ends_at all_of + n) last_is ∙ ap (λ n. n + length t.ends) ends_at_is
 
-    -- behind the numbers that say where lists begin stand these, and then the fingerprints
+    -- behind the numbers that say where lists begin stand these, and then the scan for candidates
     abbrev start : List ℕ
     start = take (classes_end all_of + length t.starts) all_of
 
@@ -282,9 +282,9 @@ module _ (t : Tables) (tables : AreTables t) (prints : List ℕ) (prints_long : 
 
     whole : overlapping_len all_of ≡ length all_of
     whole =
-        let size : 6 + length t.patterns + length t.rows + 256 + length t.starts + length t.ends + 33 ≡ length all_of =
+        let size : 6 + length t.patterns + length t.rows + 256 + length t.starts + length t.ends + 35 ≡ length all_of =
         omega (arith, size, prints_long, length-append t.ends prints) in
-        ap (λ n. n + 33) listed_is ∙ size
+        ap (λ n. n + 35) listed_is ∙ size
 
     tables_are : t ≡ tables_in (overlapping_value t) all_of
     tables_are = same_tables (overlapping_value t) t.classes _ t.width _ t.rows _ t.ends _ t.starts _
@@ -312,7 +312,7 @@ module _ (t : Tables) (tables : AreTables t) (prints : List ℕ) (prints_long : 
         longest = refl;
         tables = subst AreTables tables_are tables;
         lengths = lengths_written OVERLAPPING_VERSION t.classes t.width t.patterns t.rows t.starts (t.ends ++ prints);
-        prints = subst (λ (p : List ℕ). 0 < shortest_by p → AllPass (fingerprints_by p) t.ignore_case t.patterns)
+        prints = subst (λ (p : List ℕ). 0 < shortest_by p → StopsAtEach (scan_by p) t.ignore_case t.patterns)
             (sym prints_are) pass;
       };
       long = sym whole;
@@ -325,7 +325,7 @@ module _ {search : OverlappingValue} {numbers : List ℕ} (listed : AreListed se
 
   -- so many numbers these are
   listed_long : length numbers ≡ 6 + length search.patterns + length inside.rows + 256 + length inside.starts
-      + length inside.ends + FINGERPRINTS_LEN
+      + length inside.ends + SCAN_LEN
   listed_long =
       let fits = listed.prepared.whole.lists.fits in
       let lengths = length_part numbers 6 (rows_at numbers) (omega arith) (omega arith) in

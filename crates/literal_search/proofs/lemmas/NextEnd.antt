@@ -7,8 +7,9 @@ use Rattle.std.specs.Option.{option_map}
 use Rattle.std.proofs.lemmas.Bool.{cases_lt}
 use Rattle.literal_base.specs.Occurs.{IsValidSpan, NoneIsEmpty, Occurs, between, pattern_at}
 use Rattle.literal_base.specs.declared.search.Span.{Span}
-use Rattle.literal_fingerprints.specs.FingerprintsValue.{AllPass, FingerprintsValue}
-use Rattle.literal_search.specs.Prepared.{ArePrints, fingerprints_by, shortest_by}
+use Rattle.literal_fingerprints.specs.CandidateScans.{StopsAtEach}
+use Rattle.literal_fingerprints.specs.declared.candidates.CandidateScan.{CandidateScan}
+use Rattle.literal_search.specs.Prepared.{ArePrints, scan_by, shortest_by}
 use Rattle.literal_search.specs.Earliest.{IsEarliestEnd}
 use Rattle.literal_search.specs.Inside.Classes.{AreClasses, Tells, symbols_in}
 use Rattle.literal_search.specs.Inside.NextEnd.{FindsNext, HasComeTo, IsNextStop, Stands, StandsNext}
@@ -262,10 +263,10 @@ finds_earliest t patterns ignore_case prints is pass haystack bytes span valid r
     (finds patterns ignore_case is pass span.start
     (stands_first patterns ignore_case (classes_by t) t.width (rows_by t) haystack span)) inside
 
--- the fingerprints of numbers that let all patterns pass let them pass, too
-pub kept_pass : (patterns : List (List ℕ)) (ignore_case : Bool) (prints : List ℕ) (kept : Option FingerprintsValue)
-    → MatchOption kept (shortest_by prints ≡ 0) (λ f. (0 < shortest_by prints) × (f ≡ fingerprints_by prints))
-    → ArePrints patterns ignore_case prints → IfSome kept (λ f. AllPass f ignore_case patterns)
+-- the scan of numbers that stop at each pattern stops there, too
+pub kept_pass : (patterns : List (List ℕ)) (ignore_case : Bool) (prints : List ℕ) (kept : Option CandidateScan)
+    → MatchOption kept (shortest_by prints ≡ 0) (λ f. (0 < shortest_by prints) × (f ≡ scan_by prints))
+    → ArePrints patterns ignore_case prints → IfSome kept (λ f. StopsAtEach f ignore_case patterns)
 kept_pass patterns ignore_case prints None are pass = tt
 kept_pass patterns ignore_case prints (Some f) are pass =
-    subst (λ f. AllPass f ignore_case patterns) (sym are.1) (pass are.0)
+    subst (λ f. StopsAtEach f ignore_case patterns) (sym are.1) (pass are.0)

@@ -13,7 +13,7 @@ use Rattle.literal_search.specs.PreparedOverlapping.{AreTables, Tables}
 use Rattle.literal_search.specs.SearchValue.{CanBeKept, NeedFewStates, search_by}
 use Rattle.literal_search.specs.States.{HasTooManyStates}
 use Rattle.literal_search.specs.Table.{nothing}
-use Rattle.literal_search.specs.declared.prepared.TheConstants.{FINGERPRINTS_LEN, NO_LISTED, NO_PATTERN}
+use Rattle.literal_search.specs.declared.prepared.TheConstants.{SCAN_LEN, NO_LISTED, NO_PATTERN}
 use Rattle.literal_search.specs.declared.prepared.TheConstants.{OVERLAPPING_VERSION, PREPARED_VERSION}
 use Rattle.literal_search.proofs.lemmas.BackTables.{kept_all}
 use Rattle.literal_search.proofs.lemmas.LentTables.{listed_all}
@@ -21,12 +21,12 @@ use Rattle.literal_search.proofs.lemmas.Rows.{none_few, none_long, none_recognis
 
 -- they are those that would be written
 pattern_written : NO_PATTERN ≡ numbers_for PREPARED_VERSION (repeat 256 (0 ∷ [])) 1 [] (0 ∷ nothing ∷ []) []
-    (repeat FINGERPRINTS_LEN (0 ∷ []))
+    (repeat SCAN_LEN (0 ∷ []))
 unfolding check_of packed_classes
 pattern_written = refl
 
 listed_written : NO_LISTED ≡ numbers_for OVERLAPPING_VERSION (repeat 256 (0 ∷ [])) 1 [] (0 ∷ nothing ∷ []) (0 ∷ [])
-    (repeat FINGERPRINTS_LEN (0 ∷ []))
+    (repeat SCAN_LEN (0 ∷ []))
 unfolding check_of packed_classes
 listed_written = refl
 
@@ -52,7 +52,7 @@ none_are_kept kind ignore_case =
       longest = refl;
       kept = none_kept;
     } in
-    subst (AreKept t.search) (sym pattern_written) (kept_all t are (repeat FINGERPRINTS_LEN (0 ∷ [])) refl
+    subst (AreKept t.search) (sym pattern_written) (kept_all t are (repeat SCAN_LEN (0 ∷ [])) refl
     (λ some. absurd (omega (arith, some))) (sym (one_class ignore_case)) none_long)
 
 pub none_are_listed : (ignore_case : Bool) → AreListed (record { patterns = []; ignore_case = ignore_case }) NO_LISTED
@@ -80,7 +80,7 @@ none_are_listed ignore_case =
       };
       kept = none_kept;
     } in
-    subst (AreListed (overlapping_value t)) (sym listed_written) (listed_all t are (repeat FINGERPRINTS_LEN (0 ∷ []))
+    subst (AreListed (overlapping_value t)) (sym listed_written) (listed_all t are (repeat SCAN_LEN (0 ∷ []))
     refl (λ some. absurd (omega (arith, some))) (record { width = sym (one_class ignore_case); rows = none_long }))
   where
     inside : (i : ℕ) → i ≤ 0 → get_or (0 ∷ []) i 0 ≤ 0

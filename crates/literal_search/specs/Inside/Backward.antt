@@ -17,14 +17,14 @@ use Rattle.literal_search.specs.declared.backward.Backward.{Backward}
 use Rattle.literal_search.specs.declared.backward.Marks.{Marks}
 use Rattle.literal_search.specs.declared.backward.TheConstants.{LEAST}
 use Rattle.literal_search.specs.declared.prepared.Damaged.{Damaged}
-use Rattle.literal_search.specs.declared.prepared.TheConstants.{FINGERPRINTS_LEN}
+use Rattle.literal_search.specs.declared.prepared.TheConstants.{SCAN_LEN}
 
--- each byte has a class, there is a row, there are identifiers for the patterns, and numbers for fingerprints
+-- each byte has a class, there is a row, there are identifiers for the patterns, and numbers for a scan for candidates
 pub record IsSafe (b : Backward) : Type 0 where
   pub each : length b.table.classes.now ≡ 64
   pub row : 256 < length b.table.rows.now
   pub few : length b.lens.now ≤ PatternID.LIMIT
-  pub prints : length b.prints.now ≡ FINGERPRINTS_LEN
+  pub prints : length b.prints.now ≡ SCAN_LEN
 
 -- the tables that they would be of a search
 abbrev pub back_tables_by : SearchValue → Backward → BackTables
@@ -37,7 +37,7 @@ back_tables_by search b = record {
   longest = b.table.longest;
 }
 
--- they are those of a search, with the length of each pattern, and fingerprints that let all of them pass, if any
+-- they are those of a search, with the length of each pattern, and a scan that stops at each of them, if any
 pub record AreBackFor (search : SearchValue) (b : Backward) : Type 0 where
   pub tables : AreBackTables (back_tables_by search b)
   pub lens : b.lens.now ≡ map (λ bytes. length bytes) search.query.patterns

@@ -4,7 +4,8 @@ use Rattle.std.specs.Prelude.{◌-◌, IfSome}
 use Rattle.literal_base.specs.Counts.{Counts}
 use Rattle.literal_base.specs.Occurs.{between}
 use Rattle.literal_base.specs.declared.search.Span.{Span}
-use Rattle.literal_fingerprints.specs.FingerprintsValue.{AllPass, FingerprintsValue}
+use Rattle.literal_fingerprints.specs.CandidateScans.{StopsAtEach, ahead_of}
+use Rattle.literal_fingerprints.specs.declared.candidates.CandidateScan.{CandidateScan}
 use Rattle.literal_search.specs.SearchValue.{first_part}
 use Rattle.literal_search.specs.Inside.Backward.{AreMarks, ForBackward, IsMark, NoneFrom, StandsDown}
 use Rattle.literal_search.specs.Inside.Walk.{classes_by, rows_by}
@@ -129,15 +130,20 @@ pub record IsPaid (owed at : ℕ) (b : Block) : Type 0 where
   pub once : 3 * at + 4 * b.part + 4 * b.lead + owed ≤ 3 * b.end
   pub twice : b.lead + owed ≤ 4 * b.part
 
--- how many bytes fingerprints may look up more than they pass over: none where there are none
-abbrev pub owed_by : Option FingerprintsValue → ℕ
+-- how many bytes a scan may look up more than three times those that it passes over: none where there is no scan
+abbrev pub owed_by : Option CandidateScan → ℕ
 owed_by None = 0
-owed_by (Some fingerprints) = OVERLAP
+owed_by (Some scan) = OVERLAP
 
--- fingerprints are for whatever the tables are of
-abbrev pub AreFor : Backward → Option FingerprintsValue → Type 0
-AreFor b fingerprints = ForBackward b (λ tables. IfSome fingerprints
-    (λ f. AllPass f tables.search.ignore_case tables.search.query.patterns))
+-- how many bytes a scan reads at most behind the place at which it stops
+abbrev pub ahead_by : Option CandidateScan → ℕ
+ahead_by None = 0
+ahead_by (Some scan) = ahead_of scan
+
+-- a scan is for whatever the tables are of
+abbrev pub AreFor : Backward → Option CandidateScan → Type 0
+AreFor b scan = ForBackward b (λ tables. IfSome scan
+    (λ s. StopsAtEach s tables.search.ignore_case tables.search.query.patterns))
 
 -- how many bytes are looked up for the first place of a span at which a pattern begins: all that a pattern may reach
 -- that begins there, and those of the span where none does; and not many times those before it

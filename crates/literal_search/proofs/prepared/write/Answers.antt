@@ -41,7 +41,7 @@ returns c =
     (subst (λ (k : ℕ). Puts k ends c.put_starts.new.array c.put_numbers-3.new.array) listed_at c.put_numbers-3.ensures)
     (subst (λ (k : ℕ). Puts (k + length ends) prints c.put_numbers-3.new.array last) listed_at c.put_numbers-4.ensures)
     in
-    let end : 6 + length patterns + length rows + 256 + length starts + length ends + 33
+    let end : 6 + length patterns + length rows + 256 + length starts + length ends + 35
     ≡ listed + length (ends ++ prints) = omega (arith, long, length-append ends prints) in
     let starts_at : 6 + length patterns + length rows + 256 ≡ 6 + length patterns + length table = omega (arith, long)
     in

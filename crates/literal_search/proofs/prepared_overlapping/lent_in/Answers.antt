@@ -29,7 +29,7 @@ returns c =
     let listed : 6 + length f.lengths.now + length f.rows.now + length f.lengths.now + 1
     + get_or numbers (6 + length f.lengths.now + length f.rows.now + length f.lengths.now) 0 ≡ listed_len numbers =
     omega (arith, ends, ap (λ k. get_or numbers k 0) last) in
-    let prints = ap (λ from. slice_range numbers from (from + 33)) listed ∙ ap prints_behind (sym same) in (
+    let prints = ap (λ from. slice_range numbers from (from + 35)) listed ∙ ap prints_behind (sym same) in (
       same,
       record {
         header = c.in_ok-header.ensures.2;

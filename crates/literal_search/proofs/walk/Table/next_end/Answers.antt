@@ -16,7 +16,7 @@ kept_some A P (Some f) are = are
 
 pub returns-in_err-stop-clause-next : goal.returns-in_err-stop-clause-next
 returns-in_err-stop-clause-next c = λ patterns ignore_case is pass start begun.
-    let come = c.loop-fingerprints.invariant.comes patterns ignore_case is pass start begun in
+    let come = c.loop-scan.invariant.comes patterns ignore_case is pass start begun in
     absurd (c.in_err-stop.ensures.reaches is.classes (map (symbols_in (classes_by c.args.self.now)) patterns)
     is.recognises _ (come.0.at is.recognises))
 
@@ -24,30 +24,30 @@ pub returns-in-Ends-clause-next : goal.returns-in-Ends-clause-next
 returns-in-Ends-clause-next c =
     subst (IsFoundOn c.args.self.now c.args.prints.now c.args.haystack.now c.args.from c.args.span) c.in-Ends.is
     (found_on c.args.self.now c.args.prints.now c.args.haystack.now (λ k. omega (arith, c.type_inv.haystack k))
-    c.args.from c.args.span c.requires.valid _ c.loop-fingerprints.invariant.inside c.loop-fingerprints.invariant.comes
+    c.args.from c.args.span c.requires.valid _ c.loop-scan.invariant.inside c.loop-scan.invariant.comes
     c.in_ok-stop.field-0 c.in_ok-stop.ensures.reaches _ c.in_ok-stop.ensures.inside)
 
 pub returns-in-Nowhere-clause-next : goal.returns-in-Nowhere-clause-next
 returns-in-Nowhere-clause-next c =
     subst (IsFoundOn c.args.self.now c.args.prints.now c.args.haystack.now c.args.from c.args.span) c.in-Nowhere.is
     (found_on c.args.self.now c.args.prints.now c.args.haystack.now (λ k. omega (arith, c.type_inv.haystack k))
-    c.args.from c.args.span c.requires.valid _ c.loop-fingerprints.invariant.inside c.loop-fingerprints.invariant.comes
+    c.args.from c.args.span c.requires.valid _ c.loop-scan.invariant.inside c.loop-scan.invariant.comes
     c.in_ok-stop.field-0 c.in_ok-stop.ensures.reaches _ c.in_ok-stop.ensures.inside)
 
 pub returns-in_err-start-in-Back-clause-next : goal.returns-in_err-start-in-Back-clause-next
 returns-in_err-start-in-Back-clause-next c = λ patterns ignore_case is pass start begun.
     absurd (c.in_err-start-in-Back.ensures.none patterns ignore_case is
-    (kept_pass patterns ignore_case c.args.prints.now c.kept_or_read-fingerprints.result
-    c.kept_or_read-fingerprints.ensures pass))
+    (kept_pass patterns ignore_case c.args.prints.now c.kept_or_read-scan.result
+    c.kept_or_read-scan.ensures pass))
 
-pub loop-fingerprints-preserved : goal.loop-fingerprints-preserved
-loop-fingerprints-preserved c =
-    let rest = between c.loop-fingerprints.start c.args.span.end in
-    let so_far = c.loop-fingerprints.invariant in
+pub loop-scan-preserved : goal.loop-scan-preserved
+loop-scan-preserved c =
+    let rest = between c.loop-scan.start c.args.span.end in
+    let so_far = c.loop-scan.invariant in
     let told = c.in_ok-stop.ensures in
     let lies = subst (ReachesWithin rest
-    (c.loop-fingerprints.start + c.loop-fingerprints.near)) c.in-Back.is told.inside in
-    let far = subst (ReadsTo rest (c.reach.new.tally.scanned - c.loop-fingerprints.tally.scanned)) c.in-Back.is
+    (c.loop-scan.start + c.loop-scan.near)) c.in-Back.is told.inside in
+    let far = subst (ReadsTo rest (c.reach.new.tally.scanned - c.loop-scan.tally.scanned)) c.in-Back.is
     told.counted in
     let passed = c.in_ok-start-in-Back.ensures in
     let next = c.farther-near.ensures in
@@ -56,15 +56,15 @@ loop-fingerprints-preserved c =
       inside = passed.inside.1;
       short = next.short so_far.short c.nearest-nearest.ensures.short;
       far = next.least;
-      kept = kept_some _ _ c.kept_or_read-fingerprints.result c.kept_or_read-fingerprints.ensures;
+      kept = kept_some _ _ c.kept_or_read-scan.result c.kept_or_read-scan.ensures;
       comes = subst (IsFoundOn c.args.self.now c.args.prints.now c.args.haystack.now c.args.from c.args.span)
           c.in-Back.is
           (found_on c.args.self.now c.args.prints.now c.args.haystack.now (λ k. omega (arith, c.type_inv.haystack k))
           c.args.from c.args.span c.requires.valid _ so_far.inside so_far.comes c.in_ok-stop.field-0 told.reaches _
           told.inside) c.in_ok-start-in-Back.start passed.inside.0 passed.inside.1
           (λ patterns ignore_case is pass. passed.none patterns ignore_case is (kept_pass patterns ignore_case
-          c.args.prints.now c.kept_or_read-fingerprints.result c.kept_or_read-fingerprints.ensures pass));
-      others = others_on c.args.tally.now c.loop-fingerprints.tally c.reach.new.tally c.pass_over.new.tally
+          c.args.prints.now c.kept_or_read-scan.result c.kept_or_read-scan.ensures pass));
+      others = others_on c.args.tally.now c.loop-scan.tally c.reach.new.tally c.pass_over.new.tally
           so_far.others told.others passed.others;
       least = omega (arith, so_far.least, far, lies.0, passed.least, told.grows);
       most = omega (arith, so_far.most, so_far.far, far, lies.0, lies.2, passed.counted, passed.inside.0, told.grows);
@@ -72,7 +72,7 @@ loop-fingerprints-preserved c =
 
 pub returns-in_err-stop-2-clause-next : goal.returns-in_err-stop-2-clause-next
 returns-in_err-stop-2-clause-next c = λ patterns ignore_case is pass start begun.
-    let come = c.loop-fingerprints.invariant.comes patterns ignore_case is pass start begun in
+    let come = c.loop-scan.invariant.comes patterns ignore_case is pass start begun in
     absurd (c.in_err-stop-2.ensures.reaches is.classes (map (symbols_in (classes_by c.args.self.now)) patterns)
     is.recognises _ (come.0.at is.recognises))
 
@@ -80,12 +80,12 @@ pub returns-in-Ends-2-clause-next : goal.returns-in-Ends-2-clause-next
 returns-in-Ends-2-clause-next c =
     subst (IsFoundOn c.args.self.now c.args.prints.now c.args.haystack.now c.args.from c.args.span) c.in-Ends-2.is
     (found_on c.args.self.now c.args.prints.now c.args.haystack.now (λ k. omega (arith, c.type_inv.haystack k))
-    c.args.from c.args.span c.requires.valid _ c.loop-fingerprints.invariant.inside c.loop-fingerprints.invariant.comes
+    c.args.from c.args.span c.requires.valid _ c.loop-scan.invariant.inside c.loop-scan.invariant.comes
     c.in_ok-stop-2.field-0 c.in_ok-stop-2.ensures.reaches _ c.in_ok-stop-2.ensures.inside)
 
 pub returns-in-Nowhere-2-clause-next : goal.returns-in-Nowhere-2-clause-next
 returns-in-Nowhere-2-clause-next c =
     subst (IsFoundOn c.args.self.now c.args.prints.now c.args.haystack.now c.args.from c.args.span) c.in-Nowhere-2.is
     (found_on c.args.self.now c.args.prints.now c.args.haystack.now (λ k. omega (arith, c.type_inv.haystack k))
-    c.args.from c.args.span c.requires.valid _ c.loop-fingerprints.invariant.inside c.loop-fingerprints.invariant.comes
+    c.args.from c.args.span c.requires.valid _ c.loop-scan.invariant.inside c.loop-scan.invariant.comes
     c.in_ok-stop-2.field-0 c.in_ok-stop-2.ensures.reaches _ c.in_ok-stop-2.ensures.inside)
