@@ -137,9 +137,9 @@ impl RarePair {
     }
 
     /// A place of the span, or its end, before which no pattern with this pair begins that lies whole in the span. The
-    /// span has to be valid. The scan stops at the first place at which the haystack has both bytes, or before. Bytes are
-    /// read 16 at a time, and 32 at a time behind the first 16, each once. Of the last bytes, fewer than 16, each is
-    /// compared with the second byte alone.
+    /// span has to be valid. The scan stops at the first place at which the haystack has both bytes, or before. Bytes
+    /// are read 16 at a time, and 32 at a time behind the first 16, each once. Of the last bytes, fewer than 16, each
+    /// is compared with the second byte alone.
     pub fn next(&self, haystack: &[u8], span: Span, tally: &mut Tally) -> usize
         requires { IsValidSpan haystack.now span }
         ensures inside { (span.start ≤ result) × (result ≤ span.end) }

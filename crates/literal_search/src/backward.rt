@@ -168,7 +168,8 @@ impl<'t> Backward<'t> {
 
     /// Looks further ahead from a place, unless it is known what begins there, and answers a place before which nothing
     /// begins. A scan for candidates passes over bytes. Where it stops, the place alone is marked, if it passed over
-    /// enough; else a block. It is called, and not put in its place, so that the next match in a marked block costs little.
+    /// enough; else a block. It is called, and not put in its place, so that the next match in a marked block costs
+    /// little.
     #[inline(never)]
     fn mark_from(
         &self,
