@@ -22,4 +22,4 @@ NoneBeginsBefore scan haystack span place =
 -- how many bytes a scan reads at most behind the place at which it stops
 abbrev pub ahead_of : CandidateScan → ℕ
 ahead_of (Fingerprints f) = 19
-ahead_of (Pair pair) = 35
+ahead_of (Pair pair) = 37

@@ -19,20 +19,25 @@ pair_in bytes = record {
   apart = slice_index bytes 6;
 }
 
--- the offset of the second byte in a pattern: at most three bytes behind the first
+-- the offset of the first byte in a pattern: at most two
+abbrev pub first_offset : RarePair → ℕ
+first_offset pair = min pair.offset 2
+
+-- the offset of the second byte: at most three bytes behind the first
 abbrev pub second_offset : RarePair → ℕ
-second_offset pair = pair.offset + min pair.apart 3
+second_offset pair = first_offset pair + min pair.apart 3
 
 -- the haystack has both bytes where a pattern has them that begins at a place
 abbrev pub HasPair : RarePair → List ℕ → ℕ → Type 0
 HasPair pair haystack at =
-    IsRare pair.first (slice_index haystack (at + pair.offset))
+    IsRare pair.first (slice_index haystack (at + first_offset pair))
     × IsRare pair.second (slice_index haystack (at + second_offset pair))
 
 -- each text that begins with the pattern has both bytes there
 pub record IsPairOf (pair : RarePair) (ignore_case : Bool) (pattern : List ℕ) : Type 0 where
   pub inside : second_offset pair < length pattern
-  pub first : (byte : ℕ) → same_byte ignore_case byte (slice_index pattern pair.offset) ≡ true → IsRare pair.first byte
+  pub first : (byte : ℕ) → same_byte ignore_case byte (slice_index pattern (first_offset pair)) ≡ true
+      → IsRare pair.first byte
   pub second : (byte : ℕ) → same_byte ignore_case byte (slice_index pattern (second_offset pair)) ≡ true
       → IsRare pair.second byte
 

@@ -2,6 +2,7 @@
 ghost use Rattle.std.specs.Prelude.{◌≡◌, ◌+◌, ◌-◌, ◌*◌, ◌<◌, ◌≤◌, IfSome, length, map};
 ghost use Rattle.literal_base.specs.Occurs.{IsValidSpan};
 ghost use Rattle.literal_fingerprints.specs.CandidateScans.{NoneBeginsBefore, StopsAtEach, ahead_of};
+ghost use Rattle.literal_fingerprints.specs.declared.candidates.CandidateScan.TheVariants.{Pair};
 
 use crate::fingerprints::Fingerprints;
 use crate::pair::RarePair;
@@ -18,18 +19,15 @@ pub enum CandidateScan {
 }
 
 impl CandidateScan {
-    /// The scan for some patterns: by a rare pair for one, and else by fingerprints. There is none where there is no
-    /// pattern, or an empty one, and where there are no fingerprints of several.
+    /// The scan for some patterns: by a pair for one that has rare bytes, and else by fingerprints. There is none where
+    /// there is no pattern, or an empty one, and where there are no fingerprints.
     pub fn new(ignore_case: bool, patterns: &[Vec<u8>]) -> Option<CandidateScan>
         ensures stops { IfSome result
             (λ scan. StopsAtEach scan ignore_case (map (λ pattern. pattern.items) patterns.now)) }
         ensures some { IfSome result (λ _. (0 < length patterns.now) × (length patterns.now ≤ 64)) }
     {
-        if patterns.len() == 1 {
-            return match RarePair::new(ignore_case, &patterns[0]) {
-                Some(pair) => Some(CandidateScan::Pair(pair)),
-                None => None,
-            };
+        if let Some(pair) = pair_for(ignore_case, patterns) {
+            return Some(CandidateScan::Pair(pair));
         }
         match Fingerprints::new(ignore_case, patterns) {
             Some(fingerprints) => Some(CandidateScan::Fingerprints(fingerprints)),
@@ -62,7 +60,24 @@ impl CandidateScan {
     {
         match self {
             CandidateScan::Fingerprints(_) => 19,
-            CandidateScan::Pair(_) => 35,
+            CandidateScan::Pair(_) => 37,
         }
     }
+}
+
+/// The pair of one pattern, if its bytes are rare, or the pattern has no others.
+fn pair_for(ignore_case: bool, patterns: &[Vec<u8>]) -> Option<RarePair>
+    ensures stops { IfSome result
+        (λ pair. StopsAtEach (Pair pair) ignore_case (map (λ pattern. pattern.items) patterns.now)) }
+    ensures one { IfSome result (λ _. length patterns.now ≡ 1) }
+{
+    if patterns.len() != 1 {
+        return None;
+    }
+    let pattern = &patterns[0];
+    let pair = RarePair::new(ignore_case, pattern)?;
+    if pattern.len() > 2 && !pair.is_rare() {
+        return None;
+    }
+    Some(pair)
 }

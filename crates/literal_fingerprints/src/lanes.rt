@@ -25,6 +25,17 @@ pub fn load(haystack: &[u8], at: usize, tally: &mut Tally) -> u8x16
     u8x16::from_slice(&haystack[at..])
 }
 
+/// The byte of a haystack at a place, which so counts as scanned.
+#[inline(always)]
+pub fn byte_at(haystack: &[u8], at: usize, tally: &mut Tally) -> u8
+    requires { at < length haystack.now }
+    ensures byte { result ≡ slice_index haystack.now at }
+    ensures ticks { tally.new ≡ record tally.old { scanned = tally.old.scanned + 1 } }
+{
+    tally.tick_scanned();
+    haystack[at]
+}
+
 /// The bits of both.
 #[inline(always)]
 pub fn both(one: u8x16, other: u8x16) -> u8x16

@@ -6,18 +6,21 @@ ghost use Rattle.literal_fingerprints.specs.Inside.Hits.{hit, hit_at};
 ghost use Rattle.literal_fingerprints.specs.Inside.Lanes.{HasLanes};
 ghost use Rattle.literal_fingerprints.specs.RarePairs.{HasPair, IsPairOf, IsRare, NoPairBegins, pair_in, second_offset};
 
-use crate::lanes::{LANES, both, either, load, shifted, wanted, zeros_before};
+use crate::lanes::{LANES, both, byte_at, either, load, shifted, wanted, zeros_before};
 use crate::nibbles::other_case;
 use literal_base::Span;
 use literal_base::byte_frequencies::freq_rank;
 use literal_base::count::Tally;
 use std::simd::prelude::*;
 
-/// A pair is chosen from this many first bytes of a pattern, at most.
-const LOOKED_AT: usize = 16;
+/// The largest offset of the first byte of a pair in its pattern.
+const LAST: usize = 2;
 
 /// How many bytes a pair takes as bytes.
 pub const PAIR_BYTES: usize = 8;
+
+/// Below this sum of their ranks two bytes are rare. Pairs such as `th` are not.
+const RARE: usize = 470;
 
 /// The largest distance between the two bytes of a pair.
 const APART: usize = 3;
@@ -49,7 +52,7 @@ impl RareByte {
 pub struct RarePair {
     pub first: RareByte,
     pub second: RareByte,
-    /// The offset of the first byte in the pattern.
+    /// The offset of the first byte in the pattern: at most two. A larger number means two.
     pub offset: u8,
     /// How far behind the first byte the second one is: at most three bytes. A larger number means three.
     pub apart: u8,
@@ -92,6 +95,11 @@ impl RarePair {
         })
     }
 
+    /// Whether both bytes are so rare that few places have them.
+    pub fn is_rare(&self) -> bool {
+        freq_rank(self.first.byte) as usize + (freq_rank(self.second.byte) as usize) < RARE
+    }
+
     /// This pair as bytes, by which [`RarePair::from_bytes`] makes it again. The first is not 0.
     pub fn to_bytes(&self) -> [u8; PAIR_BYTES]
         ensures pair { pair_in result ≡ self.now }
@@ -129,19 +137,19 @@ impl RarePair {
     }
 
     /// A place of the span, or its end, before which no pattern with this pair begins that lies whole in the span. The
-    /// span has to be valid. The scan stops at the first place at which the haystack has both bytes. Bytes are read 16
-    /// at a time, and 32 at a time behind the first 16, each once; what is left of the span behind the last 16 is not
-    /// read.
+    /// span has to be valid. The scan stops at the first place at which the haystack has both bytes, or before. Bytes
+    /// are read 16 at a time, and 32 at a time behind the first 16, each once. Of the last bytes, fewer than 16, each
+    /// is compared with the second byte alone.
     pub fn next(&self, haystack: &[u8], span: Span, tally: &mut Tally) -> usize
         requires { IsValidSpan haystack.now span }
         ensures inside { (span.start ≤ result) × (result ≤ span.end) }
         ensures passed { NoPairBegins self.now haystack.now span result }
         ensures stops { HasPair self.now haystack.now result
-            ⊎ (span.end < result + second_offset self.now + 16) }
+            ⊎ ((result ≡ span.start) ⊎ (span.end < result + second_offset self.now + 16)) }
         ensures others { tally.new ≡ record tally.old { scanned = tally.new.scanned } }
         ensures once { tally.new.scanned ≤ tally.old.scanned + (span.end - span.start) }
         ensures read { tally.old.scanned + result ≤ tally.new.scanned + span.start }
-        ensures counted { tally.new.scanned + span.start ≤ tally.old.scanned + result + 35 }
+        ensures counted { tally.new.scanned + span.start ≤ tally.old.scanned + result + 37 }
         ensures thrice { tally.new.scanned + 3 * span.start ≤ tally.old.scanned + 3 * result + 16 }
     {
         if self.first.mask == 0 && self.second.mask == 0 {
@@ -167,11 +175,11 @@ impl RarePair {
         ensures inside { (span.start ≤ result) × (result ≤ span.end) }
         ensures passed { NoPairBegins self.now haystack.now span result }
         ensures stops { HasPair self.now haystack.now result
-            ⊎ (span.end < result + second_offset self.now + 16) }
+            ⊎ ((result ≡ span.start) ⊎ (span.end < result + second_offset self.now + 16)) }
         ensures others { tally.new ≡ record tally.old { scanned = tally.new.scanned } }
         ensures once { tally.new.scanned ≤ tally.old.scanned + (span.end - span.start) }
         ensures read { tally.old.scanned + result ≤ tally.new.scanned + span.start }
-        ensures counted { tally.new.scanned + span.start ≤ tally.old.scanned + result + 35 }
+        ensures counted { tally.new.scanned + span.start ≤ tally.old.scanned + result + 37 }
         ensures thrice { tally.new.scanned + 3 * span.start ≤ tally.old.scanned + 3 * result + 16 }
     {
         match self.apart {
@@ -200,26 +208,24 @@ impl RarePair {
         ensures inside { (span.start ≤ result) × (result ≤ span.end) }
         ensures passed { NoPairBegins self.now haystack.now span result }
         ensures stops { HasPair self.now haystack.now result
-            ⊎ (span.end < result + second_offset self.now + 16) }
+            ⊎ ((result ≡ span.start) ⊎ (span.end < result + second_offset self.now + 16)) }
         ensures others { tally.new ≡ record tally.old { scanned = tally.new.scanned } }
         ensures once { tally.new.scanned ≤ tally.old.scanned + (span.end - span.start) }
         ensures read { tally.old.scanned + result ≤ tally.new.scanned + span.start }
-        ensures counted { tally.new.scanned + span.start ≤ tally.old.scanned + result + 35 }
+        ensures counted { tally.new.scanned + span.start ≤ tally.old.scanned + result + 37 }
         ensures thrice { tally.new.scanned + 3 * span.start ≤ tally.old.scanned + 3 * result + 16 }
     {
-        let offset = self.offset as usize;
-        let behind = offset + apart;
-        if span.end - span.start < offset + LANES {
-            return span.start;
+        let behind = (self.offset as usize).min(LAST) + apart;
+        if span.end - span.start < LANES {
+            return self.scan_rest(second_mask, behind, haystack, span.start, span, tally);
         }
-        let origin = span.start + offset;
-        let here = self.compare(first_mask, second_mask, load(haystack, origin, tally));
+        let here = self.compare(first_mask, second_mask, load(haystack, span.start, tally));
         let passed = zeros_before(here.pairs_after(u8x16::splat(0), apart));
         if passed < LANES {
-            return origin + passed - behind;
+            return span.start + passed.saturating_sub(behind);
         }
         let mut before = here.first;
-        let mut at = origin + LANES;
+        let mut at = span.start + LANES;
         while 2 * LANES <= span.end - at {
             let one = self.compare(first_mask, second_mask, load(haystack, at, tally));
             let two = self.compare(first_mask, second_mask, load(haystack, at + LANES, tally));
@@ -232,10 +238,47 @@ impl RarePair {
             at += 2 * LANES;
         }
         if span.end - at < LANES {
-            return at - behind;
+            return self.scan_rest(second_mask, behind, haystack, at, span, tally);
         }
         let last = self.compare(first_mask, second_mask, load(haystack, at, tally));
-        at + zeros_before(last.pairs_after(before, apart)) - behind
+        let passed = zeros_before(last.pairs_after(before, apart));
+        if passed < LANES {
+            return at + passed - behind;
+        }
+        self.scan_rest(second_mask, behind, haystack, at + LANES, span, tally)
+    }
+
+    /// Compares the bytes of a span from a place on with the second byte of the pair, which is so far behind the start
+    /// of a pattern.
+    fn scan_rest(
+        &self,
+        second_mask: u8,
+        behind: usize,
+        haystack: &[u8],
+        from: usize,
+        span: Span,
+        tally: &mut Tally,
+    ) -> usize
+        requires valid { IsValidSpan haystack.now span }
+        requires after { span.start ≤ from }
+        requires inside { from ≤ span.end }
+        ensures inside { (span.start ≤ result) × (result ≤ span.end) }
+        ensures none { (place : ℕ) → span.start ≤ place → place < result → from ≤ place + behind
+            → place + behind < span.end
+            → hit self.now.second.byte second_mask (slice_index haystack.now (place + behind)) ≡ 0 }
+        ensures far { (result ≡ span.start) ⊎ (from ≤ result + behind) }
+        ensures others { tally.new ≡ record tally.old { scanned = tally.new.scanned } }
+        ensures once { tally.new.scanned ≤ tally.old.scanned + (span.end - from) }
+        ensures read { tally.old.scanned + result ≤ tally.new.scanned + from }
+        ensures counted { tally.new.scanned + from ≤ tally.old.scanned + result + behind + 1 }
+    {
+        for at in from..span.end {
+            let byte = byte_at(haystack, at, tally);
+            if byte | second_mask == self.second.byte {
+                return at.saturating_sub(behind).max(span.start);
+            }
+        }
+        span.end
     }
 
     /// Where 16 bytes of a haystack are the two bytes, by these masks.
@@ -275,14 +318,14 @@ fn zeros_before_both(front: u8x16, back: u8x16) -> usize
 /// The offsets of two rare bytes of a pattern, the first before the second or the same. A pattern of one byte has one.
 fn rarest_two(pattern: &[u8]) -> (usize, usize)
     requires { 0 < length pattern.now }
+    ensures first { result.0 ≤ 2 }
     ensures ordered { result.0 ≤ result.1 }
     ensures near { result.1 ≤ result.0 + 3 }
     ensures inside { result.1 < length pattern.now }
-    ensures short { result.1 < 16 }
 {
     let mut rarest = (0, 0);
     let mut least = usize::MAX;
-    for second in 1..pattern.len().min(LOOKED_AT) {
+    for second in 1..pattern.len().min(LAST + APART + 1) {
         let first = rarest_before(pattern, second);
         let rank = rank_at(pattern, first) + rank_at(pattern, second);
         if rank < least {
@@ -293,15 +336,17 @@ fn rarest_two(pattern: &[u8]) -> (usize, usize)
     rarest
 }
 
-/// The offset of the rarest of the bytes that come at most three bytes before a place.
+/// The offset of the rarest of the first three bytes that come at most three bytes before a place.
 fn rarest_before(pattern: &[u8], place: usize) -> usize
     requires some { 0 < place }
+    requires short { place ≤ 5 }
     requires inside { place ≤ length pattern.now }
+    ensures first { result ≤ 2 }
     ensures before { result < place }
     ensures near { place ≤ result + 3 }
 {
-    let mut rarest = place - 1;
-    for at in place.saturating_sub(APART)..place {
+    let mut rarest = (place - 1).min(LAST);
+    for at in place.saturating_sub(APART)..rarest {
         if rank_at(pattern, at) < rank_at(pattern, rarest) {
             rarest = at;
         }

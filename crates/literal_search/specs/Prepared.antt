@@ -59,7 +59,8 @@ classes_in numbers = unpacked (slice_range numbers (rows_end numbers) (rows_end 
 abbrev pub shortest_by : List ℕ → ℕ
 shortest_by prints = slice_index prints 0
 
--- the bytes of a rare pair, by the last two of such numbers: each holds four of them, the first in its lowest eight bits
+-- the bytes of a rare pair, by the last two of such numbers: each holds four of them, the first in its lowest eight
+-- bits
 abbrev pub pair_bytes : List ℕ → List ℕ
 pair_bytes prints = unpacked (drop PAIR_AT prints)
 
@@ -67,7 +68,8 @@ pair_bytes prints = unpacked (drop PAIR_AT prints)
 -- others hold in the same way
 unfoldable pub scan_by : List ℕ → CandidateScan
 scan_by prints =
-    if slice_index (pair_bytes prints) 0 == 0 then Fingerprints (fingerprints_in (unpacked (slice_range prints 1 PAIR_AT)))
+    if slice_index (pair_bytes prints) 0 == 0
+    then Fingerprints (fingerprints_in (unpacked (slice_range prints 1 PAIR_AT)))
     else Pair (pair_in (pair_bytes prints))
 
 -- a number of 32 bits, stirred so that no other becomes the same: its upper half is xored into its lower one, and then

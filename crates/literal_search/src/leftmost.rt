@@ -18,6 +18,7 @@ ghost use Rattle.literal_search.specs.SearchValue.{LooksFor};
 
 use crate::backward::{Backward, Begun};
 use crate::prepared::{Damaged, scan_in};
+use crate::scan::{credited, owed_by};
 use crate::walk::ENDS;
 use literal_base::count::Tally;
 use literal_base::{Match, Span};
@@ -701,9 +702,9 @@ impl<'t> Backward<'t> {
         Ok(Looked { first, front })
     }
 
-    /// The first place of a span at which a pattern begins. A scan for candidates passes over bytes. Where it stops, one
-    /// walk looks at the place, if it passed over enough; else four walks go through a block, from its end. Each block
-    /// is twice as long as the one before it, up to a limit.
+    /// The first place of a span at which a pattern begins. A scan for candidates passes over bytes. Where it stops,
+    /// one walk looks at the place, if it passed over enough; else four walks go through a block, from its end. Each
+    /// block is twice as long as the one before it, up to a limit.
     fn first_begun(
         &self,
         haystack: &[u8],
@@ -800,25 +801,5 @@ impl<'t> Backward<'t> {
             return Ok(Some(found));
         }
         Ok(None)
-    }
-}
-
-/// How many bytes a pass by a scan may look up more than three times those that it passes over.
-fn owed_by(scan: &Option<CandidateScan>) -> usize
-    ensures { result ≡ owed_by scan.now }
-{
-    match scan {
-        Some(_) => OVERLAP,
-        None => 0,
-    }
-}
-
-/// How many bytes count as passed over, where a scan passed over so many: fewer where it reads far ahead.
-fn credited(scan: &Option<CandidateScan>, passed: usize) -> usize
-    ensures { result ≡ passed - (ahead_by scan.now - OVERLAP) }
-{
-    match scan {
-        Some(scan) => passed.saturating_sub(scan.ahead() - OVERLAP),
-        None => passed,
     }
 }

@@ -5,10 +5,12 @@ ghost use Rattle.std.specs.Prelude.{IfOk, IfSome, None, false, length, true};
 ghost use Rattle.std.specs.Result.{IsOkAnd};
 ghost use Rattle.literal_base.specs.Occurs.{IsValidSpan, between};
 ghost use Rattle.literal_fingerprints.specs.CandidateScans.{StopsAtEach};
+ghost use Rattle.literal_search.specs.Inside.Leftmost.{ahead_by, owed_by};
 ghost use Rattle.literal_search.specs.Inside.Scan.{ForPatterns, IsNear, NoneBefore};
 ghost use Rattle.literal_search.specs.Inside.Walk.{classes_by};
 
 use crate::classes::CLASSES_LEN;
+use crate::leftmost::OVERLAP;
 use crate::prepared::Damaged;
 use crate::walk::Table;
 use literal_base::Span;
@@ -165,4 +167,24 @@ pub fn farther(nearest: usize, near: usize, passed: usize) -> usize
         near / 2
     };
     nearest.max(farther)
+}
+
+/// How many bytes a pass by a scan may look up more than three times those that it passes over.
+pub fn owed_by(scan: &Option<CandidateScan>) -> usize
+    ensures { result ≡ owed_by scan.now }
+{
+    match scan {
+        Some(_) => OVERLAP,
+        None => 0,
+    }
+}
+
+/// How many bytes count as passed over, where a scan passed over so many: fewer where it reads far ahead.
+pub fn credited(scan: &Option<CandidateScan>, passed: usize) -> usize
+    ensures { result ≡ passed - (ahead_by scan.now - OVERLAP) }
+{
+    match scan {
+        Some(scan) => passed.saturating_sub(scan.ahead() - OVERLAP),
+        None => passed,
+    }
 }

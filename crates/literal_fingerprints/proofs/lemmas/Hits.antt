@@ -7,7 +7,7 @@ use Rattle.std.proofs.lemmas.Simd.{get_or-replicate}
 use Rattle.std.specs.Int.Bits.{and_zero_l, and_zero_r, or_zero_l}
 use Rattle.literal_base.specs.Occurs.{IsValidSpan}
 use Rattle.literal_base.specs.declared.search.Span.{Span}
-use Rattle.literal_fingerprints.specs.RarePairs.{HasPair, NoPairBegins}
+use Rattle.literal_fingerprints.specs.RarePairs.{HasPair, NoPairBegins, first_offset}
 use Rattle.literal_fingerprints.specs.declared.pair.RarePair.{RarePair}
 use Rattle.literal_fingerprints.specs.Inside.Hits.{hit, hit_at}
 use Rattle.literal_fingerprints.specs.Inside.Lanes.{HasLanes}
@@ -150,8 +150,9 @@ module _ (first first_mask second second_mask apart : ℕ) (haystack : List ℕ)
         (none_more few at front has_front after 16 (omega arith) (λ k below. zero_front k (omega arith) below) old))
   ]
 
-module _ (pair : RarePair) (first_mask second_mask apart : ℕ) (is_first : first_mask ≡ pair.first.mask)
-    (is_second : second_mask ≡ pair.second.mask) (is_apart : apart ≡ min pair.apart 3) (haystack : List ℕ)
+module _ (pair : RarePair) (first_mask second_mask apart offset : ℕ) (is_first : first_mask ≡ pair.first.mask)
+    (is_second : second_mask ≡ pair.second.mask) (is_apart : apart ≡ min pair.apart 3)
+    (is_offset : offset ≡ min pair.offset 2) (haystack : List ℕ)
   where
     abbrev pub NoneOf : ℕ → ℕ → Type 0
     NoneOf = NoneHit pair.first.byte first_mask pair.second.byte second_mask apart haystack
@@ -162,38 +163,65 @@ module _ (pair : RarePair) (first_mask second_mask apart : ℕ) (is_first : firs
     pub few : apart ≤ 3
     few = omega arith
 
-    -- no pattern with the pair begins so far before a place
-    pub no_pair_begins : (span : Span) → IsValidSpan haystack span → (at place : ℕ)
-        → place + (pair.offset + apart) ≤ at → NoneOf (span.start + pair.offset) at
+    -- no pattern with the pair begins where the haystack has no pair that lies in the span
+    pub no_pair_begins : (span : Span) → IsValidSpan haystack span → (place : ℕ)
+        → ((p : ℕ) → span.start ≤ p → p < place → p + (offset + apart) < span.end
+        → pair_hit pair.first.byte first_mask pair.second.byte second_mask apart haystack (p + offset) ≡ 0)
         → NoPairBegins pair haystack span place
-    no_pair_begins span valid at place low none patterns ignore_case all i begin before occurs =
+    no_pair_begins span valid place none patterns ignore_case all i begin before occurs =
         let is = all i [] occurs.is_pattern in
         let bytes = bytes_at patterns ignore_case haystack span valid i begin occurs in
         let inside = is.inside in
         let after = occurs.after_start in
+        let own = first_offset pair in
+        let here : begin + own ≡ begin + offset = omega (arith, is_offset) in
         let first = hits pair.first.byte first_mask _
-        (ap (bit_or (get_or haystack (begin + pair.offset) 0)) is_first
-        ∙ is.first _ (bytes pair.offset (omega arith))) in
-        let place : begin + pair.offset + apart ≡ begin + (pair.offset + min pair.apart 3) = omega arith in
+        (ap (bit_or (get_or haystack (begin + offset) 0)) is_first
+        ∙ subst (λ j. bit_or (get_or haystack j 0) pair.first.mask ≡ pair.first.byte) here
+        (is.first _ (bytes own (omega arith)))) in
+        let place : begin + offset + apart ≡ begin + (own + min pair.apart 3) = omega (arith, is_offset, is_apart) in
         let second = hits pair.second.byte second_mask _
-        (ap (bit_or (get_or haystack (begin + (pair.offset + min pair.apart 3)) 0)) is_second
-        ∙ is.second _ (bytes (pair.offset + min pair.apart 3) inside)) in
+        (ap (bit_or (get_or haystack (begin + (own + min pair.apart 3)) 0)) is_second
+        ∙ is.second _ (bytes (own + min pair.apart 3) inside)) in
         let both = meets _ _ 255 255 first
         (ap (λ j. hit pair.second.byte second_mask (get_or haystack j 0)) place ∙ second) in
-        absurd (omega (arith, sym both ∙ none (begin + pair.offset) (omega arith) (omega arith)))
+        absurd (omega (arith, sym both ∙ none begin after before (omega (arith, occurs.before_end, is_offset, is_apart))))
 
-    -- where a lane is set, the haystack has the pair
-    pub has_pair : (origin at : ℕ) (lanes : List ℕ) → LanesOf origin lanes at → origin ≤ at → pair.offset ≤ origin
-        → (n : ℕ) → n < 16
-        → get_or lanes n 0 ≢ 0 → HasPair pair haystack (at + n - (pair.offset + apart))
-    has_pair origin at lanes has after low n below stops =
-        let far = far pair.first.byte first_mask pair.second.byte second_mask apart haystack origin few at lanes has
-        after n below stops in
-        let place = at + n - (pair.offset + apart) in
-        let one = has_first pair.first.byte first_mask pair.second.byte second_mask apart haystack origin few at lanes has
-        after n below stops (place + pair.offset) (omega arith) in
-        let two = has_second pair.first.byte first_mask pair.second.byte second_mask apart haystack origin few at lanes
-        has after n below stops (place + (pair.offset + min pair.apart 3)) (omega arith) in (
-          ap (bit_or (get_or haystack (place + pair.offset) 0)) (sym is_first) ∙ one,
-          ap (bit_or (get_or haystack (place + (pair.offset + min pair.apart 3)) 0)) (sym is_second) ∙ two,
+    -- where none is of which the second byte lies before a place
+    pub none_by : (start at place : ℕ) → ((p : ℕ) → start ≤ p → p < place → p + (offset + apart) < at)
+        → NoneOf start at → (p : ℕ) → start ≤ p → p < place
+        → pair_hit pair.first.byte first_mask pair.second.byte second_mask apart haystack (p + offset) ≡ 0
+    none_by start at place low none p after before =
+        none (p + offset) (omega arith) (omega (arith, low p after before))
+
+    -- and behind it none has the second byte
+    pub none_by_rest : (span : Span) (at place : ℕ) → NoneOf span.start at
+        → ((p : ℕ) → span.start ≤ p → p < place → at ≤ p + (offset + apart)
+        → p + (offset + apart) < span.end
+        → hit pair.second.byte second_mask (get_or haystack (p + (offset + apart)) 0) ≡ 0)
+        → (p : ℕ) → span.start ≤ p → p < place → p + (offset + apart) < span.end
+        → pair_hit pair.first.byte first_mask pair.second.byte second_mask apart haystack (p + offset) ≡ 0
+    none_by_rest span at place none rest p after before inside =
+        elim (cases_lt (p + (offset + apart)) at) [
+          | inl low ↦ none (p + offset) (omega arith) (omega arith)
+          | inr not ↦
+              let same : p + (offset + apart) ≡ p + offset + apart = omega arith in
+              ap (bit_and (hit pair.first.byte first_mask (get_or haystack (p + offset) 0)))
+              (ap (λ j. hit pair.second.byte second_mask (get_or haystack j 0)) (sym same)
+              ∙ rest p after before (omega arith) inside)
+              ∙ and_zero_r _
+        ]
+
+    -- where a lane is set, the haystack has the pair, if it lies behind the start
+    pub has_pair : (start at : ℕ) (lanes : List ℕ) → LanesOf start lanes at → start ≤ at → (n : ℕ) → n < 16
+        → get_or lanes n 0 ≢ 0 → offset + apart ≤ at + n
+        → HasPair pair haystack (at + n - (offset + apart))
+    has_pair start at lanes has after n below stops low =
+        let place = at + n - (offset + apart) in
+        let one = has_first pair.first.byte first_mask pair.second.byte second_mask apart haystack start few at lanes has
+        after n below stops (place + first_offset pair) (omega (arith, is_offset)) in
+        let two = has_second pair.first.byte first_mask pair.second.byte second_mask apart haystack start few at lanes has
+        after n below stops (place + (first_offset pair + min pair.apart 3)) (omega (arith, is_offset, is_apart)) in (
+          ap (bit_or (get_or haystack (place + first_offset pair) 0)) (sym is_first) ∙ one,
+          ap (bit_or (get_or haystack (place + (first_offset pair + min pair.apart 3)) 0)) (sym is_second) ∙ two,
         )

@@ -1,6 +1,6 @@
--- Bytes of a haystack compared with rare ones. Places are numbered from 16 before the haystack on, so that there are some
--- before the first byte that is compared.
-use Rattle.std.specs.Prelude.{ℕ, ◌+◌, ◌-◌, ◌==◌, if◌then◌else◌, List, nat_lt, slice_index, bit_or}
+-- Bytes of a haystack compared with rare ones. Places are numbered from 16 before the haystack on, so that there are
+-- some before the first byte that is compared.
+use Rattle.std.specs.Prelude.{ℕ, ◌+◌, ◌-◌, ◌==◌, if◌then◌else◌, List, bit_or, nat_lt, slice_index}
 
 -- 255 where a byte is the rare one, once the bits of a mask are set in it, and else 0
 abbrev pub hit : ℕ → ℕ → ℕ → ℕ

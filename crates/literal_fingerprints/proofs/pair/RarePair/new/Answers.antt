@@ -8,11 +8,13 @@ returns c =
     let pattern = c.args.pattern.now in
     let first = c.rarest_two-first.result.0 in
     let second = c.rarest_two-first.result.1 in
-    let offset : second ≡ first + min (second - first) 3 =
-    omega (arith, c.rarest_two-first.ensures.ordered, c.rarest_two-first.ensures.near) in
+    let same : first ≡ min first 2 = omega (arith, c.rarest_two-first.ensures.first) in
+    let offset : second ≡ min first 2 + min (second - first) 3 =
+    omega (arith, same, c.rarest_two-first.ensures.ordered, c.rarest_two-first.ensures.near) in
     record {
       inside = subst (λ n. n < length pattern) offset c.rarest_two-first.ensures.inside;
-      first = c.new.ensures;
+      first = subst (λ n. (byte : ℕ) → same_byte c.args.ignore_case byte (get_or pattern n 0) ≡ true
+          → IsRare c.new.result byte) same c.new.ensures;
       second = subst (λ n. (byte : ℕ) → same_byte c.args.ignore_case byte (get_or pattern n 0) ≡ true
           → IsRare c.new-2.result byte) offset c.new-2.ensures;
     }
