@@ -1,8 +1,7 @@
 //! Walks through a span from its end, by an automaton of the reversed patterns. The numbers may be lent, and so any:
 //! they are damaged where one leads out of the rows.
 ghost use Rattle.std.specs.Prelude.{◌≡◌, ◌+◌, ◌-◌, ◌*◌, ◌<◌, ◌≤◌, ◌^◌, ◌%◌, length, max, min};
-ghost use Rattle.std.specs.Prelude.{ℕ, IfOk, IfSome, List, MatchOption, None, slice_index};
-ghost use Rattle.std.specs.Option.{unwrap_or};
+ghost use Rattle.std.specs.Prelude.{ℕ, IfOk, IfSome, List, MatchOption, None, false, slice_index};
 ghost use Rattle.std.specs.Result.{IsOkAnd};
 ghost use Rattle.literal_base.specs.Leftmost.{IsLeftmost, IsLeftmostMatch};
 ghost use Rattle.literal_base.specs.Occurs.{IsValidSpan, between};
@@ -660,28 +659,37 @@ fn pass_unmarked(numbers: &[u32], first: usize, from: usize, upto: usize) -> usi
     ensures none { (at : ℕ) → from ≤ at → at < result → slice_index numbers.now (at - first) < 2 ^ 31 }
 {
     let mut at = from;
-    while upto - at >= LANES {
-        if let Some(before) = first_begun_of(numbers, at - first) {
-            return at + before;
-        }
+    while upto - at >= LANES && !has_begun(numbers, at - first) {
         at += LANES;
+    }
+    if upto - at >= LANES {
+        at += unmarked_from(numbers, at - first);
     }
     at
 }
 
+/// Whether one of 16 marks, from one on, says that a pattern begins.
+#[inline(always)]
+fn has_begun(numbers: &[u32], at: usize) -> bool
+    requires { at + 16 ≤ length numbers.now }
+    ensures { result ≡ false → (i : ℕ) → at ≤ i → i < at + 16 → slice_index numbers.now i < 2 ^ 31 }
+{
+    u32x16::from_slice(&numbers[at..]).reduce_or() >= ENDS
+}
+
 /// How many of 16 marks, from one on, come before the first that says that a pattern begins.
 #[inline(always)]
-fn first_begun_of(numbers: &[u32], at: usize) -> Option<usize>
+fn unmarked_from(numbers: &[u32], at: usize) -> usize
     requires { at + 16 ≤ length numbers.now }
-    ensures few { IfSome result (λ before. before ≤ 16) }
-    ensures none { (i : ℕ) → at ≤ i → i < at + unwrap_or result 16 → slice_index numbers.now i < 2 ^ 31 }
+    ensures few { result ≤ 16 }
+    ensures none { (i : ℕ) → at ≤ i → i < at + result → slice_index numbers.now i < 2 ^ 31 }
 {
     let marks = u32x16::from_slice(&numbers[at..]);
     let begun = marks.simd_ge(u32x16::splat(ENDS)).to_bitmask();
     if begun == 0 {
-        None
+        LANES
     } else {
-        Some(begun.trailing_zeros() as usize)
+        begun.trailing_zeros() as usize
     }
 }
 

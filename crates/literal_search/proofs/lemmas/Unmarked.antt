@@ -1,11 +1,12 @@
 -- Sixteen marks, of which a mask tells where one says that a pattern begins.
 use Rattle.std.proofs.Common.{◌≡◌, ℕ, ◌+◌, ◌-◌, ◌%◌, ◌^◌, ◌<◌, ◌≤◌, ◌∙◌, List, [], ◌∷◌, Bool, true, not}
-use Rattle.std.proofs.Common.{ap, arith, cond, drop, get_or, leb, length, map, refl, replicate, sym, take, w32}
+use Rattle.std.proofs.Common.{ap, arith, bit_or, cond, drop, get_or, leb, length, map, refl, replicate, suc, sym, take, w32, zero}
 use Rattle.std.proofs.lemmas.Bool.{leb-false, not-true}
+use Rattle.std.proofs.lemmas.Nat.{le_or_l, le_or_r}
 use Rattle.std.proofs.lemmas.List.Sums.{prefix_len-le-length, prefix_len_passes}
 use Rattle.std.proofs.lemmas.Simd.{bitmask_splat, get_or-chunk, leading_from_mask_l, length-chunk, trailing_mask_l}
 use Rattle.std.specs.List.{prefix_len}
-use Rattle.std.specs.Simd.Lanes.{mask_l, top, zip2}
+use Rattle.std.specs.Simd.Lanes.{fold_l, mask_l, top, zip2}
 use lib.Count.{count_trailing_zeros}
 
 -- an operator of which the two vectors are exchanged
@@ -20,6 +21,21 @@ abbrev pub begun_mask : List ℕ → ℕ
 begun_mask marks =
     mask_l (map (top 31) (zip2 (λ least mark. cond (leb least mark) (2 ^ 32 - 1) 0) (replicate 16 (2 ^ 31)) marks))
     % 2 ^ 64
+
+-- a bitwise or is not below what it began with
+first_small : (limit first : ℕ) (numbers : List ℕ) → fold_l bit_or first numbers < limit → first < limit
+first_small limit first [] small = small
+first_small limit first (number ∷ more) small =
+    omega (arith, first_small limit (bit_or first number) more small, le_or_l first number)
+
+-- nor below one of the numbers
+each_small : (limit first : ℕ) (numbers : List ℕ) → fold_l bit_or first numbers < limit → (k : ℕ)
+    → k < length numbers → get_or numbers k 0 < limit
+each_small limit first [] small k before = absurd (omega (arith, before))
+each_small limit first (number ∷ more) small zero before =
+    omega (arith, first_small limit (bit_or first number) more small, le_or_r first number)
+each_small limit first (number ∷ more) small (suc k) before =
+    each_small limit (bit_or first number) more small k (omega (arith, before))
 
 module _ (numbers : List ℕ) (at : ℕ) (inside : at + 16 ≤ length numbers) where
   abbrev pub marks : List ℕ
@@ -75,3 +91,16 @@ module _ (numbers : List ℕ) (at : ℕ) (inside : at + 16 ≤ length numbers) w
   pub none_before : 0 < begun_mask marks → (i : ℕ) → at ≤ i
       → i < at + count_trailing_zeros 64 (begun_mask marks) → get_or numbers i 0 < 2 ^ 31
   none_before some = small (count_trailing_zeros 64 (begun_mask marks)) (omega (arith, first_is some))
+
+  -- none of them says so, if all their bits together do not
+  pub none_together : fold_l bit_or 0 marks < 2 ^ 31 → (i : ℕ) → at ≤ i → i < at + 16 → get_or numbers i 0 < 2 ^ 31
+  none_together together i after before =
+      let k = i - at in
+      let here : at + k ≡ i = omega (arith, after) in
+      let long = length-chunk at 16 numbers inside in
+      omega (
+        arith,
+        each_small (2 ^ 31) 0 marks together k (omega (arith, long, before, after)),
+        get_or-chunk at 16 numbers k 0 (omega (arith, before, after)),
+        ap (λ j. get_or numbers j 0) here,
+      )
