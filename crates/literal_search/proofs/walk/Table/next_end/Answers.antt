@@ -1,6 +1,6 @@
 use Rattle.std.proofs.Common.{◌+◌, ◌-◌, ◌^◌, IfSome, MatchOption, None, Option, Some, arith, map, subst}
 use Rattle.literal_base.specs.Occurs.{between}
-use Rattle.literal_fingerprints.specs.FingerprintsValue.{FingerprintsValue}
+use Rattle.literal_fingerprints.specs.declared.candidates.CandidateScan.{CandidateScan}
 use Rattle.literal_search.specs.Inside.Classes.{symbols_in}
 use Rattle.literal_search.specs.Inside.Walk.{ReachesWithin, ReadsTo, classes_by}
 use Rattle.literal_search.specs.declared.walk.Stop.{Stop}
@@ -8,8 +8,8 @@ use Rattle.literal_search.proofs.lemmas.NextEnd.{IsFoundOn, found_on, kept_pass}
 use Rattle.literal_search.proofs.lemmas.Scan.{others_on}
 use Rattle.literal_search.proofs.walk.Table.next_end.Goals as goal
 
--- what holds of the fingerprints that were read holds of those that are kept
-kept_some : (A : Type 0) (P : FingerprintsValue → Type 0) (o : Option FingerprintsValue) → MatchOption o A P
+-- what holds of the scan that was read holds of the one that is kept
+kept_some : (A : Type 0) (P : CandidateScan → Type 0) (o : Option CandidateScan) → MatchOption o A P
     → IfSome o P
 kept_some A P None are = tt
 kept_some A P (Some f) are = are
