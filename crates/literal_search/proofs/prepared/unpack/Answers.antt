@@ -1,5 +1,4 @@
 use Rattle.std.proofs.Common.{◌≡◌, ◌*◌, ◌+◌, ◌++◌, ◌∙◌, ap, arith, get_or, length, sym, take, w32, ℕ, List}
-use Rattle.std.proofs.lemmas.List.{take_all}
 use Rattle.std.proofs.lemmas.Slice.{take-put_mid}
 use Rattle.std.specs.Int.{to_le_bytes}
 use Rattle.literal_search.specs.Inside.Packed.{unpacked}
@@ -24,11 +23,3 @@ loop-at-preserved c =
           ∙ (ap (λ l. l ++ part) c.loop-at.invariant.done
           ∙ (ap (λ l. unpacked (take at numbers) ++ l) part_is ∙ sym (unpacked_more numbers at (c.loop-at-test.true))));
     }
-
-pub returns : goal.returns
-returns c =
-    let numbers = c.args.numbers.now in
-    let at = c.loop-at.at in
-    sym (take_all (4 * at) c.loop-at.bytes
-    (omega (arith, c.loop-at.invariant.long, c.requires, c.loop-at-test.false)))
-    ∙ (c.loop-at.invariant.done ∙ ap unpacked (take_all at numbers (omega (arith, c.loop-at-test.false))))

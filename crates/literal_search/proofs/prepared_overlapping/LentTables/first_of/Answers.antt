@@ -6,13 +6,6 @@ use Rattle.literal_search.proofs.lemmas.Standing.{is_pattern}
 use Rattle.literal_search.proofs.lemmas.Walk.{got_is}
 use Rattle.literal_search.proofs.prepared_overlapping.LentTables.first_of.Goals as goal
 
-pub returns-then-pattern-here-clause-prepared : goal.returns-then-pattern-here-clause-prepared
-returns-then-pattern-here-clause-prepared c = λ search are standing left.
-    let pattern_is = got_is c.args.self.now.ends.now _ c.get.result c.in_ok-pattern.field-0 c.get.ensures.lookup
-    c.in_ok-pattern.ensures.ok_part in
-    let here = standing.left.each c.args.here.next (omega arith) left in
-    omega (arith, here.1, pattern_is, c.if-pattern-here.true)
-
 pub returns-in_err-len-clause-prepared : goal.returns-in_err-len-clause-prepared
 returns-in_err-len-clause-prepared c = λ value are standing left.
     let pattern_is = got_is c.args.self.now.ends.now _ c.get.result c.in_ok-pattern.field-0 c.get.ensures.lookup
