@@ -1,6 +1,6 @@
 -- Classes that tell bytes from each other.
 use Rattle.std.proofs.Common.{◌≡◌, ℕ, ◌<◌, Bool, true, false, List, [], ◌∷◌, if◌then◌else◌, length, get_or, map}
-use Rattle.std.proofs.Common.{◌+◌, ◌⊎◌, eqb, inl, inr, replicate}
+use Rattle.std.proofs.Common.{◌+◌, eqb, inl, inr, replicate}
 use Rattle.std.proofs.Common.{refl, sym, ap, subst, ◌∙◌, arith}
 use Rattle.std.proofs.lemmas.Bool.{cases_lt, eq-eqb, eqb-true}
 use Rattle.std.proofs.lemmas.List.{ext_get_or, get_or-map, get_or-replicate, get_or_default, get_or_past, length-map}
@@ -95,38 +95,4 @@ pub none_marked : (b : ℕ) → get_or (replicate 256 false) b false ≡ false
 none_marked b = elim (cases_lt b 256) [
   | inl inside ↦ get_or-replicate 256 b false false inside
   | inr past ↦ get_or_past (replicate 256 false) b false (omega (arith, length-replicate 256 false))
-]
-
--- the marks of one pattern more
-pub marks_more : (ignore_case : Bool) (old new : List Bool) (patterns : List (Vec ℕ)) (n : ℕ) (here : Vec ℕ)
-    → ((i : ℕ) (d : Vec ℕ) → i < n → Marks ignore_case old (get_or patterns i d).items)
-    → ((b : ℕ) → get_or old b false ≡ true → get_or new b false ≡ true) → n < length patterns
-    → here ≡ get_or patterns n here → Marks ignore_case new here.items
-    → (i : ℕ) (d : Vec ℕ) → i < n + 1 → Marks ignore_case new (get_or patterns i d).items
-marks_more ignore_case old new patterns n here before keeps below is marks i d within = elim (cases_lt i n) [
-  | inl earlier ↦ λ k inside.
-      let one = before i d earlier k inside in (one.0, keeps _ one.1)
-  | inr not ↦
-      let same : n ≡ i = omega arith in
-      subst (λ j. Marks ignore_case new (get_or patterns j d).items) same
-      (subst (λ (v : Vec ℕ). Marks ignore_case new v.items) (is ∙ get_or_default patterns n here d below) marks)
-]
-
--- and what is marked for one pattern more
-pub only_more : (ignore_case : Bool) (old new : List Bool) (patterns : List (Vec ℕ)) (n : ℕ) (here : Vec ℕ)
-    → ((b : ℕ) → get_or old b false ≡ true → (i : ℕ) × (i < n)
-    × IsFoldOfOne ignore_case (pattern_at (map (λ (p : Vec ℕ). p.items) patterns) i) b)
-    → n < length patterns → here ≡ get_or patterns n here
-    → ((b : ℕ) → get_or new b false ≡ true → (get_or old b false ≡ true) ⊎ IsFoldOfOne ignore_case here.items b)
-    → (b : ℕ) → get_or new b false ≡ true → (i : ℕ) × (i < n + 1)
-    × IsFoldOfOne ignore_case (pattern_at (map (λ (p : Vec ℕ). p.items) patterns) i) b
-only_more ignore_case old new patterns n here before below is only b marked = elim (only b marked) [
-  | inl already ↦ let one = before b already in (one.0, omega (arith, one.1), one.2)
-  | inr one ↦ (
-    n,
-    omega arith,
-    subst (λ (bytes : List ℕ). IsFoldOfOne ignore_case bytes b)
-        (sym (get_or-map (λ (p : Vec ℕ). p.items) patterns n here [] below ∙ ap (λ (v : Vec ℕ). v.items) (sym is)))
-        one,
-  )
 ]
