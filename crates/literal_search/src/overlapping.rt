@@ -174,6 +174,7 @@ impl Overlapping {
     }
 
     /// How many places [`Overlapping::prepare`] writes: an array of as many, or more, is long enough for it.
+    #[tactic(auto, using(crate::proofs::lemmas::LentTables::takes_listed))]
     pub fn prepared_len(&self) -> usize
         ensures { TakesListedPlaces self.now result }
     {

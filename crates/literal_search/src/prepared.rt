@@ -333,6 +333,7 @@ fn put_classes(array: &mut [u32], at: usize, classes: &[u8; 256])
 }
 
 /// Writes where lists begin, from a place on.
+#[tactic(auto, using(crate::proofs::lemmas::Written::puts_next))]
 fn put_starts(array: &mut [u32], at: usize, starts: &[usize])
     requires room { at + length starts.now ≤ length array.old }
     requires short { (i : ℕ) → slice_index starts.now i < 2 ^ 32 }

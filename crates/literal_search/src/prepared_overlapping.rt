@@ -176,6 +176,7 @@ pub fn lent_in(numbers: &[u32]) -> Result<LentTables<'_>, Damaged>
 impl<'p> LentTables<'p> {
     /// What a walk reads of them.
     #[inline(always)]
+    #[tactic(auto, using(crate::proofs::lemmas::LentTables::lent_table, crate::proofs::lemmas::Prepared::classes_long))]
     fn table(&self) -> Table<'_>
         requires { AreLent self.now }
         ensures each { length result.classes.now ≡ 64 }
@@ -351,6 +352,7 @@ impl<'p> LentTables<'p> {
     }
 
     /// The next occurrence behind where a search stands, and where it then stands.
+    #[tactic(auto, using(crate::proofs::lemmas::Standing::next_moved))]
     pub fn next_from(
         &self,
         haystack: &[u8],
@@ -472,6 +474,7 @@ impl<'s, 'p, 'h> PreparedOverlappingMatches<'s, 'p, 'h> {
     }
 
     /// Whether it stands behind all that occurs.
+    #[tactic(auto, using(crate::proofs::lemmas::LentTables::lengths_many))]
     fn has_ended(&self) -> bool
         ensures { IsTrue result ↔ HasEnded self.now }
     {

@@ -218,6 +218,7 @@ impl Search {
 
     /// The list of what [`Search::find_iter`] gives. Memory is asked for only where there is a match, or a pattern has
     /// more than 1,024 bytes.
+    #[tactic(auto, using(crate::proofs::lemmas::GreedyIn::greedy_whole))]
     pub fn find_all(&self, haystack: &[u8]) -> Result<Vec<Match>, AllocError>
         ensures greedy { IfOk result
             (λ all. IsGreedy self.now.query self.now.ignore_case haystack.now 0 all.items) }
@@ -272,6 +273,7 @@ impl Search {
     }
 
     /// How many places [`Search::prepare`] writes: an array of as many, or more, is long enough for it.
+    #[tactic(auto, using(crate::proofs::lemmas::BackTables::takes_kept))]
     pub fn prepared_len(&self) -> usize
         ensures { TakesPlaces self.now result }
     {
@@ -391,46 +393,19 @@ impl Parts {
         ensures no_memory { OnErr result
             (¬ NothingOccurs (patterns_of self.now) self.now.ignore_case haystack.now span) }
     {
+        let backward = self.backward();
         let mut all = Vec::new(*self.patterns.allocator());
         let mut marks = no_marks(span.start);
         let mut at = span.start;
-        while let Some(found) = self.next_match(haystack, span, at, numbers, &mut marks, tally) {
-            at = found.end();
-            all.push(found)?;
-        }
-        Ok(all)
-    }
-
-    /// The leftmost match of the rest of a span, from a place on.
-    fn next_match(
-        &self,
-        haystack: &[u8],
-        span: Span,
-        at: usize,
-        numbers: &mut [u32],
-        marks: &mut Marks,
-        tally: &mut Tally,
-    ) -> Option<Match>
-        requires parts { AreParts self.now }
-        requires valid { IsValidSpan haystack.now span }
-        requires room { max (longest_in self.now.numbers) LEAST ≤ length numbers.old }
-        requires placed { IsPlaced (longest_in self.now.numbers) span at marks.old }
-        requires marked { AreMarked (tables_of self.now) haystack.now span at numbers.old marks.old }
-        ensures leftmost { IsLeftmost (search_value self.now).query self.now.ignore_case haystack.now
-            (between at span.end) result }
-        ensures not_empty { IfSome result (λ found. found.start < found.end) }
-        ensures placed { IsPlaced (longest_in self.now.numbers) span (place_behind span result) marks.new }
-        ensures marked { AreMarked (tables_of self.now) haystack.now span (place_behind span result) numbers.new
-            marks.new }
-        ensures further { (marks.old.known ≤ marks.new.known) × (marks.new.known ≤ span.end) }
-        ensures bounded { ScansThrice (between marks.old.known marks.new.known) tally.old tally.new }
-        ensures least { tally.old.scanned + looked_upto (patterns_of self.now) span marks.new.known
-            ≤ tally.new.scanned + looked_upto (patterns_of self.now) span marks.old.known }
-    {
-        let backward = self.backward();
-        match backward.next_match(haystack, span, at, numbers, marks, tally) {
-            Ok(answer) => answer,
-            Err(_) => unreachable!(),
+        loop {
+            match backward.next_match(haystack, span, at, numbers, &mut marks, tally) {
+                Ok(Some(found)) => {
+                    at = found.end();
+                    all.push(found)?;
+                }
+                Ok(None) => return Ok(all),
+                Err(_) => unreachable!(),
+            }
         }
     }
 

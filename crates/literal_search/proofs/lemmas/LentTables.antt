@@ -106,12 +106,6 @@ parts_end {version} f numbers same header =
 pub lengths_many : {p : LentTables} → AreLent p → length p.header.lengths.now ≡ get_or p.header.numbers.now 3 0
 lengths_many {p} lent = (parts_end p.header p.header.numbers.now refl lent.header).1
 
--- there is the length of each pattern
-pub lengths_for : {search : OverlappingValue} {p : LentTables} → AreFor search p
-    → length p.header.lengths.now ≡ length search.patterns
-lengths_for {search} are =
-    ap (λ (l : List ℕ). length l) are.lengths ∙ length-map search.patterns (λ (bytes : List ℕ). length bytes)
-
 -- where a walk finds the next end, if there is one: its row and list lie in the tables
 abbrev pub IsFoundThere : Tables → List ℕ → Span → Standing → Option Stop → Type 0
 IsFoundThere t haystack span s answer = MatchOption answer (IsNextEnd t haystack span s None)

@@ -1,7 +1,6 @@
-use Rattle.std.proofs.Common.{◌≡◌, ◌∙◌, ◌<◌, ◌≤◌, ℕ, List, [], ◌∷◌, ◌++◌, ap, arith, get_or, inl, inr, length, map}
+use Rattle.std.proofs.Common.{◌≡◌, ◌∙◌, ◌<◌, ◌≤◌, ℕ, List, [], ◌∷◌, ◌++◌, ap, arith, get_or, length, map}
 use Rattle.std.proofs.Common.{subst, sym, take}
-use Rattle.std.proofs.lemmas.Bool.{cases_lt}
-use Rattle.std.proofs.lemmas.List.{get_or-map, length-map, length-take-le, take_all, take_more}
+use Rattle.std.proofs.lemmas.List.{get_or-map, length-map, length-take-le, take_more}
 use Rattle.std.specs.Global.{Vec}
 use Rattle.std.specs.Prelude.{min}
 use Rattle.literal_search.specs.Inside.Search.{IsShortestOf}
@@ -43,10 +42,3 @@ loop-pattern-preserved c =
           omega (arith, so_far.first is_first, here))
           (omega (arith, here, c.min-shortest.ensures)));
     }
-
-pub returns : goal.returns
-returns c =
-    let all = map (λ (p : Vec ℕ). p.items) c.args.patterns.now in
-    subst (IsShortestOf c.loop-pattern.shortest) (take_all c.loop-pattern.pattern-index all
-    (omega (arith, c.loop-pattern-test.false, length-map c.args.patterns.now (λ (p : Vec ℕ). p.items))))
-    c.loop-pattern.invariant.shortest

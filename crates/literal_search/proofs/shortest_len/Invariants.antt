@@ -1,5 +1,4 @@
-use Rattle.std.proofs.Common.{◌≡◌, ℕ, ◌<◌, ◌≤◌, ◌^◌, ◌-◌, length, map, take}
-use Rattle.literal_base.specs.Occurs.{pattern_at}
+use Rattle.std.proofs.Common.{◌≡◌, ◌^◌, ◌-◌, map, take}
 use Rattle.literal_search.specs.Inside.Search.{IsShortestOf}
 use Rattle.literal_search.proofs.shortest_len.Given as goal
 

@@ -1,12 +1,9 @@
 -- The best of the patterns that are a suffix of a text.
-use Rattle.std.specs.Prelude.{◌≡◌, ◌≢◌, ◌⊎◌, ℕ, ◌<◌, ◌≤◌, List, Some, drop, length, slice_index}
-use Rattle.std.specs.Option.{unwrap_or}
+use Rattle.std.specs.Prelude.{◌≡◌, ℕ, ◌<◌, List, length, slice_index}
 use Rattle.literal_base.specs.Leftmost.{IsBetter}
 use Rattle.literal_base.specs.Occurs.{pattern_at}
 use Rattle.literal_base.specs.declared.packed.MatchKind.{MatchKind}
 use Rattle.literal_search.specs.Inside.Suffixes.{IsSuffix}
-use Rattle.literal_search.specs.Table.{nothing}
-use Rattle.literal_search.specs.Words.{ending}
 
 -- of the patterns that are a suffix of a text this one is the best
 pub record IsBestSuffix (kind : MatchKind) (patterns : List (List ℕ)) (text : List ℕ) (i : ℕ) : Type 0 where

@@ -50,20 +50,6 @@ module _ (f : Header) (numbers : List ℕ) (same : f.numbers.now ≡ numbers) (h
   short : length numbers < end f + length f.lengths.now + 35 → ¬ HasAllParts numbers
   short few parts = let fits = parts.fits in omega (arith, few, fits, known.0, known.1)
 
-  no_row : length f.rows.now ≡ 256 → ¬ HasAllParts numbers
-  no_row none parts = let row = parts.row in omega (arith, none, row, known.0, known.1)
-
-pub returns-then-is_short : goal.returns-then-is_short
-returns-then-is_short c = λ parts.
-    let f = c.in_ok-header.header in
-    let numbers = c.args.numbers.now in
-    let told = c.in_ok-header.ensures in
-    elim c.then-is_short.branch [
-      | goal.then-is_short-via-then-is_short w ↦ short f numbers told.0 told.2 w.if-is_short.true parts
-      | goal.then-is_short-via-else-is_short+then-header-eq-CLASSES_LEN w ↦
-          no_row f numbers told.0 told.2 w.if-header-eq-CLASSES_LEN.true parts
-    ]
-
 pub returns : goal.returns
 returns c =
     let f = c.in_ok-header.header in

@@ -1,7 +1,6 @@
-use Rattle.std.proofs.Common.{Err, Ok, Option, Some, arith, subst, sym}
+use Rattle.std.proofs.Common.{Err, Ok, Some, arith, subst, sym}
 use Rattle.literal_search.specs.Inside.LentTables.{IsNextEnd, tables_by}
 use Rattle.literal_search.specs.declared.standing.Standing.{Standing}
-use Rattle.literal_search.specs.declared.walk.Stop.{Stop}
 use Rattle.literal_search.proofs.lemmas.LentTables.{IsFoundThere, found_there, next_none}
 use Rattle.literal_search.proofs.prepared_overlapping.LentTables.next_end.Goals as goal
 

@@ -1,9 +1,8 @@
-use Rattle.std.proofs.Common.{◌+◌, ◌-◌, ◌^◌, IfSome, MatchOption, None, Option, Some, arith, map, subst}
+use Rattle.std.proofs.Common.{◌+◌, ◌-◌, IfSome, MatchOption, None, Option, Some, arith, map, subst}
 use Rattle.literal_base.specs.Occurs.{between}
 use Rattle.literal_fingerprints.specs.declared.candidates.CandidateScan.{CandidateScan}
 use Rattle.literal_search.specs.Inside.Classes.{symbols_in}
 use Rattle.literal_search.specs.Inside.Walk.{ReachesWithin, ReadsTo, classes_by}
-use Rattle.literal_search.specs.declared.walk.Stop.{Stop}
 use Rattle.literal_search.proofs.lemmas.NextEnd.{IsFoundOn, found_on, kept_pass}
 use Rattle.literal_search.proofs.lemmas.Scan.{others_on}
 use Rattle.literal_search.proofs.walk.Table.next_end.Goals as goal
