@@ -119,6 +119,7 @@ impl RarePair {
     }
 
     /// The pair of these bytes, whatever they are. The first and the last mean nothing.
+    #[inline(always)]
     pub fn from_bytes(bytes: &[u8; PAIR_BYTES]) -> RarePair
         ensures { result ≡ pair_in bytes.now }
     {

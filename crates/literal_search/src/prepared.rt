@@ -216,6 +216,7 @@ fn number_at(bytes: &[u8], at: usize) -> u32
 }
 
 /// The scan for candidates of such numbers, if these are of one.
+#[inline(always)]
 pub fn scan_in(prints: &[u32]) -> Option<CandidateScan>
     requires { length prints.now ≡ SCAN_LEN }
     ensures { MatchOption result (shortest_by prints.now ≡ 0)
@@ -228,6 +229,7 @@ pub fn scan_in(prints: &[u32]) -> Option<CandidateScan>
 }
 
 /// The scan by such numbers.
+#[inline(always)]
 fn scan_by(prints: &[u32]) -> CandidateScan
     requires { length prints.now ≡ SCAN_LEN }
     ensures { result ≡ scan_by prints.now }
