@@ -27,15 +27,16 @@ END_OF_ITEM = re.compile(r"(?:\S.*)?[;}]|#!.*")
 USE = re.compile(r"^[ \t]*(?:pub(?:\([^)]*\))? )?use ([^;]*);\n", re.M)
 GHOST_USE = re.compile(r"^[ \t]*ghost use (Rattle\.[^;{]*?)(?:\.\{([^}]*)\})?(?: as ([^;\s]+))?;\n", re.M)
 USE_OF_LOGIC = re.compile(r"^[ \t]*(?:pub )?use (Rattle\.\S*?)(?:\.\{([^}]*)\})?(?: as (\S+))?[ \t]*\n", re.M)
-MODULE = re.compile(r"^(?:pub(?:\([^)]*\))? )?mod \w+;$", re.M)
+MODULE = re.compile(r"(?:^#\[cfg\(test\)\]\n|^(#!.*\n)|(?<!\]\n))^(?:pub(?:\([^)]*\))? )?mod \w+;$", re.M)
 IMPL = re.compile(r"((?:#.*\n)*(?:unsafe )?impl\b([^{]*)\{)\n?((?:.|\n)*)")
 ATTRIBUTES = re.compile(r"(?:[ \t]*#.*\n)*.*\Z")
 FUNCTION = re.compile(r"\bfn (\w+)")
 DECLARED = re.compile(r"\b(?:struct|enum|union|trait|type|const|static|fn|macro_rules!)\s+(\w+)")
 VARIANT = re.compile(r"^    (\w+)", re.M)
 TYPE = re.compile(r"^(?:pub(?:\([^)]*\))? )?(?:struct|enum|union|type) (\w+)", re.M)
-CONSTANT = re.compile(r"\b(?:const|static) (?!fn)")
-DEFINED = re.compile(r"^\s*(?:(?:pub|abbrev|record|data|unfoldable) )*([^\s(){}:.,;]+)", re.M)
+CONSTANT = re.compile(r"(?<!')\b(?:const|static) (?!fn)")
+DEFINED = r"(?:(?:pub|abbrev|record|data|unfoldable|ruleset) )*([^\s(){}:.,;]+)"
+WITHIN = re.compile(r"^ *(?:pub )?(?:data|module) ", re.M)
 PATH = re.compile(r"\b(\w+)(::(?:specs|proofs)(?:::\w+)+)")
 
 
@@ -82,8 +83,10 @@ class Sources:
 
     def __init__(self, crates, below):
         self.below, self.functions, self.items = below, defaultdict(set), defaultdict(set)
-        self.files, self.in_file, self.imports = defaultdict(set), defaultdict(set), defaultdict(set)
-        self.bodies, self.loose = defaultdict(list), {}
+        self.files, self.in_file = defaultdict(set), defaultdict(set)
+        self.imports, self.renamed = defaultdict(set), defaultdict(set)
+        # (for a function without `self`: the names of which one is before its own in a call)
+        self.bodies, self.loose, self.owners = defaultdict(list), {}, {}
         texts = {(it.name, path): bare_rattle(text) for it in crates.values() for path, text in it.texts.items()}
         self.types = {name for text in texts.values() for name in TYPE.findall(text)}
         for (crate, path), text in texts.items():
@@ -99,14 +102,14 @@ class Sources:
             self.take_import(crate, path, *imported)
         for imported in USE.findall(text):
             for name, other in re.findall(r"(\w+) as (\w+)", imported):
-                self.imports[crate, path, other].add(name)
+                self.renamed[crate, path, other].add(name)
         statements, at = [], 0
         for it in functions_in(text, path):
             start = ATTRIBUTES.search(text, at, it.head).start()
             self.bodies[crate].append((pair_of(it.name), Part(crate, path, text[start : it.end], True)))
             statements.append(text[at : it.start] + "{}")
             at = it.end
-        items = items_of(MODULE.sub("", USE.sub("", GHOST_USE.sub("", "".join([*statements, text[at:]])))))
+        items = items_of(MODULE.sub(r"\1", USE.sub("", GHOST_USE.sub("", "".join([*statements, text[at:]])))))
         loose = [item for item in items if not self.take_item(crate, path, item)]
         self.loose[crate, path] = Part(crate, path, "\n".join(loose))
 
@@ -122,14 +125,15 @@ class Sources:
 
     def take_impl(self, crate, path, head, header, inner):
         """Takes the parts of an impl: each function that is no trait's, and the rest, which its types lead to."""
-        is_of_trait, rest = re.search(r"\bfor\b", header), [head]
+        is_of_trait, rest, named = re.search(r"\bfor\b", header), [head], {*re.findall(r"\b[A-Z]\w*", header)}
         for item in items_of(re.sub(r"^    ", "", inner, flags=re.M)):
             names = FUNCTION.findall(item)
             if names and not is_of_trait:
-                self.put(Part(crate, path, f"{head}\n{item}"), names)
+                part = Part(crate, path, f"{head}\n{item}")
+                self.put(part, names)
+                self.owners[part] = set() if re.search(r"\bself\b", item) else {"Self", *named}
             else:
                 rest.append(item)
-        named = {*re.findall(r"\b[A-Z]\w*", header)}
         named = named & self.types or named | {*FUNCTION.findall("\n".join(rest))}
         self.put(Part(crate, path, "\n".join(rest), bool(CONSTANT.search("\n".join(rest)))),
                  {*named, name_of_impl(header)})
@@ -153,14 +157,17 @@ class Sources:
         for piece in filter(str.strip, pieces):
             part = Part(crate, path, "\n".join([*common, piece.strip("\n")]))
             self.files[crate, path].add(part)
-            for name in DEFINED.findall(piece):
+            # (a record's fields, and what is defined within a lemma, are seen by the record and the lemma alone)
+            margin = r"\s*" if WITHIN.search(piece) else re.match(r" *", piece.strip("\n"))[0]
+            for name in re.findall(rf"^{margin}{DEFINED}", piece, re.M):
                 self.in_file[crate, path, name].add(part)
+                self.in_file[crate, path, "" if "◌" in name else name].add(part)
 
     def take_import(self, crate, path, base, names, other):
         """Takes what a file imports: the names that the file has for it, and where they lead."""
         for it in filter(None, re.split(r",\s*", names.strip())) if names else [""]:
             name, _, renamed = it.partition(" as ")
-            # (an operator's parts are used, and not its name)
+            # (of an operator, its parts are written, and not its name)
             known_as = "" if "◌" in it else other or renamed or name or base.rpartition(".")[2]
             self.imports[crate, path, known_as].add((base, name))
 
@@ -190,14 +197,16 @@ class Sources:
     @functools.lru_cache(maxsize=None)
     def named_by(self, part):
         """The parts that a part names."""
-        is_logic, found = part.path.endswith(".antt"), set()
-        for word in [*words_of(part.text), ""]:
+        is_logic, found, words = part.path.endswith(".antt"), set(), words_of(part.text)
+        words |= {it for word in words for it in self.renamed.get((part.crate, part.path, word), ())}
+        for word in (*words, ""):
             for it in self.imports.get((part.crate, part.path, word), ()):
-                found |= self.at_path(*it) if isinstance(it, tuple) else self.in_rattle(part, it)
+                found |= self.at_path(*it)
             found |= self.in_file.get((part.crate, part.path, word), set()) if is_logic else self.in_rattle(part, word)
         for crate, rest in PATH.findall(part.text):
             _, *segments, name = rest.split("::")
             found |= self.at_path(".".join(["Rattle", part.crate if crate == "crate" else crate, *segments]), name)
+        found = {it for it in found if not self.owners.get(it) or self.owners[it] & words}
         return frozenset(found if is_logic else found | {self.loose[part.crate, part.path]})
 
     def in_rattle(self, part, word):
@@ -210,7 +219,7 @@ class Sources:
         """The parts that proofs of functions of a crate can depend on, if there are also such texts in its files, by
         their paths."""
         pairs = {pair_of(name) for name in names}
-        todo = [part for file, part in self.loose.items() if file in ((crate, "src/lib.rt"), (crate, "src/main.rt"))]
+        todo = [part for (of, _), part in self.loose.items() if of == crate]
         todo += [Part(crate, path, text, True) for path, text in texts.items()]
         for pair, body in self.bodies[crate]:
             todo += [body, *self.items.get((crate, pair[0]), ())] if pair in pairs else []
