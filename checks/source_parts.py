@@ -74,8 +74,9 @@ def pair_of(name):
 
 
 def is_within(pair, names):
-    """Whether these names stand side by side in a list of names."""
-    return any(tuple(names[at : at + len(pair)]) == pair for at in range(len(names)))
+    """Whether these names stand side by side in the names of a path, where `fn` is before a function's closures."""
+    names = tuple(it for it in names if it != "fn")
+    return any(names[at : at + len(pair)] == pair for at in range(len(names)))
 
 
 class Sources:
