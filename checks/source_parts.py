@@ -87,7 +87,7 @@ class Sources:
         self.files, self.in_file = defaultdict(set), defaultdict(set)
         self.imports, self.renamed = defaultdict(set), defaultdict(set)
         # (for a function without `self`: the names of which one is before its own in a call)
-        self.bodies, self.loose, self.owners = defaultdict(list), {}, {}
+        self.bodies, self.loose, self.declared, self.owners = defaultdict(list), {}, {}, {}
         texts = {(it.name, path): bare_rattle(text) for it in crates.values() for path, text in it.texts.items()}
         self.types = {name for text in texts.values() for name in TYPE.findall(text)}
         for (crate, path), text in texts.items():
@@ -121,7 +121,9 @@ class Sources:
             self.take_impl(crate, path, *impl.groups())
             return True
         names = {*DECLARED.findall(item), *(VARIANT.findall(item) if re.search(r"\benum \w", item) else ())}
-        self.put(Part(crate, path, item, bool(CONSTANT.search(item))), names)
+        part = Part(crate, path, item, bool(CONSTANT.search(item)))
+        self.put(part, names)
+        self.declared[part] = names
         return bool(names)
 
     def take_impl(self, crate, path, head, header, inner):
@@ -203,18 +205,19 @@ class Sources:
         for word in (*words, ""):
             for it in self.imports.get((part.crate, part.path, word), ()):
                 found |= self.at_path(*it)
-            found |= self.in_file.get((part.crate, part.path, word), set()) if is_logic else self.in_rattle(part, word)
+            found |= self.in_file.get((part.crate, part.path, word), set()) if is_logic else set()
+        found |= set() if is_logic else self.in_rattle(part, words)
         for crate, rest in PATH.findall(part.text):
             _, *segments, name = rest.split("::")
             found |= self.at_path(".".join(["Rattle", part.crate if crate == "crate" else crate, *segments]), name)
         found = {it for it in found if not self.owners.get(it) or self.owners[it] & words}
         return frozenset(found if is_logic else found | {self.loose[part.crate, part.path]})
 
-    def in_rattle(self, part, word):
-        """The parts of Rattle files that a word of one names."""
+    def in_rattle(self, part, words):
+        """The parts of Rattle files that words of one name."""
         crates = (part.crate, *self.below[part.crate])
         tables = (self.items, self.functions) if part.calls else (self.items,)
-        return set().union(*(table.get((crate, word), ()) for table in tables for crate in crates))
+        return set().union(*(table.get((it, word), ()) for table in tables for it in crates for word in words))
 
     def seen_by(self, crate, names, texts):
         """The parts that proofs of functions of a crate can depend on, if there are also such texts in its files, by
@@ -233,4 +236,6 @@ class Sources:
             if part not in seen:
                 seen.add(part)
                 todo += self.named_by(part)
+                # (a crate above a type's may have impls for it)
+                todo += self.in_rattle(Part(crate, "", ""), self.declared.get(part, ()))
         return {part for part in seen if part.text.strip()}
