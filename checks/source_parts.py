@@ -200,24 +200,24 @@ class Sources:
     @functools.lru_cache(maxsize=None)
     def named_by(self, part):
         """The parts that a part names."""
-        is_logic, found, words = part.path.endswith(".antt"), set(), words_of(part.text)
-        words |= {it for word in words for it in self.renamed.get((part.crate, part.path, word), ())}
-        for word in (*words, ""):
-            for it in self.imports.get((part.crate, part.path, word), ()):
-                found |= self.at_path(*it)
-            found |= self.in_file.get((part.crate, part.path, word), set()) if is_logic else set()
-        found |= set() if is_logic else self.in_rattle(part, words)
+        words, here = words_of(part.text), (part.crate, part.path)
+        words |= {it for word in words for it in self.renamed.get((*here, word), ())}
+        paths = {it for word in (*words, "") for it in self.imports.get((*here, word), ())}
         for crate, rest in PATH.findall(part.text):
             _, *segments, name = rest.split("::")
-            found |= self.at_path(".".join(["Rattle", part.crate if crate == "crate" else crate, *segments]), name)
-        found = {it for it in found if not self.owners.get(it) or self.owners[it] & words}
-        return frozenset(found if is_logic else found | {self.loose[part.crate, part.path]})
+            paths.add((".".join(["Rattle", part.crate if crate == "crate" else crate, *segments]), name))
+        found = set().union(*(self.at_path(*it) for it in paths))
+        if here not in self.loose:
+            return frozenset(found.union(*(self.in_file.get((*here, word), ()) for word in (*words, ""))))
+        named = self.in_rattle(part.crate, words, part.calls)
+        found |= {it for it in named if not self.owners.get(it) or self.owners[it] & words}
+        return frozenset(found | {self.loose[here]})
 
-    def in_rattle(self, part, words):
-        """The parts of Rattle files that words of one name."""
-        crates = (part.crate, *self.below[part.crate])
-        tables = (self.items, self.functions) if part.calls else (self.items,)
-        return set().union(*(table.get((it, word), ()) for table in tables for it in crates for word in words))
+    def in_rattle(self, crate, names, with_functions=False):
+        """The parts of Rattle files that names lead to in a crate."""
+        tables = (self.items, self.functions) if with_functions else (self.items,)
+        crates = (crate, *self.below[crate])
+        return set().union(*(table.get((it, name), ()) for table in tables for it in crates for name in names))
 
     def seen_by(self, crate, names, texts):
         """The parts that proofs of functions of a crate can depend on, if there are also such texts in its files, by
@@ -237,5 +237,5 @@ class Sources:
                 seen.add(part)
                 todo += self.named_by(part)
                 # (a crate above a type's may have impls for it)
-                todo += self.in_rattle(Part(crate, "", ""), self.declared.get(part, ()))
+                todo += self.in_rattle(crate, self.declared.get(part, ()))
         return {part for part in seen if part.text.strip()}
