@@ -47,16 +47,18 @@ def edits_in(path, crate):
 
 
 class Edit:
-    """An edit of a crate: the file that it stands in, and its own name; each file that it changes, by path, as it makes
-    it, and each body, by path and number in that file; whether it is loose, and changes more than bodies, as a constant
-    or a contract; the names of the functions whose bodies it changes, or of the one that has to refuse it if it is
-    loose; the clause that has to refuse it; its line `shape:`; and why it cannot be applied, or an empty text."""
+    """An edit of a crate: the file that it stands in, and its own name; its lines; each file that it changes, by path,
+    as it makes it, and each body, by path and number in that file; whether it is loose, and changes more than bodies,
+    as a constant or a contract; the names of the functions whose bodies it changes, or of the one that has to refuse it
+    if it is loose; the clause that has to refuse it; its line `shape:`; and why it cannot be applied, or an empty text.
+    """
 
     def __init__(self, module, lines, crate):
         self.name, self.texts, self.bodies, self.functions = module, {}, {}, []
+        self.lines = [*filter(str.strip, lines.split("\n"))]
         self.is_loose, self.clause, self.breaker, self.shape, self.fault = False, "", "", "", ""
         try:
-            self.read(lines, crate)
+            self.read(crate)
             for path, text in self.texts.items():
                 self.compare(path, text, crate)
             if self.is_loose:
@@ -68,10 +70,10 @@ class Edit:
         except BadEdit as why:
             self.fault = str(why)
 
-    def read(self, lines, crate):
+    def read(self, crate):
         """Applies the pairs of the edit one after the other."""
         path = function = old = ""
-        for line in filter(str.strip, lines.split("\n")):
+        for line in self.lines:
             found = LINE.fullmatch(line)
             head, text = found.groups("") if found else ("", "")
             if head == "edit":
