@@ -1,5 +1,5 @@
 //! How often each pattern is a match.
-ghost use Rattle.std.specs.Prelude.{◌≡◌, ◌==◌, ◌<◌, ◌≤◌, ℕ, List, IfOk, OnErr, count_by, length};
+ghost use Rattle.std.specs.Prelude.{◌≡◌, ◌==◌, ◌<◌, ℕ, List, IfOk, OnErr, count_by, length};
 ghost use Rattle.std.specs.Prelude.{replicate, slice_index};
 ghost use Rattle.literal_base.specs.Greedy.{IsGreedy};
 ghost use Rattle.literal_base.specs.MatchValue.{MatchValue};

@@ -3,7 +3,7 @@
 //! the calls that the law is about.
 ghost use Rattle.std.specs.Prelude.{◌≡◌, ◌<◌, ◌≤◌, ◌+◌, ◌-◌, ◌*◌, ◌^◌, ◌/◌, ◌%◌, ◌↔◌, ℕ, List, [], ◌∷◌, ◌++◌};
 ghost use Rattle.std.specs.Prelude.{length, map, replicate, sum};
-ghost use Rattle.std.specs.Prelude.{Bool, slice_index, codes, true, false, IsTrue, IsNone, Option, Some, None, IfOk};
+ghost use Rattle.std.specs.Prelude.{slice_index, codes, true, false, IsTrue, IsNone, Option, Some, None, IfOk};
 ghost use Rattle.std.specs.Iterator.{Yields};
 ghost use Rattle.std.specs.List.{All, range_with_len};
 ghost use Rattle.literal_ids.specs.Clones.{ClonesExactly};

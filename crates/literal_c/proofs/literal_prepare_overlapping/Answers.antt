@@ -1,8 +1,6 @@
 use Rattle.std.proofs.Common.{inl, refl, subst}
 use Rattle.literal_search.specs.Overlapping.{OverlappingValue}
 use Rattle.literal_search.specs.PreparedOverlapping.{RefusesOverlapping}
-use Rattle.literal_c.specs.Overlapping.{overlapping_for}
-use Rattle.literal_c.specs.Pieces.{pieces}
 use Rattle.literal_c.proofs.literal_prepare_overlapping.Goals as goal
 
 pub returns-in-Ok-prepare-clause-status : goal.returns-in-Ok-prepare-clause-status

@@ -10,7 +10,6 @@ use Rattle.literal_base.specs.Query.{Query}
 use Rattle.literal_packed.specs.Pairs.{counts_after}
 use Rattle.literal_base.proofs.lemmas.GreedyLists.{IsGreedyBefore, greedy_more, rest_is}
 use Rattle.literal_packed.specs.Spending.{counts_after_all, counts_after_matches}
-use Rattle.literal_base.proofs.lemmas.GreedyLists.{rest_is}
 
 -- the matches so far, and the counts of their searches: whatever follows, it goes on from them
 pub record FoundBefore (query : Query) (haystack : List ℕ) (old now : Counts) (done : List MatchValue)
