@@ -24,6 +24,8 @@ mod large;
 mod made;
 #[cfg(test)]
 mod overlapping;
+#[cfg(test)]
+mod pairs;
 pub mod plain;
 #[cfg(test)]
 mod running_tables;

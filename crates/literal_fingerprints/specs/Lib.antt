@@ -1,2 +1,4 @@
+pub mod CandidateScans
 pub mod FingerprintsValue
 pub mod Inside
+pub mod RarePairs

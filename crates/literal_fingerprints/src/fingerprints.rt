@@ -93,6 +93,7 @@ impl Fingerprints {
     }
 
     /// Those of these bytes, whatever they are: the halves of each table, one behind another.
+    #[inline(always)]
     pub fn from_bytes(bytes: &[u8; BYTES]) -> Fingerprints
         ensures { result ≡ fingerprints_in bytes.now }
     {

@@ -1,7 +1,8 @@
 //! Vectors of 16 bytes, lane by lane.
-ghost use Rattle.std.specs.Prelude.{◌≡◌, ◌≢◌, ℕ, ◌+◌, ◌/◌, ◌%◌, ◌<◌, ◌≤◌, length, slice_index, bit_and};
+ghost use Rattle.std.specs.Prelude.{◌≡◌, ◌≢◌, ℕ, ◌+◌, ◌-◌, ◌/◌, ◌%◌, ◌<◌, ◌≤◌, length, slice_index, bit_and, bit_or};
 ghost use Rattle.literal_fingerprints.specs.FingerprintsValue.{buckets_of};
 ghost use Rattle.literal_fingerprints.specs.Inside.Nibbles.{half_table};
+ghost use Rattle.literal_fingerprints.specs.Inside.Hits.{hit};
 ghost use Rattle.literal_fingerprints.specs.Inside.Lanes.{HasLanes};
 
 use crate::nibbles::Nibbles;
@@ -24,12 +25,41 @@ pub fn load(haystack: &[u8], at: usize, tally: &mut Tally) -> u8x16
     u8x16::from_slice(&haystack[at..])
 }
 
+/// The byte of a haystack at a place, which so counts as scanned.
+#[inline(always)]
+pub fn byte_at(haystack: &[u8], at: usize, tally: &mut Tally) -> u8
+    requires { at < length haystack.now }
+    ensures byte { result ≡ slice_index haystack.now at }
+    ensures ticks { tally.new ≡ record tally.old { scanned = tally.old.scanned + 1 } }
+{
+    tally.tick_scanned();
+    haystack[at]
+}
+
 /// The bits of both.
 #[inline(always)]
 pub fn both(one: u8x16, other: u8x16) -> u8x16
     ensures { HasLanes result (λ k. bit_and (slice_index one k) (slice_index other k)) }
 {
     one & other
+}
+
+/// The bits of one or the other.
+#[inline(always)]
+pub fn either(one: u8x16, other: u8x16) -> u8x16
+    ensures { HasLanes result (λ k. bit_or (slice_index one k) (slice_index other k)) }
+{
+    one | other
+}
+
+/// 255 for each byte that is the rare one, once the bits of the mask are set in it, and else 0.
+#[inline(always)]
+pub fn wanted(bytes: u8x16, rare: u8, mask: u8) -> u8x16
+    ensures { HasLanes result (λ k. hit rare mask (slice_index bytes k)) }
+{
+    (bytes | u8x16::splat(mask))
+        .simd_eq(u8x16::splat(rare))
+        .select(u8x16::splat(255), u8x16::splat(0))
 }
 
 /// The entry of a table at the low half of each byte.
@@ -93,6 +123,21 @@ pub fn three_back(before: u8x16, here: u8x16) -> u8x16
             13, 14, 15, 16, 17, 18, 19, 20, 21, 22, 23, 24, 25, 26, 27, 28,
         ],
     )
+}
+
+/// The last lanes of one vector, at most three, and all but as many of the next.
+#[inline(always)]
+pub fn shifted(lanes: usize, before: u8x16, here: u8x16) -> u8x16
+    requires { lanes ≤ 3 }
+    ensures { (f : ℕ → ℕ) → HasLanes before f → HasLanes here (λ k. f (16 + k))
+        → HasLanes result (λ k. f (16 - lanes + k)) }
+{
+    match lanes {
+        0 => here,
+        1 => one_back(before, here),
+        2 => two_back(before, here),
+        _ => three_back(before, here),
+    }
 }
 
 /// How many lanes come before the first that is not 0.

@@ -1,12 +1,16 @@
-//! A scan by vectors of 16 bytes that passes over places at which no pattern of a list begins, with ASCII case kept or
-//! ignored.
+//! Scans by vectors of 16 bytes that pass over places at which no pattern of a list begins, with ASCII case kept or
+//! ignored: by the fingerprints of several patterns, or by two rare bytes of one.
 #![tactic(auto)]
 
 mod buckets;
+mod candidates;
 mod fingerprints;
 mod lanes;
 pub mod laws;
 mod looked_up;
 mod nibbles;
+mod pair;
 
+pub use candidates::CandidateScan;
 pub use fingerprints::{BYTES, Fingerprints};
+pub use pair::{PAIR_BYTES, RareByte, RarePair};

@@ -18,6 +18,7 @@ pub struct Nibbles {
 
 impl Nibbles {
     /// Those in 32 of these bytes, from a place on.
+    #[inline(always)]
     pub fn from_bytes(bytes: &[u8], at: usize) -> Nibbles
         requires { at + 32 ≤ length bytes.now }
         ensures { half_table result ≡ table_in bytes.now at }

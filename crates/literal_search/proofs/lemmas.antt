@@ -1,5 +1,4 @@
 -- Lemmas that several proofs share, by topic.
-pub mod Anew
 pub mod BackTables
 pub mod Backward
 pub mod Behind
@@ -9,7 +8,7 @@ pub mod Callers
 pub mod Chains
 pub mod Check
 pub mod Classes
-pub mod Copied
+pub mod NoPattern
 pub mod SuffixLists
 pub mod Ends
 pub mod EndsFound
@@ -42,6 +41,7 @@ pub mod Standing
 pub mod States
 pub mod Streams
 pub mod Texts
+pub mod Unmarked
 pub mod Walk
 pub mod Windows
 pub mod Written

@@ -1,11 +1,15 @@
 -- A search as numbers in an array that is lent.
 use Rattle.std.specs.Prelude.{◌≡◌, ◌+◌, ◌*◌, ◌/◌, ◌%◌, ◌^◌, ◌<◌, ◌≤◌, ℕ, Bool, List, length, map, take, drop, fold}
-use Rattle.std.specs.Prelude.{slice_index, slice_range}
+use Rattle.std.specs.Prelude.{◌==◌, if◌then◌else◌, slice_index, slice_range}
 use Rattle.std.specs.Int.Bits.{bit_xor}
 use Rattle.std.specs.List.{All}
 use Rattle.literal_base.specs.MatchValue.{MatchValue}
 use Rattle.literal_base.specs.declared.search.Span.{Span}
-use Rattle.literal_fingerprints.specs.FingerprintsValue.{AllPass, FingerprintsValue, fingerprints_in}
+use Rattle.literal_fingerprints.specs.CandidateScans.{StopsAtEach}
+use Rattle.literal_fingerprints.specs.RarePairs.{pair_in}
+use Rattle.literal_fingerprints.specs.declared.candidates.CandidateScan.{CandidateScan}
+use Rattle.literal_fingerprints.specs.declared.candidates.CandidateScan.TheVariants.{Fingerprints, Pair}
+use Rattle.literal_fingerprints.specs.FingerprintsValue.{fingerprints_in}
 use Rattle.literal_search.specs.SearchValue.{CanBeKept, HoldsInClasses, longest_of, SearchValue}
 use Rattle.literal_search.specs.SearchValue.{reversed}
 use Rattle.literal_search.specs.Inside.Classes.{AreClasses, Tells, symbols_in}
@@ -14,7 +18,7 @@ use Rattle.literal_search.specs.States.{IsRowsLength}
 use Rattle.literal_search.specs.Table.{Recognises}
 use Rattle.literal_search.specs.declared.classes.TheConstants.{CLASSES_LEN, PACKED_LEN}
 use Rattle.literal_search.specs.declared.prepared.ArrayTooShort.{ArrayTooShort}
-use Rattle.literal_search.specs.declared.prepared.TheConstants.{FINGERPRINTS_LEN, LENGTHS_AT, PREPARED_VERSION}
+use Rattle.literal_search.specs.declared.prepared.TheConstants.{LENGTHS_AT, PAIR_AT, PREPARED_VERSION, SCAN_LEN}
 use Rattle.literal_search.specs.Inside.Best.{AreBest}
 use Rattle.literal_search.specs.MatchesValue.{MatchesValue}
 use Rattle.literal_ids.specs.declared.primitives.pattern_id.TheConstants.PatternID
@@ -51,13 +55,22 @@ classes_end numbers = rows_end numbers + CLASSES_LEN
 abbrev pub classes_in : List ℕ → List ℕ
 classes_in numbers = unpacked (slice_range numbers (rows_end numbers) (rows_end numbers + PACKED_LEN))
 
--- the first of such numbers: where there are fingerprints a length that no pattern is below, and else 0
+-- the first of such numbers: where there is a scan for candidates a length that no pattern is below, and else 0
 abbrev pub shortest_by : List ℕ → ℕ
 shortest_by prints = slice_index prints 0
 
--- the fingerprints by such numbers: each behind the first holds four of their bytes, the first in its lowest eight bits
-abbrev pub fingerprints_by : List ℕ → FingerprintsValue
-fingerprints_by prints = fingerprints_in (unpacked (drop 1 prints))
+-- the bytes of a rare pair, by the last two of such numbers: each holds four of them, the first in its lowest eight
+-- bits
+abbrev pub pair_bytes : List ℕ → List ℕ
+pair_bytes prints = unpacked (drop PAIR_AT prints)
+
+-- the scan by such numbers: by the rare pair, or, if the first byte of this is 0, by the fingerprints whose bytes the
+-- others hold in the same way
+unfoldable pub scan_by : List ℕ → CandidateScan
+scan_by prints =
+    if slice_index (pair_bytes prints) 0 == 0
+    then Fingerprints (fingerprints_in (unpacked (slice_range prints 1 PAIR_AT)))
+    else Pair (pair_in (pair_bytes prints))
 
 -- a number of 32 bits, stirred so that no other becomes the same: its upper half is xored into its lower one, and then
 -- it is multiplied by an odd factor, in 32 bits
@@ -125,11 +138,11 @@ best_end numbers = classes_end numbers + slice_index numbers 3
 abbrev pub best_in : List ℕ → List ℕ
 best_in numbers = slice_range numbers (classes_end numbers) (best_end numbers)
 
--- how many numbers are those of the search: behind these stand those of its fingerprints
+-- how many numbers are those of the search: behind these stand those of its scan for candidates
 abbrev pub prepared_len : List ℕ → ℕ
-prepared_len numbers = best_end numbers + FINGERPRINTS_LEN
+prepared_len numbers = best_end numbers + SCAN_LEN
 
--- the numbers of its fingerprints
+-- the numbers of its scan for candidates
 abbrev pub prints_in : List ℕ → List ℕ
 prints_in numbers = slice_range numbers (best_end numbers) (prepared_len numbers)
 
@@ -155,12 +168,12 @@ back_tables_in search numbers = record {
   longest = longest_in numbers;
 }
 
--- such numbers let all of some patterns pass, if they are of fingerprints
+-- the scan by such numbers stops at each of some patterns, if they are of a scan
 abbrev pub ArePrints : List (List ℕ) → Bool → List ℕ → Type 0
-ArePrints patterns ignore_case prints = 0 < shortest_by prints → AllPass (fingerprints_by prints) ignore_case patterns
+ArePrints patterns ignore_case prints = 0 < shortest_by prints → StopsAtEach (scan_by prints) ignore_case patterns
 
 -- the array begins with a whole search for all leftmost matches: with its tables, the length of each pattern, and
--- fingerprints that let all of them pass, if any
+-- a scan that stops at each of them, if any
 pub record IsPrepared (search : SearchValue) (numbers : List ℕ) : Type 0 where
   pub whole : IsWhole numbers
   pub tables : AreBackTables (back_tables_in search numbers)
@@ -172,12 +185,12 @@ abbrev pub ForPrepared : List ℕ → (SearchValue → Type 0) → Type 0
 ForPrepared numbers P = (search : SearchValue) → IsPrepared search numbers → P search
 
 -- how many places a search takes: those of the header, two for each pattern, the rows of all states, the classes, and
--- the fingerprints
+-- the scan for candidates
 unfoldable pub TakesPlaces : SearchValue → ℕ → Type 0
 TakesPlaces search needed =
     HoldsInClasses (λ texts width. (rows : ℕ) × IsRowsLength (reversed texts) width rows
     × (needed ≡ LENGTHS_AT + length search.query.patterns + rows + CLASSES_LEN + length search.query.patterns
-    + FINGERPRINTS_LEN)) search.ignore_case search.query.patterns
+    + SCAN_LEN)) search.ignore_case search.query.patterns
 
 -- the search is written into the first places of an array
 abbrev pub WritesPrepared : SearchValue → List ℕ → List ℕ → ℕ → Type 0

@@ -13,7 +13,7 @@ use Rattle.literal_search.specs.States.{IsRowsLength}
 use Rattle.literal_search.specs.Table.{Recognises}
 use Rattle.literal_search.specs.declared.classes.TheConstants.{CLASSES_LEN}
 use Rattle.literal_search.specs.declared.prepared.ArrayTooShort.{ArrayTooShort}
-use Rattle.literal_search.specs.declared.prepared.TheConstants.{FINGERPRINTS_LEN, LENGTHS_AT}
+use Rattle.literal_search.specs.declared.prepared.TheConstants.{SCAN_LEN, LENGTHS_AT}
 use Rattle.literal_search.specs.declared.prepared.TheConstants.{OVERLAPPING_VERSION}
 
 -- what a search for everything that occurs of patterns reads: classes of bytes, rows, and lists of the patterns that
@@ -61,16 +61,16 @@ starts_in numbers = slice_range numbers (classes_end numbers) (ends_at numbers)
 abbrev pub ends_in : List ℕ → List ℕ
 ends_in numbers = slice_range numbers (ends_at numbers) (listed_len numbers)
 
--- how many numbers are those of the search: behind its lists stand those of its fingerprints
+-- how many numbers are those of the search: behind its lists stand those of its scan for candidates
 abbrev pub overlapping_len : List ℕ → ℕ
-overlapping_len numbers = listed_len numbers + FINGERPRINTS_LEN
+overlapping_len numbers = listed_len numbers + SCAN_LEN
 
--- the numbers of its fingerprints
+-- the numbers of its scan for candidates
 abbrev pub prints_behind : List ℕ → List ℕ
 prints_behind numbers = slice_range numbers (listed_len numbers) (overlapping_len numbers)
 
 -- the array has the parts of a search for everything that occurs, and is as long as these, its lists and its
--- fingerprints are
+-- scan for candidates are
 pub record HasLists (numbers : List ℕ) : Type 0 where
   pub parts : HasParts OVERLAPPING_VERSION numbers
   pub fits : overlapping_len numbers ≤ length numbers
@@ -93,7 +93,7 @@ tables_in search numbers = record {
 }
 
 -- the array begins with a whole search for everything that occurs: with the length of the longest pattern, its tables,
--- the length of each pattern, and fingerprints that let all of them pass, if any
+-- the length of each pattern, and a scan that stops at each of them, if any
 pub record IsPreparedOverlapping (search : OverlappingValue) (numbers : List ℕ) : Type 0 where
   pub whole : IsWholeOverlapping numbers
   pub longest : longest_in numbers ≡ longest_of search.patterns
@@ -106,13 +106,14 @@ abbrev pub ForOverlapping : List ℕ → (OverlappingValue → Type 0) → Type 
 ForOverlapping numbers P = (search : OverlappingValue) → IsPreparedOverlapping search numbers → P search
 
 -- how many places a search takes, in some classes, by rows for its patterns' texts, and lists: the header, one for each
--- pattern, the rows of all states, the classes, the lists with the places where these begin, and the fingerprints
+-- pattern, the rows of all states, the classes, the lists with the places where these begin, and the scan for
+-- candidates
 unfoldable pub TakesListedPlaces : OverlappingValue → ℕ → Type 0
 TakesListedPlaces search needed =
     HoldsInClasses (λ texts width. (rows : ℕ) × IsRowsLength texts width rows
     × (ends : List ℕ) × (starts : List ℕ) × AreLists texts ends starts (length search.patterns)
     × (needed ≡ LENGTHS_AT + length search.patterns + rows + CLASSES_LEN + length starts + length ends
-    + FINGERPRINTS_LEN)) search.ignore_case search.patterns
+    + SCAN_LEN)) search.ignore_case search.patterns
 
 -- the search is written into the first places of an array
 abbrev pub WritesOverlapping : OverlappingValue → List ℕ → List ℕ → ℕ → Type 0

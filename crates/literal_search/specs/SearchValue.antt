@@ -6,7 +6,7 @@ use Rattle.std.specs.Iterator.{Drains, Yields}
 use Rattle.std.specs.List.{count_by, list_any, range_with_len}
 use Rattle.literal_base.specs.Counts.{Counts}
 use Rattle.literal_base.specs.MatchValue.{MatchValue}
-use Rattle.literal_base.specs.Occurs.{NoneIsEmpty, pattern_at, NothingOccurs, between}
+use Rattle.literal_base.specs.Occurs.{NoneIsEmpty, NothingOccurs, between}
 use Rattle.literal_base.specs.Query.{Query}
 use Rattle.literal_base.specs.declared.packed.MatchKind.{MatchKind}
 use Rattle.literal_base.specs.declared.search.Span.{Span}
@@ -103,10 +103,6 @@ NeedFewStates ignore_case patterns =
 abbrev pub longest_of : List (List ℕ) → ℕ
 longest_of [] = 0
 longest_of (bytes ∷ more) = max (length bytes) (longest_of more)
-
--- no pattern is shorter than so many bytes
-abbrev pub NoneIsShorter : ℕ → List (List ℕ) → Type 0
-NoneIsShorter n patterns = (i : ℕ) → i < length patterns → n ≤ length (pattern_at patterns i)
 
 -- how long the shortest of some patterns is, and 0 where there is none
 abbrev pub shortest_of : List (List ℕ) → ℕ

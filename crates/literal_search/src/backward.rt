@@ -1,23 +1,26 @@
 //! Walks through a span from its end, by an automaton of the reversed patterns. The numbers may be lent, and so any:
 //! they are damaged where one leads out of the rows.
 ghost use Rattle.std.specs.Prelude.{◌≡◌, ◌+◌, ◌-◌, ◌*◌, ◌<◌, ◌≤◌, ◌^◌, ◌%◌, length, max, min};
-ghost use Rattle.std.specs.Prelude.{ℕ, IfOk, IfSome, MatchOption, None, slice_index};
+ghost use Rattle.std.specs.Prelude.{ℕ, IfOk, IfSome, List, MatchOption, None, false, slice_index};
 ghost use Rattle.std.specs.Result.{IsOkAnd};
 ghost use Rattle.literal_base.specs.Leftmost.{IsLeftmost, IsLeftmostMatch};
 ghost use Rattle.literal_base.specs.Occurs.{IsValidSpan, between};
+ghost use Rattle.literal_base.specs.declared.search.Span.{Span};
 ghost use Rattle.literal_search.specs.SearchValue.{ScansNext, ScansThrice, looked_by};
 ghost use Rattle.literal_search.specs.MatchesValue.{place_behind};
 ghost use Rattle.literal_search.specs.Inside.Backward.{AreMarked, AreMarks, ForBackward, IsAhead, IsBlock};
-ghost use Rattle.literal_search.specs.Inside.Backward.{IsBlockMarked};
+ghost use Rattle.literal_search.specs.Inside.Backward.{HasLookedAhead, IsBlockMarked};
 ghost use Rattle.literal_search.specs.Inside.Backward.{IsMark, IsMatchBy, IsPlaced, IsSafe, NoneFrom};
-ghost use Rattle.literal_search.specs.Inside.Leftmost.{AreLanes, AreMarksBehind, HasBytes, HaveRows, IsLimit, IsPart};
+ghost use Rattle.literal_search.specs.Inside.Leftmost.{AreLanes, AreMarksBehind, AreSteps, HasBytes, HaveRows};
+ghost use Rattle.literal_search.specs.Inside.Leftmost.{IsLimit, IsPart};
 ghost use Rattle.literal_search.specs.declared.backward.TheConstants.{MARKED};
 
-use crate::leftmost::{Block, LEAST_PART, OVERLAP, PRICE, Passed};
-use crate::prepared::{Damaged, fingerprints_in};
+use crate::leftmost::{Block, LEAST_PART, Lanes, OVERLAP, PRICE, Passed};
+use crate::prepared::{Damaged, scan_in};
 use crate::walk::{ENDS, Table};
 use literal_base::count::Tally;
 use literal_base::{Match, Span};
+use std::simd::prelude::*;
 
 /// How long a block is at least, if the span is.
 pub(crate) const LEAST: usize = 1024;
@@ -28,6 +31,9 @@ pub(crate) const MARKED: usize = LEAST / 4;
 /// The length from which parts begin to double, where the block before is far. At the end of a span they are shorter.
 const FIRST_MARKED: usize = 16;
 
+/// How many marks are read at once.
+const LANES: usize = 16;
+
 /// What a search from the right reads.
 #[derive(Clone, Copy)]
 pub struct Backward<'t> {
@@ -37,7 +43,7 @@ pub struct Backward<'t> {
     pub best: &'t [u32],
     /// How long each pattern is.
     pub lens: &'t [u32],
-    /// The numbers of the fingerprints by which a search passes over places, if there are any.
+    /// The numbers of the scan for candidates by which a search passes over places, if there is one.
     pub prints: &'t [u32],
 }
 
@@ -167,9 +173,8 @@ impl<'t> Backward<'t> {
     }
 
     /// Looks further ahead from a place, unless it is known what begins there, and answers a place before which nothing
-    /// begins. Fingerprints pass over bytes. Where they stop, the place alone is marked, if they passed over enough;
-    /// else a block. It is called, and not put in its place, so that the next match in a marked block costs little.
-    #[inline(never)]
+    /// begins.
+    #[inline(always)]
     fn mark_from(
         &self,
         haystack: &[u8],
@@ -184,26 +189,43 @@ impl<'t> Backward<'t> {
         requires more { from < span.end }
         requires room { max self.now.table.longest LEAST ≤ length numbers.old }
         requires placed { IsPlaced self.now.table.longest span from marks.old }
-        ensures later { IfOk result (λ at. (from ≤ at) × (at ≤ marks.new.known)) }
-        ensures none { ForBackward self.now (λ tables. IsOkAnd result (NoneFrom tables haystack.now span.end from)) }
-        ensures marked { ForBackward self.now (λ tables. AreMarked tables haystack.now span from numbers.old marks.old
-            → IfOk result (λ at. AreMarked tables haystack.now span at numbers.new marks.new)) }
-        ensures placed { IfOk result (λ at. IsPlaced self.now.table.longest span at marks.new) }
-        ensures known { IfOk result (λ _. from < marks.new.known) }
-        ensures further { (marks.old.known ≤ marks.new.known) × (marks.new.known ≤ span.end) }
-        ensures bounded { ScansThrice (between marks.old.known marks.new.known) tally.old tally.new }
-        ensures least { IfOk result (λ _. tally.old.scanned + looked_by self.now.table.longest span marks.new.known
-            ≤ tally.new.scanned + looked_by self.now.table.longest span marks.old.known) }
+        ensures { HasLookedAhead self.now haystack.now span from numbers.old numbers.new marks.old marks.new tally.old
+            tally.new result }
     {
         if from < marks.known {
             return Ok(from);
         }
-        let fingerprints = &fingerprints_in(self.prints);
+        self.mark_ahead(haystack, span, from, numbers, marks, tally)
+    }
+
+    /// The same where it isn't known. A scan for candidates passes over bytes. Where it stops, the place alone is
+    /// marked, if it passed over enough; else a block. It is called, and not put in its place, so that the next match in a marked
+    /// block costs little.
+    #[inline(never)]
+    fn mark_ahead(
+        &self,
+        haystack: &[u8],
+        span: Span,
+        from: usize,
+        numbers: &mut [u32],
+        marks: &mut Marks,
+        tally: &mut Tally,
+    ) -> Result<usize, Damaged>
+        requires safe { IsSafe self.now }
+        requires valid { IsValidSpan haystack.now span }
+        requires more { from < span.end }
+        requires unknown { marks.old.known ≤ from }
+        requires room { max self.now.table.longest LEAST ≤ length numbers.old }
+        requires placed { IsPlaced self.now.table.longest span from marks.old }
+        ensures { HasLookedAhead self.now haystack.now span from numbers.old numbers.new marks.old marks.new tally.old
+            tally.new result }
+    {
+        let scan = &scan_in(self.prints);
         let rest = Span {
             start: from,
             end: span.end,
         };
-        let at = self.pass_over(fingerprints, haystack, rest, tally);
+        let at = self.pass_over(scan, haystack, rest, tally);
         let part = self.part_after(marks.part, at - from);
         *marks = no_marks(span.end);
         if at == span.end {
@@ -334,8 +356,52 @@ impl<'t> Backward<'t> {
         Ok(())
     }
 
-    /// Marks each place of four neighbouring parts, by four walks at once that passed through some places of each.
-    /// These places are marked. For the length that most parts have there is a loop of its own.
+    /// Marks the last places that four walks read, one of each of four neighbouring parts, and answers at which rows
+    /// the walks stand then.
+    #[inline(always)]
+    fn mark_last(
+        &self,
+        part: usize,
+        passed: Passed,
+        limit: usize,
+        marks: &mut [u32],
+    ) -> Result<Lanes, Damaged>
+        requires limit { IsLimit self.now limit }
+        requires some { 0 < passed.left }
+        requires left { passed.left ≤ part }
+        requires fits { HaveRows (2 ^ 32) passed.codes }
+        requires room { 4 * part ≤ length marks.old }
+        ensures rows { IfOk result (HaveRows limit) }
+        ensures lanes { ForBackward self.now (λ tables. (haystack : List ℕ) (span : Span) (at : ℕ)
+            → AreSteps tables haystack span at part (passed.left - 1) passed.codes
+            → IsOkAnd result (AreLanes tables haystack span at part (passed.left - 1))) }
+        ensures marks { ForBackward self.now (λ tables. (haystack : List ℕ) (span : Span) (at : ℕ)
+            → AreSteps tables haystack span at part (passed.left - 1) passed.codes
+            → AreMarksBehind tables haystack span.end marks.old at part passed.left
+            → AreMarksBehind tables haystack span.end marks.new at part (passed.left - 1)) }
+        ensures long { length marks.new ≡ length marks.old }
+    {
+        let last = passed.left - 1;
+        let (first, second) = (passed.codes.first as u32, passed.codes.second as u32);
+        let (third, fourth) = (passed.codes.third as u32, passed.codes.fourth as u32);
+        marks[last] = first;
+        marks[last + part] = second;
+        marks[last + 2 * part] = third;
+        marks[last + 3 * part] = fourth;
+        let lanes = Lanes {
+            first: (first % ENDS) as usize,
+            second: (second % ENDS) as usize,
+            third: (third % ENDS) as usize,
+            fourth: (fourth % ENDS) as usize,
+        };
+        if !lanes.are_rows(limit) {
+            return Err(Damaged);
+        }
+        Ok(lanes)
+    }
+
+    /// Marks each place of four neighbouring parts that is left, by four walks at once. The others are marked. For the
+    /// length that most parts have there is a loop of its own.
     #[inline(never)]
     fn mark_in_four(
         &self,
@@ -344,7 +410,8 @@ impl<'t> Backward<'t> {
         span: Span,
         at: usize,
         part: usize,
-        passed: Passed,
+        left: usize,
+        lanes: Lanes,
         limit: usize,
         marks: &mut [u32],
         tally: &mut Tally,
@@ -352,26 +419,25 @@ impl<'t> Backward<'t> {
         requires safe { IsSafe self.now }
         requires same { HasBytes self.now classes.now }
         requires limit { IsLimit self.now limit }
-        requires rows { HaveRows limit passed.lanes }
+        requires rows { HaveRows limit lanes }
         requires valid { IsValidSpan haystack.now span }
         requires inside { at + 4 * part ≤ span.end }
-        requires left { passed.left ≤ part }
+        requires left { left ≤ part }
         requires room { 4 * part ≤ length marks.old }
-        ensures marks { ForBackward self.now (λ tables.
-            AreLanes tables haystack.now span at part passed.left passed.lanes
-            → AreMarksBehind tables haystack.now span.end marks.old at part passed.left
+        ensures marks { ForBackward self.now (λ tables. AreLanes tables haystack.now span at part left lanes
+            → AreMarksBehind tables haystack.now span.end marks.old at part left
             → IsOkAnd result (λ _. AreMarks tables haystack.now span.end marks.new at at (at + 4 * part))) }
         ensures others { tally.new ≡ record tally.old { scanned = tally.new.scanned } }
-        ensures most { tally.new.scanned ≤ tally.old.scanned + 4 * passed.left }
-        ensures all { IfOk result (λ _. tally.new.scanned ≡ tally.old.scanned + 4 * passed.left) }
+        ensures most { tally.new.scanned ≤ tally.old.scanned + 4 * left }
+        ensures all { IfOk result (λ _. tally.new.scanned ≡ tally.old.scanned + 4 * left) }
     {
         if part == MARKED {
             return self.mark_parts(
-                classes, haystack, span, at, MARKED, passed, limit, marks, tally,
+                classes, haystack, span, at, MARKED, left, lanes, limit, marks, tally,
             );
         }
         self.mark_parts(
-            classes, haystack, span, at, part, passed, limit, marks, tally,
+            classes, haystack, span, at, part, left, lanes, limit, marks, tally,
         )
     }
 
@@ -384,7 +450,8 @@ impl<'t> Backward<'t> {
         span: Span,
         at: usize,
         part: usize,
-        passed: Passed,
+        left: usize,
+        lanes: Lanes,
         limit: usize,
         marks: &mut [u32],
         tally: &mut Tally,
@@ -392,36 +459,40 @@ impl<'t> Backward<'t> {
         requires safe { IsSafe self.now }
         requires same { HasBytes self.now classes.now }
         requires limit { IsLimit self.now limit }
-        requires rows { HaveRows limit passed.lanes }
+        requires rows { HaveRows limit lanes }
         requires valid { IsValidSpan haystack.now span }
         requires inside { at + 4 * part ≤ span.end }
-        requires left { passed.left ≤ part }
+        requires left { left ≤ part }
         requires room { 4 * part ≤ length marks.old }
-        ensures marks { ForBackward self.now (λ tables.
-            AreLanes tables haystack.now span at part passed.left passed.lanes
-            → AreMarksBehind tables haystack.now span.end marks.old at part passed.left
+        ensures marks { ForBackward self.now (λ tables. AreLanes tables haystack.now span at part left lanes
+            → AreMarksBehind tables haystack.now span.end marks.old at part left
             → IsOkAnd result (λ _. AreMarks tables haystack.now span.end marks.new at at (at + 4 * part))) }
         ensures others { tally.new ≡ record tally.old { scanned = tally.new.scanned } }
-        ensures most { tally.new.scanned ≤ tally.old.scanned + 4 * passed.left }
-        ensures all { IfOk result (λ _. tally.new.scanned ≡ tally.old.scanned + 4 * passed.left) }
+        ensures most { tally.new.scanned ≤ tally.old.scanned + 4 * left }
+        ensures all { IfOk result (λ _. tally.new.scanned ≡ tally.old.scanned + 4 * left) }
     {
-        let (mut first, mut second) = (passed.lanes.first, passed.lanes.second);
-        let (mut third, mut fourth) = (passed.lanes.third, passed.lanes.fourth);
-        let search = *self; // (a copy: what is written to the marks does not change it)
-        for step in (0..passed.left).rev() {
+        let mut now = lanes;
+        let table = self.table; // (a copy: what is written to the marks does not change it)
+        for step in (0..left).rev() {
             let here = at + step;
-            let one = search.step(classes, first, haystack, here, limit, tally)?;
-            marks[step] = one;
-            first = (one % ENDS) as usize;
-            let two = search.step(classes, second, haystack, here + part, limit, tally)?;
-            marks[step + part] = two;
-            second = (two % ENDS) as usize;
-            let three = search.step(classes, third, haystack, here + 2 * part, limit, tally)?;
-            marks[step + 2 * part] = three;
-            third = (three % ENDS) as usize;
-            let four = search.step(classes, fourth, haystack, here + 3 * part, limit, tally)?;
-            marks[step + 3 * part] = four;
-            fourth = (four % ENDS) as usize;
+            let (two, three, four) = (here + part, here + 2 * part, here + 3 * part);
+            let first = table.code_by(classes, now.first, haystack, here, tally);
+            marks[step] = first;
+            let second = table.code_by(classes, now.second, haystack, two, tally);
+            marks[step + part] = second;
+            let third = table.code_by(classes, now.third, haystack, three, tally);
+            marks[step + 2 * part] = third;
+            let fourth = table.code_by(classes, now.fourth, haystack, four, tally);
+            marks[step + 3 * part] = fourth;
+            now = Lanes {
+                first: (first % ENDS) as usize,
+                second: (second % ENDS) as usize,
+                third: (third % ENDS) as usize,
+                fourth: (fourth % ENDS) as usize,
+            };
+            if !now.are_rows(limit) {
+                return Err(Damaged);
+            }
         }
         Ok(())
     }
@@ -466,8 +537,10 @@ impl<'t> Backward<'t> {
         let mut upto = from;
         if passed.left > 0 {
             clear(numbers, 4 * part);
+            let lanes = self.mark_last(part, passed, limit, numbers)?;
+            let left = passed.left - 1;
             self.mark_in_four(
-                classes, haystack, span, from, part, passed, limit, numbers, tally,
+                classes, haystack, span, from, part, left, lanes, limit, numbers, tally,
             )?;
             upto = known;
         }
@@ -576,7 +649,7 @@ fn clear(marks: &mut [u32], upto: usize)
     marks[..upto].fill(0);
 }
 
-/// A place up to which, from another on, no mark says that a pattern begins: eight marks are read at once.
+/// A place up to which, from another on, no mark says that a pattern begins: so many marks are read at once.
 #[inline(always)]
 fn pass_unmarked(numbers: &[u32], first: usize, from: usize, upto: usize) -> usize
     requires ordered { from ≤ upto }
@@ -586,17 +659,38 @@ fn pass_unmarked(numbers: &[u32], first: usize, from: usize, upto: usize) -> usi
     ensures none { (at : ℕ) → from ≤ at → at < result → slice_index numbers.now (at - first) < 2 ^ 31 }
 {
     let mut at = from;
-    while upto - at >= 8 {
-        let one = at - first;
-        let five = one + 4;
-        let four = numbers[one] | numbers[one + 1] | numbers[one + 2] | numbers[one + 3];
-        let more = numbers[five] | numbers[five + 1] | numbers[five + 2] | numbers[five + 3];
-        if four | more >= ENDS {
-            break;
-        }
-        at += 8;
+    while upto - at >= LANES && !has_begun(numbers, at - first) {
+        at += LANES;
+    }
+    if upto - at >= LANES {
+        at += unmarked_from(numbers, at - first);
     }
     at
+}
+
+/// Whether one of 16 marks, from one on, says that a pattern begins.
+#[inline(always)]
+fn has_begun(numbers: &[u32], at: usize) -> bool
+    requires { at + 16 ≤ length numbers.now }
+    ensures { result ≡ false → (i : ℕ) → at ≤ i → i < at + 16 → slice_index numbers.now i < 2 ^ 31 }
+{
+    u32x16::from_slice(&numbers[at..]).reduce_or() >= ENDS
+}
+
+/// How many of 16 marks, from one on, come before the first that says that a pattern begins.
+#[inline(always)]
+fn unmarked_from(numbers: &[u32], at: usize) -> usize
+    requires { at + 16 ≤ length numbers.now }
+    ensures few { result ≤ 16 }
+    ensures none { (i : ℕ) → at ≤ i → i < at + result → slice_index numbers.now i < 2 ^ 31 }
+{
+    let marks = u32x16::from_slice(&numbers[at..]);
+    let begun = marks.simd_ge(u32x16::splat(ENDS)).to_bitmask();
+    if begun == 0 {
+        LANES
+    } else {
+        begun.trailing_zeros() as usize
+    }
 }
 
 /// No marks, where nothing is known from a place on.

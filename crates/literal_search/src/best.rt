@@ -1,8 +1,8 @@
 //! The best of the patterns that are a suffix of a pattern.
-ghost use Rattle.std.specs.Prelude.{◌≡◌, ◌<◌, IfOk, OnErr, Some, length};
+ghost use Rattle.std.specs.Prelude.{◌≡◌, ◌<◌, IfOk, Some, length};
 ghost use Rattle.literal_base.specs.Occurs.{pattern_at};
-ghost use Rattle.literal_search.specs.Inside.Best.{AreBest, AreShorter, IsBestSuffix};
-ghost use Rattle.literal_search.specs.Inside.Lists.{Recognise, symbols_of};
+ghost use Rattle.literal_search.specs.Inside.Best.{AreBest, IsBestSuffix};
+ghost use Rattle.literal_search.specs.Inside.Lists.{AreOutputLinks, Recognise, symbols_of};
 ghost use Rattle.literal_search.specs.Words.{ending};
 
 use crate::suffixes::Recognised;
@@ -11,59 +11,43 @@ use literal_base::packed::MatchKind;
 use std::alloc::{AllocError, Global};
 
 impl<'p> Recognised<'p> {
-    /// For each pattern the best, by a kind of match, of those that are a suffix of it. Where there is no pattern, no
-    /// memory is asked for.
+    /// For each pattern the best, by a kind of match, of those that are a suffix of it.
     pub(crate) fn best_suffixes(
         &self,
         alloc: Global,
         kind: MatchKind,
     ) -> Result<Vec<u32>, AllocError>
         requires { Recognise self.now }
-        ensures best { IfOk result (λ best. AreBest kind (symbols_of self.now) best.items
+        ensures { IfOk result (λ best. AreBest kind (symbols_of self.now) best.items
             (length self.now.patterns.now)) }
-        ensures not_empty { OnErr result (0 < length self.now.patterns.now) }
     {
-        let shorter = self.shorter_suffixes(alloc)?;
+        let links = self.links(alloc)?;
         let mut best = Vec::new(alloc);
         for pattern in 0..self.patterns.len() {
-            best.push(self.best_suffix(kind, &shorter, pattern))?;
+            best.push(self.best_suffix(kind, &links, pattern))?;
         }
         Ok(best)
     }
 
-    /// For each pattern the longest of those that are a suffix of it and shorter, and of equals the first.
-    fn shorter_suffixes(&self, alloc: Global) -> Result<Vec<u32>, AllocError>
-        requires { Recognise self.now }
-        ensures shorter { IfOk result (λ shorter. AreShorter (symbols_of self.now) shorter.items
-            (length self.now.patterns.now)) }
-        ensures not_empty { OnErr result (0 < length self.now.patterns.now) }
-    {
-        let mut shorter = Vec::new(alloc);
-        for pattern in 0..self.patterns.len() {
-            shorter.push(self.longest_suffix(pattern, 1))?;
-        }
-        Ok(shorter)
-    }
-
     /// The best of the patterns that are a suffix of a pattern: the longest of them, or the one with the smallest
     /// number.
-    fn best_suffix(&self, kind: MatchKind, shorter: &[u32], pattern: usize) -> u32
+    fn best_suffix(&self, kind: MatchKind, links: &[u32], pattern: usize) -> u32
         requires recognise { Recognise self.now }
-        requires shorter { AreShorter (symbols_of self.now) shorter.now (length self.now.patterns.now) }
+        requires links { AreOutputLinks (symbols_of self.now) links.now 0 }
         requires is_pattern { pattern < length self.now.patterns.now }
         ensures { IsBestSuffix kind (symbols_of self.now) (pattern_at (symbols_of self.now) pattern) result }
     {
         let longest = self.longest_suffix(pattern, 0);
         match kind {
-            MatchKind::LeftmostFirst => self.smallest_suffix(shorter, longest),
+            MatchKind::LeftmostFirst => self.smallest_suffix(links, longest),
             MatchKind::LeftmostLongest => longest,
         }
     }
 
     /// The smallest number of a pattern that is a suffix of one, which is the first of its equals.
-    fn smallest_suffix(&self, shorter: &[u32], pattern: u32) -> u32
+    fn smallest_suffix(&self, links: &[u32], pattern: u32) -> u32
         requires recognise { Recognise self.now }
-        requires shorter { AreShorter (symbols_of self.now) shorter.now (length self.now.patterns.now) }
+        requires links { AreOutputLinks (symbols_of self.now) links.now 0 }
         requires is_pattern { pattern < length self.now.patterns.now }
         requires first { ending (symbols_of self.now) (pattern_at (symbols_of self.now) pattern) ≡ Some pattern }
         ensures { IsBestSuffix MatchKind.LeftmostFirst (symbols_of self.now)
@@ -74,7 +58,7 @@ impl<'p> Recognised<'p> {
         let mut next = pattern;
         while next != NOTHING {
             smallest = smallest.min(next);
-            next = shorter[next as usize];
+            next = links[next as usize];
         }
         smallest
     }

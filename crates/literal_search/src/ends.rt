@@ -2,19 +2,19 @@
 //! first state, by passing over bytes with which nothing begins.
 ghost use Rattle.std.specs.Prelude.{◌≡◌, ◌+◌, ◌-◌, ◌*◌, ◌<◌, ◌≤◌, ◌^◌, IfOk, IfSome, MatchOption, length};
 ghost use Rattle.literal_base.specs.Occurs.{IsValidSpan};
-ghost use Rattle.literal_search.specs.Prepared.{fingerprints_by, shortest_by};
+ghost use Rattle.literal_search.specs.Prepared.{scan_by, shortest_by};
 ghost use Rattle.literal_search.specs.Inside.NextEnd.{FindsNext, StepsToStop};
 
-use crate::prepared::{Damaged, FINGERPRINTS_LEN, fingerprints_in};
+use crate::prepared::{Damaged, SCAN_LEN, scan_in};
 use crate::scan::farther;
 use crate::walk::{Reached, Stop, Table};
 use literal_base::Span;
 use literal_base::count::Tally;
-use literal_fingerprints::Fingerprints;
+use literal_fingerprints::CandidateScan;
 
 impl<'t> Table<'t> {
     /// The first place in a span behind which a pattern ends, and the row there. The walk stands at a row as it begins
-    /// to read the span. Bytes are passed over by the fingerprints of these numbers, if there are any. What is read in
+    /// to read the span. Bytes are passed over by the scan of these numbers, if there is one. What is read in
     /// vain is no more than twice what the walk before it read.
     #[inline(always)]
     pub fn next_end(
@@ -26,7 +26,7 @@ impl<'t> Table<'t> {
         tally: &mut Tally,
     ) -> Result<Option<Stop>, Damaged>
         requires classes { length self.now.classes.now ≡ 64 }
-        requires prints { length prints.now ≡ FINGERPRINTS_LEN }
+        requires prints { length prints.now ≡ SCAN_LEN }
         requires valid { IsValidSpan haystack.now span }
         ensures next { FindsNext self.now prints.now haystack.now from span result }
         ensures inside { IfOk result (λ answer. IfSome answer
@@ -38,11 +38,11 @@ impl<'t> Table<'t> {
     {
         let end = span.end;
         let (mut from, mut start) = (from, span.start);
-        let by_fingerprints = prints[0] > 0;
-        let nearest = self.nearest(by_fingerprints);
+        let by_scan = prints[0] > 0;
+        let nearest = self.nearest(by_scan);
         let mut near = nearest;
-        let mut fingerprints = None;
-        let passes = self.can_pass(by_fingerprints, end - start);
+        let mut scan = None;
+        let passes = self.can_pass(by_scan, end - start);
         while passes && 3 * near <= end - start {
             let rest = Span { start, end };
             match self.reach(haystack, from, rest, start + near, tally)? {
@@ -50,8 +50,8 @@ impl<'t> Table<'t> {
                 Reached::Nowhere => return Ok(None),
                 Reached::Back(at) => {
                     let later = Span { start: at, end };
-                    fingerprints = kept_or_read(fingerprints, prints);
-                    start = self.pass_over(&fingerprints, haystack, later, nearest, tally)?;
+                    scan = kept_or_read(scan, prints);
+                    start = self.pass_over(&scan, haystack, later, nearest, tally)?;
                     near = farther(nearest, near, start - at);
                     from = 0;
                 }
@@ -66,16 +66,16 @@ impl<'t> Table<'t> {
     }
 }
 
-/// The fingerprints of these numbers, if there are any, which are read once.
+/// The scan of these numbers, if there is one, which is read once.
 #[inline(always)]
-fn kept_or_read(kept: Option<Fingerprints>, prints: &[u32]) -> Option<Fingerprints>
-    requires prints { length prints.now ≡ FINGERPRINTS_LEN }
-    requires kept { IfSome kept (λ f. (0 < shortest_by prints.now) × (f ≡ fingerprints_by prints.now)) }
+fn kept_or_read(kept: Option<CandidateScan>, prints: &[u32]) -> Option<CandidateScan>
+    requires prints { length prints.now ≡ SCAN_LEN }
+    requires kept { IfSome kept (λ f. (0 < shortest_by prints.now) × (f ≡ scan_by prints.now)) }
     ensures { MatchOption result (shortest_by prints.now ≡ 0)
-        (λ f. (0 < shortest_by prints.now) × (f ≡ fingerprints_by prints.now)) }
+        (λ f. (0 < shortest_by prints.now) × (f ≡ scan_by prints.now)) }
 {
     match kept {
-        Some(fingerprints) => Some(fingerprints),
-        None => fingerprints_in(prints),
+        Some(scan) => Some(scan),
+        None => scan_in(prints),
     }
 }

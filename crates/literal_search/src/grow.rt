@@ -289,6 +289,7 @@ impl<'p> Growing<'p> {
     }
 
     /// Adds a state.
+    #[tactic(auto, using(crate::proofs::lemmas::Growing::grown_state))]
     fn push_state(&mut self, state: State) -> Result<(), AllocError>
         requires grows { Grows self.old }
         requires state { IsNextState self.old state }

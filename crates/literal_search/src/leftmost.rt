@@ -1,7 +1,7 @@
 //! The leftmost match of a span, by walks from the right by an automaton of the reversed patterns. No memory is asked
 //! for. The numbers may be lent, and so any: they are damaged where one leads out of the rows.
 ghost use Rattle.std.specs.Prelude.{◌≡◌, ◌⊎◌, ◌+◌, ◌-◌, ◌*◌, ◌/◌, ◌<◌, ◌≤◌, ◌^◌, ◌%◌, ℕ, length, max, min};
-ghost use Rattle.std.specs.Prelude.{IfOk, IfSome, IsNone, IsTrue, MatchOption, Some, ◌↔◌};
+ghost use Rattle.std.specs.Prelude.{IfOk, IfSome, IsNone, IsTrue, List, MatchOption, Some, ◌↔◌};
 ghost use Rattle.std.specs.Result.{IsOkAnd};
 ghost use Rattle.literal_base.specs.Leftmost.{IsLeftmost};
 ghost use Rattle.literal_base.specs.Occurs.{IsValidSpan, between, rest_from};
@@ -9,19 +9,20 @@ ghost use Rattle.literal_base.specs.declared.search.Span.{Span};
 ghost use Rattle.literal_search.specs.At.{IsMatchAt};
 ghost use Rattle.literal_search.specs.Inside.Backward.{ForBackward, IsMatchBy};
 ghost use Rattle.literal_search.specs.Inside.Backward.{IsSafe, NoneFrom};
-ghost use Rattle.literal_search.specs.Inside.Leftmost.{AreLanes, HasBytes, HavePassed, HaveRows, IsFirstBegun};
+ghost use Rattle.literal_search.specs.Inside.Leftmost.{AreLanes, AreSteps, HasBytes, HavePassed, HaveRows, IsFirstBegun};
 ghost use Rattle.literal_search.specs.Inside.Leftmost.{IsFourParts, NoneBehind};
 ghost use Rattle.literal_search.specs.Inside.Leftmost.{IsLane, IsLed};
 ghost use Rattle.literal_search.specs.Inside.Leftmost.{IsFront, IsLimit, IsPaid, IsPart, IsStep, LiesInPart, ReadsFor};
-ghost use Rattle.literal_search.specs.Inside.Leftmost.{AreFor, owed_by};
+ghost use Rattle.literal_search.specs.Inside.Leftmost.{AreFor, ahead_by, owed_by};
 ghost use Rattle.literal_search.specs.SearchValue.{LooksFor};
 
-use crate::backward::{Backward, Begun, MARKED};
-use crate::prepared::{Damaged, fingerprints_in};
+use crate::backward::{Backward, Begun};
+use crate::prepared::{Damaged, scan_in};
+use crate::scan::{credited, owed_by};
 use crate::walk::ENDS;
 use literal_base::count::Tally;
 use literal_base::{Match, Span};
-use literal_fingerprints::Fingerprints;
+use literal_fingerprints::CandidateScan;
 
 /// The least length of the parts of the first block through which four walks go at once.
 const FIRST: usize = 16;
@@ -32,17 +33,17 @@ const LAST: usize = 1024;
 /// Four walks go through the last block if its parts have at least this length.
 pub(crate) const LEAST_PART: usize = 6;
 
-/// Before one walk looks at a candidate, fingerprints passed over this many bytes, or as many as the longest pattern
-/// has, whichever is more.
+/// Before one walk looks at a candidate, a scan passed over this many bytes, or as many as the longest pattern has,
+/// whichever is more.
 pub(crate) const PRICE: usize = 48;
 
 /// The largest number of bytes that count as passed over.
 const MOST_CREDIT: usize = 2048;
 
-/// Fingerprints look up at most this many bytes more than they pass over.
+/// A scan for candidates looks up at most this many bytes more than three times those that it passes over.
 pub(crate) const OVERLAP: usize = 19;
 
-/// At which rows four walks stand, each in one of four neighbouring parts of a span.
+/// At which rows four walks stand, each in one of four neighbouring parts of a span, or the numbers that they read last.
 #[derive(Clone, Copy)]
 pub struct Lanes {
     pub first: usize,
@@ -54,7 +55,7 @@ pub struct Lanes {
 impl Lanes {
     /// Whether all four are rows below a limit.
     #[inline(always)]
-    fn are_rows(&self, limit: usize) -> bool
+    pub(crate) fn are_rows(&self, limit: usize) -> bool
         ensures { IsTrue result ↔ HaveRows limit self.now }
     {
         self.first < limit && self.second < limit && self.third < limit && self.fourth < limit
@@ -72,9 +73,11 @@ pub struct Led {
 /// How far four walks have gone through their parts.
 #[derive(Clone, Copy)]
 pub struct Passed {
-    /// The number of places of each part before which its walk stands.
+    /// The number of places of each part that are left, with the one that was read last; and 0 if nothing begins in
+    /// the parts.
     pub left: usize,
-    pub lanes: Lanes,
+    /// The numbers that the walks read last.
+    pub codes: Lanes,
 }
 
 /// A block of a span through which four walks go at once.
@@ -93,7 +96,7 @@ pub struct Block {
 pub struct Front {
     /// Nothing begins before this place.
     pub at: usize,
-    /// The number of bytes that fingerprints passed over, less what they paid for.
+    /// The number of bytes that a scan passed over, less what they paid for.
     pub credit: usize,
     /// The length of each of the four parts of the next block.
     pub part: usize,
@@ -167,6 +170,29 @@ impl<'t> Backward<'t> {
         ensures ticks { tally.new ≡ record tally.old { scanned = tally.old.scanned + 1 } }
     {
         let code = self.table.code_by(classes, place, haystack, at, tally);
+        self.go_on(code, at, limit, begun)
+    }
+
+    /// Where a walk goes on that read a number for the byte at a place. If a pattern begins there, that is noted.
+    #[inline(always)]
+    fn go_on(
+        &self,
+        code: u32,
+        at: usize,
+        limit: usize,
+        begun: &mut Option<Begun>,
+    ) -> Result<usize, Damaged>
+        requires limit { IsLimit self.now limit }
+        ensures lane { ForBackward self.now (λ tables. (haystack : List ℕ) (span : Span) (end to : ℕ) → to ≡ at
+            → IsStep tables haystack span end to code → IsOkAnd result (IsLane tables haystack span end to)) }
+        ensures first { ForBackward self.now (λ tables. (haystack : List ℕ) (span : Span) (end next to upto : ℕ)
+            → next ≡ at + 1 → to ≡ at → at < end → IsStep tables haystack span end to code
+            → IsFirstBegun tables haystack span.end (between next upto) begun.old
+            → IsFirstBegun tables haystack span.end (between to upto) begun.new) }
+        ensures lies { (next to upto : ℕ) → next ≡ at + 1 → to ≡ at → at < upto → LiesInPart next upto begun.old
+            → LiesInPart to upto begun.new }
+        ensures leads { IfOk result (λ on. on < limit) }
+    {
         if (code as usize) < limit {
             return Ok(code as usize);
         }
@@ -211,7 +237,8 @@ impl<'t> Backward<'t> {
         Ok(place)
     }
 
-    /// The first place of a part of a span at which a pattern begins, by a walk that stands at the part's end.
+    /// The first place at which a pattern begins of a part of a span, and of what is known to begin behind it, by a walk
+    /// that stands at the part's end.
     #[inline(always)]
     fn first_in(
         &self,
@@ -220,6 +247,7 @@ impl<'t> Backward<'t> {
         span: Span,
         part: Span,
         from: usize,
+        behind: Option<Begun>,
         limit: usize,
         tally: &mut Tally,
     ) -> Result<Option<Begun>, Damaged>
@@ -229,15 +257,18 @@ impl<'t> Backward<'t> {
         requires valid { IsValidSpan haystack.now span }
         requires part { IsPart span part }
         requires row { from < limit }
-        ensures first { ForBackward self.now (λ tables. IsLane tables haystack.now span part.end part.end from
-            → IsOkAnd result (IsFirstBegun tables haystack.now span.end part)) }
-        ensures inside { IfOk result (LiesInPart part.start part.end) }
+        ensures first { ForBackward self.now (λ tables. (end upto : ℕ) → part.end ≤ end
+            → IsLane tables haystack.now span end part.end from
+            → IsFirstBegun tables haystack.now span.end (between part.end upto) behind
+            → IsOkAnd result (IsFirstBegun tables haystack.now span.end (between part.start upto))) }
+        ensures inside { (upto : ℕ) → part.end ≤ upto → LiesInPart part.end upto behind
+            → IfOk result (LiesInPart part.start upto) }
         ensures others { tally.new ≡ record tally.old { scanned = tally.new.scanned } }
         ensures most { tally.new.scanned + part.start ≤ tally.old.scanned + part.end }
         ensures all { IfOk result (λ _. tally.new.scanned + part.start ≡ tally.old.scanned + part.end) }
     {
         let mut place = from;
-        let mut first = None;
+        let mut first = behind;
         for at in (part.start..part.end).rev() {
             place = self.follow(classes, place, haystack, at, limit, &mut first, tally)?;
         }
@@ -273,30 +304,32 @@ impl<'t> Backward<'t> {
             end: at + 1,
         };
         let place = self.walk_back(classes, haystack, span, part.end, limit, tally)?;
-        self.first_in(classes, haystack, span, part, place, limit, tally)
+        self.first_in(classes, haystack, span, part, place, None, limit, tally)
     }
 
-    /// A place of a span, or its end, before which no pattern begins, by the fingerprints, if there are any.
+    /// A place of a span, or its end, before which no pattern begins, by the scan for candidates, if there is one.
     #[inline(always)]
     pub(crate) fn pass_over(
         &self,
-        fingerprints: &Option<Fingerprints>,
+        scan: &Option<CandidateScan>,
         haystack: &[u8],
         span: Span,
         tally: &mut Tally,
     ) -> usize
         requires valid { IsValidSpan haystack.now span }
-        requires for_patterns { AreFor self.now fingerprints.now }
+        requires for_patterns { AreFor self.now scan.now }
         ensures none { ForBackward self.now (λ tables.
             NoneFrom tables haystack.now span.end span.start result) }
         ensures inside { (span.start ≤ result) × (result ≤ span.end) }
         ensures others { tally.new ≡ record tally.old { scanned = tally.new.scanned } }
-        ensures most { tally.new.scanned + span.start
-            ≤ tally.old.scanned + result + min (owed_by fingerprints.now) (span.end - result) }
+        ensures most { tally.new.scanned + 3 * span.start
+            ≤ tally.old.scanned + 3 * result + min (owed_by scan.now) (span.end - result) }
+        ensures ahead { tally.new.scanned + span.start
+            ≤ tally.old.scanned + result + min (ahead_by scan.now) (span.end - result) }
         ensures least { tally.old.scanned + result ≤ tally.new.scanned + span.start }
     {
-        match fingerprints {
-            Some(fingerprints) => fingerprints.next(haystack, span, tally),
+        match scan {
+            Some(scan) => scan.next(haystack, span, tally),
             None => span.start,
         }
     }
@@ -350,8 +383,7 @@ impl<'t> Backward<'t> {
     }
 
     /// The same walks through the parts, up to the first step at which a number does not lead on: where a pattern
-    /// begins, or where it is damaged. They stop before that step. For the lengths that most parts have there is a loop
-    /// of its own, in which no register holds the length.
+    /// begins, or where it is damaged. They stop with that step.
     #[inline(never)]
     pub(crate) fn pass_in_four(
         &self,
@@ -370,83 +402,36 @@ impl<'t> Backward<'t> {
         requires rows { HaveRows limit lanes }
         requires valid { IsValidSpan haystack.now span }
         requires inside { at + 4 * part ≤ span.end }
-        ensures { HavePassed self.now haystack.now span at part lanes limit tally.old tally.new result }
-    {
-        match part {
-            MARKED => { self.pass_parts(classes, haystack, span, at, MARKED, lanes, limit, tally) }
-            LAST => self.pass_parts(classes, haystack, span, at, LAST, lanes, limit, tally),
-            _ => self.pass_parts(classes, haystack, span, at, part, lanes, limit, tally),
-        }
-    }
-
-    /// [`Backward::pass_in_four`], by one loop.
-    #[inline(always)]
-    fn pass_parts(
-        &self,
-        classes: &[u8; 256],
-        haystack: &[u8],
-        span: Span,
-        at: usize,
-        part: usize,
-        lanes: Lanes,
-        limit: usize,
-        tally: &mut Tally,
-    ) -> Passed
-        requires safe { IsSafe self.now }
-        requires same { HasBytes self.now classes.now }
-        requires limit { IsLimit self.now limit }
-        requires rows { HaveRows limit lanes }
-        requires valid { IsValidSpan haystack.now span }
-        requires inside { at + 4 * part ≤ span.end }
-        ensures left { result.left ≤ part }
-        ensures rows { HaveRows limit result.lanes }
-        ensures lanes { ForBackward self.now (λ tables. AreLanes tables haystack.now span at part part lanes
-            → AreLanes tables haystack.now span at part result.left result.lanes) }
-        ensures none { ForBackward self.now (λ tables. AreLanes tables haystack.now span at part part lanes
-            → NoneBehind tables haystack.now span.end at part result.left) }
-        ensures some { 0 < result.left → ForBackward self.now (λ tables.
-            AreLanes tables haystack.now span at part part lanes
-            → ¬ NoneFrom tables haystack.now span.end at (at + 4 * part)) }
-        ensures others { tally.new ≡ record tally.old { scanned = tally.new.scanned } }
-        ensures most { tally.new.scanned ≤ tally.old.scanned + 4 * part }
-        ensures least { tally.old.scanned + 4 * (part - result.left) ≤ tally.new.scanned }
-        ensures all { result.left ≡ 0 → tally.new.scanned ≡ tally.old.scanned + 4 * part }
+        ensures { HavePassed self.now haystack.now span at part lanes tally.old tally.new result }
     {
         let mut now = lanes;
+        let table = &self.table;
         for step in 0..part {
-            let here = at + (part - 1 - step);
-            let first = self
-                .table
-                .next_at(classes, now.first, haystack, here, tally);
-            let second = self
-                .table
-                .next_at(classes, now.second, haystack, here + part, tally);
-            let third = self
-                .table
-                .next_at(classes, now.third, haystack, here + 2 * part, tally);
-            let fourth = self
-                .table
-                .next_at(classes, now.fourth, haystack, here + 3 * part, tally);
-            let next = Lanes {
+            let left = part - step;
+            let here = at + (left - 1);
+            let (two, three, four) = (here + part, here + 2 * part, here + 3 * part);
+            let first = table.next_at(classes, now.first, haystack, here, tally);
+            let second = table.next_at(classes, now.second, haystack, two, tally);
+            let third = table.next_at(classes, now.third, haystack, three, tally);
+            let fourth = table.next_at(classes, now.fourth, haystack, four, tally);
+            now = Lanes {
                 first,
                 second,
                 third,
                 fourth,
             };
-            if !next.are_rows(limit) {
-                let left = part - step;
-                return Passed { left, lanes: now };
+            if !now.are_rows(limit) {
+                return Passed { left, codes: now };
             }
-            now = next;
         }
         Passed {
             left: 0,
-            lanes: now,
+            codes: now,
         }
     }
 
-    /// The first place of four neighbouring parts at which a pattern begins, by four walks that passed through some
-    /// places of each. Each is followed alone, from the left, up to the one that finds something.
+    /// The first place of four neighbouring parts at which a pattern begins, by four walks that stopped at some place of
+    /// each. Each is followed alone, from the left, up to the one that finds something.
     #[inline(never)]
     fn first_of_lanes(
         &self,
@@ -462,52 +447,86 @@ impl<'t> Backward<'t> {
         requires safe { IsSafe self.now }
         requires same { HasBytes self.now classes.now }
         requires limit { IsLimit self.now limit }
-        requires rows { HaveRows limit passed.lanes }
         requires valid { IsValidSpan haystack.now span }
         requires after { span.start ≤ at }
         requires inside { at + 4 * part ≤ span.end }
+        requires some { 0 < passed.left }
         requires left { passed.left ≤ part }
+        requires fits { HaveRows (2 ^ 32) passed.codes }
         ensures first { ForBackward self.now (λ tables.
-            AreLanes tables haystack.now span at part passed.left passed.lanes
+            AreSteps tables haystack.now span at part (passed.left - 1) passed.codes
             → NoneBehind tables haystack.now span.end at part passed.left
             → IsOkAnd result (IsFirstBegun tables haystack.now span.end (between at (at + 4 * part)))) }
         ensures inside { IfOk result (LiesInPart at (at + 4 * part)) }
         ensures others { tally.new ≡ record tally.old { scanned = tally.new.scanned } }
-        ensures most { tally.new.scanned ≤ tally.old.scanned + 4 * passed.left }
+        ensures most { tally.new.scanned ≤ tally.old.scanned + 4 * (passed.left - 1) }
         ensures least { IfOk result (λ first. IfSome first
-            (λ begun. tally.old.scanned + begun.at < tally.new.scanned + at + 3 * (part - passed.left))) }
+            (λ begun. tally.old.scanned + begun.at ≤ tally.new.scanned + at + 3 * (part - (passed.left - 1)))) }
     {
-        let (lanes, left) = (passed.lanes, passed.left);
+        let (codes, last) = (passed.codes, passed.left - 1);
         let (two, three, four) = (at + part, at + 2 * part, at + 3 * part);
         let part = Span {
             start: at,
-            end: at + left,
+            end: at + last,
         };
-        let first = self.first_in(classes, haystack, span, part, lanes.first, limit, tally)?;
+        let first = self.first_before(classes, haystack, span, part, codes.first, limit, tally)?;
         if first.is_some() {
             return Ok(first);
         }
         let part = Span {
             start: two,
-            end: two + left,
+            end: two + last,
         };
-        let first = self.first_in(classes, haystack, span, part, lanes.second, limit, tally)?;
+        let first = self.first_before(classes, haystack, span, part, codes.second, limit, tally)?;
         if first.is_some() {
             return Ok(first);
         }
         let part = Span {
             start: three,
-            end: three + left,
+            end: three + last,
         };
-        let first = self.first_in(classes, haystack, span, part, lanes.third, limit, tally)?;
+        let first = self.first_before(classes, haystack, span, part, codes.third, limit, tally)?;
         if first.is_some() {
             return Ok(first);
         }
         let part = Span {
             start: four,
-            end: four + left,
+            end: four + last,
         };
-        self.first_in(classes, haystack, span, part, lanes.fourth, limit, tally)
+        self.first_before(classes, haystack, span, part, codes.fourth, limit, tally)
+    }
+
+    /// The first place of a part of a span at which a pattern begins, or the place behind it if one begins there, by a
+    /// walk that read a number for that place.
+    #[inline(always)]
+    fn first_before(
+        &self,
+        classes: &[u8; 256],
+        haystack: &[u8],
+        span: Span,
+        part: Span,
+        code: usize,
+        limit: usize,
+        tally: &mut Tally,
+    ) -> Result<Option<Begun>, Damaged>
+        requires safe { IsSafe self.now }
+        requires same { HasBytes self.now classes.now }
+        requires limit { IsLimit self.now limit }
+        requires valid { IsValidSpan haystack.now span }
+        requires part { IsPart span part }
+        requires fits { code < 2 ^ 32 }
+        ensures first { ForBackward self.now (λ tables. (end upto : ℕ) → part.end < end
+            → IsStep tables haystack.now span end part.end code
+            → NoneFrom tables haystack.now span.end (part.end + 1) upto
+            → IsOkAnd result (IsFirstBegun tables haystack.now span.end (between part.start upto))) }
+        ensures inside { IfOk result (LiesInPart part.start (part.end + 1)) }
+        ensures others { tally.new ≡ record tally.old { scanned = tally.new.scanned } }
+        ensures most { tally.new.scanned + part.start ≤ tally.old.scanned + part.end }
+        ensures all { IfOk result (λ _. tally.new.scanned + part.start ≡ tally.old.scanned + part.end) }
+    {
+        let mut behind = None;
+        let place = self.go_on(code as u32, part.end, limit, &mut behind)?;
+        self.first_in(classes, haystack, span, part, place, behind, limit, tally)
     }
 
     /// The first place of a block at which a pattern begins, by four walks at once, and where these find something by
@@ -587,32 +606,33 @@ impl<'t> Backward<'t> {
         Some(Block { part, lead, end })
     }
 
-    /// How far a search is that passes on by fingerprints.
+    /// How far a search is that passes on by a scan for candidates.
     #[inline(always)]
     fn pass_on(
         &self,
-        fingerprints: &Option<Fingerprints>,
+        scan: &Option<CandidateScan>,
         haystack: &[u8],
         span: Span,
         front: Front,
         tally: &mut Tally,
     ) -> Front
         requires valid { IsValidSpan haystack.now span }
-        requires for_patterns { AreFor self.now fingerprints.now }
+        requires for_patterns { AreFor self.now scan.now }
         requires after { span.start ≤ front.at }
         requires inside { front.at ≤ span.end }
         ensures none { ForBackward self.now (λ tables. NoneFrom tables haystack.now span.end front.at result.at) }
         ensures later { (front.at ≤ result.at) × (result.at ≤ span.end) }
         ensures front { (base : ℕ) → IsFront self.now span 0 base tally.old.scanned front
-            → IsFront self.now span (owed_by fingerprints.now) base tally.new.scanned result }
+            → IsFront self.now span (owed_by scan.now) base tally.new.scanned result }
         ensures others { tally.new ≡ record tally.old { scanned = tally.new.scanned } }
     {
         let rest = Span {
             start: front.at,
             end: span.end,
         };
-        let at = self.pass_over(fingerprints, haystack, rest, tally);
-        let credit = MOST_CREDIT.min(front.credit.saturating_add(at - front.at));
+        let at = self.pass_over(scan, haystack, rest, tally);
+        let passed = credited(scan, at - front.at);
+        let credit = MOST_CREDIT.min(front.credit.saturating_add(passed));
         Front {
             at,
             credit,
@@ -682,9 +702,9 @@ impl<'t> Backward<'t> {
         Ok(Looked { first, front })
     }
 
-    /// The first place of a span at which a pattern begins. Fingerprints pass over bytes. Where they stop, one walk
-    /// looks at the place, if they passed over enough; else four walks go through a block, from its end. Each block is
-    /// twice as long as the one before it, up to a limit.
+    /// The first place of a span at which a pattern begins. A scan for candidates passes over bytes. Where it stops,
+    /// one walk looks at the place, if it passed over enough; else four walks go through a block, from its end. Each
+    /// block is twice as long as the one before it, up to a limit.
     fn first_begun(
         &self,
         haystack: &[u8],
@@ -701,14 +721,14 @@ impl<'t> Backward<'t> {
         ensures counted { IfOk result
             (ReadsFor self.now.table.longest span tally.old.scanned tally.new.scanned) }
     {
-        let fingerprints = &fingerprints_in(self.prints);
-        let owed = owed_by(fingerprints);
+        let scan = &scan_in(self.prints);
+        let owed = owed_by(scan);
         let begin = Front {
             at: span.start,
             credit: 0,
             part: FIRST.max(self.table.longest / 2 + 3),
         };
-        let mut front = self.pass_on(fingerprints, haystack, span, begin, tally);
+        let mut front = self.pass_on(scan, haystack, span, begin, tally);
         if front.at == span.end {
             return Ok(None);
         }
@@ -719,13 +739,13 @@ impl<'t> Backward<'t> {
             if looked.first.is_some() {
                 return Ok(looked.first);
             }
-            front = self.pass_on(fingerprints, haystack, span, looked.front, tally);
+            front = self.pass_on(scan, haystack, span, looked.front, tally);
         }
         let rest = Span {
             start: front.at,
             end: span.end,
         };
-        self.first_in(classes, haystack, span, rest, 0, limit, tally)
+        self.first_in(classes, haystack, span, rest, 0, None, limit, tally)
     }
 
     /// The leftmost match of a span.
@@ -781,15 +801,5 @@ impl<'t> Backward<'t> {
             return Ok(Some(found));
         }
         Ok(None)
-    }
-}
-
-/// How many bytes a pass by fingerprints may look up more than it passes over.
-fn owed_by(fingerprints: &Option<Fingerprints>) -> usize
-    ensures { result ≡ owed_by fingerprints.now }
-{
-    match fingerprints {
-        Some(_) => OVERLAP,
-        None => 0,
     }
 }

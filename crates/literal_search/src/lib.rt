@@ -5,9 +5,7 @@
 ghost use Rattle.std.specs.Prelude.{◌≡◌, ◌+◌, ◌-◌, ◌^◌, ◌<◌, ◌++◌, ◌∷◌, [], length, map, sum_by};
 ghost use Rattle.std.specs.Prelude.{IfErr, IfOk};
 ghost use Rattle.literal_base.specs.Given.{CanBeTaken};
-ghost use Rattle.literal_search.specs.SearchValue.{GivesAll};
-ghost use Rattle.literal_search.specs.SearchValue.{NoneIsShorter, RefusesSearch};
-ghost use Rattle.literal_search.specs.SearchValue.{longest_of};
+ghost use Rattle.literal_search.specs.SearchValue.{GivesAll, RefusesSearch, longest_of};
 ghost use Rattle.literal_search.specs.Inside.Search.{IsShortestOf};
 
 mod backward;
@@ -18,6 +16,7 @@ mod ends;
 mod grow;
 pub mod laws;
 mod leftmost;
+mod numbers;
 mod overlapping;
 mod prepared;
 mod prepared_overlapping;
@@ -26,7 +25,6 @@ mod prepared_so_far;
 mod reading;
 mod replace;
 mod replace_stream;
-mod rows;
 mod scan;
 mod search;
 mod standing;
@@ -148,8 +146,7 @@ fn longest_len(patterns: &[Vec<u8>]) -> usize
 
 /// As long as the shortest of some patterns is, and a large number where there is none.
 fn shortest_len(patterns: &[Vec<u8>]) -> usize
-    ensures none { NoneIsShorter result (map (λ pattern. pattern.items) patterns.now) }
-    ensures shortest { IsShortestOf result (map (λ pattern. pattern.items) patterns.now) }
+    ensures { IsShortestOf result (map (λ pattern. pattern.items) patterns.now) }
 {
     let mut shortest = usize::MAX;
     for pattern in patterns {

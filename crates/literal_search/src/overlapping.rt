@@ -13,23 +13,18 @@ ghost use Rattle.literal_search.specs.OverlappingMatchesValue.{GivesOverlapping,
 ghost use Rattle.literal_search.specs.Prepared.{AreShort};
 ghost use Rattle.literal_search.specs.PreparedOverlapping.{RefusesOverlapping, TakesListedPlaces, WritesOverlapping};
 ghost use Rattle.literal_search.specs.Inside.LentTables.{AreFor, AreLent};
-ghost use Rattle.literal_search.specs.Inside.Overlapping.{AreParts, overlapping_of};
-ghost use Rattle.literal_search.specs.Inside.Prepared.{numbers_for};
-ghost use Rattle.literal_search.specs.Inside.Rows.{rows_value};
+ghost use Rattle.literal_search.specs.Inside.Overlapping.{AreListed, AreParts, overlapping_of};
 
 use crate::classes::classes_for;
-use crate::prepared::{
-    ArrayTooShort, FINGERPRINTS_LEN, LENGTHS_AT, NO_LISTED, OVERLAPPING_VERSION,
-    fingerprint_numbers, put_numbers, write,
-};
+use crate::grow::{GrowError, grow};
+use crate::numbers::{Numbers, prints_for};
+use crate::prepared::{ArrayTooShort, OVERLAPPING_VERSION};
 use crate::prepared_overlapping::{LentTables, lent_in};
-use crate::rows::{Rows, rows_for};
 use crate::standing::Standing;
 use crate::suffixes::Recognised;
 use crate::{BuildError, copies, shortest_len, total_bytes};
 use literal_base::count::Tally;
 use literal_base::{Match, Span};
-use literal_fingerprints::Fingerprints;
 use std::alloc::{AllocError, Global};
 use std::fmt;
 use std::marker::Model;
@@ -57,22 +52,6 @@ struct Parts {
     ignore_case: bool,
     patterns: Vec<Vec<u8>>,
     numbers: Numbers,
-}
-
-/// The numbers of a search, as [`Overlapping::prepare`] writes them. Contracts see them.
-#[derive(Drop)]
-struct Numbers {
-    /// Empty where there is no pattern.
-    kept: Vec<u32>,
-}
-
-impl Model for Numbers {
-    ghost use Rattle.std.specs.Prelude.{List, ℕ};
-    ghost use Rattle.literal_search.specs.Inside.Kept.{listed_kept};
-
-    ghost Value = { List ℕ };
-
-    ghost view = { λ n. listed_kept n.kept.items };
 }
 
 impl Model for Overlapping {
@@ -104,19 +83,7 @@ impl Overlapping {
             (NeedTooManyStates ignore_case)) }
     {
         let patterns = copies(alloc, patterns)?;
-        let classes = classes_for(ignore_case, &patterns);
-        let rows = rows_for(alloc, &classes, &patterns)?;
-        let recognised = Recognised {
-            classes: &classes.table,
-            width: classes.width,
-            rows: rows.without_classes(),
-            patterns: &patterns,
-        };
-        let lists = recognised.lists(alloc)?;
-        let fingerprints = Fingerprints::new(ignore_case, &patterns);
-        let prints = fingerprint_numbers(shortest_len(&patterns), fingerprints.as_ref());
-        let (width, starts) = (classes.width, lists.starts());
-        let numbers = numbers_for(alloc, width, &patterns, &rows, starts, &lists.ends, &prints)?;
+        let numbers = numbers_of(alloc, ignore_case, &patterns)?;
         let parts = Parts {
             ignore_case,
             patterns,
@@ -190,9 +157,10 @@ impl Overlapping {
         ensures end { IsEarliestEnd self.now.patterns self.now.ignore_case haystack.now span result }
         ensures bounded { ScansToEndWithin span result tally.old tally.new }
     {
-        let mut matches = self.find_overlapping_in(haystack, span);
-        let first = matches.next_counted(tally)?;
-        Some(first.end())
+        match self.parts.lent().earliest_end(haystack, span, tally) {
+            Ok(end) => end,
+            Err(_) => unreachable!(),
+        }
     }
 
     /// Writes the numbers of the search into the first places of an array, and answers how many these are.
@@ -202,16 +170,11 @@ impl Overlapping {
         ensures error { IfErr result (RefusesOverlapping self.now array.old) }
         ensures as_before { OnErr result (array.new ≡ array.old) }
     {
-        let numbers = self.parts.numbers.as_slice();
-        let needed = numbers.len();
-        if array.len() < needed {
-            return Err(ArrayTooShort { needed });
-        }
-        put_numbers(array, 0, numbers);
-        Ok(needed)
+        self.parts.numbers.put(array)
     }
 
     /// How many places [`Overlapping::prepare`] writes: an array of as many, or more, is long enough for it.
+    #[tactic(auto, using(crate::proofs::lemmas::LentTables::takes_listed))]
     pub fn prepared_len(&self) -> usize
         ensures { TakesListedPlaces self.now result }
     {
@@ -262,64 +225,39 @@ impl Parts {
     }
 }
 
-impl Numbers {
-    /// The numbers.
-    fn as_slice(&self) -> &[u32]
-        ensures { result.now ≡ self.now }
-    {
-        if self.kept.is_empty() {
-            return &NO_LISTED;
-        }
-        &self.kept
-    }
-}
-
-/// The numbers for patterns, by their rows and lists. Memory is asked for only where there is a pattern. Lists of 2^32
-/// numbers or more are refused, too.
-fn numbers_for(
-    alloc: Global,
-    width: usize,
-    patterns: &[Vec<u8>],
-    rows: &Rows,
-    starts: &[usize],
-    ends: &[u32],
-    prints: &[u32; FINGERPRINTS_LEN],
-) -> Result<Numbers, AllocError>
-    requires width { width ≤ 256 }
-    requires patterns { length patterns.now ≤ 2 ^ 31 - 1 }
-    requires short { AreShort (map (λ pattern. pattern.items) patterns.now) }
-    requires rows { length rows.now.rows ≤ 2 ^ 31 - 1 }
-    requires starts { length starts.now ≡ length patterns.now + 1 }
-    requires inside { (i : ℕ) → slice_index starts.now i ≤ length ends.now }
-    requires none { patterns.now ≡ [] → (width ≡ 1) × (rows.now ≡ rows_value []) × (starts.now ≡ 0 ∷ [])
-        × (ends.now ≡ []) × (prints.now ≡ repeat FINGERPRINTS_LEN (0 ∷ [])) }
-    ensures numbers { IfOk result (λ numbers. numbers ≡ numbers_for OVERLAPPING_VERSION rows.now.classes width
-        (map (λ pattern. pattern.items) patterns.now) rows.now.rows starts.now (ends.now ++ prints.now)) }
-    ensures no_memory { OnErr result (0 < length patterns.now) }
+/// The numbers of the search for patterns. Memory is asked for only where there is one. Lists of 2^32 numbers or more
+/// are refused, too.
+fn numbers_of(alloc: Global, ignore_case: bool, patterns: &[Vec<u8>]) -> Result<Numbers, GrowError>
+    requires { CanBeKept (map (λ pattern. pattern.items) patterns.now) }
+    ensures kept { IfOk result (AreListed
+        (record { patterns = map (λ pattern. pattern.items) patterns.now; ignore_case = ignore_case })) }
+    ensures few { IfOk result (λ _. NeedFewStates ignore_case (map (λ pattern. pattern.items) patterns.now)) }
+    ensures too_many { IfErr result (λ error. error ≡ GrowError.TooManyStates
+        → NeedTooManyStates ignore_case (map (λ pattern. pattern.items) patterns.now)) }
+    ensures some { OnErr result (0 < length patterns.now) }
 {
     if patterns.is_empty() {
-        return Ok(Numbers {
-            kept: Vec::new(alloc),
-        });
+        return Ok(Numbers::for_none(alloc, true));
     }
-    if ends.len() > u32::MAX as usize {
-        return Err(AllocError);
-    }
-    let rows = rows.as_slice();
-    let lists_at = LENGTHS_AT + patterns.len() + rows.len();
-    let needed = lists_at + starts.len() + ends.len() + FINGERPRINTS_LEN;
-    let mut kept = vec![in alloc; 0u32; needed]?;
-    write(
-        OVERLAPPING_VERSION,
-        width,
+    let classes = classes_for(ignore_case, patterns);
+    let rows = grow(alloc, &classes.table, classes.width, patterns)?;
+    let recognised = Recognised {
+        classes: &classes.table,
+        width: classes.width,
+        rows: &rows,
         patterns,
-        rows,
-        starts,
-        ends,
-        prints,
-        &mut kept,
-    );
-    Ok(Numbers { kept })
+    };
+    let lists = recognised.lists(alloc)?;
+    let (starts, ends) = (lists.starts.as_slice(), lists.ends.as_slice());
+    if ends.len() > u32::MAX as usize {
+        return Err(GrowError::OutOfMemory);
+    }
+    let prints = prints_for(ignore_case, patterns);
+    let version = OVERLAPPING_VERSION;
+    let numbers = Numbers::written(
+        alloc, version, &classes, patterns, &rows, starts, ends, &prints,
+    )?;
+    Ok(numbers)
 }
 
 /// What [`Overlapping::find_overlapping_in`] goes over. Contracts see the search, the haystack, the span, and from
@@ -368,7 +306,10 @@ impl<'s, 'h> OverlappingMatches<'s, 'h> {
         let next = self
             .lent
             .next_from(self.haystack, self.span, self.standing, tally);
-        let Some(next) = next.unwrap_or(None) else {
+        let Ok(next) = next else {
+            unreachable!();
+        };
+        let Some(next) = next else {
             self.standing = self.lent.behind_all(self.haystack, self.span);
             return None;
         };

@@ -6,41 +6,44 @@ ghost use Rattle.std.specs.Prelude.{min, slice_index, slice_range};
 ghost use Rattle.std.specs.Int.{from_le_bytes, w32};
 ghost use Rattle.std.specs.List.{repeat};
 ghost use Rattle.literal_search.specs.Prepared.{AreShort, HasParts};
-ghost use Rattle.literal_search.specs.Prepared.{check_of, fingerprints_by, shortest_by};
+ghost use Rattle.literal_search.specs.Prepared.{check_of, scan_by, shortest_by};
 ghost use Rattle.literal_search.specs.Inside.Prepared.{IsHeader, Puts, numbers_for, header_table};
 ghost use Rattle.literal_search.specs.Inside.Packed.{packed, unpacked};
-ghost use Rattle.literal_search.specs.Inside.Rows.{ArePacked, classes_of, rows_of};
+ghost use Rattle.literal_search.specs.Inside.Rows.{packed_classes};
 
-use crate::classes::{CLASSES_LEN, PACKED_LEN};
+use crate::classes::{CLASSES_LEN, Classes, PACKED_LEN};
 use crate::longest_len;
 use crate::walk::{NOTHING, Table};
 use literal_base::count::Tally;
 use literal_base::{Match, Span};
-use literal_fingerprints::{BYTES, Fingerprints};
+use literal_fingerprints::{BYTES, CandidateScan, Fingerprints, PAIR_BYTES, RarePair};
 use literal_ids::PatternID;
 use std::error::Error;
 use std::fmt;
 use std::marker::Model;
 
 /// What the first number of a prepared search for leftmost matches is.
-pub const PREPARED_VERSION: u32 = 0x4C50_0007;
+pub const PREPARED_VERSION: u32 = 0x4C50_0008;
 
 /// What that of one for everything that occurs is.
-pub const OVERLAPPING_VERSION: u32 = 0x4C4F_0006;
+pub const OVERLAPPING_VERSION: u32 = 0x4C4F_0007;
 
 /// Where the lengths of the patterns begin, behind the version, the check, the width, how many patterns and places in
 /// the rows there are, and how long the longest pattern is. Behind them stand the rows, and the class of each byte.
 pub const LENGTHS_AT: usize = 6;
 
-/// How many numbers fingerprints take, behind all others: a length that no pattern is below, or 0 where there are no
-/// fingerprints, and one for four of their bytes each.
-pub const FINGERPRINTS_LEN: usize = 1 + BYTES / 4;
+/// How many numbers a scan for candidates takes, behind all others: a length that no pattern is below, or 0 where there
+/// is no scan, and one for four bytes each of its fingerprints, and of its rare pair. Zeros stand for what it has not.
+pub const SCAN_LEN: usize = PAIR_AT + PAIR_BYTES / 4;
+
+/// Which of these numbers is the first of the rare pair.
+const PAIR_AT: usize = 1 + BYTES / 4;
 
 /// The prepared search for leftmost matches of no pattern: [`PREPARED_VERSION`], its check, one class, no pattern,
 /// two places, and no longest pattern; then the row of its one state, of which its one class leads to itself, and with
-/// which nothing ends, this class for each byte, and no fingerprints.
-pub const NO_PATTERN: [u32; 297] = [
-    0x4C500007, 0xC04A77C6, 1, 0, 2, 0, 0, NOTHING, 0, 0, 0, 0, 0, 0, 0, 0, 0, 0, 0, 0, 0, 0, 0, 0,
+/// which nothing ends, this class for each byte, and no scan for candidates.
+pub const NO_PATTERN: [u32; 299] = [
+    0x4C500008, 0x46D0998E, 1, 0, 2, 0, 0, NOTHING, 0, 0, 0, 0, 0, 0, 0, 0, 0, 0, 0, 0, 0, 0, 0, 0,
     0, 0, 0, 0, 0, 0, 0, 0, 0, 0, 0, 0, 0, 0, 0, 0, 0, 0, 0, 0, 0, 0, 0, 0, 0, 0, 0, 0, 0, 0, 0, 0,
     0, 0, 0, 0, 0, 0, 0, 0, 0, 0, 0, 0, 0, 0, 0, 0, 0, 0, 0, 0, 0, 0, 0, 0, 0, 0, 0, 0, 0, 0, 0, 0,
     0, 0, 0, 0, 0, 0, 0, 0, 0, 0, 0, 0, 0, 0, 0, 0, 0, 0, 0, 0, 0, 0, 0, 0, 0, 0, 0, 0, 0, 0, 0, 0,
@@ -49,13 +52,13 @@ pub const NO_PATTERN: [u32; 297] = [
     0, 0, 0, 0, 0, 0, 0, 0, 0, 0, 0, 0, 0, 0, 0, 0, 0, 0, 0, 0, 0, 0, 0, 0, 0, 0, 0, 0, 0, 0, 0, 0,
     0, 0, 0, 0, 0, 0, 0, 0, 0, 0, 0, 0, 0, 0, 0, 0, 0, 0, 0, 0, 0, 0, 0, 0, 0, 0, 0, 0, 0, 0, 0, 0,
     0, 0, 0, 0, 0, 0, 0, 0, 0, 0, 0, 0, 0, 0, 0, 0, 0, 0, 0, 0, 0, 0, 0, 0, 0, 0, 0, 0, 0, 0, 0, 0,
-    0, 0, 0, 0, 0, 0, 0, 0, 0, 0, 0, 0, 0, 0, 0, 0, 0,
+    0, 0, 0, 0, 0, 0, 0, 0, 0, 0, 0, 0, 0, 0, 0, 0, 0, 0, 0,
 ];
 
 /// The prepared search for everything that occurs of no pattern: [`OVERLAPPING_VERSION`], its check, and the numbers of
 /// [`NO_PATTERN`] with that of where the last of no lists ends.
-pub const NO_LISTED: [u32; 298] = [
-    0x4C4F0006, 0x419EF164, 1, 0, 2, 0, 0, NOTHING, 0, 0, 0, 0, 0, 0, 0, 0, 0, 0, 0, 0, 0, 0, 0, 0,
+pub const NO_LISTED: [u32; 300] = [
+    0x4C4F0007, 0xD8CFA0FA, 1, 0, 2, 0, 0, NOTHING, 0, 0, 0, 0, 0, 0, 0, 0, 0, 0, 0, 0, 0, 0, 0, 0,
     0, 0, 0, 0, 0, 0, 0, 0, 0, 0, 0, 0, 0, 0, 0, 0, 0, 0, 0, 0, 0, 0, 0, 0, 0, 0, 0, 0, 0, 0, 0, 0,
     0, 0, 0, 0, 0, 0, 0, 0, 0, 0, 0, 0, 0, 0, 0, 0, 0, 0, 0, 0, 0, 0, 0, 0, 0, 0, 0, 0, 0, 0, 0, 0,
     0, 0, 0, 0, 0, 0, 0, 0, 0, 0, 0, 0, 0, 0, 0, 0, 0, 0, 0, 0, 0, 0, 0, 0, 0, 0, 0, 0, 0, 0, 0, 0,
@@ -64,7 +67,7 @@ pub const NO_LISTED: [u32; 298] = [
     0, 0, 0, 0, 0, 0, 0, 0, 0, 0, 0, 0, 0, 0, 0, 0, 0, 0, 0, 0, 0, 0, 0, 0, 0, 0, 0, 0, 0, 0, 0, 0,
     0, 0, 0, 0, 0, 0, 0, 0, 0, 0, 0, 0, 0, 0, 0, 0, 0, 0, 0, 0, 0, 0, 0, 0, 0, 0, 0, 0, 0, 0, 0, 0,
     0, 0, 0, 0, 0, 0, 0, 0, 0, 0, 0, 0, 0, 0, 0, 0, 0, 0, 0, 0, 0, 0, 0, 0, 0, 0, 0, 0, 0, 0, 0, 0,
-    0, 0, 0, 0, 0, 0, 0, 0, 0, 0, 0, 0, 0, 0, 0, 0, 0, 0,
+    0, 0, 0, 0, 0, 0, 0, 0, 0, 0, 0, 0, 0, 0, 0, 0, 0, 0, 0, 0,
 ];
 
 /// What a check over no numbers is. It is not zero, so that no zeros lead to a check of zero.
@@ -174,18 +177,21 @@ pub fn is_checked(numbers: &[u32], end: usize) -> bool
     numbers[1] == check_over(&numbers[2..end])
 }
 
-/// The numbers of fingerprints, if there are any.
-pub fn fingerprint_numbers(
-    shortest: usize,
-    fingerprints: Option<&Fingerprints>,
-) -> [u32; FINGERPRINTS_LEN]
-    ensures { MatchOption fingerprints.entry (result ≡ repeat FINGERPRINTS_LEN (0 ∷ []))
-        (λ f. (shortest_by result ≡ min shortest (2 ^ 32 - 1)) × (fingerprints_by result ≡ f.now)) }
+/// The numbers of a scan for candidates, if there is one.
+pub fn scan_numbers(shortest: usize, scan: Option<&CandidateScan>) -> [u32; SCAN_LEN]
+    ensures { MatchOption scan.entry (result ≡ repeat SCAN_LEN (0 ∷ []))
+        (λ s. (shortest_by result ≡ min shortest (2 ^ 32 - 1)) × (scan_by result ≡ s.now)) }
 {
-    let mut numbers = [0; FINGERPRINTS_LEN];
-    if let Some(fingerprints) = fingerprints {
-        numbers[0] = shortest.min(u32::MAX as usize) as u32;
-        pack(&fingerprints.to_bytes(), &mut numbers[1..]);
+    let mut numbers = [0; SCAN_LEN];
+    let Some(scan) = scan else {
+        return numbers;
+    };
+    numbers[0] = shortest.min(u32::MAX as usize) as u32;
+    match scan {
+        CandidateScan::Fingerprints(fingerprints) => {
+            pack(&fingerprints.to_bytes(), &mut numbers[1..PAIR_AT]);
+        }
+        CandidateScan::Pair(pair) => pack(&pair.to_bytes(), &mut numbers[PAIR_AT..]),
     }
     numbers
 }
@@ -209,26 +215,33 @@ fn number_at(bytes: &[u8], at: usize) -> u32
     u32::from_le_bytes([bytes[at], bytes[at + 1], bytes[at + 2], bytes[at + 3]])
 }
 
-/// The fingerprints of such numbers, if these are of any.
-pub fn fingerprints_in(prints: &[u32]) -> Option<Fingerprints>
-    requires { length prints.now ≡ FINGERPRINTS_LEN }
+/// The scan for candidates of such numbers, if these are of one.
+#[inline(always)]
+pub fn scan_in(prints: &[u32]) -> Option<CandidateScan>
+    requires { length prints.now ≡ SCAN_LEN }
     ensures { MatchOption result (shortest_by prints.now ≡ 0)
-        (λ f. (0 < shortest_by prints.now) × (f ≡ fingerprints_by prints.now)) }
+        (λ s. (0 < shortest_by prints.now) × (s ≡ scan_by prints.now)) }
 {
     if prints[0] == 0 {
         return None;
     }
-    Some(fingerprints_by(prints))
+    Some(scan_by(prints))
 }
 
-/// The fingerprints by such numbers.
-fn fingerprints_by(prints: &[u32]) -> Fingerprints
-    requires { length prints.now ≡ FINGERPRINTS_LEN }
-    ensures { result ≡ fingerprints_by prints.now }
+/// The scan by such numbers.
+#[inline(always)]
+fn scan_by(prints: &[u32]) -> CandidateScan
+    requires { length prints.now ≡ SCAN_LEN }
+    ensures { result ≡ scan_by prints.now }
 {
-    let mut bytes = [0; BYTES];
-    unpack(&prints[1..], &mut bytes);
-    Fingerprints::from_bytes(&bytes)
+    let mut pair = [0; PAIR_BYTES];
+    unpack(&prints[PAIR_AT..], &mut pair);
+    if pair[0] == 0 {
+        let mut bytes = [0; BYTES];
+        unpack(&prints[1..PAIR_AT], &mut bytes);
+        return CandidateScan::Fingerprints(Fingerprints::from_bytes(&bytes));
+    }
+    CandidateScan::Pair(RarePair::from_bytes(&pair))
 }
 
 /// Writes the bytes that numbers hold in this way.
@@ -242,39 +255,40 @@ pub(crate) fn unpack(numbers: &[u32], bytes: &mut [u8])
     }
 }
 
-/// Writes a search of a version into the first places of an array. Behind its rows and the classes behind these may
-/// stand lists, of which `starts` says where each begins, and behind all others the numbers of its fingerprints.
+/// Writes a search of a version into the first places of an array. Behind its rows and classes may stand lists, of
+/// which `starts` says where each begins, and behind all others the numbers of its scan for candidates.
 pub fn write(
     version: u32,
-    width: usize,
+    classes: &Classes,
     patterns: &[Vec<u8>],
     rows: &[u32],
     starts: &[usize],
     ends: &[u32],
-    prints: &[u32; FINGERPRINTS_LEN],
+    prints: &[u32; SCAN_LEN],
     array: &mut [u32],
 )
-    requires classes { ArePacked rows.now }
-    requires width { width < 2 ^ 32 }
+    requires width { classes.now.width < 2 ^ 32 }
     requires patterns { length patterns.now < 2 ^ 32 }
-    requires rows { length (rows_of rows.now) < 2 ^ 32 }
+    requires rows { length rows.now < 2 ^ 32 }
     requires starts { length starts.now ≤ 2 ^ 32 }
     requires ends { length ends.now < 2 ^ 32 }
     requires inside { (i : ℕ) → slice_index starts.now i ≤ length ends.now }
     requires short { AreShort (map (λ pattern. pattern.items) patterns.now) }
-    requires room { LENGTHS_AT + length patterns.now + length rows.now + length starts.now + length ends.now
-        + FINGERPRINTS_LEN ≤ length array.old }
-    ensures { Puts 0 (numbers_for version (classes_of rows.now) width (map (λ pattern. pattern.items) patterns.now)
-        (rows_of rows.now) starts.now (ends.now ++ prints.now)) array.old array.new }
+    requires room { LENGTHS_AT + length patterns.now + length rows.now + CLASSES_LEN + length starts.now
+        + length ends.now + SCAN_LEN ≤ length array.old }
+    ensures { Puts 0 (numbers_for version classes.now.table classes.now.width
+        (map (λ pattern. pattern.items) patterns.now) rows.now starts.now (ends.now ++ prints.now)) array.old
+        array.new }
 {
     let longest = longest_len(patterns);
     let rows_at = LENGTHS_AT + patterns.len();
-    let starts_at = rows_at + rows.len();
+    let classes_at = rows_at + rows.len();
+    let starts_at = classes_at + CLASSES_LEN;
     let ends_at = starts_at + starts.len();
     let prints_at = ends_at + ends.len();
-    let end = prints_at + FINGERPRINTS_LEN;
-    let width = width as u32;
-    let (count, places) = (patterns.len() as u32, (rows.len() - CLASSES_LEN) as u32);
+    let end = prints_at + SCAN_LEN;
+    let width = classes.width as u32;
+    let (count, places) = (patterns.len() as u32, rows.len() as u32);
     put_numbers(
         array,
         0,
@@ -282,6 +296,7 @@ pub fn write(
     );
     put_lengths(array, patterns);
     put_numbers(array, rows_at, rows);
+    put_classes(array, classes_at, &classes.table);
     put_starts(array, starts_at, starts);
     put_numbers(array, ends_at, ends);
     put_numbers(array, prints_at, prints);
@@ -307,7 +322,18 @@ fn put_lengths(array: &mut [u32], patterns: &[Vec<u8>])
     }
 }
 
+/// Writes the class of each byte, from a place on.
+fn put_classes(array: &mut [u32], at: usize, classes: &[u8; 256])
+    requires { at + CLASSES_LEN ≤ length array.old }
+    ensures { Puts at (packed_classes classes.now) array.old array.new }
+{
+    let mut packed = [0; CLASSES_LEN];
+    pack(classes, &mut packed[..PACKED_LEN]);
+    put_numbers(array, at, &packed);
+}
+
 /// Writes where lists begin, from a place on.
+#[tactic(auto, using(crate::proofs::lemmas::Written::puts_next))]
 fn put_starts(array: &mut [u32], at: usize, starts: &[usize])
     requires room { at + length starts.now ≤ length array.old }
     requires short { (i : ℕ) → slice_index starts.now i < 2 ^ 32 }

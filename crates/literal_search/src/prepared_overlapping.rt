@@ -22,8 +22,7 @@ ghost use Rattle.literal_search.specs.Inside.Walk.{classes_by, rows_by};
 ghost use Rattle.literal_search.specs.declared.standing.Standing.{Standing};
 
 use crate::prepared::{
-    Damaged, FINGERPRINTS_LEN, Header, LENGTHS_AT, OVERLAPPING_VERSION, fingerprints_in,
-    is_checked, split,
+    Damaged, Header, LENGTHS_AT, OVERLAPPING_VERSION, SCAN_LEN, is_checked, scan_in, split,
 };
 use crate::standing::Standing;
 use crate::walk::{Stop, Table};
@@ -45,7 +44,7 @@ pub struct LentTables<'p> {
     /// Where the list of each pattern begins, and the last ends.
     starts: &'p [u32],
     ends: &'p [u32],
-    /// The numbers of the fingerprints, by which a search passes over bytes, if there are any.
+    /// The numbers of the scan for candidates by which a search passes over bytes, if there is one.
     prints: &'p [u32],
 }
 
@@ -85,7 +84,7 @@ impl<'p> PreparedOverlapping<'p> {
             ..
         } = &self.lent;
         let lists_at = LENGTHS_AT + header.lengths.len() + header.rows.len();
-        let end = lists_at + starts.len() + ends.len() + FINGERPRINTS_LEN;
+        let end = lists_at + starts.len() + ends.len() + SCAN_LEN;
         is_checked(header.numbers, end)
     }
 
@@ -104,6 +103,7 @@ impl<'p> PreparedOverlapping<'p> {
     /// Answers as [`PreparedOverlapping::earliest_end`], and adds each byte that it looks up to a tally, as scanned:
     /// whatever the numbers are, at least as many as there are up to that end, or in the span where it answers none,
     /// and at most three times as many; and at most three times the bytes of the span before [`Damaged`].
+    #[tactic(auto, using(crate::proofs::lemmas::LentTables::are_for))]
     pub fn earliest_end_counted(
         &self,
         haystack: &[u8],
@@ -118,14 +118,7 @@ impl<'p> PreparedOverlapping<'p> {
         ensures others { tally.new ≡ record tally.old { scanned = tally.new.scanned } }
         ensures most { tally.new.scanned ≤ tally.old.scanned + 3 * (span.end - span.start) }
     {
-        match self
-            .lent
-            .table()
-            .next_end(self.lent.prints, haystack, 0, span, tally)?
-        {
-            Some(stop) => Ok(Some(stop.end)),
-            None => Ok(None),
-        }
+        self.lent.earliest_end(haystack, span, tally)
     }
 
     /// Every occurrence in a span of the haystack, for which the same holds as for
@@ -168,7 +161,7 @@ pub fn lent_in(numbers: &[u32]) -> Result<LentTables<'_>, Damaged>
         return Err(Damaged);
     }
     let (ends_at, listed) = (last + 1, numbers[last] as usize);
-    if numbers.len() - ends_at < listed + FINGERPRINTS_LEN {
+    if numbers.len() - ends_at < listed + SCAN_LEN {
         return Err(Damaged);
     }
     let prints_at = ends_at + listed;
@@ -176,13 +169,14 @@ pub fn lent_in(numbers: &[u32]) -> Result<LentTables<'_>, Damaged>
         header,
         starts: &numbers[starts_at..ends_at],
         ends: &numbers[ends_at..prints_at],
-        prints: &numbers[prints_at..prints_at + FINGERPRINTS_LEN],
+        prints: &numbers[prints_at..prints_at + SCAN_LEN],
     })
 }
 
 impl<'p> LentTables<'p> {
     /// What a walk reads of them.
     #[inline(always)]
+    #[tactic(auto, using(crate::proofs::lemmas::LentTables::lent_table, crate::proofs::lemmas::Prepared::classes_long))]
     fn table(&self) -> Table<'_>
         requires { AreLent self.now }
         ensures each { length result.classes.now ≡ 64 }
@@ -193,6 +187,31 @@ impl<'p> LentTables<'p> {
         ensures rows { rows_by result ≡ rows_of self.now.header.rows.now }
     {
         self.header.table()
+    }
+
+    /// The earliest end of an occurrence in a span.
+    pub fn earliest_end(
+        &self,
+        haystack: &[u8],
+        span: Span,
+        tally: &mut Tally,
+    ) -> Result<Option<usize>, Damaged>
+        requires lent { AreLent self.now }
+        requires valid { IsValidSpan haystack.now span }
+        ensures prepared { (search : OverlappingValue) → AreFor search self.now
+            → IsOkAnd result (IsEarliestEnd search.patterns search.ignore_case haystack.now span) }
+        ensures inside { IfOk result (λ answer. IfSome answer (λ end. (span.start < end) × (end ≤ span.end))) }
+        ensures bounded { IfOk result (λ answer. ScansToEndWithin span answer tally.old tally.new) }
+        ensures others { tally.new ≡ record tally.old { scanned = tally.new.scanned } }
+        ensures most { tally.new.scanned ≤ tally.old.scanned + 3 * (span.end - span.start) }
+    {
+        let found = self
+            .table()
+            .next_end(self.prints, haystack, 0, span, tally)?;
+        match found {
+            Some(stop) => Ok(Some(stop.end)),
+            None => Ok(None),
+        }
     }
 
     /// Where a search stands before all that occurs in the span.
@@ -333,6 +352,7 @@ impl<'p> LentTables<'p> {
     }
 
     /// The next occurrence behind where a search stands, and where it then stands.
+    #[tactic(auto, using(crate::proofs::lemmas::Standing::next_moved))]
     pub fn next_from(
         &self,
         haystack: &[u8],
@@ -454,6 +474,7 @@ impl<'s, 'p, 'h> PreparedOverlappingMatches<'s, 'p, 'h> {
     }
 
     /// Whether it stands behind all that occurs.
+    #[tactic(auto, using(crate::proofs::lemmas::LentTables::lengths_many))]
     fn has_ended(&self) -> bool
         ensures { IsTrue result ↔ HasEnded self.now }
     {

@@ -13,7 +13,7 @@ ghost use Rattle.literal_search.specs.Inside.Prepared.{IsBackIn};
 
 use crate::backward::{Backward, LEAST, Marks, no_marks, place_after};
 use crate::classes::CLASSES_LEN;
-use crate::prepared::{Damaged, FINGERPRINTS_LEN, LENGTHS_AT, PREPARED_VERSION, is_checked, split};
+use crate::prepared::{Damaged, LENGTHS_AT, PREPARED_VERSION, SCAN_LEN, is_checked, split};
 use crate::walk::Table;
 use literal_base::count::Tally;
 use literal_base::{Match, Span};
@@ -156,7 +156,7 @@ pub(crate) fn backward_in(numbers: &[u32]) -> Result<Backward<'_>, Damaged>
     let header = split(numbers, PREPARED_VERSION)?;
     let best_at = LENGTHS_AT + header.lengths.len() + header.rows.len();
     let prints_at = best_at + header.lengths.len();
-    let is_short = numbers.len() < prints_at + FINGERPRINTS_LEN;
+    let is_short = numbers.len() < prints_at + SCAN_LEN;
     if is_short || header.rows.len() == CLASSES_LEN {
         return Err(Damaged);
     }
@@ -170,7 +170,7 @@ pub(crate) fn backward_in(numbers: &[u32]) -> Result<Backward<'_>, Damaged>
         table,
         best: &numbers[best_at..prints_at],
         lens: header.lengths,
-        prints: &numbers[prints_at..prints_at + FINGERPRINTS_LEN],
+        prints: &numbers[prints_at..prints_at + SCAN_LEN],
     })
 }
 

@@ -1,26 +1,28 @@
-//! Bytes with which nothing begins are passed over: by fingerprints of few patterns, or else by four walks at once.
+//! Bytes with which nothing begins are passed over: by a scan for candidates, or else by four walks at once.
 //! `Table::pass_over` and `Table::can_pass` decide which.
 ghost use Rattle.std.specs.Prelude.{◌≡◌, ◌+◌, ◌-◌, ◌*◌, ◌<◌, ◌≤◌, ◌^◌};
 ghost use Rattle.std.specs.Prelude.{IfOk, IfSome, None, false, length, true};
 ghost use Rattle.std.specs.Result.{IsOkAnd};
 ghost use Rattle.literal_base.specs.Occurs.{IsValidSpan, between};
-ghost use Rattle.literal_fingerprints.specs.FingerprintsValue.{AllPass};
+ghost use Rattle.literal_fingerprints.specs.CandidateScans.{StopsAtEach};
+ghost use Rattle.literal_search.specs.Inside.Leftmost.{ahead_by, owed_by};
 ghost use Rattle.literal_search.specs.Inside.Scan.{ForPatterns, IsNear, NoneBefore};
 ghost use Rattle.literal_search.specs.Inside.Walk.{classes_by};
 
 use crate::classes::CLASSES_LEN;
+use crate::leftmost::OVERLAP;
 use crate::prepared::Damaged;
 use crate::walk::Table;
 use literal_base::Span;
 use literal_base::count::Tally;
-use literal_fingerprints::Fingerprints;
+use literal_fingerprints::CandidateScan;
 
 /// How long the first blocks are through which four walks go, if no pattern is longer than half of this, and the last.
 const FIRST_BLOCK: usize = 128;
 
 const LAST_BLOCK: usize = 1024;
 
-/// How far one walk goes at least before fingerprints are looked for: half as far as these read in vain.
+/// How far one walk goes at least before candidates are scanned for: half as far as a scan reads in vain.
 const NEAR: usize = 8;
 
 /// How many blocks are gone through by one walk before four begin: a match that is near then costs as much as ever.
@@ -35,19 +37,19 @@ const FEW: usize = 8;
 const FARTHEST: usize = 4096;
 
 impl<'t> Table<'t> {
-    /// Whether bytes can be passed over: by fingerprints, or by four walks if the bytes are many enough, and no pattern
+    /// Whether bytes can be passed over: by a scan, or by four walks if the bytes are many enough, and no pattern
     /// is too long.
-    pub fn can_pass(&self, by_fingerprints: bool, bytes: usize) -> bool
-        ensures { result ≡ true → by_fingerprints ≡ false → self.now.longest ≤ LONGEST }
+    pub fn can_pass(&self, by_scan: bool, bytes: usize) -> bool
+        ensures { result ≡ true → by_scan ≡ false → self.now.longest ≤ LONGEST }
     {
-        by_fingerprints || (self.longest <= LONGEST && bytes >= 3 * BLOCKS_NEAR * FIRST_BLOCK)
+        by_scan || (self.longest <= LONGEST && bytes >= 3 * BLOCKS_NEAR * FIRST_BLOCK)
     }
 
-    /// How far one walk goes at least before bytes are passed over, by fingerprints or not.
-    pub fn nearest(&self, by_fingerprints: bool) -> usize
-        ensures { IsNear self.now by_fingerprints result }
+    /// How far one walk goes at least before bytes are passed over, by a scan or not.
+    pub fn nearest(&self, by_scan: bool) -> usize
+        ensures { IsNear self.now by_scan result }
     {
-        if by_fingerprints {
+        if by_scan {
             return NEAR;
         }
         let longest = if self.longest <= LONGEST {
@@ -63,7 +65,7 @@ impl<'t> Table<'t> {
     #[inline(never)]
     pub fn pass_over(
         &self,
-        fingerprints: &Option<Fingerprints>,
+        scan: &Option<CandidateScan>,
         haystack: &[u8],
         span: Span,
         near: usize,
@@ -72,10 +74,10 @@ impl<'t> Table<'t> {
         requires classes { length self.now.classes.now ≡ 64 }
         requires valid { IsValidSpan haystack.now span }
         requires some { 8 ≤ near }
-        requires long { fingerprints.now ≡ None → 6 * self.now.longest ≤ near }
+        requires long { scan.now ≡ None → 6 * self.now.longest ≤ near }
         requires short { near ≤ 6 * LONGEST }
         ensures none { ForPatterns self.now (λ patterns ignore_case.
-            IfSome fingerprints.now (λ f. AllPass f ignore_case patterns)
+            IfSome scan.now (λ f. StopsAtEach f ignore_case patterns)
             → IsOkAnd result (NoneBefore patterns ignore_case haystack.now span)) }
         ensures inside { IfOk result (λ at. (span.start ≤ at) × (at ≤ span.end)) }
         ensures others { tally.new ≡ record tally.old { scanned = tally.new.scanned } }
@@ -85,8 +87,8 @@ impl<'t> Table<'t> {
         ensures grows { tally.old.scanned ≤ tally.new.scanned }
         ensures least { IfOk result (λ at. tally.old.scanned + at ≤ tally.new.scanned + span.start) }
     {
-        match fingerprints {
-            Some(fingerprints) => Ok(fingerprints.next(haystack, span, tally)),
+        match scan {
+            Some(scan) => Ok(scan.next(haystack, span, tally)),
             None => self.pass_blocks(haystack, span, near, tally),
         }
     }
@@ -165,4 +167,24 @@ pub fn farther(nearest: usize, near: usize, passed: usize) -> usize
         near / 2
     };
     nearest.max(farther)
+}
+
+/// How many bytes a pass by a scan may look up more than three times those that it passes over.
+pub fn owed_by(scan: &Option<CandidateScan>) -> usize
+    ensures { result ≡ owed_by scan.now }
+{
+    match scan {
+        Some(_) => OVERLAP,
+        None => 0,
+    }
+}
+
+/// How many bytes count as passed over, where a scan passed over so many: fewer where it reads far ahead.
+pub fn credited(scan: &Option<CandidateScan>, passed: usize) -> usize
+    ensures { result ≡ passed - (ahead_by scan.now - OVERLAP) }
+{
+    match scan {
+        Some(scan) => passed.saturating_sub(scan.ahead() - OVERLAP),
+        None => passed,
+    }
 }

@@ -11,31 +11,25 @@ ghost use Rattle.literal_search.specs.At.{IsMatchAt, ScansAt};
 ghost use Rattle.literal_search.specs.SearchValue.{BuildsSearch, CanBeKept, MayRefuseList, NeedFewReversed};
 ghost use Rattle.literal_search.specs.SearchValue.{NeedTooManyReversed, RefusesSearch, ScansNext, ScansThrice};
 ghost use Rattle.literal_search.specs.SearchValue.{ScansWithin};
-ghost use Rattle.literal_search.specs.SearchValue.{longest_of, looked_upto, reversed, shortest_of};
+ghost use Rattle.literal_search.specs.SearchValue.{longest_of, looked_upto, reversed, search_by, shortest_of};
 ghost use Rattle.literal_search.specs.MatchesValue.{GivesMatch, most_to_come, place_behind};
 ghost use Rattle.literal_search.specs.Memory.{TakesBytes};
 ghost use Rattle.literal_search.specs.Prepared.{AreShort, RefusesToPrepare, TakesPlaces, WritesPrepared, longest_in};
 ghost use Rattle.literal_search.specs.Inside.Backward.{AreBackFor, AreMarked, IsPlaced, IsSafe, back_tables_by};
-ghost use Rattle.literal_search.specs.Inside.Kept.{numbers_kept};
-ghost use Rattle.literal_search.specs.Inside.Prepared.{numbers_for};
-ghost use Rattle.literal_search.specs.Inside.Rows.{rows_value};
-ghost use Rattle.literal_search.specs.Inside.Search.{AreParts, patterns_of, search_value, tables_of};
+ghost use Rattle.literal_search.specs.Inside.Search.{AreKept, AreParts, patterns_of, search_value, tables_of};
 ghost use Rattle.literal_search.specs.declared.backward.TheConstants.{LEAST};
 
 use crate::backward::{Backward, LEAST, Marks, no_marks, place_after};
-use crate::classes::{CLASSES_LEN, classes_for};
-use crate::prepared::{
-    ArrayTooShort, FINGERPRINTS_LEN, LENGTHS_AT, NO_PATTERN, PREPARED_VERSION, fingerprint_numbers,
-    put_numbers, write,
-};
+use crate::classes::classes_for;
+use crate::grow::{GrowError, grow};
+use crate::numbers::{Numbers, prints_for};
+use crate::prepared::{ArrayTooShort, PREPARED_VERSION};
 use crate::prepared_search::backward_in;
-use crate::rows::{Rows, rows_for};
 use crate::suffixes::Recognised;
 use crate::{BuildError, copies, push_copy, shortest_len, total_bytes};
 use literal_base::count::Tally;
 use literal_base::packed::MatchKind;
 use literal_base::{Match, Span};
-use literal_fingerprints::Fingerprints;
 use literal_ids::PatternID;
 use std::alloc::{AllocError, Global};
 use std::fmt;
@@ -72,22 +66,6 @@ struct Parts {
     numbers: Numbers,
 }
 
-/// The numbers of a search, as [`Search::prepare`] writes them. Contracts see them.
-#[derive(Drop)]
-struct Numbers {
-    /// Empty where there is no pattern.
-    kept: Vec<u32>,
-}
-
-impl Model for Numbers {
-    ghost use Rattle.std.specs.Prelude.{List, ℕ};
-    ghost use Rattle.literal_search.specs.Inside.Kept.{numbers_kept};
-
-    ghost Value = { List ℕ };
-
-    ghost view = { λ n. numbers_kept n.kept.items };
-}
-
 impl Model for Search {
     ghost use Rattle.literal_search.specs.SearchValue.{SearchValue};
     ghost use Rattle.literal_search.specs.Inside.Search.{AreParts, search_value};
@@ -117,19 +95,7 @@ impl Search {
             (NeedTooManyReversed ignore_case)) }
     {
         let patterns = copies(alloc, patterns)?;
-        let classes = classes_for(ignore_case, &patterns);
-        let backward = backward_copies(alloc, &patterns)?;
-        let rows = rows_for(alloc, &classes, &backward)?;
-        let recognised = Recognised {
-            classes: &classes.table,
-            width: classes.width,
-            rows: rows.without_classes(),
-            patterns: &backward,
-        };
-        let best = recognised.best_suffixes(alloc, kind)?;
-        let fingerprints = Fingerprints::new(ignore_case, &patterns);
-        let prints = fingerprint_numbers(shortest_len(&patterns), fingerprints.as_ref());
-        let numbers = numbers_for(alloc, classes.width, &patterns, &rows, &best, &prints)?;
+        let numbers = numbers_of(alloc, kind, ignore_case, &patterns)?;
         let parts = Parts {
             kind,
             ignore_case,
@@ -170,8 +136,10 @@ impl Search {
         ensures not_empty { IfSome result (λ found. found.start < found.end) }
         ensures bounded { ScansWithin self.now.query.patterns span result tally.old tally.new }
     {
-        let answer = self.parts.backward().find_in(haystack, span, tally);
-        answer.unwrap_or(None)
+        match self.parts.backward().find_in(haystack, span, tally) {
+            Ok(answer) => answer,
+            Err(_) => unreachable!(),
+        }
     }
 
     /// Whether a pattern occurs in the haystack.
@@ -201,8 +169,10 @@ impl Search {
         ensures not_empty { IfSome result (λ found. found.start < found.end) }
         ensures bounded { ScansAt self.now.query.patterns at result tally.old tally.new }
     {
-        let answer = self.parts.backward().find_at(haystack, at, tally);
-        answer.unwrap_or(None)
+        match self.parts.backward().find_at(haystack, at, tally) {
+            Ok(answer) => answer,
+            Err(_) => unreachable!(),
+        }
     }
 
     /// All matches in the haystack, from the left, none of which overlaps another: first the leftmost match of the
@@ -248,6 +218,7 @@ impl Search {
 
     /// The list of what [`Search::find_iter`] gives. Memory is asked for only where there is a match, or a pattern has
     /// more than 1,024 bytes.
+    #[tactic(auto, using(crate::proofs::lemmas::GreedyIn::greedy_whole))]
     pub fn find_all(&self, haystack: &[u8]) -> Result<Vec<Match>, AllocError>
         ensures greedy { IfOk result
             (λ all. IsGreedy self.now.query self.now.ignore_case haystack.now 0 all.items) }
@@ -298,16 +269,11 @@ impl Search {
         ensures error { IfErr result (RefusesToPrepare self.now array.old) }
         ensures as_before { OnErr result (array.new ≡ array.old) }
     {
-        let numbers = self.parts.numbers.as_slice();
-        let needed = numbers.len();
-        if array.len() < needed {
-            return Err(ArrayTooShort { needed });
-        }
-        put_numbers(array, 0, numbers);
-        Ok(needed)
+        self.parts.numbers.put(array)
     }
 
     /// How many places [`Search::prepare`] writes: an array of as many, or more, is long enough for it.
+    #[tactic(auto, using(crate::proofs::lemmas::BackTables::takes_kept))]
     pub fn prepared_len(&self) -> usize
         ensures { TakesPlaces self.now result }
     {
@@ -427,46 +393,19 @@ impl Parts {
         ensures no_memory { OnErr result
             (¬ NothingOccurs (patterns_of self.now) self.now.ignore_case haystack.now span) }
     {
+        let backward = self.backward();
         let mut all = Vec::new(*self.patterns.allocator());
         let mut marks = no_marks(span.start);
         let mut at = span.start;
-        while let Some(found) = self.next_match(haystack, span, at, numbers, &mut marks, tally) {
-            at = found.end();
-            all.push(found)?;
-        }
-        Ok(all)
-    }
-
-    /// The leftmost match of the rest of a span, from a place on.
-    fn next_match(
-        &self,
-        haystack: &[u8],
-        span: Span,
-        at: usize,
-        numbers: &mut [u32],
-        marks: &mut Marks,
-        tally: &mut Tally,
-    ) -> Option<Match>
-        requires parts { AreParts self.now }
-        requires valid { IsValidSpan haystack.now span }
-        requires room { max (longest_in self.now.numbers) LEAST ≤ length numbers.old }
-        requires placed { IsPlaced (longest_in self.now.numbers) span at marks.old }
-        requires marked { AreMarked (tables_of self.now) haystack.now span at numbers.old marks.old }
-        ensures leftmost { IsLeftmost (search_value self.now).query self.now.ignore_case haystack.now
-            (between at span.end) result }
-        ensures not_empty { IfSome result (λ found. found.start < found.end) }
-        ensures placed { IsPlaced (longest_in self.now.numbers) span (place_behind span result) marks.new }
-        ensures marked { AreMarked (tables_of self.now) haystack.now span (place_behind span result) numbers.new
-            marks.new }
-        ensures further { (marks.old.known ≤ marks.new.known) × (marks.new.known ≤ span.end) }
-        ensures bounded { ScansThrice (between marks.old.known marks.new.known) tally.old tally.new }
-        ensures least { tally.old.scanned + looked_upto (patterns_of self.now) span marks.new.known
-            ≤ tally.new.scanned + looked_upto (patterns_of self.now) span marks.old.known }
-    {
-        let backward = self.backward();
-        match backward.next_match(haystack, span, at, numbers, marks, tally) {
-            Ok(answer) => answer,
-            Err(_) => unreachable!(),
+        loop {
+            match backward.next_match(haystack, span, at, numbers, &mut marks, tally) {
+                Ok(Some(found)) => {
+                    at = found.end();
+                    all.push(found)?;
+                }
+                Ok(None) => return Ok(all),
+                Err(_) => unreachable!(),
+            }
         }
     }
 
@@ -493,71 +432,48 @@ impl Parts {
     }
 }
 
-impl Numbers {
-    /// The numbers.
-    fn as_slice(&self) -> &[u32]
-        ensures { result.now ≡ self.now }
-    {
-        if self.kept.is_empty() {
-            return &NO_PATTERN;
-        }
-        &self.kept
-    }
-
-    /// A copy, for the same patterns. Memory is asked for only where there is one.
-    fn copy(&self, alloc: Global, patterns: &[Vec<u8>]) -> Result<Numbers, AllocError>
-        ensures some { 0 < length patterns.now → IfOk result (λ copy. copy ≡ self.now) }
-        ensures none { length patterns.now ≡ 0 → IfOk result (λ copy. copy ≡ numbers_kept []) }
-        ensures no_memory { OnErr result (0 < length patterns.now) }
-    {
-        let mut kept = Vec::new(alloc);
-        if patterns.is_empty() {
-            return Ok(Numbers { kept });
-        }
-        kept.extend_from_slice(&self.kept)?;
-        Ok(Numbers { kept })
-    }
-}
-
-/// The numbers for patterns, by their rows. Memory is asked for only where there is a pattern.
-fn numbers_for(
+/// The numbers of the search for patterns. Memory is asked for only where there is one.
+fn numbers_of(
     alloc: Global,
-    width: usize,
+    kind: MatchKind,
+    ignore_case: bool,
     patterns: &[Vec<u8>],
-    rows: &Rows,
-    best: &[u32],
-    prints: &[u32; FINGERPRINTS_LEN],
-) -> Result<Numbers, AllocError>
-    requires width { width ≤ 256 }
-    requires patterns { length patterns.now ≤ 2 ^ 31 - 1 }
-    requires short { AreShort (map (λ pattern. pattern.items) patterns.now) }
-    requires rows { length rows.now.rows ≤ 2 ^ 31 - 1 }
-    requires best { length best.now ≡ length patterns.now }
-    requires none { patterns.now ≡ [] → (width ≡ 1) × (rows.now ≡ rows_value [])
-        × (prints.now ≡ repeat FINGERPRINTS_LEN (0 ∷ [])) }
-    ensures numbers { IfOk result (λ numbers. numbers ≡ numbers_for PREPARED_VERSION rows.now.classes width
-        (map (λ pattern. pattern.items) patterns.now) rows.now.rows [] (best.now ++ prints.now)) }
-    ensures no_memory { OnErr result (0 < length patterns.now) }
+) -> Result<Numbers, GrowError>
+    requires { CanBeKept (map (λ pattern. pattern.items) patterns.now) }
+    ensures kept { IfOk result
+        (AreKept (search_by kind ignore_case (map (λ pattern. pattern.items) patterns.now))) }
+    ensures few { IfOk result (λ _. NeedFewReversed ignore_case (map (λ pattern. pattern.items) patterns.now)) }
+    ensures too_many { IfErr result (λ error. error ≡ GrowError.TooManyStates
+        → NeedTooManyReversed ignore_case (map (λ pattern. pattern.items) patterns.now)) }
+    ensures some { OnErr result (0 < length patterns.now) }
 {
     if patterns.is_empty() {
-        return Ok(Numbers {
-            kept: Vec::new(alloc),
-        });
+        return Ok(Numbers::for_none(alloc, false));
     }
-    let rows = rows.as_slice();
-    let needed = LENGTHS_AT + patterns.len() + rows.len() + best.len() + FINGERPRINTS_LEN;
-    let mut kept = vec![in alloc; 0u32; needed]?;
-    write(
-        PREPARED_VERSION,
-        width,
+    let classes = classes_for(ignore_case, patterns);
+    let copies = backward_copies(alloc, patterns)?;
+    let backward = copies.as_slice();
+    let rows = grow(alloc, &classes.table, classes.width, backward)?;
+    let recognised = Recognised {
+        classes: &classes.table,
+        width: classes.width,
+        rows: &rows,
+        patterns: backward,
+    };
+    let best = recognised.best_suffixes(alloc, kind)?;
+    let prints = prints_for(ignore_case, patterns);
+    let version = PREPARED_VERSION;
+    let numbers = Numbers::written(
+        alloc,
+        version,
+        &classes,
         patterns,
-        rows,
+        &rows,
         &[],
-        best,
-        prints,
-        &mut kept,
-    );
-    Ok(Numbers { kept })
+        &best,
+        &prints,
+    )?;
+    Ok(numbers)
 }
 
 /// Copies of some patterns.

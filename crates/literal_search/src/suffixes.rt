@@ -5,13 +5,10 @@ ghost use Rattle.literal_base.specs.Occurs.{pattern_at};
 ghost use Rattle.literal_search.specs.Table.{nothing};
 ghost use Rattle.literal_search.specs.Words.{ending};
 ghost use Rattle.literal_search.specs.Inside.Suffixes.{AreSuffixes};
-ghost use Rattle.literal_search.specs.Inside.Lists.{AreOutputLinks, AreLists, Recognise, starts_of, symbols_of};
+ghost use Rattle.literal_search.specs.Inside.Lists.{AreOutputLinks, AreLists, Recognise, symbols_of};
 
 use crate::walk::{ENDS, NOTHING};
 use std::alloc::{AllocError, Global};
-
-/// Where the last of no lists ends.
-const NO_LIST: [usize; 1] = [0];
 
 /// Patterns, and the rows of their automaton.
 #[derive(Clone, Copy)]
@@ -22,12 +19,11 @@ pub struct Recognised<'p> {
     pub patterns: &'p [Vec<u8>],
 }
 
-/// Lists of patterns, one behind another: where each begins, and behind the last where that ends.
+/// Lists of patterns, one behind another, where each begins, and where the last ends.
 #[derive(Drop)]
 pub struct Lists {
     pub ends: Vec<u32>,
-    /// Empty where there is no list.
-    starts: Vec<usize>,
+    pub starts: Vec<usize>,
 }
 
 impl<'p> Recognised<'p> {
@@ -49,7 +45,7 @@ impl<'p> Recognised<'p> {
     }
 
     /// For each pattern the next that is a suffix of it: one of its equals that comes later, or else a shorter one.
-    fn links(&self, alloc: Global) -> Result<Vec<u32>, AllocError>
+    pub(crate) fn links(&self, alloc: Global) -> Result<Vec<u32>, AllocError>
         requires { Recognise self.now }
         ensures { IfOk result (λ links. AreOutputLinks (symbols_of self.now) links.items 0) }
     {
@@ -101,22 +97,12 @@ impl<'p> Recognised<'p> {
         Ok(list)
     }
 
-    /// The lists of the patterns that are a suffix of a pattern, for each that is the first of its equals. Where there
-    /// is no pattern, there is none, and no memory is asked for.
+    /// The lists of the patterns that are a suffix of a pattern, for each that is the first of its equals.
     pub(crate) fn lists(&self, alloc: Global) -> Result<Lists, AllocError>
         requires { Recognise self.now }
-        ensures lists { IfOk result (λ lists. AreLists (symbols_of self.now) lists.ends.items
-            (starts_of lists.starts.items) (length self.now.patterns.now)) }
-        ensures none { self.now.patterns.now ≡ [] → IfOk result
-            (λ lists. (lists.starts.items ≡ []) × (lists.ends.items ≡ [])) }
-        ensures not_empty { OnErr result (0 < length self.now.patterns.now) }
+        ensures { IfOk result (λ lists. AreLists (symbols_of self.now) lists.ends.items lists.starts.items
+            (length self.now.patterns.now)) }
     {
-        if self.patterns.is_empty() {
-            return Ok(Lists {
-                ends: Vec::new(alloc),
-                starts: Vec::new(alloc),
-            });
-        }
         let links = self.links(alloc)?;
         let mut lists = Lists {
             ends: Vec::new(alloc),
@@ -131,16 +117,6 @@ impl<'p> Recognised<'p> {
 }
 
 impl Lists {
-    /// Where each begins, and the last ends.
-    pub fn starts(&self) -> &[usize]
-        ensures { result.now ≡ starts_of self.now.starts.items }
-    {
-        if self.starts.is_empty() {
-            return &NO_LIST;
-        }
-        &self.starts
-    }
-
     /// Adds a list behind the others.
     fn push(&mut self, list: &[u32]) -> Result<(), AllocError>
         ensures ends { IfOk result (λ _. self.new.ends.items ≡ self.old.ends.items ++ list.now) }

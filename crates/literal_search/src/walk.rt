@@ -209,6 +209,7 @@ impl<'t> Table<'t> {
         ensures number { AreClasses (classes_by self.now) self.now.width
             → place + self.now.width < length (rows_by self.now) → result ≡ slice_index (rows_by self.now)
             (place + slice_index (classes_by self.now) (slice_index haystack.now at)) }
+        ensures fits { result < 2 ^ 32 }
         ensures ticks { tally.new ≡ record tally.old { scanned = tally.old.scanned + 1 } }
     {
         self.code_by(classes, place, haystack, at, tally) as usize

@@ -46,6 +46,7 @@ impl Window {
     }
 
     /// Goes on behind the first of them.
+    #[tactic(auto, using(crate::proofs::lemmas::Streams::part_behind, crate::proofs::lemmas::Streams::part_len))]
     pub(crate) fn pass(&mut self, count: usize)
         requires window { IsWindow self.old }
         requires within { count ≤ length (held self.old) }

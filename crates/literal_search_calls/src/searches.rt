@@ -74,23 +74,23 @@ fn tells_what_it_was_built_of(rt: HostRuntime) -> Result<(), Fail> {
     Ok(())
 }
 
-/// It has 6 numbers, one for the pattern, 12 in the rows, 256 for classes, one more for the pattern, and 33 for
-/// fingerprints.
+/// It has 6 numbers, one for the pattern, 12 in the rows, 256 for classes, one more for the pattern, and 35 for
+/// its scan for candidates.
 #[test]
 fn tells_how_many_bytes_it_takes(rt: HostRuntime) -> Result<(), Fail> {
     let search = longest_of(rt.alloc(), &[b"ab"])?;
-    assert!(rt; search.memory_usage() == 4 * 309 + 2);
+    assert!(rt; search.memory_usage() == 4 * 311 + 2);
     let wanted = "Search { kind: LeftmostLongest, ignore_case: false, patterns: 1 }";
     assert_prints_as(&rt, rt.alloc(), &search, wanted)?;
     Ok(())
 }
 
 /// It has 6 numbers, one for the pattern, 12 in the rows, 256 for classes, two where its list begins and ends, one in
-/// this, and 33 for fingerprints.
+/// this, and 35 for its scan for candidates.
 #[test]
 fn overlapping_tells_how_many_bytes_it_takes(rt: HostRuntime) -> Result<(), Fail> {
     let search = Overlapping::new(rt.alloc(), false, [b"ab".as_slice()])?;
-    assert!(rt; search.memory_usage() == 4 * 311 + 2);
+    assert!(rt; search.memory_usage() == 4 * 313 + 2);
     let wanted = "Overlapping { ignore_case: false, patterns: 1 }";
     assert_prints_as(&rt, rt.alloc(), &search, wanted)?;
     Ok(())

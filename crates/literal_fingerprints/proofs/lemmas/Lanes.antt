@@ -1,16 +1,16 @@
 -- What operations on vectors of 16 bytes hold in each lane.
 use Rattle.std.proofs.Common.{◌≡◌, ◌≢◌, ℕ, ◌+◌, ◌-◌, ◌*◌, ◌/◌, ◌%◌, ◌^◌, ◌<◌, ◌≤◌, ◌∙◌, ◌++◌, List, true, false, not}
 use Rattle.std.proofs.Common.{eqb, length, get_or, replicate, refl, cond, map, sym, ap, arith, take, w8, inl, inr}
-use Rattle.std.proofs.Common.{length-append}
+use Rattle.std.proofs.Common.{Bool, length-append, subst}
 use Rattle.std.proofs.lemmas.Bool.{cases_lt}
 use Rattle.std.proofs.lemmas.Bool.Decides.{nat_tests}
 use Rattle.std.proofs.lemmas.List.{get_or-append_right, get_or-take, get_or_append_left}
 use Rattle.std.proofs.lemmas.List.Sums.{prefix_len-le-length, prefix_len_passes, prefix_len_stops}
 use Rattle.std.proofs.lemmas.Simd.{Each1-from_get_or, SwzOk, SwzOk-from_below, bitmask_splat, get_or-chunk}
 use Rattle.std.proofs.lemmas.Simd.{get_or-replicate, get_or-swz_l_below, get_or-zip2, leading_from_mask_l, length-chunk}
-use Rattle.std.proofs.lemmas.Simd.{length-swz_l, length-zip2, pick_l-range_with_len, swz_l, trailing_mask_l}
+use Rattle.std.proofs.lemmas.Simd.{get_or-sel_l, length-sel_l, length-swz_l, length-zip2, pick_l-range_with_len, swz_l, trailing_mask_l}
 use Rattle.std.specs.List.{prefix_len, range_with_len}
-use Rattle.std.specs.Simd.Lanes.{mask_l, pick_l, top, zip2}
+use Rattle.std.specs.Simd.Lanes.{mask_l, pick_l, sel_l, top, zip2}
 use lib.Count.{count_trailing_zeros}
 use Rattle.literal_fingerprints.specs.Inside.Lanes.{HasLanes}
 
@@ -49,6 +49,29 @@ lanes_of_splat f a x p =
       long = two.long;
       each = λ k below. two.each k below ∙ ap (f (get_or a k 0)) (get_or-replicate 16 k x 0 below);
     }
+
+-- one of two bytes, by a test of each lane with a third
+pub lanes_of_choice : (t : ℕ → ℕ → Bool) (a : List ℕ) (x y z : ℕ) → length a ≡ 16
+    → HasLanes (sel_l (zip2 t a (replicate 16 x)) (replicate 16 y) (replicate 16 z)) (λ k. cond (t (get_or a k 0) x) y z)
+lanes_of_choice t a x y z p =
+    let tests = zip2 t a (replicate 16 x) in
+    let long : length tests ≡ 16 = length-zip2 t a (replicate 16 x) p ∙ p in
+    record {
+      long = length-sel_l tests (replicate 16 y) (replicate 16 z) long long ∙ long;
+      each = λ k below.
+          let test : get_or tests k false ≡ t (get_or a k 0) x =
+          get_or-zip2 t a (replicate 16 x) k 0 0 false (omega arith) below
+          ∙ ap (t (get_or a k 0)) (get_or-replicate 16 k x 0 below) in
+          get_or-sel_l tests (replicate 16 y) (replicate 16 z) k 0 (omega arith) below below
+          ∙ (ap (λ b. cond b (get_or (replicate 16 y) k 0) (get_or (replicate 16 z) k 0)) test
+          ∙ (ap (λ n. cond (t (get_or a k 0) x) n (get_or (replicate 16 z) k 0)) (get_or-replicate 16 k y 0 below)
+          ∙ ap (cond (t (get_or a k 0) x) y) (get_or-replicate 16 k z 0 below)));
+    }
+
+-- lanes that begin at the same place, by another sum
+pub lanes_from : (lanes : List ℕ) (f : ℕ → ℕ) (m n : ℕ) → m ≡ n → HasLanes lanes (λ k. f (m + k))
+    → HasLanes lanes (λ k. f (n + k))
+lanes_from lanes f m n same has = subst (λ j. HasLanes lanes (λ k. f (j + k))) same has
 
 module _ (js : List ℕ) (f : ℕ → ℕ) (lanes : HasLanes js f) (small : (k : ℕ) → k < 16 → f k < 16) where
   -- positions in a table of 16

@@ -21,7 +21,7 @@ same_at true a b s k below =
 same_at false a b s k below = eq-eqb _ _ (ap (λ l. get_or l k 0) s)
 
 -- the bytes where a pattern occurs are those of the pattern
-bytes_at : (patterns : List (List ℕ)) (ignore_case : Bool) (haystack : List ℕ) (span : Span)
+pub bytes_at : (patterns : List (List ℕ)) (ignore_case : Bool) (haystack : List ℕ) (span : Span)
     → IsValidSpan haystack span → (i at : ℕ) → Occurs patterns ignore_case haystack span i at
     → (k : ℕ) → k < length (pattern_at patterns i)
     → same_byte ignore_case (get_or haystack (at + k) 0) (get_or (pattern_at patterns i) k 0) ≡ true

@@ -1,9 +1,10 @@
 -- Sets of buckets, as bits of numbers.
-use Rattle.std.proofs.Common.{◌≡◌, ◌≢◌, ℕ, ◌%◌, ◌/◌, ◌∙◌, List, IsTrue, not, ap, arith, bit_and, get_or, replicate, sym}
+use Rattle.std.proofs.Common.{◌≡◌, ◌≢◌, ℕ, ◌%◌, ◌/◌, ◌∙◌, List, IsTrue, not, ap, arith, bit_and, bit_or, get_or, replicate, sym}
 use Rattle.std.proofs.lemmas.Bool.Decides.{nat_tests}
 use Rattle.std.proofs.lemmas.Nat.{and_assoc, and_comm}
+use Rattle.std.proofs.lemmas.Nat.Bits.{bit_at-lt, bit_at_or, bit_at_xor, same_from_bits}
 use Rattle.std.proofs.lemmas.Simd.{get_or-replicate}
-use Rattle.std.specs.Int.Bits.{and_self, and_zero_r}
+use Rattle.std.specs.Int.Bits.{and_self, and_zero_r, bit_xor}
 use Rattle.std.specs.Prelude.{nat_eq}
 
 pub is_some : (a : ℕ) → IsTrue (not (nat_eq a 0)) → a ≢ 0
@@ -40,3 +41,14 @@ within_all low high all_low all_high byte =
     ap (bit_and 255) (meets _ _ 255 255
     (ap (λ l. get_or l (byte % 16) 0) all_low ∙ get_or-replicate 16 (byte % 16) 255 0 (omega arith))
     (ap (λ l. get_or l (byte / 16 % 16) 0) all_high ∙ get_or-replicate 16 (byte / 16 % 16) 255 0 (omega arith)))
+
+-- bits in which two numbers differ, set in one and in the other
+pub same_once_set : (a b : ℕ) → bit_or a (bit_xor b a) ≡ bit_or b (bit_xor b a)
+same_once_set a b = same_from_bits _ _ (λ i. omega (
+  arith,
+  bit_at_or a (bit_xor b a) i,
+  bit_at_or b (bit_xor b a) i,
+  bit_at_xor b a i,
+  bit_at-lt a i,
+  bit_at-lt b i,
+))

@@ -20,7 +20,7 @@ use Rattle.literal_search.specs.Prepared.{ArePrints, TakesPlaces, best_end, best
 use Rattle.literal_search.specs.Prepared.{texts_back}
 use Rattle.literal_search.specs.SearchValue.{SearchValue}
 use Rattle.literal_search.specs.States.{HasTooManyStates, IsRowsLength}
-use Rattle.literal_search.specs.declared.prepared.TheConstants.{FINGERPRINTS_LEN, PREPARED_VERSION}
+use Rattle.literal_search.specs.declared.prepared.TheConstants.{SCAN_LEN, PREPARED_VERSION}
 use Rattle.literal_search.proofs.lemmas.Numbers.{check_written, classes_written, ends_written, lengths_written}
 use Rattle.literal_search.proofs.lemmas.Numbers.{starts_written}
 use Rattle.literal_search.proofs.lemmas.Numbers.{numbers_long, rows_written}
@@ -48,20 +48,7 @@ pub same_tables : (search : SearchValue) (classes classes' : List ℕ) (width wi
       best = best';
       longest = longest';
     }
-same_tables search classes classes' width width' rows rows' best best' longest longest' a b c d e =
-    let of = λ (k : List ℕ) (w : ℕ) (r n : List ℕ) (l : ℕ). let t : BackTables = record {
-      search = search;
-      classes = k;
-      width = w;
-      rows = r;
-      best = n;
-      longest = l;
-    } in t in
-    ap (λ k. of k width rows best longest) a
-    ∙ (ap (λ w. of classes' w rows best longest) b
-    ∙ (ap (λ r. of classes' width' r best longest) c
-    ∙ (ap (λ n. of classes' width' rows' n longest) d
-    ∙ ap (λ l. of classes' width' rows' best' l) e)))
+same_tables search classes classes' width width' rows rows' best best' longest longest' a b c d e = cc
 
 -- two lists behind the classes, one behind the other
 pub both_behind : (version width : ℕ) (classes rows one two : List ℕ) (patterns : List (List ℕ))
@@ -72,8 +59,8 @@ both_behind version width classes rows one two patterns =
     ap (λ l. checked version (width ∷ length patterns ∷ length rows ∷ longest_of patterns ∷ l))
     (ap (λ l. l ++ (one ++ two)) (append-nil before) ∙ sym (append_assoc before one two))
 
--- what is written for tables is prepared for their search, with fingerprints
-module _ (t : BackTables) (are : AreBackTables t) (prints : List ℕ) (long : length prints ≡ FINGERPRINTS_LEN)
+-- what is written for tables is prepared for their search, with a scan for candidates
+module _ (t : BackTables) (are : AreBackTables t) (prints : List ℕ) (long : length prints ≡ SCAN_LEN)
     (pass : ArePrints t.search.query.patterns t.search.ignore_case prints)
   where
     abbrev pub all_of : List ℕ
@@ -142,7 +129,7 @@ module _ (t : BackTables) (are : AreBackTables t) (prints : List ℕ) (long : le
 module _ {search : SearchValue} {numbers : List ℕ} (kept : AreKept search numbers) where
   -- so many numbers these are
   pub kept_long : length numbers ≡ 6 + length search.query.patterns + length (rows_in numbers) + 256
-      + length search.query.patterns + FINGERPRINTS_LEN
+      + length search.query.patterns + SCAN_LEN
   kept_long =
       let fits = kept.prepared.whole.parts.fits in
       let places = length_part numbers (rows_at numbers) (rows_end numbers) (omega arith) (omega arith) in
@@ -166,13 +153,11 @@ module _ {search : SearchValue} {numbers : List ℕ} (kept : AreKept search numb
     ),
   )
 
--- patterns whose texts have few states are short
-pub short_by : (classes : List ℕ) (width : ℕ) (patterns : List (List ℕ))
-    → ¬ HasTooManyStates (reversed (map (symbols_in classes) patterns)) width → AreShort patterns
-short_by classes width patterns few i d below =
-    let texts = reversed (map (symbols_in classes) patterns) in
-    let count = back_count (map (symbols_in classes) patterns) ∙ length-map patterns (symbols_in classes) in
-    let long = back_long (map (symbols_in classes) patterns) i ∙ symbols_length classes patterns i in
+-- patterns are short whose texts, or others as long, have few states
+short_texts : (patterns texts : List (List ℕ)) (width : ℕ) → length texts ≡ length patterns
+    → ((i : ℕ) → length (pattern_at texts i) ≡ length (pattern_at patterns i)) → ¬ HasTooManyStates texts width
+    → AreShort patterns
+short_texts patterns texts width count long few i d below =
     let read = ap (λ (l : List ℕ). length l) (get_or_default patterns i d [] below) in
     elim (cases_lt (length (get_or patterns i [])) (2 ^ 32)) [
       | inl small ↦ omega (arith, small, read)
@@ -180,22 +165,18 @@ short_by classes width patterns few i d below =
           let n = length (pattern_at texts i) + 1 in
           let most : n ≤ n * stride_of width = grind arith in
           absurd (few (too_many_prefixes texts i (omega (arith, count, below))
-          width (omega (arith, large, long, most))))
+          width (omega (arith, large, long i, most))))
     ]
 
--- and so are those whose texts, as they are, have few
+pub short_by : (classes : List ℕ) (width : ℕ) (patterns : List (List ℕ))
+    → ¬ HasTooManyStates (reversed (map (symbols_in classes) patterns)) width → AreShort patterns
+short_by classes width patterns =
+    short_texts patterns (reversed (map (symbols_in classes) patterns)) width
+    (back_count (map (symbols_in classes) patterns) ∙ length-map patterns (symbols_in classes))
+    (λ i. back_long (map (symbols_in classes) patterns) i ∙ symbols_length classes patterns i)
+
 pub short_forward : (classes : List ℕ) (width : ℕ) (patterns : List (List ℕ))
     → ¬ HasTooManyStates (map (symbols_in classes) patterns) width → AreShort patterns
-short_forward classes width patterns few i d below =
-    let texts = map (symbols_in classes) patterns in
-    let count = length-map patterns (symbols_in classes) in
-    let long = symbols_length classes patterns i in
-    let read = ap (λ (l : List ℕ). length l) (get_or_default patterns i d [] below) in
-    elim (cases_lt (length (get_or patterns i [])) (2 ^ 32)) [
-      | inl small ↦ omega (arith, small, read)
-      | inr large ↦
-          let n = length (pattern_at texts i) + 1 in
-          let most : n ≤ n * stride_of width = grind arith in
-          absurd (few (too_many_prefixes texts i (omega (arith, count, below))
-          width (omega (arith, large, long, most))))
-    ]
+short_forward classes width patterns =
+    short_texts patterns (map (symbols_in classes) patterns) width (length-map patterns (symbols_in classes))
+    (symbols_length classes patterns)

@@ -1,18 +1,24 @@
 -- The best of the patterns that are a suffix of a text.
-use Rattle.std.proofs.Common.{◌≡◌, ◌≢◌, ℕ, ◌-◌, ◌<◌, ◌≤◌, ◌⊎◌, ◌^◌, List, [], length, drop, min}
-use Rattle.std.proofs.Common.{Option, Some, None, inl, inr, refl, sym, ap, subst, arith}
+use Rattle.std.proofs.Common.{◌≡◌, ◌≢◌, ℕ, ◌-◌, ◌≤◌, ◌^◌, List, [], ◌∷◌, ◌++◌, length, min}
+use Rattle.std.proofs.Common.{Some, inl, inr, ap, subst, arith}
 use Rattle.std.proofs.lemmas.Bool.{cases_lt}
-use Rattle.std.proofs.lemmas.List.{get_or_past, length-drop}
-use Rattle.std.specs.Option.{unwrap_or}
+use Rattle.std.proofs.lemmas.List.Elements.{All-contains, All-nil, All-push, All-weaker}
+use Rattle.std.specs.List.{All}
 use Rattle.literal_base.specs.Occurs.{NoneIsEmpty, pattern_at}
-use Rattle.literal_base.specs.declared.packed.MatchKind.TheVariants.{LeftmostLongest}
-use Rattle.literal_search.specs.Inside.Best.{IsBestSuffix, IsSmallestBut}
-use Rattle.literal_search.specs.Inside.Suffixes.{IsSuffix}
+use Rattle.literal_base.specs.declared.packed.MatchKind.TheVariants.{LeftmostFirst, LeftmostLongest}
+use Rattle.literal_search.specs.Inside.Best.{IsBestSuffix}
+use Rattle.literal_search.specs.Inside.Suffixes.{HasUpTo, IsOutputLink, IsSuffix}
 use Rattle.literal_search.specs.Table.{nothing}
 use Rattle.literal_search.specs.Words.{ending}
-use Rattle.literal_search.proofs.lemmas.Chains.{behind_first, shorter_end}
-use Rattle.literal_search.proofs.lemmas.FirstSuffix.{ends_length, ends_of_first, ends_on}
-use Rattle.literal_search.proofs.lemmas.FirstSuffix.{first_ends, first_is_own, none_ends}
+use Rattle.literal_search.proofs.lemmas.Chains.{up_to_first, up_to_more}
+use Rattle.literal_search.proofs.lemmas.FirstSuffix.{first_ends}
+
+-- of the patterns that are a suffix of a text the smallest of a list that has all up to the next
+pub record IsSmallestUpTo (patterns : List (List ℕ)) (text : List ℕ) (smallest next : ℕ) : Type 0 where
+  pub list : List ℕ
+  pub has : HasUpTo patterns text list next
+  pub least : All (λ i. smallest ≤ i) list
+  pub is : IsSuffix patterns text smallest
 
 module _ (patterns : List (List ℕ)) (some : NoneIsEmpty patterns) (few : length patterns ≤ 2 ^ 31 - 1) where
   -- the first of its equals is the best of its ends by their length
@@ -40,111 +46,39 @@ module _ (patterns : List (List ℕ)) (some : NoneIsEmpty patterns) (few : lengt
         ];
       }
 
-  module _ (text : List ℕ) (smallest next : ℕ) (so_far : IsSmallestBut patterns text smallest next)
-      (more : next ≢ nothing)
-    where
-      next_end : IsSuffix patterns text next × (ending patterns (pattern_at patterns next) ≡ Some next)
-      next_end = elim so_far.next_is [ inl none ↦ absurd (more none) | inr is ↦ is ]
+  -- before a chain goes on, from the first of the patterns that are a suffix of it
+  pub smallest_first : (first : ℕ) → ending patterns (pattern_at patterns first) ≡ Some first
+      → IsSmallestUpTo patterns (pattern_at patterns first) first first
+  smallest_first first ends = record {
+    list = [];
+    has = up_to_first patterns some few first ends;
+    least = All-nil (λ i. first ≤ i);
+    is = (first_ends patterns some (pattern_at patterns first) first ends).is;
+  }
 
-      pub next_below : next < length patterns
-      next_below = next_end.0.is_pattern
+  -- behind the next of them
+  pub smallest_on : (text : List ℕ) (smallest next link : ℕ) → IsSmallestUpTo patterns text smallest next
+      → next ≢ nothing → IsOutputLink patterns next link → IsSmallestUpTo patterns text (min smallest next) link
+  smallest_on text smallest next link so_far more is = record {
+    list = so_far.list ++ next ∷ [];
+    has = up_to_more patterns some few text so_far.list next link so_far.has more is;
+    least = All-push (λ i. min smallest next ≤ i) so_far.list next
+        (All-weaker (λ i. smallest ≤ i) (λ i. min smallest next ≤ i) (λ i less. omega arith) so_far.list so_far.least)
+        (omega arith);
+    is = elim (cases_lt next smallest) [
+      | inl less ↦ subst (IsSuffix patterns text) (let is : next ≡ min smallest next = omega arith in is)
+          (elim so_far.has.next_is [ inl none ↦ absurd (more none) | inr here ↦ here ])
+      | inr not ↦ subst (IsSuffix patterns text) (let is : smallest ≡ min smallest next = omega arith in is) so_far.is
+    ];
+  }
 
-      -- a suffix of the next is no smaller, or a suffix of what is behind its first symbol
-      of_next : (i : ℕ) → IsSuffix patterns (pattern_at patterns next) i
-          → (next ≤ i) ⊎ IsSuffix patterns (drop 1 (pattern_at patterns next)) i
-      of_next i end =
-          let word = pattern_at patterns next in
-          elim (cases_lt (length (pattern_at patterns i)) (length word)) [
-            | inl shorter ↦ inr (shorter_end patterns some few word i end shorter)
-            | inr not ↦ elim ((first_ends patterns some word next next_end.1).others i end) [
-              | inl same ↦ inl (omega (arith, same))
-              | inr later ↦ elim later [
-                | inl shorter ↦ absurd (omega (arith, shorter, not))
-                | inr as_long ↦ inl (omega (arith, as_long.1))
-              ]
-            ]
-          ]
-
-      smaller : IsSuffix patterns text (min smallest next)
-      smaller = elim (cases_lt next smallest) [
-        | inl less ↦
-            let is : next ≡ min smallest next = omega arith in
-            subst (IsSuffix patterns text) is next_end.0
-        | inr not ↦
-            let is : smallest ≡ min smallest next = omega arith in
-            subst (IsSuffix patterns text) is so_far.is
-      ]
-
-      pub smallest_on : (link : ℕ)
-          → link ≡ unwrap_or (ending patterns (drop 1 (pattern_at patterns next))) nothing
-          → IsSmallestBut patterns text (min smallest next) link
-      smallest_on link is = by (ending patterns (drop 1 (pattern_at patterns next))) refl is
-        where
-          rest : List ℕ
-          rest = drop 1 (pattern_at patterns next)
-
-          kept : (link : ℕ)
-              → ((i : ℕ) → IsSuffix patterns (drop 1 (pattern_at patterns next)) i
-              → (link ≢ nothing) × IsSuffix patterns (pattern_at patterns link) i)
-              → (i : ℕ) → IsSuffix patterns text i
-              → (min smallest next ≤ i) ⊎ ((link ≢ nothing) × IsSuffix patterns (pattern_at patterns link) i)
-          kept link within i end = elim (so_far.others i end) [
-            | inl not ↦ inl (omega (arith, not))
-            | inr one ↦ elim (of_next i one.1) [
-              | inl not ↦ inl (omega (arith, not))
-              | inr shorter ↦ inr (within i shorter)
-            ]
-          ]
-
-          by : (o : Option ℕ) → ending patterns (drop 1 (pattern_at patterns next)) ≡ o
-              → link ≡ unwrap_or o nothing → IsSmallestBut patterns text (min smallest next) link
-          by None ends at = record {
-            is = smaller;
-            others = kept link (λ i end.
-                absurd (none_ends patterns some (drop 1 (pattern_at patterns next)) ends i end));
-            next_is = inl at;
-          }
-          by (Some first) ends at =
-              let behind = drop 1 (pattern_at patterns next) in
-              let one = first_ends patterns some behind first ends in
-              let below = one.is.is_pattern in
-              subst (IsSmallestBut patterns text (min smallest next)) (sym at) (record {
-                is = smaller;
-                others = kept first (λ i end.
-                    (λ none. omega (arith, none, below, few), ends_of_first patterns some behind first one i end));
-                next_is = inr (
-                  record {
-                    is_pattern = below;
-                    ends = ends_on text (pattern_at patterns next) (pattern_at patterns first) next_end.0.ends
-                        (ends_on (pattern_at patterns next) behind (pattern_at patterns first)
-                        (behind_first patterns some few (pattern_at patterns next)) one.is.ends);
-                  },
-                  first_is_own patterns some behind first one,
-                );
-              })
-
-      -- and it comes nearer to nothing
-      pub smallest_falls : (link : ℕ)
-          → link ≡ unwrap_or (ending patterns (drop 1 (pattern_at patterns next))) nothing
-          → length (pattern_at patterns link) < length (pattern_at patterns next)
-      smallest_falls link is = by (ending patterns (drop 1 (pattern_at patterns next))) refl is
-        where
-          long : 0 < length (pattern_at patterns next)
-          long = some next [] next_below
-
-          by : (o : Option ℕ) → ending patterns (drop 1 (pattern_at patterns next)) ≡ o
-              → link ≡ unwrap_or o nothing → length (pattern_at patterns link) < length (pattern_at patterns next)
-          by None ends at =
-              let past = get_or_past patterns link [] (omega (arith, at, few)) in
-              omega (arith, long, ap (λ (l : List ℕ). length l) past)
-          by (Some first) ends at =
-              let behind = drop 1 (pattern_at patterns next) in
-              let one = first_ends patterns some behind first ends in
-              let size = ends_length behind (pattern_at patterns first) one.is.ends in
-              omega (
-                arith,
-                long,
-                size,
-                length-drop 1 (pattern_at patterns next),
-                ap (λ k. length (pattern_at patterns k)) at,
-              )
+-- at its end it is the best
+pub smallest_is_best : (patterns : List (List ℕ)) (text : List ℕ) (smallest next : ℕ)
+    → IsSmallestUpTo patterns text smallest next → next ≡ nothing → IsBestSuffix LeftmostFirst patterns text smallest
+smallest_is_best patterns text smallest next so_far none = record {
+  is = so_far.is;
+  best = λ j end better. elim (so_far.has.others j end) [
+    | inl in_list ↦ omega (arith, All-contains (λ i. smallest ≤ i) so_far.list j so_far.least in_list, better)
+    | inr rest ↦ rest.0 none
+  ];
+}

@@ -216,21 +216,6 @@ module _ (patterns : List (List ℕ)) (some : NoneIsEmpty patterns) (few : lengt
     ];
   }
 
--- behind all patterns
-pub heads_start : (patterns : List (List ℕ)) (heads : List ℕ) → length heads ≡ length patterns
-    → ((k : ℕ) → k < length heads → get_or heads k 0 ≡ nothing) → AreNextEquals patterns heads (length patterns)
-heads_start patterns heads long none = record {
-  long = long;
-  each = λ head is_head first_is. record {
-    is = inl (none head (omega arith));
-    others = λ i from inside equal. absurd (omega arith);
-  };
-}
-
-pub links_start : (patterns : List (List ℕ)) (links : List ℕ) → length links ≡ length patterns
-    → AreOutputLinks patterns links (length patterns)
-links_start patterns links long = record { long = long; each = λ i from inside. absurd (omega arith) }
-
 module _ (patterns : List (List ℕ)) (some : NoneIsEmpty patterns) (few : length patterns ≤ 2 ^ 31 - 1) where
   -- a list of the ends of a pattern, from the first of its equals on
   pub up_to_first : (first : ℕ) → ending patterns (pattern_at patterns first) ≡ Some first

@@ -1,8 +1,8 @@
 -- Classes that tell bytes from each other.
-use Rattle.std.proofs.Common.{◌≡◌, ℕ, ◌<◌, Bool, true, false, List, [], ◌∷◌, if◌then◌else◌, length, get_or, map, min}
-use Rattle.std.proofs.Common.{◌+◌, ◌⊎◌, eqb, inl, inr, replicate}
+use Rattle.std.proofs.Common.{◌≡◌, ℕ, ◌<◌, Bool, true, false, List, [], ◌∷◌, if◌then◌else◌, length, get_or, map}
+use Rattle.std.proofs.Common.{◌+◌, eqb, inl, inr, replicate}
 use Rattle.std.proofs.Common.{refl, sym, ap, subst, ◌∙◌, arith}
-use Rattle.std.proofs.lemmas.Bool.{cases_lt, cond-false, cond-true, eq-eqb, eqb-true, false≢true}
+use Rattle.std.proofs.lemmas.Bool.{cases_lt, eq-eqb, eqb-true}
 use Rattle.std.proofs.lemmas.List.{ext_get_or, get_or-map, get_or-replicate, get_or_default, get_or_past, length-map}
 use Rattle.std.proofs.lemmas.List.{length-replicate}
 use Rattle.std.proofs.lemmas.List.Folds.{Any-from_list_any, list_any_at}
@@ -11,38 +11,8 @@ use Rattle.std.specs.List.{count_by, fold, list_any, range_with_len}
 use Rattle.std.specs.Global.{Vec}
 use Rattle.literal_base.specs.Occurs.{pattern_at}
 use Rattle.literal_search.specs.SearchValue.{is_in_patterns}
-use Rattle.literal_search.specs.Inside.Classes.{AreNumbers, IsFoldOfOne, Marks, Tells, TellsMarked, folded}
+use Rattle.literal_search.specs.Inside.Classes.{IsFoldOfOne, Marks, Tells, TellsMarked, folded}
 use Rattle.literal_search.proofs.lemmas.Grown.{same_test}
-
--- numbers for the marked bytes once folded, and the next one for the others, tell the marked ones
-pub tells_marked : (ignore_case : Bool) (seen : List Bool) (numbers table : List ℕ) (next other : ℕ)
-    → AreNumbers seen numbers 256 next → other ≡ min next 255
-    → ((b : ℕ) → b < 256 → (folded ignore_case b < 256)
-    × (get_or table b 0
-    ≡ (if get_or seen (folded ignore_case b) false then get_or numbers (folded ignore_case b) 0 else other)))
-    → TellsMarked ignore_case seen table
-tells_marked ignore_case seen numbers table next other are is_other is byte marked is_byte is_marked mark =
-    by_seen (get_or seen (folded ignore_case byte) false) refl
-  where
-    there : get_or table marked 0 ≡ get_or numbers (folded ignore_case marked) 0
-    there = (is marked is_marked).1 ∙ cond-true _ _ _ mark
-
-    by_seen : (s : Bool) → get_or seen (folded ignore_case byte) false ≡ s
-        → (get_or table byte 0 ≡ get_or table marked 0 → folded ignore_case byte ≡ folded ignore_case marked)
-        × (folded ignore_case byte ≡ folded ignore_case marked → get_or table byte 0 ≡ get_or table marked 0)
-    by_seen true here =
-        let number = (is byte is_byte).1 ∙ cond-true _ _ _ here in (
-          λ same. are.apart (folded ignore_case byte) (folded ignore_case marked) (is byte is_byte).0
-              (is marked is_marked).0 here mark (sym number ∙ (same ∙ there)),
-          λ same. number ∙ (ap (λ b. get_or numbers b 0) same ∙ sym there),
-        )
-    by_seen false here =
-        let number : get_or table byte 0 ≡ other = (is byte is_byte).1 ∙ cond-false _ _ _ here in
-        let room = are.room (folded ignore_case byte) (is byte is_byte).0 here in
-        let below = are.below (folded ignore_case marked) (is marked is_marked).0 mark in (
-          λ same. absurd (omega (arith, number, same, there, is_other, room, below)),
-          λ same. absurd (false≢true (sym here ∙ (ap (λ b. get_or seen b false) same ∙ mark))),
-        )
 
 -- each pattern's marks
 pub marks_all : (ignore_case : Bool) (seen : List Bool) (patterns : List (Vec ℕ))
@@ -125,38 +95,4 @@ pub none_marked : (b : ℕ) → get_or (replicate 256 false) b false ≡ false
 none_marked b = elim (cases_lt b 256) [
   | inl inside ↦ get_or-replicate 256 b false false inside
   | inr past ↦ get_or_past (replicate 256 false) b false (omega (arith, length-replicate 256 false))
-]
-
--- the marks of one pattern more
-pub marks_more : (ignore_case : Bool) (old new : List Bool) (patterns : List (Vec ℕ)) (n : ℕ) (here : Vec ℕ)
-    → ((i : ℕ) (d : Vec ℕ) → i < n → Marks ignore_case old (get_or patterns i d).items)
-    → ((b : ℕ) → get_or old b false ≡ true → get_or new b false ≡ true) → n < length patterns
-    → here ≡ get_or patterns n here → Marks ignore_case new here.items
-    → (i : ℕ) (d : Vec ℕ) → i < n + 1 → Marks ignore_case new (get_or patterns i d).items
-marks_more ignore_case old new patterns n here before keeps below is marks i d within = elim (cases_lt i n) [
-  | inl earlier ↦ λ k inside.
-      let one = before i d earlier k inside in (one.0, keeps _ one.1)
-  | inr not ↦
-      let same : n ≡ i = omega arith in
-      subst (λ j. Marks ignore_case new (get_or patterns j d).items) same
-      (subst (λ (v : Vec ℕ). Marks ignore_case new v.items) (is ∙ get_or_default patterns n here d below) marks)
-]
-
--- and what is marked for one pattern more
-pub only_more : (ignore_case : Bool) (old new : List Bool) (patterns : List (Vec ℕ)) (n : ℕ) (here : Vec ℕ)
-    → ((b : ℕ) → get_or old b false ≡ true → (i : ℕ) × (i < n)
-    × IsFoldOfOne ignore_case (pattern_at (map (λ (p : Vec ℕ). p.items) patterns) i) b)
-    → n < length patterns → here ≡ get_or patterns n here
-    → ((b : ℕ) → get_or new b false ≡ true → (get_or old b false ≡ true) ⊎ IsFoldOfOne ignore_case here.items b)
-    → (b : ℕ) → get_or new b false ≡ true → (i : ℕ) × (i < n + 1)
-    × IsFoldOfOne ignore_case (pattern_at (map (λ (p : Vec ℕ). p.items) patterns) i) b
-only_more ignore_case old new patterns n here before below is only b marked = elim (only b marked) [
-  | inl already ↦ let one = before b already in (one.0, omega (arith, one.1), one.2)
-  | inr one ↦ (
-    n,
-    omega arith,
-    subst (λ (bytes : List ℕ). IsFoldOfOne ignore_case bytes b)
-        (sym (get_or-map (λ (p : Vec ℕ). p.items) patterns n here [] below ∙ ap (λ (v : Vec ℕ). v.items) (sym is)))
-        one,
-  )
 ]

@@ -3,7 +3,7 @@ use Rattle.std.proofs.Common.{◌≡◌, ℕ, ◌+◌, ◌-◌, ◌*◌, ◌<◌
 use Rattle.std.proofs.Common.{◌∙◌, ◌≢◌, IfSome, Err, Ok, Result, ap, false, is_some, get_or, inl, inr, length, set}
 use Rattle.std.proofs.Common.{bit_or, subst, sym, true}
 use Rattle.std.proofs.lemmas.Bool.{cases_lt, false≢true}
-use Rattle.std.proofs.lemmas.List.{get_or-set_other, get_or-set_same}
+use Rattle.std.proofs.lemmas.List.{get_or-set_other, get_or-set_same, length-set}
 use Rattle.std.proofs.lemmas.Nat.{le_or_l, le_or_r}
 use Rattle.std.specs.Result.{IsOkAnd}
 use Rattle.literal_base.specs.Counts.{Counts}
@@ -13,7 +13,8 @@ use Rattle.literal_base.specs.Occurs.{between}
 use Rattle.literal_base.specs.declared.search.Span.{Span}
 use Rattle.literal_search.specs.Inside.Backward.{AreBackFor, AreMarks, IsMark, NoneBeginsAt, NoneFrom, StandsDown}
 use Rattle.literal_search.specs.Inside.Backward.{back_tables_by, best_by}
-use Rattle.literal_search.specs.Inside.Leftmost.{AreLanes, AreMarksBehind, HaveRows, IsFirstBegun, IsLane, IsLimit}
+use Rattle.literal_search.specs.Inside.Leftmost.{AreLanes, AreMarksBehind, AreSteps, HaveRows, IsFirstBegun, IsLane}
+use Rattle.literal_search.specs.Inside.Leftmost.{IsLimit}
 use Rattle.literal_search.specs.Inside.Leftmost.{IsStep, NoneBehind}
 use Rattle.literal_search.specs.Inside.Leftmost.{ReadsFor}
 use Rattle.literal_search.specs.Prepared.{AreBackTables, BackTables}
@@ -137,14 +138,7 @@ module _ (p : BackTables) (haystack : List ℕ) (span : Span) (end at code : ℕ
           (step.mark before, λ k after less. absurd (omega (arith, after, less)))
     ]
 
--- four walks have each read a number for the byte before so many places of its part
-pub record AreSteps (p : BackTables) (haystack : List ℕ) (span : Span) (at part left : ℕ) (codes : Lanes) : Type 0 where
-  pub first : IsStep p haystack span (at + part) (at + left) codes.first
-  pub second : IsStep p haystack span (at + 2 * part) (at + part + left) codes.second
-  pub third : IsStep p haystack span (at + 3 * part) (at + 2 * part + left) codes.third
-  pub fourth : IsStep p haystack span (at + 4 * part) (at + 3 * part + left) codes.fourth
-
--- they do so at once
+-- four walks read a number each at once
 pub steps_in_four : (p : BackTables) → AreBackTables p → (haystack : List ℕ)
     → ((i : ℕ) → get_or haystack i 0 < 256) → (span : Span) → span.end ≤ length haystack
     → (at part next left here : ℕ) (now codes : Lanes) → next ≡ left + 1 → here ≡ at + left
@@ -166,6 +160,27 @@ steps_in_four p are haystack bytes span valid at part next left here now codes n
           (omega (arith, next_is, here_is)) (omega (arith, here_is)) lanes.third three;
       fourth = step (at + 4 * part) (at + 3 * part + next) (here + 3 * part) (at + 3 * part + left) now.fourth
           codes.fourth (omega (arith, next_is, here_is)) (omega (arith, here_is)) lanes.fourth four;
+    }
+
+-- the rows to which they lead are below the limit
+pub rows_of_steps : (b : Backward) (search : SearchValue) (haystack : List ℕ) (span : Span) (at part left limit : ℕ)
+    (codes : Lanes) → IsLimit b limit → AreSteps (back_tables_by search b) haystack span at part left codes
+    → HaveRows limit (record {
+      first = codes.first % 2 ^ 31;
+      second = codes.second % 2 ^ 31;
+      third = codes.third % 2 ^ 31;
+      fourth = codes.fourth % 2 ^ 31;
+    })
+rows_of_steps b search haystack span at part left limit codes limit_is steps =
+    let below : (end to code : ℕ) → IsStep (back_tables_by search b) haystack span end to code → code % 2 ^ 31 < limit =
+    λ end to code step.
+    let row = step.lane.stands.row in
+    omega (arith, row, limit_is.is) in
+    record {
+      first = below (at + part) (at + left) codes.first steps.first;
+      second = below (at + 2 * part) (at + part + left) codes.second steps.second;
+      third = below (at + 3 * part) (at + 2 * part + left) codes.third steps.third;
+      fourth = below (at + 4 * part) (at + 3 * part + left) codes.fourth steps.fourth;
     }
 
 -- where nothing begins in the parts, the numbers lead on
@@ -343,6 +358,68 @@ marks_on p haystack end marks at to next upto slot code after next_is slot_is in
           (slot_there ∙ ap (λ n. n - at) (sym same)) (subst (IsMark p haystack end to) (sym read) mark))
     ]
 
+-- four marks are written, one in each of four neighbouring parts
+abbrev pub set_four : List ℕ → ℕ → ℕ → Lanes → List ℕ
+set_four marks step part codes =
+    set (set (set (set marks step codes.first) (step + part) codes.second) (step + 2 * part) codes.third)
+    (step + 3 * part) codes.fourth
+
+-- those of the numbers that four walks read are marks of one place more of each part
+pub marks_in_four : (p : BackTables) (haystack : List ℕ) (span : Span) (at part step next : ℕ) (marks : List ℕ)
+    (codes : Lanes) → next ≡ step + 1 → next ≤ part → 4 * part ≤ length marks
+    → AreSteps p haystack span at part step codes → AreMarksBehind p haystack span.end marks at part next
+    → AreMarksBehind p haystack span.end (set_four marks step part codes) at part step
+marks_in_four p haystack span at part step next marks codes next_is before room steps are =
+    let end = span.end in
+    let marks1 = set marks step codes.first in
+    let marks2 = set marks1 (step + part) codes.second in
+    let marks3 = set marks2 (step + 2 * part) codes.third in
+    let long1 : length marks1 ≡ length marks = length-set marks step codes.first in
+    let long2 : length marks2 ≡ length marks = length-set marks1 (step + part) codes.second ∙ long1 in
+    let long3 : length marks3 ≡ length marks = length-set marks2 (step + 2 * part) codes.third ∙ long2 in
+    let kept = marks_kept p haystack end in
+    let on = marks_on p haystack end in
+    record {
+      first =
+          kept marks3 at (at + step) (at + part) (step + 3 * part) codes.fourth (omega arith)
+          (inr (omega (arith, next_is)))
+          (kept marks2 at (at + step) (at + part) (step + 2 * part) codes.third (omega arith) (inr (omega arith))
+          (kept marks1 at (at + step) (at + part) (step + part) codes.second (omega arith) (inr (omega arith))
+          (on marks at (at + step) (at + next) (at + part) step codes.first (omega arith) (omega (arith, next_is))
+          (omega arith) (omega (arith, room, before, next_is)) (steps.first.mark (omega (arith, before, next_is)))
+          are.first)));
+      second =
+          kept marks3 at (at + part + step) (at + 2 * part) (step + 3 * part) codes.fourth (omega arith)
+          (inr (omega arith))
+          (kept marks2 at (at + part + step) (at + 2 * part) (step + 2 * part) codes.third (omega arith)
+          (inr (omega arith))
+          (on marks1 at (at + part + step) (at + part + next) (at + 2 * part) (step + part) codes.second (omega arith)
+          (omega (arith, next_is)) (omega arith) (omega (arith, room, before, long1, next_is))
+          (steps.second.mark (omega (arith, before, next_is)))
+          (kept marks at (at + part + next) (at + 2 * part) step codes.first (omega arith)
+          (inl (omega (arith, before, next_is))) are.second)));
+      third =
+          kept marks3 at (at + 2 * part + step) (at + 3 * part) (step + 3 * part) codes.fourth (omega arith)
+          (inr (omega arith))
+          (on marks2 at (at + 2 * part + step) (at + 2 * part + next) (at + 3 * part) (step + 2 * part) codes.third
+          (omega arith) (omega (arith, next_is)) (omega arith) (omega (arith, room, before, long2, next_is))
+          (steps.third.mark (omega (arith, before, next_is)))
+          (kept marks1 at (at + 2 * part + next) (at + 3 * part) (step + part) codes.second (omega arith)
+          (inl (omega (arith, before, next_is)))
+          (kept marks at (at + 2 * part + next) (at + 3 * part) step codes.first (omega arith)
+          (inl (omega (arith, before, next_is))) are.third)));
+      fourth =
+          on marks3 at (at + 3 * part + step) (at + 3 * part + next) (at + 4 * part) (step + 3 * part) codes.fourth
+          (omega arith) (omega (arith, next_is)) (omega arith) (omega (arith, room, before, long3, next_is))
+          (steps.fourth.mark (omega (arith, before, next_is)))
+          (kept marks2 at (at + 3 * part + next) (at + 4 * part) (step + 2 * part) codes.third (omega arith)
+          (inl (omega (arith, before, next_is)))
+          (kept marks1 at (at + 3 * part + next) (at + 4 * part) (step + part) codes.second (omega arith)
+          (inl (omega (arith, before, next_is)))
+          (kept marks at (at + 3 * part + next) (at + 4 * part) step codes.first (omega arith)
+          (inl (omega (arith, before, next_is))) are.fourth)));
+    }
+
 -- of cleared marks each says that nothing begins, which is so behind some places of each part
 pub cleared_marks : (p : BackTables) (haystack : List ℕ) (end : ℕ) (marks : List ℕ) (at part left : ℕ)
     → ((k : ℕ) → k < 4 * part → get_or marks k 0 ≡ 0) → NoneBehind p haystack end at part left
@@ -378,50 +455,3 @@ marks_of_four p haystack end marks at part are k after before = elim (cases_lt k
             ]
       ]
 ]
-
--- of four neighbours in a list each is small, if all their bits together are
-four_small : (numbers : List ℕ) (one limit : ℕ)
-    → bit_or (bit_or (bit_or (get_or numbers one 0) (get_or numbers (one + 1) 0)) (get_or numbers (one + 2) 0))
-    (get_or numbers (one + 3) 0) < limit
-    → (k : ℕ) → one ≤ k → k < one + 4 → get_or numbers k 0 < limit
-four_small numbers one limit small k after before =
-    let n = λ (i : ℕ). get_or numbers i 0 in
-    let two = bit_or (n one) (n (one + 1)) in
-    let three = bit_or two (n (one + 2)) in
-    let two_small : two < limit = omega (arith, small, le_or_l three (n (one + 3)), le_or_l two (n (one + 2))) in
-    let there : (i : ℕ) → i ≡ k → n i < limit → n k < limit = λ i same. subst (λ m. n m < limit) same in
-    elim (cases_lt one k) [
-      | inr not ↦ there one (omega (arith, not, after)) (omega (arith, two_small, le_or_l (n one) (n (one + 1))))
-      | inl second ↦
-          elim (cases_lt (one + 1) k) [
-            | inr not ↦
-                there (one + 1) (omega (arith, not, second))
-                (omega (arith, two_small, le_or_r (n one) (n (one + 1))))
-            | inl third ↦
-                elim (cases_lt (one + 2) k) [
-                  | inr not ↦
-                      there (one + 2) (omega (arith, not, third))
-                      (omega (arith, small, le_or_l three (n (one + 3)), le_or_r two (n (one + 2))))
-                  | inl fourth ↦
-                      there (one + 3) (omega (arith, fourth, before))
-                      (omega (arith, small, le_or_r three (n (one + 3))))
-                ]
-          ]
-    ]
-
--- and so are eight
-pub eight_small : (numbers : List ℕ) (one limit : ℕ)
-    → bit_or (bit_or (bit_or (bit_or (get_or numbers one 0) (get_or numbers (one + 1) 0)) (get_or numbers (one + 2) 0))
-    (get_or numbers (one + 3) 0)) (bit_or (bit_or (bit_or (get_or numbers (one + 4) 0) (get_or numbers (one + 4 + 1) 0))
-    (get_or numbers (one + 4 + 2) 0)) (get_or numbers (one + 4 + 3) 0)) < limit
-    → (k : ℕ) → one ≤ k → k < one + 8 → get_or numbers k 0 < limit
-eight_small numbers one limit small k after before =
-    let n = λ (i : ℕ). get_or numbers i 0 in
-    let first = bit_or (bit_or (bit_or (n one) (n (one + 1))) (n (one + 2))) (n (one + 3)) in
-    let second = bit_or (bit_or (bit_or (n (one + 4)) (n (one + 4 + 1))) (n (one + 4 + 2))) (n (one + 4 + 3)) in
-    elim (cases_lt k (one + 4)) [
-      | inl early ↦
-          four_small numbers one limit (omega (arith, small, le_or_l first second)) k after early
-      | inr late ↦
-          four_small numbers (one + 4) limit (omega (arith, small, le_or_r first second)) k late (omega (arith, before))
-    ]

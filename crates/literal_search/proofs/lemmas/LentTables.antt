@@ -1,6 +1,6 @@
 -- Searches for everything that occurs by an array that is lent.
 use Rattle.std.proofs.Common.{◌≡◌, ℕ, ◌+◌, ◌++◌, ◌-◌, ◌<◌, ◌≤◌, List, [], drop, length, get_or, take}
-use Rattle.std.proofs.Common.{None, Result, Some, refl, sym, ap, subst}
+use Rattle.std.proofs.Common.{◌^◌, IfOk, IfSome, MatchOption, None, Result, Some, refl, sym, ap, subst}
 use Rattle.std.proofs.Common.{◌∙◌, Option, append-nil, append_assoc, arith, length-append}
 use Rattle.std.proofs.lemmas.List.{get_or-drop, get_or-map, get_or-take, length-drop, length-map, length-take-le}
 use Rattle.std.proofs.lemmas.List.{take-append-drop, take_all}
@@ -9,7 +9,7 @@ use Rattle.std.specs.Result.{IsOkAnd}
 use Rattle.literal_base.specs.MatchValue.{MatchValue}
 use Rattle.literal_base.specs.Occurs.{IsValidSpan, between, pattern_at}
 use Rattle.literal_base.specs.declared.search.Span.{Span}
-use Rattle.literal_fingerprints.specs.FingerprintsValue.{AllPass}
+use Rattle.literal_fingerprints.specs.CandidateScans.{StopsAtEach}
 use Rattle.literal_search.specs.Inside.Classes.{AreClasses}
 use Rattle.literal_search.specs.Inside.Overlapping.{AreListed}
 use Rattle.literal_search.specs.Inside.Packed.{unpacked}
@@ -18,18 +18,18 @@ use Rattle.literal_search.specs.Inside.Prepared.{IsHeader, header_table, numbers
 use Rattle.literal_search.specs.Inside.Rows.{rows_of}
 use Rattle.literal_search.specs.Inside.Scan.{IsTableFor}
 use Rattle.literal_search.specs.Inside.Standing.{IsStanding, longest_at, overlapping_value, standing_at}
-use Rattle.literal_search.specs.Inside.NextEnd.{FindsNext, IsNextStop, Stands, StandsNext}
+use Rattle.literal_search.specs.Inside.NextEnd.{FindsNext, IsNextStop, Stands}
 use Rattle.literal_search.specs.Inside.Walk.{classes_by, rows_by}
 use Rattle.literal_search.specs.Overlapping.{OverlappingValue}
 use Rattle.literal_search.specs.PreparedOverlapping.{AreSized, AreTables}
 use Rattle.literal_search.specs.PreparedOverlapping.{IsPreparedOverlapping, Tables, tables_in}
 use Rattle.literal_search.specs.PreparedOverlapping.{TakesListedPlaces, ends_at, ends_in}
 use Rattle.literal_search.specs.PreparedOverlapping.{listed_len, overlapping_len, prints_behind, starts_in, texts_in}
-use Rattle.literal_search.specs.Prepared.{ArePrints, classes_end, fingerprints_by, rows_at, rows_end, shortest_by}
+use Rattle.literal_search.specs.Prepared.{ArePrints, classes_end, scan_by, rows_at, rows_end, shortest_by}
 use Rattle.literal_search.specs.States.{IsRowsLength}
 use Rattle.literal_search.specs.declared.prepared.Header.{Header}
 use Rattle.literal_search.specs.declared.prepared.Damaged.{Damaged}
-use Rattle.literal_search.specs.declared.prepared.TheConstants.{FINGERPRINTS_LEN, OVERLAPPING_VERSION}
+use Rattle.literal_search.specs.declared.prepared.TheConstants.{SCAN_LEN, OVERLAPPING_VERSION}
 use Rattle.literal_search.specs.declared.prepared_overlapping.LentTables.{LentTables}
 use Rattle.literal_search.specs.declared.standing.Standing.{Standing}
 use Rattle.literal_search.specs.declared.walk.Stop.{Stop}
@@ -38,6 +38,7 @@ use Rattle.literal_search.proofs.lemmas.Numbers.{check_written, classes_written,
 use Rattle.literal_search.proofs.lemmas.Numbers.{numbers_long, rows_written}
 use Rattle.literal_search.proofs.lemmas.Numbers.{part_at, starts_written}
 use Rattle.literal_search.proofs.lemmas.Prepared.{length_part, rows_are}
+use Rattle.literal_search.proofs.lemmas.Scan.{also_ok}
 use Rattle.literal_search.proofs.lemmas.Standing.{is_pattern, longest_below, next_is, none_to_come, nothing_to_come}
 use Rattle.literal_search.proofs.lemmas.Standing.{row_inside, same_to_come, some_left, stands_next, stands_there}
 
@@ -61,21 +62,7 @@ pub same_tables : (search : OverlappingValue) (classes classes' : List ℕ) (wid
       ends = ends';
       starts = starts';
     }
-same_tables search classes classes' width width' rows rows' ends ends' starts starts' a b c d e =
-    let of = λ (k : List ℕ) (w : ℕ) (r n s : List ℕ). let t : Tables = record {
-      patterns = search.patterns;
-      ignore_case = search.ignore_case;
-      classes = k;
-      width = w;
-      rows = r;
-      ends = n;
-      starts = s;
-    } in t in
-    ap (λ k. of k width rows ends starts) a
-    ∙ (ap (λ w. of classes' w rows ends starts) b
-    ∙ (ap (λ r. of classes' width' r ends starts) c
-    ∙ (ap (λ n. of classes' width' rows' n starts) d
-    ∙ ap (λ s. of classes' width' rows' ends' s) e)))
+same_tables search classes classes' width width' rows rows' ends ends' starts starts' a b c d e = cc
 
 -- the parts of an array that is prepared for a search are for it
 pub are_for : (p : LentTables) → AreLent p → (search : OverlappingValue)
@@ -119,11 +106,11 @@ parts_end {version} f numbers same header =
 pub lengths_many : {p : LentTables} → AreLent p → length p.header.lengths.now ≡ get_or p.header.numbers.now 3 0
 lengths_many {p} lent = (parts_end p.header p.header.numbers.now refl lent.header).1
 
--- there is the length of each pattern
-pub lengths_for : {search : OverlappingValue} {p : LentTables} → AreFor search p
-    → length p.header.lengths.now ≡ length search.patterns
-lengths_for {search} are =
-    ap (λ (l : List ℕ). length l) are.lengths ∙ length-map search.patterns (λ (bytes : List ℕ). length bytes)
+-- where a walk finds the next end, if there is one: its row and list lie in the tables
+abbrev pub IsFoundThere : Tables → List ℕ → Span → Standing → Option Stop → Type 0
+IsFoundThere t haystack span s answer = MatchOption answer (IsNextEnd t haystack span s None)
+    (λ stop. (stop.place + t.width < length t.rows) × (longest_at t stop + 1 < length t.starts)
+    × IsNextEnd t haystack span s (Some (standing_at t stop)))
 
 -- where a search by the parts stands
 module _ {search : OverlappingValue} {p : LentTables} (are : AreFor search p) (haystack : List ℕ)
@@ -141,51 +128,46 @@ module _ {search : OverlappingValue} {p : LentTables} (are : AreFor search p) (h
       to_come = nothing_to_come t are.tables haystack bytes span valid s standing empty last;
     }
 
-    -- what a walk by it finds from there on
-    pub finds_there : s.at < span.end → (table : Table)
+    -- what a walk by it finds from there on: where it finds no end, there is none, and else the next end is where the
+    -- walk stops, whose row and list lie in the array
+    pub found_there : s.end ≤ s.next → s.at < span.end → (table : Table)
         → IsTableFor table search.patterns search.ignore_case → classes_by table ≡ t.classes
         → table.width ≡ t.width → rows_by table ≡ t.rows → (result : Result (Option Stop) Damaged)
         → FindsNext table p.prints.now haystack s.place (between s.at span.end) result
-        → IsOkAnd result (IsNextStop search.patterns search.ignore_case t.classes t.width t.rows haystack span s.at)
-    finds_there more table is classes width rows result finds =
+        → IfOk result (λ answer. IfSome answer
+        (λ stop. (s.at < stop.end) × (stop.end ≤ span.end) × (stop.place < 2 ^ 32)))
+        → IsOkAnd result (IsFoundThere t haystack span s)
+    found_there empty more table is classes width rows result finds inside =
         let Finds : List ℕ → ℕ → List ℕ → Type 0 = λ c w r.
         Stands search.patterns search.ignore_case c w r haystack span s.at (record { place = s.place; end = s.at })
         → IsOkAnd result (IsNextStop search.patterns search.ignore_case c w r haystack span s.at) in
-        subst (λ r. Finds t.classes t.width r) rows
+        also_ok result (IsNextStop search.patterns search.ignore_case t.classes t.width t.rows haystack span s.at) _
+        (IsFoundThere t haystack span s) there
+        (subst (λ r. Finds t.classes t.width r) rows
         (subst (λ w. Finds t.classes w (rows_by table)) width
         (subst (λ c. Finds c table.width (rows_by table)) classes
-        (finds search.patterns search.ignore_case is are.prints span.start))) (standing.stands more)
-
-    module _ (empty : s.end ≤ s.next) where
-      -- where it finds no end, there is none
-      pub next_nowhere : IsNextStop search.patterns search.ignore_case t.classes t.width t.rows haystack span s.at None
-          → IsNextEnd t haystack span s None
-      next_nowhere none = record {
-        stands = tt;
-        more = tt;
-        to_come = none_to_come t are.tables haystack bytes span valid s standing none empty;
-      }
-
-      -- and else it is where the walk stops, whose row and list lie in the array
-      module _ (stop : Stop)
-          (next : StandsNext search.patterns search.ignore_case t.classes t.width t.rows haystack span s.at stop)
-          (after : s.at < stop.end) (inside : stop.end ≤ span.end)
-        where
-          pub row_there : stop.place + t.width < length t.rows
-          row_there = row_inside t are.tables haystack bytes span valid s standing stop next after inside
-
-          pub list_there : longest_at t stop + 1 < length t.starts
-          list_there =
-              let below = longest_below t are.tables haystack bytes span valid s standing stop next after inside in
-              let long = are.tables.lists.long in
-              omega (arith, below, long)
-
-          pub next_there : IsNextEnd t haystack span s (Some (standing_at t stop))
-          next_there = record {
-            stands = stands_there t are.tables haystack bytes span valid s standing stop next after inside;
-            more = some_left t are.tables haystack bytes span valid s standing stop next after inside;
-            to_come = same_to_come t are.tables haystack bytes span valid s standing stop next after inside empty;
-          }
+        (finds search.patterns search.ignore_case is are.prints span.start))) (standing.stands more)) inside
+      where
+        there : (answer : Option Stop)
+            → IsNextStop search.patterns search.ignore_case t.classes t.width t.rows haystack span s.at answer
+            → IfSome answer (λ stop. (s.at < stop.end) × (stop.end ≤ span.end) × (stop.place < 2 ^ 32))
+            → IsFoundThere t haystack span s answer
+        there None none inside = record {
+          stands = tt;
+          more = tt;
+          to_come = none_to_come t are.tables haystack bytes span valid s standing none empty;
+        }
+        there (Some stop) next (after, upto, small) =
+            let below = longest_below t are.tables haystack bytes span valid s standing stop next after upto in
+            let long = are.tables.lists.long in (
+              row_inside t are.tables haystack bytes span valid s standing stop next after upto,
+              omega (arith, below, long),
+              record {
+                stands = stands_there t are.tables haystack bytes span valid s standing stop next after upto;
+                more = some_left t are.tables haystack bytes span valid s standing stop next after upto;
+                to_come = same_to_come t are.tables haystack bytes span valid s standing stop next after upto empty;
+              },
+            )
 
     -- where the list has more
     module _ (left : s.next < s.end) where
@@ -232,8 +214,8 @@ module _ {search : OverlappingValue} {p : LentTables} (are : AreFor search p) (h
           }))
 
 -- what is written of tables is prepared for their search
-module _ (t : Tables) (tables : AreTables t) (prints : List ℕ) (prints_long : length prints ≡ FINGERPRINTS_LEN)
-    (pass : 0 < shortest_by prints → AllPass (fingerprints_by prints) t.ignore_case t.patterns)
+module _ (t : Tables) (tables : AreTables t) (prints : List ℕ) (prints_long : length prints ≡ SCAN_LEN)
+    (pass : 0 < shortest_by prints → StopsAtEach (scan_by prints) t.ignore_case t.patterns)
   where
     abbrev pub all_of : List ℕ
     all_of = numbers_for OVERLAPPING_VERSION t.classes t.width t.patterns t.rows t.starts (t.ends ++ prints)
@@ -263,7 +245,7 @@ module _ (t : Tables) (tables : AreTables t) (prints : List ℕ) (prints_long : 
     listed_is : listed_len all_of ≡ classes_end all_of + length t.starts + length t.ends
     listed_is = ap (λ n. ends_at all_of + n) last_is ∙ ap (λ n. n + length t.ends) ends_at_is
 
-    -- behind the numbers that say where lists begin stand these, and then the fingerprints
+    -- behind the numbers that say where lists begin stand these, and then the scan for candidates
     abbrev start : List ℕ
     start = take (classes_end all_of + length t.starts) all_of
 
@@ -294,9 +276,9 @@ module _ (t : Tables) (tables : AreTables t) (prints : List ℕ) (prints_long : 
 
     whole : overlapping_len all_of ≡ length all_of
     whole =
-        let size : 6 + length t.patterns + length t.rows + 256 + length t.starts + length t.ends + 33 ≡ length all_of =
+        let size : 6 + length t.patterns + length t.rows + 256 + length t.starts + length t.ends + 35 ≡ length all_of =
         omega (arith, size, prints_long, length-append t.ends prints) in
-        ap (λ n. n + 33) listed_is ∙ size
+        ap (λ n. n + 35) listed_is ∙ size
 
     tables_are : t ≡ tables_in (overlapping_value t) all_of
     tables_are = same_tables (overlapping_value t) t.classes _ t.width _ t.rows _ t.ends _ t.starts _
@@ -324,7 +306,7 @@ module _ (t : Tables) (tables : AreTables t) (prints : List ℕ) (prints_long : 
         longest = refl;
         tables = subst AreTables tables_are tables;
         lengths = lengths_written OVERLAPPING_VERSION t.classes t.width t.patterns t.rows t.starts (t.ends ++ prints);
-        prints = subst (λ (p : List ℕ). 0 < shortest_by p → AllPass (fingerprints_by p) t.ignore_case t.patterns)
+        prints = subst (λ (p : List ℕ). 0 < shortest_by p → StopsAtEach (scan_by p) t.ignore_case t.patterns)
             (sym prints_are) pass;
       };
       long = sym whole;
@@ -337,7 +319,7 @@ module _ {search : OverlappingValue} {numbers : List ℕ} (listed : AreListed se
 
   -- so many numbers these are
   listed_long : length numbers ≡ 6 + length search.patterns + length inside.rows + 256 + length inside.starts
-      + length inside.ends + FINGERPRINTS_LEN
+      + length inside.ends + SCAN_LEN
   listed_long =
       let fits = listed.prepared.whole.lists.fits in
       let lengths = length_part numbers 6 (rows_at numbers) (omega arith) (omega arith) in

@@ -1,22 +1,26 @@
 -- A walk from one end of patterns to the next.
 use Rattle.std.proofs.Common.{◌≡◌, ℕ, ◌+◌, ◌-◌, ◌*◌, ◌<◌, ◌≤◌, Bool, List, [], Some, get_or, length, map}
 use Rattle.std.proofs.Common.{ap, arith, inl, inr, refl, subst, suc, sym, zero, ◌∙◌}
-use Rattle.std.proofs.Common.{◌^◌, IfOk, IfSome, IsSome, MatchOption, None, Option, Result}
+use Rattle.std.proofs.Common.{◌^◌, IfOk, IfSome, IsSome, MatchOption, None, Ok, Option, Result}
 use Rattle.std.specs.Result.{IsOkAnd}
 use Rattle.std.specs.Option.{option_map}
 use Rattle.std.proofs.lemmas.Bool.{cases_lt}
 use Rattle.literal_base.specs.Occurs.{IsValidSpan, NoneIsEmpty, Occurs, between, pattern_at}
 use Rattle.literal_base.specs.declared.search.Span.{Span}
-use Rattle.literal_fingerprints.specs.FingerprintsValue.{AllPass, FingerprintsValue}
-use Rattle.literal_search.specs.Prepared.{ArePrints, fingerprints_by, shortest_by}
+use Rattle.literal_fingerprints.specs.CandidateScans.{StopsAtEach}
+use Rattle.literal_fingerprints.specs.declared.candidates.CandidateScan.{CandidateScan}
+use Rattle.literal_search.specs.Prepared.{ArePrints, scan_by, shortest_by}
 use Rattle.literal_search.specs.Earliest.{IsEarliestEnd}
-use Rattle.literal_search.specs.Inside.Classes.{Tells, symbols_in}
-use Rattle.literal_search.specs.Inside.NextEnd.{FindsNext, IsNextStop, Stands, StandsNext}
+use Rattle.literal_search.specs.Inside.Classes.{AreClasses, Tells, symbols_in}
+use Rattle.literal_search.specs.Inside.NextEnd.{FindsNext, HasComeTo, IsNextStop, Stands, StandsNext}
 use Rattle.literal_search.specs.Inside.Scan.{IsTableFor, NoneBefore}
-use Rattle.literal_search.specs.Inside.Walk.{IsAt, IsFirstEnd, NoneEnds, classes_by, read_to, rows_by, text_of}
+use Rattle.literal_search.specs.Inside.Walk.{HasReached, IsAt, IsFirstEnd, NoneEnds, ReachesWithin, classes_by}
+use Rattle.literal_search.specs.Inside.Walk.{read_to, rows_by, text_of}
 use Rattle.literal_search.specs.Table.{Recognises, stride_of}
 use Rattle.literal_search.specs.Words.{ending, live_suffix, word_of}
 use Rattle.literal_search.specs.declared.prepared.Damaged.{Damaged}
+use Rattle.literal_search.specs.declared.walk.Reached.{Reached}
+use Rattle.literal_search.specs.declared.walk.Reached.TheVariants.{Back, Ends, Nowhere}
 use Rattle.literal_search.specs.declared.walk.Stop.{Stop}
 use Rattle.literal_search.specs.declared.walk.Table.{Table}
 use Rattle.literal_search.proofs.lemmas.EndsFound.{begins_behind, end_occurs, nothing_read, occurrence_ends}
@@ -83,7 +87,7 @@ module _ (t : Table) (patterns : List (List ℕ)) (ignore_case : Bool) (is : IsT
         ]
 
     -- where something ends next
-    pub next_there : (stop : Stop) → s.end < stop.end
+    next_there : (stop : Stop) → s.end < stop.end
         → ((recognises : Recognises texts t.width (rows_by t))
         → IsFirstEnd texts t.width (rows_by t) recognises read (classes_by t) haystack s.end stop)
         → StandsNext patterns ignore_case (classes_by t) t.width (rows_by t) haystack span behind stop
@@ -106,7 +110,7 @@ module _ (t : Table) (patterns : List (List ℕ)) (ignore_case : Bool) (is : IsT
         }
 
     -- where nothing does
-    pub next_nowhere : NoneEnds texts read (classes_by t) haystack s.end span.end → (i place : ℕ)
+    next_nowhere : NoneEnds texts read (classes_by t) haystack s.end span.end → (i place : ℕ)
         → Occurs patterns ignore_case haystack span i place → place + length (pattern_at patterns i) ≤ behind
     next_nowhere none i place o = elim (cases_lt behind (place + length (pattern_at patterns i))) [
       | inl to_come ↦
@@ -138,7 +142,7 @@ module _ (t : Table) (patterns : List (List ℕ)) (ignore_case : Bool) (is : IsT
               same = o.same;
             })
 
-        pub stands_new : Stands patterns ignore_case (classes_by t) t.width (rows_by t) haystack span new
+        stands_new : Stands patterns ignore_case (classes_by t) t.width (rows_by t) haystack span new
             (record { place = 0; end = new })
         stands_new =
             let after_start = stands.after in
@@ -153,12 +157,65 @@ module _ (t : Table) (patterns : List (List ℕ)) (ignore_case : Bool) (is : IsT
               begins = λ i place o further. begins_new i place o (omega arith);
             }
 
-        pub later_new : (i place : ℕ) → Occurs patterns ignore_case haystack span i place
+        later_new : (i place : ℕ) → Occurs patterns ignore_case haystack span i place
             → behind < place + length (pattern_at patterns i) → new < place + length (pattern_at patterns i)
         later_new i place o to_come =
             let begins = begins_new i place o (later i place o to_come) in
             let long = is.some i [] o.is_pattern in
             omega arith
+
+-- what a walk finds that goes on from where another has come to: where something ends next, or nothing; or it comes to
+-- where nothing begins before, behind the place where it is back
+abbrev pub IsFoundOn : Table → List ℕ → List ℕ → ℕ → Span → Reached → Type 0
+IsFoundOn t prints haystack from span (Ends stop) = FindsNext t prints haystack from span (Ok (Some stop))
+IsFoundOn t prints haystack from span Nowhere = FindsNext t prints haystack from span (Ok None)
+IsFoundOn t prints haystack from span (Back at) =
+    (new : ℕ) → at ≤ new → new ≤ span.end
+    → ((patterns : List (List ℕ)) (ignore_case : Bool) → IsTableFor t patterns ignore_case
+    → ArePrints patterns ignore_case prints → NoneBefore patterns ignore_case haystack (between at span.end) new)
+    → HasComeTo t prints haystack from span (record { place = 0; end = new })
+
+module _ (t : Table) (prints haystack : List ℕ) (bytes : (i : ℕ) → get_or haystack i 0 < 256) (from : ℕ)
+    (span : Span) (valid : IsValidSpan haystack span) (here : Stop) (inside : here.end ≤ span.end)
+    (comes : HasComeTo t prints haystack from span here)
+  where
+    valid_whole : (patterns : List (List ℕ)) (ignore_case : Bool) (start : ℕ)
+        → Stands patterns ignore_case (classes_by t) t.width (rows_by t) haystack (between start span.end) span.start
+        (record { place = from; end = span.start }) → IsValidSpan haystack (between start span.end)
+    valid_whole patterns ignore_case start begun =
+        let after = begun.after in
+        let before = begun.before in
+        let ordered = valid.ordered in
+        record { ordered = omega arith; in_haystack = valid.in_haystack }
+
+    pub found_on : (reached : Reached) → (AreClasses (classes_by t) t.width → (words : List (List ℕ))
+        (recognises : Recognises words t.width (rows_by t)) (text : List ℕ)
+        → IsAt words t.width (rows_by t) recognises text here.place
+        → HasReached words t.width (rows_by t) recognises text (classes_by t) haystack (between here.end span.end)
+        reached) → (least : ℕ) → ReachesWithin (between here.end span.end) least reached
+        → IsFoundOn t prints haystack from span reached
+    found_on (Ends stop) reaches least lies = λ patterns ignore_case is pass start begun.
+        let come = comes patterns ignore_case is pass start begun in
+        next_there t patterns ignore_case is haystack bytes (between start span.end)
+        (valid_whole patterns ignore_case start begun) here inside come.0 span.start come.1 stop lies.0
+        (λ recognises. reaches is.classes (map (symbols_in (classes_by t)) patterns) recognises _
+        (come.0.at recognises))
+    found_on Nowhere reaches least lies = λ patterns ignore_case is pass start begun.
+        let come = comes patterns ignore_case is pass start begun in
+        next_nowhere t patterns ignore_case is haystack bytes (between start span.end)
+        (valid_whole patterns ignore_case start begun) here inside come.0 span.start come.1
+        (reaches is.classes (map (symbols_in (classes_by t)) patterns) is.recognises _ (come.0.at is.recognises))
+    found_on (Back at) reaches least lies = λ new after within none patterns ignore_case is pass start begun.
+        let come = comes patterns ignore_case is pass start begun in
+        let whole = valid_whole patterns ignore_case start begun in
+        let none_there = none patterns ignore_case is pass in
+        let back = λ (recognises : Recognises (map (symbols_in (classes_by t)) patterns) t.width (rows_by t)).
+        reaches is.classes (map (symbols_in (classes_by t)) patterns) recognises _ (come.0.at recognises) in (
+          stands_new t patterns ignore_case is haystack bytes (between start span.end) whole here inside come.0
+              span.start come.1 at new (omega (arith, lies.0)) after within back none_there,
+          later_new t patterns ignore_case is haystack bytes (between start span.end) whole here inside come.0
+              span.start come.1 at new (omega (arith, lies.0)) after within back none_there,
+        )
 
 module _ (patterns : List (List ℕ)) (ignore_case : Bool) (classes : List ℕ) (width : ℕ) (rows : List ℕ)
     (tells : Tells ignore_case classes patterns) (some : NoneIsEmpty patterns) (haystack : List ℕ)
@@ -206,10 +263,10 @@ finds_earliest t patterns ignore_case prints is pass haystack bytes span valid r
     (finds patterns ignore_case is pass span.start
     (stands_first patterns ignore_case (classes_by t) t.width (rows_by t) haystack span)) inside
 
--- the fingerprints of numbers that let all patterns pass let them pass, too
-pub kept_pass : (patterns : List (List ℕ)) (ignore_case : Bool) (prints : List ℕ) (kept : Option FingerprintsValue)
-    → MatchOption kept (shortest_by prints ≡ 0) (λ f. (0 < shortest_by prints) × (f ≡ fingerprints_by prints))
-    → ArePrints patterns ignore_case prints → IfSome kept (λ f. AllPass f ignore_case patterns)
+-- the scan of numbers that stop at each pattern stops there, too
+pub kept_pass : (patterns : List (List ℕ)) (ignore_case : Bool) (prints : List ℕ) (kept : Option CandidateScan)
+    → MatchOption kept (shortest_by prints ≡ 0) (λ f. (0 < shortest_by prints) × (f ≡ scan_by prints))
+    → ArePrints patterns ignore_case prints → IfSome kept (λ f. StopsAtEach f ignore_case patterns)
 kept_pass patterns ignore_case prints None are pass = tt
 kept_pass patterns ignore_case prints (Some f) are pass =
-    subst (λ f. AllPass f ignore_case patterns) (sym are.1) (pass are.0)
+    subst (λ f. StopsAtEach f ignore_case patterns) (sym are.1) (pass are.0)

@@ -1,5 +1,6 @@
 -- The numbers that are written for a search: where its parts stand in them, and that they are written.
-use Rattle.std.proofs.Common.{◌≡◌, ℕ, ◌+◌, ◌-◌, ◌≤◌, List, [], ◌∷◌, ◌++◌, drop, length, get_or, map, take}
+use Rattle.std.proofs.Common.{◌≡◌, ℕ, ◌+◌, ◌-◌, ◌<◌, ◌≤◌, List, [], ◌∷◌, ◌++◌, drop, length, get_or, map, take}
+use Rattle.std.proofs.Common.{Err, IfErr, IfOk, Ok, Result}
 use Rattle.std.proofs.Common.{append-nil, append_assoc, length-append, refl, sym, ap, subst, ◌∙◌, arith}
 use Rattle.std.proofs.Math.Seq.{drop-append_seam, take-append_seam}
 use Rattle.std.proofs.lemmas.List.{length-drop, length-map, length-take, take-append-drop}
@@ -7,10 +8,11 @@ use Rattle.std.specs.List.{slice_range}
 use Rattle.literal_search.specs.Inside.Classes.{AreClasses}
 use Rattle.literal_search.specs.Inside.Packed.{unpacked}
 use Rattle.literal_search.specs.Inside.Rows.{packed_classes}
-use Rattle.literal_search.specs.Inside.Prepared.{Puts, numbers_for}
+use Rattle.literal_search.specs.Inside.Prepared.{IsPut, Puts, numbers_for}
 use Rattle.literal_search.specs.SearchValue.{longest_of}
 use Rattle.literal_search.specs.Prepared.{WritesNumbers, check_of, classes_in, lengths_in}
 use Rattle.literal_search.specs.Prepared.{classes_end, rows_end, rows_in}
+use Rattle.literal_search.specs.declared.prepared.ArrayTooShort.{ArrayTooShort}
 use Rattle.literal_search.proofs.lemmas.Packed.{packed_long, unpacked_again}
 
 -- a part of a list that is known
@@ -133,13 +135,13 @@ module _ (version : ℕ) (classes : List ℕ) (width : ℕ) (patterns : List (Li
         ap check_of (sym (part_at numbers (version ∷ check_of body ∷ []) body [] 2 end
         (ap (λ l. version ∷ check_of body ∷ l) (sym (append-nil body))) refl (omega (arith, is))))
 
--- what `write` answers for a search that numbers are for
-module _ (AreFor : List ℕ → Type 0) (Takes : ℕ → Type 0) (numbers old new : List ℕ) (needed : ℕ)
+-- what `put` answers for a search that numbers are for
+module _ (AreFor : List ℕ → Type 0) (Takes : ℕ → Type 0) (numbers old new : List ℕ)
     (are_for : AreFor numbers) (takes : Takes (length numbers))
   where
-    pub numbers_written : needed ≤ length old → Puts 0 numbers old new → needed ≡ length numbers
+    written : (needed : ℕ) → (needed ≡ length numbers) × (needed ≤ length old) × Puts 0 numbers old new
         → WritesNumbers AreFor Takes old new needed
-    numbers_written fits puts needed_is =
+    written needed (needed_is, fits, puts) =
         let new_is : new ≡ numbers ++ drop needed old =
         puts ∙ ap (λ k. numbers ++ drop k old) (let k : 0 + length numbers ≡ needed = omega (arith, needed_is) in k) in
         let same : length new ≡ length old = omega (
@@ -159,3 +161,15 @@ module _ (AreFor : List ℕ → Type 0) (Takes : ℕ → Type 0) (numbers old ne
           others = ap (λ k. drop k new) needed_is
               ∙ (ap (drop (length numbers)) new_is ∙ drop-append_seam numbers (drop needed old));
         }
+
+    pub put_writes : (result : Result ℕ ArrayTooShort) → IsPut numbers old new result
+        → IfOk result (WritesNumbers AreFor Takes old new)
+    put_writes (Ok needed) is = written needed is
+    put_writes (Err error) is = tt
+
+    pub put_refuses : (result : Result ℕ ArrayTooShort) → IsPut numbers old new result
+        → IfErr result (λ error. (length old < error.needed) × Takes error.needed
+        × ((all : List ℕ) × AreFor all × (length all ≡ error.needed)))
+    put_refuses (Ok needed) is = tt
+    put_refuses (Err error) (needed_is, short, same) =
+        (short, subst Takes (sym needed_is) takes, (numbers, are_for, sym needed_is))

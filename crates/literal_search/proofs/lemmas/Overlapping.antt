@@ -1,7 +1,6 @@
 -- An iteration over everything that occurs gives each occurrence once, in order.
-use Rattle.std.proofs.Common.{IsNone, refl}
 use Rattle.std.proofs.Common.{◌≡◌, ℕ, ◌+◌, ◌<◌, ◌≤◌, List, [], ◌∷◌, length, get_or, suc, zero, None, Some}
-use Rattle.std.proofs.Common.{Option, inl, inr, ◌⊎◌, sym, ap, subst, ◌∙◌, arith}
+use Rattle.std.proofs.Common.{inl, inr, ◌⊎◌, sym, ap, subst, arith}
 use Rattle.std.proofs.lemmas.Bool.{cases_lt}
 use Rattle.std.specs.Iterator.{Yields}
 use Rattle.std.specs.List.{All, AllPairs, IsAmong}
@@ -140,22 +139,3 @@ overlapping_from_yields search haystack span m all n o start run nothing =
             inr (omega arith, omega arith)
       ];
     }
-
--- behind all that occurs nothing is to come
-nothing_behind : (m : OverlappingMatchesValue) (found : MatchValue) → ¬ IsToCome (gone_on m None) found
-nothing_behind m found is =
-    let whole = is.occurrence.whole in
-    let inside = is.occurrence.occurs.before_end in
-    let below = is.occurrence.occurs.is_pattern in
-    elim is.after [
-      | inl further ↦ omega arith
-      | inr here ↦ omega (arith, here.1)
-    ]
-
-pub over_for_good : (old new newer : OverlappingMatchesValue) (answer : Option MatchValue)
-    → GivesOverlapping old None new → GivesOverlapping new answer newer → IsNone answer × (newer ≡ new)
-over_for_good old new newer None over more =
-    (refl, more.goes_on ∙ (ap (λ (m : OverlappingMatchesValue). gone_on m None) over.goes_on ∙ sym over.goes_on))
-over_for_good old new newer (Some found) over more =
-    absurd (nothing_behind old found
-    (subst (λ (m : OverlappingMatchesValue). IsToCome m found) over.goes_on more.gives.to_come))

@@ -3,7 +3,7 @@ use Rattle.std.proofs.Common.{◌≡◌, ◌+◌, ◌-◌, ◌*◌, ◌/◌, ◌
 use Rattle.std.proofs.Common.{ap, arith, drop, get_or, inl, inr, length, refl, sym, take, w32}
 use Rattle.std.proofs.Math.Seq.{take-add}
 use Rattle.std.proofs.lemmas.Bool.{cases_lt}
-use Rattle.std.proofs.lemmas.List.{get_or-drop, get_or-take, get_or_past, length-drop, length-take, take_all, take_more}
+use Rattle.std.proofs.lemmas.List.{get_or-drop, get_or-take, get_or_past, length-drop, length-take, take_all}
 use Rattle.std.proofs.lemmas.List.Concat.{flat_map-append}
 use Rattle.std.proofs.lemmas.List.FromFn.{map-range_with_len_more}
 use Rattle.std.proofs.lemmas.Nat.{le_bytes_4}
@@ -18,12 +18,6 @@ pub packed_more : (bytes : List ℕ) (n : ℕ)
     → packed (n + 1) bytes ≡ packed n bytes ++ from_le_bytes w32 (slice_range bytes (4 * n) (4 * n + 4)) ∷ []
 packed_more bytes n =
     map-range_with_len_more (λ k. from_le_bytes w32 (slice_range bytes (4 * k) (4 * k + 4))) 0 n n (omega arith)
-
-pub unpacked_more : (numbers : List ℕ) (k : ℕ) → k < length numbers
-    → unpacked (take (k + 1) numbers) ≡ unpacked (take k numbers) ++ to_le_bytes w32 (get_or numbers k 0)
-unpacked_more numbers k below =
-    ap unpacked (take_more numbers k 0 below)
-    ∙ flat_map-append (to_le_bytes w32) (take k numbers) (get_or numbers k 0 ∷ [])
 
 -- where a byte stands in numbers
 pub unpacked_at : (numbers : List ℕ) (byte : ℕ)

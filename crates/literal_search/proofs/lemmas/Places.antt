@@ -140,7 +140,7 @@ module _ (search : OverlappingValue) (old new : List ℕ)
             check = same 1 (omega arith)
                 ∙ (prepared.whole.check
                 ∙ ap check_of
-                (sym (part_is 2 (overlapping_len old) 2 (overlapping_len new) refl (ap (λ n. n + 33) listed_is)
+                (sym (part_is 2 (overlapping_len old) 2 (overlapping_len new) refl (ap (λ n. n + 35) listed_is)
                 (omega arith)
                 (omega arith))));
           };
@@ -160,7 +160,7 @@ module _ (search : OverlappingValue) (old new : List ℕ)
               ∙ prepared.lengths;
           prints = subst (ArePrints search.patterns search.ignore_case)
               (sym (part_is (listed_len old) (overlapping_len old) (listed_len new) (overlapping_len new) listed_is
-              (ap (λ n. n + 33) listed_is) (omega arith) (omega arith))) prepared.prints;
+              (ap (λ n. n + 35) listed_is) (omega arith) (omega arith))) prepared.prints;
         }
 
 module _ (search : OverlappingValue) (numbers : List ℕ) (n : ℕ) where

@@ -1,21 +1,18 @@
 -- Searches by an array that is lent.
-use Rattle.std.proofs.Common.{◌≡◌, ℕ, ◌+◌, ◌-◌, ◌<◌, ◌≤◌, ◌^◌, Bool, List, [], drop, length}
-use Rattle.std.proofs.Common.{Bor, IfSome, MatchOption, None, Option, Some, min}
-use Rattle.std.proofs.Common.{◌∷◌, take}
-use Rattle.std.proofs.Common.{sym, ap, subst, ◌∙◌, arith}
+use Rattle.std.proofs.Common.{◌≡◌, ℕ, ◌+◌, ◌-◌, ◌<◌, ◌≤◌, List, drop, length}
+use Rattle.std.proofs.Common.{IfSome, None, Option, Some}
+use Rattle.std.proofs.Common.{take}
+use Rattle.std.proofs.Common.{ap, ◌∙◌, arith}
 use Rattle.std.proofs.lemmas.List.{length-drop, length-take, take-take}
-use Rattle.std.specs.List.{repeat, slice_range}
+use Rattle.std.specs.List.{slice_range}
 use Rattle.literal_base.specs.declared.search.Span.{Span}
-use Rattle.literal_fingerprints.specs.FingerprintsValue.{AllPass, FingerprintsValue}
 use Rattle.literal_search.specs.Inside.Rows.{rows_of}
 use Rattle.literal_search.specs.Inside.Prepared.{IsSplit}
 use Rattle.literal_search.specs.Inside.Backward.{IsMatchBy}
 use Rattle.literal_search.specs.declared.backward.Backward.{Backward}
-use Rattle.literal_search.specs.declared.prepared.TheConstants.{FINGERPRINTS_LEN}
 use Rattle.literal_base.specs.MatchValue.{MatchValue}
-use Rattle.literal_search.specs.Prepared.{classes_end, fingerprints_by, rows_at}
+use Rattle.literal_search.specs.Prepared.{classes_end, rows_at}
 use Rattle.literal_search.specs.Prepared.{rows_end, rows_in}
-use Rattle.literal_search.specs.Prepared.{shortest_by}
 
 -- the length of a part of a list
 pub length_part : (numbers : List ℕ) (from to : ℕ) → from ≤ to → to ≤ length numbers
@@ -43,21 +40,6 @@ classes_long {version} {numbers} split =
     let fits = split.parts.fits in
     let size = length_part numbers (rows_end numbers) (rows_end numbers + 64) (omega arith) (omega arith) in
     omega (arith, size, ap (λ (l : List ℕ). length l) split.classes_are)
-
--- the numbers of fingerprints are those of none, or of these
-abbrev AreNumbersOf : ℕ → Option (Bor FingerprintsValue) → List ℕ → Type 0
-AreNumbersOf shortest o prints = MatchOption o (prints ≡ repeat FINGERPRINTS_LEN (0 ∷ []))
-    (λ f. (shortest_by prints ≡ min shortest (2 ^ 32 - 1)) × (fingerprints_by prints ≡ f.now))
-
--- what fingerprints let pass, those by their numbers do
-pub prints_let_pass : (shortest : ℕ) (ignore_case : Bool) (patterns : List (List ℕ))
-    (o : Option (Bor FingerprintsValue)) (prints : List ℕ)
-    → IfSome o (λ f. AllPass f.now ignore_case patterns) → AreNumbersOf shortest o prints → 0 < shortest_by prints
-    → AllPass (fingerprints_by prints) ignore_case patterns
-prints_let_pass shortest ignore_case patterns None prints pass are some =
-    absurd (omega (arith, ap shortest_by are, some))
-prints_let_pass shortest ignore_case patterns (Some f) prints pass are some =
-    subst (λ p. AllPass p ignore_case patterns) (sym are.1) pass
 
 -- a match that is found is not empty
 pub some_by : (b : Backward) (span : Span) (at : ℕ) (answer : Option MatchValue) → IfSome answer (IsMatchBy b span at)

@@ -11,7 +11,7 @@ use Rattle.literal_search.specs.Inside.Walk.{IsAt}
 use Rattle.literal_search.specs.Table.{Recognises, nothing}
 use Rattle.literal_search.specs.Words.{ending}
 use Rattle.literal_search.specs.declared.suffixes.Recognised.{Recognised}
-use Rattle.literal_search.proofs.lemmas.Walk.{at_start, at_with_end, at_without_end, ends_at}
+use Rattle.literal_search.proofs.lemmas.Walk.{at_with_end, at_without_end, ends_at}
 use Rattle.literal_search.proofs.lemmas.Walk.{row_at, slice_push}
 
 module _ (r : Recognised) (recognise : Recognise r) where
@@ -22,17 +22,6 @@ module _ (r : Recognised) (recognise : Recognise r) where
   symbols_are pattern read below is =
       get_or-map (λ (p : Vec ℕ). symbols_in r.classes.now p.items) r.patterns.now pattern read [] below
       ∙ ap (λ (p : Vec ℕ). symbols_in r.classes.now p.items) (sym is)
-
-  pub stands_start : (text : List ℕ) → text ≡ [] → StandsBehind r 0 text
-  stands_start text none =
-      let at : (recognises : Recognises (symbols_of r) r.width r.rows.now)
-      → IsAt (symbols_of r) r.width r.rows.now recognises text 0 =
-      λ recognises. subst (λ t. IsAt (symbols_of r) r.width r.rows.now recognises t 0) (sym none)
-      (at_start (symbols_of r) r.width r.rows.now recognises) in
-      record {
-        row = row_at (symbols_of r) r.width r.rows.now recognise.recognises text 0 (at recognise.recognises);
-        at = at;
-      }
 
   -- one symbol more
   module _ (text : List ℕ) (place symbol code : ℕ) (behind : StandsBehind r place text) (below : symbol < r.width)

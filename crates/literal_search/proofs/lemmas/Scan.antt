@@ -1,11 +1,9 @@
 -- What walks by the numbers of an automaton find, as occurrences in the haystack.
 use Rattle.std.proofs.Common.{◌≡◌, ℕ, ◌+◌, ◌*◌, ◌<◌, ◌≤◌, ◌∙◌, Bool, List, ap, arith}
 use Rattle.std.proofs.Common.{mul-le-mul_right}
-use Rattle.std.proofs.Common.{Err, IfSome, IfOk, Ok, Option, Result, Some, None, get_or, inl, inr, length, map, subst}
+use Rattle.std.proofs.Common.{Err, IfOk, Ok, Option, Result, None, get_or, inl, inr, length, map, subst}
 use Rattle.std.proofs.Common.{sym}
 use Rattle.std.proofs.lemmas.Bool.{cases_lt}
-use Rattle.std.specs.Borrow.{Bor}
-use Rattle.std.specs.Option.{option_copied}
 use Rattle.std.specs.Result.{IsOkAnd, result_unwrap_or}
 use Rattle.literal_base.specs.Counts.{Counts}
 use Rattle.literal_base.specs.Occurs.{IsValidSpan, Occurs, between}
@@ -27,12 +25,6 @@ pub unwrapped : {T E : Type 0} (r : Result (Option T) E) (o : Option T) → o �
     → (P : Option T → Type 0) → IsOkAnd r P → P o
 unwrapped (Ok v) o is P holds = subst P (sym is) holds
 unwrapped (Err e) o is P holds = absurd holds
-
--- what holds of a value if there is one, holds of the one behind a reference
-pub behind_reference : {T : Type 0} (o : Option (Bor T)) (v : Option T) (P : T → Type 0) → option_copied o ≡ v
-    → IfSome v P → IfSome o (λ r. P r.now)
-behind_reference None v P is holds = tt
-behind_reference (Some r) v P is holds = subst (λ (v : Option _). IfSome v P) (sym is) holds
 
 -- one count alone has changed, in three steps
 pub others_on : (old now next last : Counts)

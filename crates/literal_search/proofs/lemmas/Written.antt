@@ -3,16 +3,10 @@ use Rattle.std.proofs.Common.{◌≡◌, ℕ, ◌+◌, ◌-◌, ◌<◌, ◌≤�
 use Rattle.std.proofs.Common.{append_assoc, length-append, refl, sym, ap, subst, ◌∙◌, arith}
 use Rattle.std.proofs.Math.ListN.{set}
 use Rattle.std.proofs.Math.Seq.{drop-append-add, drop-cons, set-append_seam, take-append_seam}
-use Rattle.std.proofs.lemmas.List.{drop-drop, length-take-le, take-append-drop, take_more}
+use Rattle.std.proofs.lemmas.List.{drop-drop, length-take-le, take_more}
 use Rattle.std.specs.List.{slice_range}
 use Rattle.literal_search.specs.Inside.Prepared.{Puts, checked}
 use Rattle.literal_search.specs.Prepared.{check_of}
-
--- none
-pub puts_none : (at : ℕ) (old : List ℕ) → Puts at [] old old
-puts_none at old =
-    let none : at + 0 ≡ at = omega arith in
-    sym (ap (λ n. take at old ++ drop n old) none ∙ take-append-drop at old)
 
 -- one more
 pub puts_more : (at : ℕ) (numbers old now : List ℕ) (number : ℕ) → at + length numbers < length old

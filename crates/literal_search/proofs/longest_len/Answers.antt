@@ -1,5 +1,5 @@
 use Rattle.std.proofs.Common.{◌≡◌, ◌<◌, ◌∙◌, ℕ, List, [], ◌∷◌, ◌++◌, ap, arith, get_or, length, map, sym, take}
-use Rattle.std.proofs.lemmas.List.{get_or-map, length-map, take_all, take_more}
+use Rattle.std.proofs.lemmas.List.{get_or-map, length-map, take_more}
 use Rattle.std.specs.Global.{Vec}
 use Rattle.std.specs.Prelude.{max}
 use Rattle.literal_search.specs.SearchValue.{longest_of}
@@ -25,10 +25,3 @@ loop-pattern-preserved c =
     ∙ (ap (λ n. max n c.len.result) c.loop-pattern.invariant
     ∙ (ap (max (longest_of (take i all))) (sym here)
     ∙ (sym (longest-push (take i all) (get_or all i [])) ∙ ap longest_of (sym (take_more all i [] inside)))))
-
-pub returns : goal.returns
-returns c =
-    let patterns = c.args.patterns.now in
-    let all = map (λ (p : Vec ℕ). p.items) patterns in
-    c.loop-pattern.invariant ∙ ap longest_of (take_all c.loop-pattern.pattern-index all
-    (omega (arith, c.loop-pattern-test.false, length-map patterns (λ (p : Vec ℕ). p.items))))

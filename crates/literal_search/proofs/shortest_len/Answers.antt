@@ -1,7 +1,6 @@
-use Rattle.std.proofs.Common.{◌≡◌, ◌∙◌, ◌<◌, ◌≤◌, ℕ, List, [], ◌∷◌, ◌++◌, ap, arith, get_or, inl, inr, length, map}
+use Rattle.std.proofs.Common.{◌≡◌, ◌∙◌, ◌<◌, ◌≤◌, ℕ, List, [], ◌∷◌, ◌++◌, ap, arith, get_or, length, map}
 use Rattle.std.proofs.Common.{subst, sym, take}
-use Rattle.std.proofs.lemmas.Bool.{cases_lt}
-use Rattle.std.proofs.lemmas.List.{get_or-map, length-map, length-take-le, take_all, take_more}
+use Rattle.std.proofs.lemmas.List.{get_or-map, length-map, length-take-le, take_more}
 use Rattle.std.specs.Global.{Vec}
 use Rattle.std.specs.Prelude.{min}
 use Rattle.literal_search.specs.Inside.Search.{IsShortestOf}
@@ -34,12 +33,6 @@ loop-pattern-preserved c =
     let inside : i < length all = omega (arith, c.loop-pattern-test.true, length-map patterns (λ (p : Vec ℕ). p.items))
     in
     record {
-      none = λ k below. elim (cases_lt k i) [
-        | inl before ↦ omega (arith, so_far.none k before, c.min-shortest.ensures)
-        | inr not ↦
-            let last : k ≡ i = omega arith in
-            omega (arith, here, ap (λ n. length (get_or all n [])) last, c.min-shortest.ensures)
-      ];
       first = λ none. absurd (omega arith);
       shortest = λ some. subst (λ (l : List (List ℕ)). c.min-shortest.result ≡ shortest_of l)
           (sym (take_more all i [] inside))
@@ -49,18 +42,3 @@ loop-pattern-preserved c =
           omega (arith, so_far.first is_first, here))
           (omega (arith, here, c.min-shortest.ensures)));
     }
-
-pub returns-clause-none : goal.returns-clause-none
-returns-clause-none c = λ i below. c.loop-pattern.invariant.none i (omega (
-  arith,
-  below,
-  c.loop-pattern-test.false,
-  length-map c.args.patterns.now (λ (p : Vec ℕ). p.items),
-))
-
-pub returns-clause-shortest : goal.returns-clause-shortest
-returns-clause-shortest c =
-    let all = map (λ (p : Vec ℕ). p.items) c.args.patterns.now in
-    subst (IsShortestOf c.loop-pattern.shortest) (take_all c.loop-pattern.pattern-index all
-    (omega (arith, c.loop-pattern-test.false, length-map c.args.patterns.now (λ (p : Vec ℕ). p.items))))
-    c.loop-pattern.invariant.shortest

@@ -1,12 +1,9 @@
-use Rattle.std.proofs.Common.{◌≡◌, ℕ, ◌<◌, ◌≤◌, ◌^◌, ◌-◌, length, map, take}
-use Rattle.literal_base.specs.Occurs.{pattern_at}
+use Rattle.std.proofs.Common.{◌≡◌, ◌^◌, ◌-◌, map, take}
 use Rattle.literal_search.specs.Inside.Search.{IsShortestOf}
 use Rattle.literal_search.proofs.shortest_len.Given as goal
 
 abbrev pub invariant-loop-pattern : goal.invariant-loop-pattern
 invariant-loop-pattern l = record {
-  none : (i : ℕ) → i < l.pattern-index
-      → l.shortest ≤ length (pattern_at (map (λ pattern. pattern.items) l.patterns) i);
   first : l.pattern-index ≡ 0 → l.shortest ≡ 2 ^ 64 - 1;
   shortest : IsShortestOf l.shortest (take l.pattern-index (map (λ pattern. pattern.items) l.patterns));
 }

@@ -1,5 +1,5 @@
-use Rattle.std.proofs.Common.{◌≡◌, ◌<◌, ◌∙◌, ℕ, List, [], ap, arith, get_or, length, map, sym, sum_by}
-use Rattle.std.proofs.lemmas.List.{get_or-map, length-map, take_all}
+use Rattle.std.proofs.Common.{◌≡◌, ◌<◌, ◌∙◌, ℕ, List, [], ap, arith, get_or, length, map, sym}
+use Rattle.std.proofs.lemmas.List.{get_or-map, length-map}
 use Rattle.std.proofs.lemmas.List.Sums.{sum_by_more}
 use Rattle.std.specs.Global.{Vec}
 use Rattle.literal_search.proofs.total_bytes.Goals as goal
@@ -20,10 +20,3 @@ loop-pattern-preserved c =
       total = omega (arith, so_far.total, here, sum_by_more (λ (l : List ℕ). length l) all i [] inside);
       small = omega (arith, so_far.small);
     }
-
-pub returns-clause-total : goal.returns-clause-total
-returns-clause-total c =
-    let patterns = c.args.patterns.now in
-    let all = map (λ (p : Vec ℕ). p.items) patterns in
-    c.loop-pattern.invariant.total ∙ ap (sum_by length) (take_all c.loop-pattern.pattern-index all
-    (omega (arith, c.loop-pattern-test.false, length-map patterns (λ (p : Vec ℕ). p.items))))

@@ -1,6 +1,8 @@
 -- Walks through a span from its end, by tables that may be lent.
 use Rattle.std.specs.Prelude.{◌≡◌, ◌⊎◌, ℕ, ◌+◌, ◌-◌, ◌<◌, ◌≤◌, ◌^◌, ◌%◌, List, length, map}
-use Rattle.std.specs.Prelude.{max, reverse, slice_index}
+use Rattle.std.specs.Prelude.{IfOk, Result, max, reverse, slice_index}
+use Rattle.std.specs.Result.{IsOkAnd}
+use Rattle.literal_base.specs.Counts.{Counts}
 use Rattle.literal_base.specs.Leftmost.{IsBetter}
 use Rattle.literal_base.specs.MatchValue.{MatchValue}
 use Rattle.literal_base.specs.Occurs.{Occurs, between}
@@ -8,20 +10,21 @@ use Rattle.literal_base.specs.declared.search.Span.{Span}
 use Rattle.literal_ids.specs.declared.primitives.pattern_id.TheConstants.PatternID
 use Rattle.literal_search.specs.SearchValue.{SearchValue}
 use Rattle.literal_search.specs.Inside.Walk.{IsAt, classes_by, rows_by, text_of}
-use Rattle.literal_search.specs.SearchValue.{looked_by}
+use Rattle.literal_search.specs.SearchValue.{ScansThrice, looked_by}
 use Rattle.literal_search.specs.Prepared.{AreBackTables, ArePrints, BackTables, texts_back}
 use Rattle.literal_search.specs.Table.{Recognises}
 use Rattle.literal_search.specs.declared.backward.Backward.{Backward}
 use Rattle.literal_search.specs.declared.backward.Marks.{Marks}
 use Rattle.literal_search.specs.declared.backward.TheConstants.{LEAST}
-use Rattle.literal_search.specs.declared.prepared.TheConstants.{FINGERPRINTS_LEN}
+use Rattle.literal_search.specs.declared.prepared.Damaged.{Damaged}
+use Rattle.literal_search.specs.declared.prepared.TheConstants.{SCAN_LEN}
 
--- each byte has a class, there is a row, there are identifiers for the patterns, and numbers for fingerprints
+-- each byte has a class, there is a row, there are identifiers for the patterns, and numbers for a scan for candidates
 pub record IsSafe (b : Backward) : Type 0 where
   pub each : length b.table.classes.now ≡ 64
   pub row : 256 < length b.table.rows.now
   pub few : length b.lens.now ≤ PatternID.LIMIT
-  pub prints : length b.prints.now ≡ FINGERPRINTS_LEN
+  pub prints : length b.prints.now ≡ SCAN_LEN
 
 -- the tables that they would be of a search
 abbrev pub back_tables_by : SearchValue → Backward → BackTables
@@ -34,7 +37,7 @@ back_tables_by search b = record {
   longest = b.table.longest;
 }
 
--- they are those of a search, with the length of each pattern, and fingerprints that let all of them pass, if any
+-- they are those of a search, with the length of each pattern, and a scan that stops at each of them, if any
 pub record AreBackFor (search : SearchValue) (b : Backward) : Type 0 where
   pub tables : AreBackTables (back_tables_by search b)
   pub lens : b.lens.now ≡ map (λ bytes. length bytes) search.query.patterns
@@ -142,3 +145,17 @@ pub record IsMatchBy (b : Backward) (span : Span) (at : ℕ) (found : MatchValue
   pub inside : found.end ≤ span.end
   pub short : found.end ≤ found.start + b.table.longest
   pub pattern : found.pattern < length b.lens.now
+
+-- it is known what begins at a place and some way behind it, and nothing begins between it and the answer
+pub record HasLookedAhead (b : Backward) (haystack : List ℕ) (span : Span) (from : ℕ) (numbers numbers_new : List ℕ)
+    (m new : Marks) (old_counts counts : Counts) (result : Result ℕ Damaged) : Type 0 where
+  pub later : IfOk result (λ at. (from ≤ at) × (at ≤ new.known))
+  pub none : ForBackward b (λ tables. IsOkAnd result (NoneFrom tables haystack span.end from))
+  pub marked : ForBackward b (λ tables. AreMarked tables haystack span from numbers m
+      → IfOk result (λ at. AreMarked tables haystack span at numbers_new new))
+  pub placed : IfOk result (λ at. IsPlaced b.table.longest span at new)
+  pub known : IfOk result (λ _. from < new.known)
+  pub further : (m.known ≤ new.known) × (new.known ≤ span.end)
+  pub bounded : ScansThrice (between m.known new.known) old_counts counts
+  pub least : IfOk result (λ _. old_counts.scanned + looked_by b.table.longest span new.known
+      ≤ counts.scanned + looked_by b.table.longest span m.known)

@@ -1,12 +1,9 @@
 -- The best of the patterns that are a suffix of a text.
-use Rattle.std.specs.Prelude.{◌≡◌, ◌≢◌, ◌⊎◌, ℕ, ◌<◌, ◌≤◌, List, Some, drop, length, slice_index}
-use Rattle.std.specs.Option.{unwrap_or}
+use Rattle.std.specs.Prelude.{◌≡◌, ℕ, ◌<◌, List, length, slice_index}
 use Rattle.literal_base.specs.Leftmost.{IsBetter}
 use Rattle.literal_base.specs.Occurs.{pattern_at}
 use Rattle.literal_base.specs.declared.packed.MatchKind.{MatchKind}
 use Rattle.literal_search.specs.Inside.Suffixes.{IsSuffix}
-use Rattle.literal_search.specs.Table.{nothing}
-use Rattle.literal_search.specs.Words.{ending}
 
 -- of the patterns that are a suffix of a text this one is the best
 pub record IsBestSuffix (kind : MatchKind) (patterns : List (List ℕ)) (text : List ℕ) (i : ℕ) : Type 0 where
@@ -17,18 +14,3 @@ pub record IsBestSuffix (kind : MatchKind) (patterns : List (List ℕ)) (text : 
 pub record AreBest (kind : MatchKind) (patterns : List (List ℕ)) (best : List ℕ) (count : ℕ) : Type 0 where
   pub long : length best ≡ count
   pub each : (i : ℕ) → i < count → IsBestSuffix kind patterns (pattern_at patterns i) (slice_index best i)
-
--- for each pattern up to one the first that ends with what is behind its first symbol
-pub record AreShorter (patterns : List (List ℕ)) (shorter : List ℕ) (count : ℕ) : Type 0 where
-  pub long : length shorter ≡ count
-  pub each : (i : ℕ) → i < count
-      → slice_index shorter i ≡ unwrap_or (ending patterns (drop 1 (pattern_at patterns i))) nothing
-
--- the smallest number of a pattern that is a suffix of a text, but for the suffixes of the next, which is the first of
--- its equals
-pub record IsSmallestBut (patterns : List (List ℕ)) (text : List ℕ) (smallest next : ℕ) : Type 0 where
-  pub is : IsSuffix patterns text smallest
-  pub others : (i : ℕ) → IsSuffix patterns text i
-      → (smallest ≤ i) ⊎ ((next ≢ nothing) × IsSuffix patterns (pattern_at patterns next) i)
-  pub next_is : (next ≡ nothing)
-      ⊎ (IsSuffix patterns text next × (ending patterns (pattern_at patterns next) ≡ Some next))

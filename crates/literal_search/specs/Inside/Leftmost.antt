@@ -4,7 +4,8 @@ use Rattle.std.specs.Prelude.{◌-◌, IfSome}
 use Rattle.literal_base.specs.Counts.{Counts}
 use Rattle.literal_base.specs.Occurs.{between}
 use Rattle.literal_base.specs.declared.search.Span.{Span}
-use Rattle.literal_fingerprints.specs.FingerprintsValue.{AllPass, FingerprintsValue}
+use Rattle.literal_fingerprints.specs.CandidateScans.{StopsAtEach, ahead_of}
+use Rattle.literal_fingerprints.specs.declared.candidates.CandidateScan.{CandidateScan}
 use Rattle.literal_search.specs.SearchValue.{first_part}
 use Rattle.literal_search.specs.Inside.Backward.{AreMarks, ForBackward, IsMark, NoneFrom, StandsDown}
 use Rattle.literal_search.specs.Inside.Walk.{classes_by, rows_by}
@@ -57,7 +58,7 @@ pub record IsLimit (b : Backward) (limit : ℕ) : Type 0 where
 abbrev pub HasBytes : Backward → List ℕ → Type 0
 HasBytes b classes = classes ≡ classes_by b.table
 
--- four walks stand at rows
+-- four walks stand at rows below a limit
 pub record HaveRows (limit : ℕ) (l : Lanes) : Type 0 where
   pub first : l.first < limit
   pub second : l.second < limit
@@ -85,21 +86,25 @@ pub record NoneBehind (p : BackTables) (haystack : List ℕ) (end at part left :
   pub third : NoneFrom p haystack end (at + 2 * part + left) (at + 3 * part)
   pub fourth : NoneFrom p haystack end (at + 3 * part + left) (at + 4 * part)
 
+-- four walks have each read a number for the byte before so many places of its part
+pub record AreSteps (p : BackTables) (haystack : List ℕ) (span : Span) (at part left : ℕ) (codes : Lanes) : Type 0 where
+  pub first : IsStep p haystack span (at + part) (at + left) codes.first
+  pub second : IsStep p haystack span (at + 2 * part) (at + part + left) codes.second
+  pub third : IsStep p haystack span (at + 3 * part) (at + 2 * part + left) codes.third
+  pub fourth : IsStep p haystack span (at + 4 * part) (at + 3 * part + left) codes.fourth
+
 -- four walks passed through four neighbouring parts, up to where something begins in them, or to their starts
-pub record HavePassed (b : Backward) (haystack : List ℕ) (span : Span) (at part : ℕ) (begin : Lanes) (limit : ℕ)
+pub record HavePassed (b : Backward) (haystack : List ℕ) (span : Span) (at part : ℕ) (begin : Lanes)
     (old new : Counts) (passed : Passed) : Type 0 where
   pub left : passed.left ≤ part
-  pub rows : HaveRows limit passed.lanes
-  pub lanes : ForBackward b (λ tables. AreLanes tables haystack span at part part begin
-      → AreLanes tables haystack span at part passed.left passed.lanes)
+  pub steps : 0 < passed.left → ForBackward b (λ tables. AreLanes tables haystack span at part part begin
+      → AreSteps tables haystack span at part (passed.left - 1) passed.codes)
+  pub fits : 0 < passed.left → HaveRows (2 ^ 32) passed.codes
   pub none : ForBackward b (λ tables. AreLanes tables haystack span at part part begin
       → NoneBehind tables haystack span.end at part passed.left)
   pub some : 0 < passed.left → ForBackward b (λ tables. AreLanes tables haystack span at part part begin
       → ¬ NoneFrom tables haystack span.end at (at + 4 * part))
-  pub others : new ≡ record old { scanned = new.scanned }
-  pub most : new.scanned ≤ old.scanned + 4 * part
-  pub least : old.scanned + 4 * (part - passed.left) ≤ new.scanned
-  pub all : passed.left ≡ 0 → new.scanned ≡ old.scanned + 4 * part
+  pub counted : new ≡ record old { scanned = old.scanned + 4 * (part - (passed.left - 1)) }
 
 -- of each place of four neighbouring parts behind as many bytes of each there is a mark, in a list that has that of the
 -- first of these places first
@@ -125,15 +130,20 @@ pub record IsPaid (owed at : ℕ) (b : Block) : Type 0 where
   pub once : 3 * at + 4 * b.part + 4 * b.lead + owed ≤ 3 * b.end
   pub twice : b.lead + owed ≤ 4 * b.part
 
--- how many bytes fingerprints may look up more than they pass over: none where there are none
-abbrev pub owed_by : Option FingerprintsValue → ℕ
+-- how many bytes a scan may look up more than three times those that it passes over: none where there is no scan
+abbrev pub owed_by : Option CandidateScan → ℕ
 owed_by None = 0
-owed_by (Some fingerprints) = OVERLAP
+owed_by (Some scan) = OVERLAP
 
--- fingerprints are for whatever the tables are of
-abbrev pub AreFor : Backward → Option FingerprintsValue → Type 0
-AreFor b fingerprints = ForBackward b (λ tables. IfSome fingerprints
-    (λ f. AllPass f tables.search.ignore_case tables.search.query.patterns))
+-- how many bytes a scan reads at most behind the place at which it stops
+abbrev pub ahead_by : Option CandidateScan → ℕ
+ahead_by None = 0
+ahead_by (Some scan) = ahead_of scan
+
+-- a scan is for whatever the tables are of
+abbrev pub AreFor : Backward → Option CandidateScan → Type 0
+AreFor b scan = ForBackward b (λ tables. IfSome scan
+    (λ s. StopsAtEach s tables.search.ignore_case tables.search.query.patterns))
 
 -- how many bytes are looked up for the first place of a span at which a pattern begins: all that a pattern may reach
 -- that begins there, and those of the span where none does; and not many times those before it

@@ -12,7 +12,7 @@ use Rattle.literal_search.specs.Prepared.{ArePrints, LiesIn}
 use Rattle.literal_search.specs.SearchValue.{longest_of}
 use Rattle.literal_search.specs.PreparedOverlapping.{AreTables, HasLists, Tables, ends_in, prints_behind}
 use Rattle.literal_search.specs.PreparedOverlapping.{starts_in}
-use Rattle.literal_search.specs.declared.prepared.TheConstants.{FINGERPRINTS_LEN, OVERLAPPING_VERSION}
+use Rattle.literal_search.specs.declared.prepared.TheConstants.{SCAN_LEN, OVERLAPPING_VERSION}
 use Rattle.literal_search.specs.declared.prepared_overlapping.LentTables.{LentTables}
 use Rattle.literal_search.specs.declared.standing.Standing.{Standing}
 
@@ -23,7 +23,7 @@ pub record AreLent (p : LentTables) : Type 0 where
   pub starts_are : p.starts.now ≡ starts_in p.header.numbers.now
   pub ends_are : p.ends.now ≡ ends_in p.header.numbers.now
   pub prints_are : p.prints.now ≡ prints_behind p.header.numbers.now
-  pub prints_long : length p.prints.now ≡ FINGERPRINTS_LEN
+  pub prints_long : length p.prints.now ≡ SCAN_LEN
 
 -- the tables that they would be of a search
 abbrev pub tables_by : OverlappingValue → LentTables → Tables
@@ -37,7 +37,7 @@ tables_by search p = record {
   starts = p.starts.now;
 }
 
--- they are those of a search, with fingerprints that let all of its patterns pass, if any
+-- they are those of a search, with a scan that stops at each of its patterns, if any
 pub record AreFor (search : OverlappingValue) (p : LentTables) : Type 0 where
   pub tables : AreTables (tables_by search p)
   pub lengths : p.header.lengths.now ≡ map (λ bytes. length bytes) search.patterns

@@ -1,5 +1,5 @@
 -- The fields of `Recognised` and `Lists`.
-use Rattle.std.specs.Prelude.{[], ◌∷◌, ◌≡◌, ℕ, ◌+◌, ◌-◌, ◌<◌, ◌≤◌, ◌^◌, List, Some, length, map, slice_index}
+use Rattle.std.specs.Prelude.{◌≡◌, ℕ, ◌+◌, ◌-◌, ◌<◌, ◌≤◌, ◌^◌, List, Some, length, map, slice_index}
 use Rattle.literal_base.specs.Occurs.{NoneIsEmpty, pattern_at}
 use Rattle.literal_search.specs.Inside.Classes.{AreClasses, symbols_in}
 use Rattle.literal_search.specs.Inside.Suffixes.{AreSuffixes, IsOutputLink, IsNextEqual}
@@ -35,11 +35,6 @@ pub record AreLists (patterns : List (List ℕ)) (ends starts : List ℕ) (count
       → AreSuffixes patterns (pattern_at patterns i) 0 ends (slice_index starts i) (slice_index starts (i + 1))
   pub others : (i : ℕ) → i < count → ¬ (ending patterns (pattern_at patterns i) ≡ Some i)
       → slice_index starts i ≡ slice_index starts (i + 1)
-
--- where the lists begin and the last ends, by those places that are kept: none are where there is no list
-abbrev pub starts_of : List ℕ → List ℕ
-starts_of [] = 0 ∷ []
-starts_of (start ∷ more) = start ∷ more
 
 -- a walk that read a text stands at a row
 pub record StandsBehind (r : Recognised) (place : ℕ) (text : List ℕ) : Type 0 where

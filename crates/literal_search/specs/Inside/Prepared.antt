@@ -1,6 +1,6 @@
 -- The parts of a prepared search, and how they are written.
 use Rattle.std.specs.Prelude.{◌≡◌, ◌+◌, ◌<◌, ◌^◌, ℕ, List, ◌∷◌, ◌++◌, length, map, slice_index}
-use Rattle.std.specs.Prelude.{slice_range, ◌≤◌}
+use Rattle.std.specs.Prelude.{slice_range, ◌≤◌, MatchResult, Result}
 use Rattle.std.specs.List.{splice}
 use Rattle.literal_search.specs.SearchValue.{longest_of, SearchValue}
 use Rattle.literal_search.specs.Inside.Rows.{packed_classes}
@@ -8,6 +8,7 @@ use Rattle.literal_search.specs.Prepared.{HasAllParts, HasParts, check_of, class
 use Rattle.literal_search.specs.Prepared.{lengths_in, rows_at, rows_end, width_in}
 use Rattle.literal_search.specs.Prepared.{longest_in, ForPrepared, back_tables_in, prepared_len}
 use Rattle.literal_search.specs.declared.classes.TheConstants.{PACKED_LEN}
+use Rattle.literal_search.specs.declared.prepared.ArrayTooShort.{ArrayTooShort}
 use Rattle.literal_search.specs.declared.prepared.Header.{Header}
 use Rattle.literal_search.specs.declared.prepared.TheConstants.{LENGTHS_AT}
 use Rattle.literal_search.specs.declared.walk.Table.{Table}
@@ -45,6 +46,12 @@ header_table f =
 -- numbers stand in a list from a place on, and the rest of it is as it was
 abbrev pub Puts : ℕ → List ℕ → List ℕ → List ℕ → Type 0
 Puts at numbers old new = new ≡ splice old at (at + length numbers) numbers
+
+-- numbers are put into the first places of an array, unless it is too short
+abbrev pub IsPut : List ℕ → List ℕ → List ℕ → Result ℕ ArrayTooShort → Type 0
+IsPut numbers old new result = MatchResult result
+    (λ needed. (needed ≡ length numbers) × (needed ≤ length old) × Puts 0 numbers old new)
+    (λ error. (error.needed ≡ length numbers) × (length old < error.needed) × (new ≡ old))
 
 -- numbers behind a version and their check
 abbrev pub checked : ℕ → List ℕ → List ℕ

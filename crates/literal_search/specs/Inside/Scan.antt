@@ -28,9 +28,9 @@ abbrev pub NoneBefore : List (List ℕ) → Bool → List ℕ → Span → ℕ �
 NoneBefore patterns ignore_case haystack span at =
     (i place : ℕ) → Occurs patterns ignore_case haystack span i place → at ≤ place
 
--- one walk goes so far before bytes are passed over: half as far as is then read in vain, by fingerprints 16 bytes, by
+-- one walk goes so far before bytes are passed over: half as far as is then read in vain, by a scan 16 bytes, by
 -- four walks six blocks, each at least twice as long as the longest pattern
-pub record IsNear (t : Table) (by_fingerprints : Bool) (near : ℕ) : Type 0 where
+pub record IsNear (t : Table) (by_scan : Bool) (near : ℕ) : Type 0 where
   pub some : 8 ≤ near
-  pub long : by_fingerprints ≡ false → t.longest ≤ LONGEST → 6 * t.longest ≤ near
+  pub long : by_scan ≡ false → t.longest ≤ LONGEST → 6 * t.longest ≤ near
   pub short : near ≤ 6 * LONGEST

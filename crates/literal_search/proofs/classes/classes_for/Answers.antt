@@ -1,10 +1,9 @@
-use Rattle.std.proofs.Common.{◌≡◌, ◌+◌, ◌∙◌, ◌⊎◌, ℕ, List, ap, arith, false, get_or, map, min, refl, subst, sym, true}
+use Rattle.std.proofs.Common.{◌+◌, ◌∙◌, ℕ, ap, arith, map, min, refl, sym}
 use Rattle.std.proofs.lemmas.Bool.{false≢true}
 use Rattle.std.proofs.lemmas.List.{length-map}
 use Rattle.std.specs.Global.{Vec}
 use Rattle.literal_search.specs.SearchValue.{width_for}
-use Rattle.literal_search.specs.Inside.Classes.{IsFoldOfOne, Marks}
-use Rattle.literal_search.proofs.lemmas.Classes.{marked_are, marks_all, marks_more, none_marked, only_more, tells_by}
+use Rattle.literal_search.proofs.lemmas.Classes.{marked_are, marks_all, none_marked, tells_by}
 use Rattle.literal_search.proofs.classes.classes_for.Goals as goal
 
 pub loop-pattern-init : goal.loop-pattern-init
@@ -13,24 +12,6 @@ loop-pattern-init c = record {
   marks = λ i d none. absurd (omega arith);
   only = λ b marked. absurd (false≢true (sym (none_marked b) ∙ marked));
 }
-
-pub loop-pattern-preserved : goal.loop-pattern-preserved
-loop-pattern-preserved c =
-    let patterns = c.args.patterns.now in
-    let here = c.pattern-item.result in
-    let old = c.loop-pattern.seen in
-    let new = c.mark.new.seen in
-    let read = c.deref.ensures.value in
-    record {
-      each = omega (arith, c.mark.auto.seen, c.loop-pattern.invariant.each);
-      marks = marks_more c.args.ignore_case old new patterns c.loop-pattern.pattern-index here
-          c.loop-pattern.invariant.marks c.mark.ensures.keeps c.loop-pattern-test.true c.pattern-item.is
-          (subst (λ (bytes : List ℕ). Marks c.args.ignore_case new bytes) read c.mark.ensures.marks);
-      only = only_more c.args.ignore_case old new patterns c.loop-pattern.pattern-index here
-          c.loop-pattern.invariant.only c.loop-pattern-test.true c.pattern-item.is
-          (λ b marked. subst (λ (bytes : List ℕ). (get_or old b false ≡ true) ⊎ IsFoldOfOne c.args.ignore_case bytes b)
-          read (c.mark.ensures.only b marked));
-    }
 
 pub returns-clause-tells : goal.returns-clause-tells
 returns-clause-tells c =

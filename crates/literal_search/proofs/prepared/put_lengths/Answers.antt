@@ -1,12 +1,8 @@
-use Rattle.std.proofs.Common.{◌∙◌, ℕ, List, [], ap, arith, length, map, subst, sym}
-use Rattle.std.proofs.lemmas.List.{get_or-map, length-map, take_all}
+use Rattle.std.proofs.Common.{◌∙◌, ℕ, List, [], ap, arith, length, map, sym}
+use Rattle.std.proofs.lemmas.List.{get_or-map, length-map}
 use Rattle.std.specs.Global.{Vec}
-use Rattle.literal_search.specs.Inside.Prepared.{Puts}
-use Rattle.literal_search.proofs.lemmas.Written.{puts_next, puts_none}
+use Rattle.literal_search.proofs.lemmas.Written.{puts_next}
 use Rattle.literal_search.proofs.prepared.put_lengths.Goals as goal
-
-pub loop-i-init : goal.loop-i-init
-loop-i-init c = puts_none 6 c.args.array.now
 
 pub overflow_cast-array : goal.overflow_cast-array
 overflow_cast-array c =
@@ -32,11 +28,3 @@ loop-i-preserved c =
     (omega (arith, room, count)) (omega (arith, count, c.loop-i-test.true))
     (omega (arith, read, pattern.ok.0, c.len.ensures))
     c.loop-i.invariant
-
-pub returns : goal.returns
-returns c =
-    let patterns = c.args.patterns.now in
-    let all = map (λ (p : Vec ℕ). length p.items) patterns in
-    subst (λ (numbers : List ℕ). Puts 6 numbers c.args.array.now c.loop-i.array)
-    (take_all c.loop-i.i all
-    (omega (arith, c.loop-i-test.false, length-map patterns (λ (p : Vec ℕ). length p.items)))) c.loop-i.invariant

@@ -6,16 +6,6 @@ use Rattle.literal_search.specs.PreparedOverlapping.{starts_in}
 use Rattle.literal_search.proofs.lemmas.LentTables.{parts_end}
 use Rattle.literal_search.proofs.prepared_overlapping.lent_in.Goals as goal
 
-pub returns-then-numbers-ends_at : goal.returns-then-numbers-ends_at
-returns-then-numbers-ends_at c = λ lists.
-    let numbers = c.args.numbers.now in
-    let f = c.in_ok-header.header in
-    let known = parts_end f numbers c.in_ok-header.ensures.0 c.in_ok-header.ensures.2 in
-    let fits = lists.fits in
-    let last : 6 + length f.lengths.now + length f.rows.now + length f.lengths.now
-    ≡ classes_end numbers + get_or numbers 3 0 = omega (arith, known.0, known.1) in
-    omega (arith, known.0, known.1, fits, ap (λ k. get_or numbers k 0) last, c.if-numbers-ends_at.true)
-
 pub returns : goal.returns
 returns c =
     let numbers = c.args.numbers.now in
@@ -29,7 +19,7 @@ returns c =
     let listed : 6 + length f.lengths.now + length f.rows.now + length f.lengths.now + 1
     + get_or numbers (6 + length f.lengths.now + length f.rows.now + length f.lengths.now) 0 ≡ listed_len numbers =
     omega (arith, ends, ap (λ k. get_or numbers k 0) last) in
-    let prints = ap (λ from. slice_range numbers from (from + 33)) listed ∙ ap prints_behind (sym same) in (
+    let prints = ap (λ from. slice_range numbers from (from + 35)) listed ∙ ap prints_behind (sym same) in (
       same,
       record {
         header = c.in_ok-header.ensures.2;

@@ -21,7 +21,7 @@ module _ (f : Header) (numbers : List ℕ) (same : f.numbers.now ≡ numbers) (h
   known : (end f ≡ classes_end numbers) × (length f.lengths.now ≡ get_or numbers 3 0)
   known = parts_end f numbers same header
 
-  has_parts : HasParts PREPARED_VERSION numbers → end f + length f.lengths.now + 33 ≤ length numbers
+  has_parts : HasParts PREPARED_VERSION numbers → end f + length f.lengths.now + 35 ≤ length numbers
       → length f.rows.now ≢ 256 → HasAllParts f.numbers.now
   has_parts parts long some =
       let own = parts_end f f.numbers.now refl header in
@@ -38,31 +38,17 @@ module _ (f : Header) (numbers : List ℕ) (same : f.numbers.now ≡ numbers) (h
       ap (λ from. slice_range numbers from (end f + length f.lengths.now)) known.0
       ∙ (ap (slice_range numbers (classes_end numbers)) to ∙ ap best_in (sym same))
 
-  prints_are : slice_range numbers (end f + length f.lengths.now) (end f + length f.lengths.now + 33)
+  prints_are : slice_range numbers (end f + length f.lengths.now) (end f + length f.lengths.now + 35)
       ≡ prints_in numbers
   prints_are =
       let from : end f + length f.lengths.now ≡ best_end numbers = omega (arith, known.0, known.1) in
-      let to : end f + length f.lengths.now + 33 ≡ prepared_len numbers = omega (arith, known.0, known.1) in
-      ap (λ k. slice_range numbers k (end f + length f.lengths.now + 33)) from
+      let to : end f + length f.lengths.now + 35 ≡ prepared_len numbers = omega (arith, known.0, known.1) in
+      ap (λ k. slice_range numbers k (end f + length f.lengths.now + 35)) from
       ∙ ap (slice_range numbers (best_end numbers)) to
 
   -- why there are none
-  short : length numbers < end f + length f.lengths.now + 33 → ¬ HasAllParts numbers
+  short : length numbers < end f + length f.lengths.now + 35 → ¬ HasAllParts numbers
   short few parts = let fits = parts.fits in omega (arith, few, fits, known.0, known.1)
-
-  no_row : length f.rows.now ≡ 256 → ¬ HasAllParts numbers
-  no_row none parts = let row = parts.row in omega (arith, none, row, known.0, known.1)
-
-pub returns-then-is_short : goal.returns-then-is_short
-returns-then-is_short c = λ parts.
-    let f = c.in_ok-header.header in
-    let numbers = c.args.numbers.now in
-    let told = c.in_ok-header.ensures in
-    elim c.then-is_short.branch [
-      | goal.then-is_short-via-then-is_short w ↦ short f numbers told.0 told.2 w.if-is_short.true parts
-      | goal.then-is_short-via-else-is_short+then-header-eq-CLASSES_LEN w ↦
-          no_row f numbers told.0 told.2 w.if-header-eq-CLASSES_LEN.true parts
-    ]
 
 pub returns : goal.returns
 returns c =
@@ -86,7 +72,7 @@ returns c =
         each = classes_long header;
         row = omega (arith, parts.row, known.0, known.1);
         few = omega (arith, told.1.few, known.1);
-        prints = length_part numbers (end f + length f.lengths.now) (end f + length f.lengths.now + 33) (omega arith)
+        prints = length_part numbers (end f + length f.lengths.now) (end f + length f.lengths.now + 35) (omega arith)
             (omega (arith, c.if-is_short.false)) ∙ omega arith;
       };
       is_for = λ search is. record {

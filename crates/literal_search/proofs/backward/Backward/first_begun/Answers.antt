@@ -1,10 +1,25 @@
-use Rattle.std.proofs.Common.{◌∙◌, ap, arith, inl, refl, subst, sym}
+use Rattle.std.proofs.Common.{◌≡◌, ℕ, ◌+◌, ◌-◌, ◌*◌, ◌<◌, ◌≤◌, ◌∙◌, IfOk, Err, None, Ok, Option, Result, Some, ap, arith, inl, inr, refl, subst, sym}
+use Rattle.std.proofs.lemmas.Bool.{cases_lt}
 use Rattle.literal_base.specs.Counts.{Counts}
 use Rattle.literal_search.specs.Inside.Backward.{back_tables_by}
-use Rattle.literal_search.specs.Inside.Leftmost.{IsFront}
+use Rattle.literal_base.specs.declared.search.Span.{Span}
+use Rattle.literal_search.specs.Inside.Leftmost.{IsFront, LiesInPart, ReadsFor}
+use Rattle.literal_search.specs.SearchValue.{first_part}
+use Rattle.literal_search.specs.declared.backward.Begun.{Begun}
+use Rattle.literal_search.specs.declared.prepared.Damaged.{Damaged}
 use Rattle.literal_search.proofs.lemmas.Leftmost.{found_reads, lane_begins, no_first, none_on, ok_part_on}
 use Rattle.literal_search.proofs.lemmas.Leftmost.{part_on, some_first}
 use Rattle.literal_search.proofs.backward.Backward.first_begun.Goals as goal
+
+-- a walk through the rest of a span has looked up what is allowed for its answer
+rest_reads : (longest : ℕ) (span : Span) (old now new at : ℕ) → old + at ≤ now + span.start
+    → now + (span.end - at) + 11 * span.start ≤ old + 11 * at + 36 * first_part longest → at ≤ span.end
+    → (result : Result (Option Begun) Damaged) → IfOk result (λ _. new + at ≡ now + span.end)
+    → IfOk result (LiesInPart at span.end) → IfOk result (ReadsFor longest span old new)
+rest_reads longest span old now new at least most inside (Ok None) all lies = omega (arith, all, least)
+rest_reads longest span old now new at least most inside (Ok (Some begun)) all lies =
+    (omega (arith, all, least), omega (arith, all, most, lies.0, inside))
+rest_reads longest span old now new at least most inside (Err damaged) all lies = all
 
 pub loop-block-init : goal.loop-block-init
 loop-block-init c = record {
@@ -106,6 +121,21 @@ returns-clause-first c = λ search is.
     let at = c.loop-block.front.at in
     ok_part_on tables c.args.haystack.now span.end span.start at span.end (c.loop-block.invariant.none search is)
     c.first_in.result
-    (c.first_in.ensures.first search is
+    (c.first_in.ensures.first search is span.end span.end (omega arith)
     (lane_begins tables is.tables c.args.haystack.now (λ i. omega (arith, c.type_inv.haystack i)) span span.end span.end
-    span.end refl (omega arith) (inl refl)))
+    span.end refl (omega arith) (inl refl)) (λ k after before. absurd (omega (arith, after, before))))
+
+pub returns-clause-counted : goal.returns-clause-counted
+returns-clause-counted c =
+    let span = c.args.span in
+    let at = c.loop-block.front.at in
+    let front = c.loop-block.invariant.front in
+    let most : c.loop-block.tally.scanned + (span.end - at) + 11 * span.start
+    ≤ c.args.tally.now.scanned + 11 * at + 36 * first_part c.args.self.now.table.longest =
+    elim (cases_lt at span.end) [
+      | inl before ↦ omega (arith, front.most, front.near before, front.after, c.in_default.ensures.rest refl)
+      | inr not ↦ omega (arith, front.most, front.after, not)
+    ] in
+    rest_reads c.args.self.now.table.longest span c.args.tally.now.scanned c.loop-block.tally.scanned
+    c.first_in.new.tally.scanned at front.least most front.inside c.first_in.result c.first_in.ensures.all
+    (c.first_in.ensures.inside span.end (omega arith) tt)

@@ -1,4 +1,4 @@
-use Rattle.std.proofs.Common.{◌≡◌, ◌+◌, ◌<◌, ◌≤◌}
+use Rattle.std.proofs.Common.{◌≡◌, ℕ, ◌+◌, ◌<◌, ◌≤◌}
 use Rattle.literal_base.specs.Occurs.{between}
 use Rattle.literal_search.specs.Inside.Backward.{ForBackward}
 use Rattle.literal_search.specs.Inside.Leftmost.{IsFirstBegun, IsLane, LiesInPart}
@@ -9,11 +9,15 @@ invariant-loop-at l = record {
   after : l.fn.part.start ≤ l.at;
   inside : l.at ≤ l.fn.part.end;
   row : l.place < l.fn.limit;
-  lane : ForBackward l.fn.self (λ tables. IsLane tables l.fn.haystack l.fn.span l.fn.part.end l.fn.part.end l.fn.from
-      → IsLane tables l.fn.haystack l.fn.span l.fn.part.end l.at l.place);
-  first : ForBackward l.fn.self (λ tables. IsLane tables l.fn.haystack l.fn.span l.fn.part.end l.fn.part.end l.fn.from
-      → IsFirstBegun tables l.fn.haystack l.fn.span.end (between l.at l.fn.part.end) l.first);
-  begun : LiesInPart l.at l.fn.part.end l.first;
+  lane : ForBackward l.fn.self (λ tables. (end : ℕ)
+      → IsLane tables l.fn.haystack l.fn.span end l.fn.part.end l.fn.from
+      → IsLane tables l.fn.haystack l.fn.span end l.at l.place);
+  first : ForBackward l.fn.self (λ tables. (end upto : ℕ) → l.fn.part.end ≤ end
+      → IsLane tables l.fn.haystack l.fn.span end l.fn.part.end l.fn.from
+      → IsFirstBegun tables l.fn.haystack l.fn.span.end (between l.fn.part.end upto) l.fn.behind
+      → IsFirstBegun tables l.fn.haystack l.fn.span.end (between l.at upto) l.first);
+  begun : (upto : ℕ) → l.fn.part.end ≤ upto → LiesInPart l.fn.part.end upto l.fn.behind
+      → LiesInPart l.at upto l.first;
   others : l.tally ≡ record l.fn.tally { scanned = l.tally.scanned };
   scanned : l.tally.scanned + l.at ≡ l.fn.tally.scanned + l.fn.part.end;
 }

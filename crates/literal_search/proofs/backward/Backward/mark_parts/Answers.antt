@@ -1,153 +1,92 @@
-use Rattle.std.proofs.Common.{◌≡◌, ◌+◌, ◌-◌, ◌*◌, ◌≤◌, ◌∙◌, ℕ, ap, arith, inl, inr, length}
-use Rattle.std.proofs.Common.{refl, set, subst}
+use Rattle.std.proofs.Common.{◌≡◌, ◌+◌, ◌-◌, ◌*◌, ◌≤◌, ◌∙◌, ℕ, ap, arith, length, set, subst, sym}
+use Rattle.std.proofs.lemmas.Bool.{false≢true}
 use Rattle.std.proofs.lemmas.List.{length-set}
 use Rattle.literal_base.specs.Counts.{Counts}
 use Rattle.literal_search.specs.Inside.Backward.{AreBackFor, back_tables_by}
-use Rattle.literal_search.specs.Inside.Leftmost.{AreLanes, AreMarksBehind, IsStep}
+use Rattle.literal_search.specs.Inside.Leftmost.{AreLanes, AreMarksBehind, AreSteps}
 use Rattle.literal_search.specs.SearchValue.{SearchValue}
-use Rattle.literal_search.proofs.lemmas.Leftmost.{marks_kept, marks_of_four, marks_on, one_more}
+use Rattle.literal_search.specs.declared.leftmost.Lanes.{Lanes}
+use Rattle.literal_search.proofs.lemmas.Leftmost.{marks_in_four, marks_of_four, one_more, rows_of_steps, steps_in_four}
 use Rattle.literal_search.proofs.backward.Backward.mark_parts.Goals as goal
 
-pub returns-in_err-one-clause-marks : goal.returns-in_err-one-clause-marks
-returns-in_err-one-clause-marks c = λ search is lanes marked.
-    let at = c.args.at in
-    absurd (c.in_err-one.ensures.step search is c.args.span (at + c.args.part) (at + c.loop-step.step)
-    (at + (c.loop-step.step - 1)) c.requires.valid.in_haystack (omega arith) refl
-    (c.loop-step.invariant.lanes search is lanes).first)
-
-pub returns-in_err-two-clause-marks : goal.returns-in_err-two-clause-marks
-returns-in_err-two-clause-marks c = λ search is lanes marked.
-    let at = c.args.at in
-    let part = c.args.part in
-    absurd (c.in_err-two.ensures.step search is c.args.span (at + 2 * part) (at + part + c.loop-step.step)
-    (at + (c.loop-step.step - 1) + part) c.requires.valid.in_haystack (omega arith) refl
-    (c.loop-step.invariant.lanes search is lanes).second)
-
-pub returns-in_err-three-clause-marks : goal.returns-in_err-three-clause-marks
-returns-in_err-three-clause-marks c = λ search is lanes marked.
-    let at = c.args.at in
-    let part = c.args.part in
-    absurd (c.in_err-three.ensures.step search is c.args.span (at + 3 * part) (at + 2 * part + c.loop-step.step)
-    (at + (c.loop-step.step - 1) + 2 * part) c.requires.valid.in_haystack (omega arith) refl
-    (c.loop-step.invariant.lanes search is lanes).third)
-
-pub returns-in_err-four-clause-marks : goal.returns-in_err-four-clause-marks
-returns-in_err-four-clause-marks c = λ search is lanes marked.
-    let at = c.args.at in
-    let part = c.args.part in
-    absurd (c.in_err-four.ensures.step search is c.args.span (at + 4 * part) (at + 3 * part + c.loop-step.step)
-    (at + (c.loop-step.step - 1) + 3 * part) c.requires.valid.in_haystack (omega arith) refl
-    (c.loop-step.invariant.lanes search is lanes).fourth)
+pub returns-then-not-are_rows-clause-marks : goal.returns-then-not-are_rows-clause-marks
+returns-then-not-are_rows-clause-marks c = λ search is lanes marked.
+    let step = c.loop-step.step - 1 in
+    let tables = back_tables_by search c.args.self.now in
+    let codes : Lanes = record {
+      first = c.code_by-first.result;
+      second = c.code_by-second.result;
+      third = c.code_by-third.result;
+      fourth = c.code_by-fourth.result;
+    } in
+    let now = c.loop-step.invariant.lanes search is lanes in
+    let steps = steps_in_four tables is.tables c.args.haystack.now (λ i. omega (arith, c.type_inv.haystack i))
+    c.args.span c.requires.valid.in_haystack c.args.at c.args.part c.loop-step.step step (c.args.at + step)
+    c.loop-step.now codes (omega arith) (omega arith) now
+    (c.code_by-first.ensures.number is.tables.classes now.first.stands.row)
+    (c.code_by-second.ensures.number is.tables.classes now.second.stands.row)
+    (c.code_by-third.ensures.number is.tables.classes now.third.stands.row)
+    (c.code_by-fourth.ensures.number is.tables.classes now.fourth.stands.row) in
+    let rows = rows_of_steps c.args.self.now search c.args.haystack.now c.args.span c.args.at c.args.part step
+    c.args.limit codes c.requires.limit steps in
+    false≢true (sym c.if-not-are_rows.true ∙ c.are_rows.ensures.1 rows)
 
 pub loop-step-preserved : goal.loop-step-preserved
 loop-step-preserved c =
     let haystack = c.args.haystack.now in
     let span = c.args.span in
-    let end = span.end in
     let at = c.args.at in
     let part = c.args.part in
-    let left = c.args.passed.left in
+    let left = c.args.left in
     let next = c.loop-step.step in
     let step = next - 1 in
-    let valid = c.requires.valid.in_haystack in
     let so_far = c.loop-step.invariant in
     let before = so_far.before in
     let room : 4 * part ≤ length c.loop-step.marks = omega (arith, so_far.long, c.requires.room) in
-    let marks0 = c.loop-step.marks in
-    let marks1 = set marks0 step c.in_ok-one.one in
-    let marks2 = set marks1 (step + part) c.in_ok-two.two in
-    let marks3 = set marks2 (step + 2 * part) c.in_ok-three.three in
-    let long1 : length marks1 ≡ length marks0 = length-set marks0 step c.in_ok-one.one in
-    let long2 : length marks2 ≡ length marks0 = length-set marks1 (step + part) c.in_ok-two.two ∙ long1 in
-    let long3 : length marks3 ≡ length marks0 = length-set marks2 (step + 2 * part) c.in_ok-three.three ∙ long2 in
+    let codes : Lanes = record {
+      first = c.code_by-first.result;
+      second = c.code_by-second.result;
+      third = c.code_by-third.result;
+      fourth = c.code_by-fourth.result;
+    } in
+    let marks1 = set c.loop-step.marks step codes.first in
+    let marks2 = set marks1 (step + part) codes.second in
+    let marks3 = set marks2 (step + 2 * part) codes.third in
     let tables = λ (search : SearchValue). back_tables_by search c.args.self.now in
-    let Start = λ (search : SearchValue). AreLanes (tables search) haystack span at part left c.args.passed.lanes in
-    let one : (search : SearchValue) → AreBackFor search c.args.self.now → Start search
-    → IsStep (tables search) haystack span (at + part) (at + step) c.in_ok-one.one =
-    λ search is lanes. c.in_ok-one.ensures.step search is span (at + part) (at + next) (at + step) valid (omega arith)
-    (omega arith) (so_far.lanes search is lanes).first in
-    let two : (search : SearchValue) → AreBackFor search c.args.self.now → Start search
-    → IsStep (tables search) haystack span (at + 2 * part) (at + part + step) c.in_ok-two.two =
-    λ search is lanes. c.in_ok-two.ensures.step search is span (at + 2 * part) (at + part + next) (at + part + step)
-    valid
-    (omega arith) (omega arith) (so_far.lanes search is lanes).second in
-    let three : (search : SearchValue) → AreBackFor search c.args.self.now → Start search
-    → IsStep (tables search) haystack span (at + 3 * part) (at + 2 * part + step) c.in_ok-three.three =
-    λ search is lanes. c.in_ok-three.ensures.step search is span (at + 3 * part) (at + 2 * part + next)
-    (at + 2 * part + step) valid (omega arith) (omega arith) (so_far.lanes search is lanes).third in
-    let four : (search : SearchValue) → AreBackFor search c.args.self.now → Start search
-    → IsStep (tables search) haystack span (at + 4 * part) (at + 3 * part + step) c.in_ok-four.four =
-    λ search is lanes. c.in_ok-four.ensures.step search is span (at + 4 * part) (at + 3 * part + next)
-    (at + 3 * part + step) valid (omega arith) (omega arith) (so_far.lanes search is lanes).fourth in
+    let steps : (search : SearchValue) → AreBackFor search c.args.self.now
+    → AreLanes (tables search) haystack span at part left c.args.lanes
+    → AreSteps (tables search) haystack span at part step codes = λ search is lanes.
+    let now = so_far.lanes search is lanes in
+    steps_in_four (tables search) is.tables haystack (λ i. omega (arith, c.type_inv.haystack i)) span
+    c.requires.valid.in_haystack at part next step (at + step) c.loop-step.now codes (omega arith) (omega arith) now
+    (c.code_by-first.ensures.number is.tables.classes now.first.stands.row)
+    (c.code_by-second.ensures.number is.tables.classes now.second.stands.row)
+    (c.code_by-third.ensures.number is.tables.classes now.third.stands.row)
+    (c.code_by-fourth.ensures.number is.tables.classes now.fourth.stands.row) in
     let sum : c.args.tally.now.scanned + 4 * (left - next) + 1 + 1 + 1 + 1
     ≡ c.args.tally.now.scanned + 4 * (left - step) = omega (arith, before) in
     record {
       before = omega (arith, before);
-      long = length-set marks3 (step + 3 * part) c.in_ok-four.four ∙ (long3 ∙ so_far.long);
-      rows = record {
-        first = c.in_ok-one.ensures.leads;
-        second = c.in_ok-two.ensures.leads;
-        third = c.in_ok-three.ensures.leads;
-        fourth = c.in_ok-four.ensures.leads;
-      };
-      lanes = λ search is lanes. record {
-        first = (one search is lanes).lane;
-        second = (two search is lanes).lane;
-        third = (three search is lanes).lane;
-        fourth = (four search is lanes).lane;
-      };
-      marks = λ search is lanes marked.
-          let p = tables search in
-          let are = so_far.marks search is lanes marked in
+      long = length-set marks3 (step + 3 * part) codes.fourth
+          ∙ (length-set marks2 (step + 2 * part) codes.third
+          ∙ (length-set marks1 (step + part) codes.second
+          ∙ (length-set c.loop-step.marks step codes.first ∙ so_far.long)));
+      rows = c.are_rows.ensures.0 c.if-not-are_rows.false;
+      lanes = λ search is lanes.
+          let four = steps search is lanes in
           record {
-            first =
-                marks_kept p haystack end marks3 at (at + step) (at + part) (step + 3 * part) c.in_ok-four.four
-                (omega arith) (inr (omega arith))
-                (marks_kept p haystack end marks2 at (at + step) (at + part) (step + 2 * part) c.in_ok-three.three
-                (omega arith) (inr (omega arith))
-                (marks_kept p haystack end marks1 at (at + step) (at + part) (step + part) c.in_ok-two.two (omega arith)
-                (inr (omega arith))
-                (marks_on p haystack end marks0 at (at + step) (at + next) (at + part) step c.in_ok-one.one (omega
-                arith)
-                (omega arith) (omega arith) (omega (arith, room, before))
-                ((one search is lanes).mark (omega (arith, before))) are.first)));
-            second =
-                marks_kept p haystack end marks3 at (at + part + step) (at + 2 * part) (step + 3 * part)
-                c.in_ok-four.four
-                (omega arith) (inr (omega arith))
-                (marks_kept p haystack end marks2 at (at + part + step) (at + 2 * part) (step + 2 * part)
-                c.in_ok-three.three (omega arith) (inr (omega arith))
-                (marks_on p haystack end marks1 at (at + part + step) (at + part + next) (at + 2 * part) (step + part)
-                c.in_ok-two.two (omega arith) (omega arith) (omega arith) (omega (arith, room, before, long1))
-                ((two search is lanes).mark (omega (arith, before)))
-                (marks_kept p haystack end marks0 at (at + part + next) (at + 2 * part) step c.in_ok-one.one (omega
-                arith)
-                (inl (omega (arith, before))) are.second)));
-            third =
-                marks_kept p haystack end marks3 at (at + 2 * part + step) (at + 3 * part) (step + 3 * part)
-                c.in_ok-four.four (omega arith) (inr (omega arith))
-                (marks_on p haystack end marks2 at (at + 2 * part + step) (at + 2 * part + next) (at + 3 * part)
-                (step + 2 * part) c.in_ok-three.three (omega arith) (omega arith) (omega arith)
-                (omega (arith, room, before, long2)) ((three search is lanes).mark (omega (arith, before)))
-                (marks_kept p haystack end marks1 at (at + 2 * part + next) (at + 3 * part) (step + part)
-                c.in_ok-two.two (omega arith) (inl (omega (arith, before)))
-                (marks_kept p haystack end marks0 at (at + 2 * part + next) (at + 3 * part) step c.in_ok-one.one
-                (omega arith) (inl (omega (arith, before))) are.third)));
-            fourth =
-                marks_on p haystack end marks3 at (at + 3 * part + step) (at + 3 * part + next) (at + 4 * part)
-                (step + 3 * part) c.in_ok-four.four (omega arith) (omega arith) (omega arith)
-                (omega (arith, room, before, long3)) ((four search is lanes).mark (omega (arith, before)))
-                (marks_kept p haystack end marks2 at (at + 3 * part + next) (at + 4 * part) (step + 2 * part)
-                c.in_ok-three.three (omega arith) (inl (omega (arith, before)))
-                (marks_kept p haystack end marks1 at (at + 3 * part + next) (at + 4 * part) (step + part)
-                c.in_ok-two.two (omega arith) (inl (omega (arith, before)))
-                (marks_kept p haystack end marks0 at (at + 3 * part + next) (at + 4 * part) step c.in_ok-one.one
-                (omega arith) (inl (omega (arith, before))) are.fourth)));
+            first = four.first.lane;
+            second = four.second.lane;
+            third = four.third.lane;
+            fourth = four.fourth.lane;
           };
-      counted = c.in_ok-four.ensures.ticks
-          ∙ (one_more _ _ (c.in_ok-three.ensures.ticks
-          ∙ one_more _ _ (c.in_ok-two.ensures.ticks
-          ∙ one_more _ _ (c.in_ok-one.ensures.ticks ∙ one_more _ _ so_far.counted)))
+      marks = λ search is lanes marked.
+          marks_in_four (tables search) haystack span at part step next c.loop-step.marks codes (omega arith)
+          (omega (arith, before, c.requires.left)) room (steps search is lanes) (so_far.marks search is lanes marked);
+      counted = c.code_by-fourth.ensures.ticks
+          ∙ (one_more _ _ (c.code_by-third.ensures.ticks
+          ∙ one_more _ _ (c.code_by-second.ensures.ticks
+          ∙ one_more _ _ (c.code_by-first.ensures.ticks ∙ one_more _ _ so_far.counted)))
           ∙ ap (λ (n : ℕ). let n' : Counts = record c.args.tally.now { scanned = n } in n') sum);
     }
 

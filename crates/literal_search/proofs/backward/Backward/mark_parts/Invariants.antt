@@ -5,25 +5,15 @@ use Rattle.literal_search.proofs.backward.Backward.mark_parts.Given as goal
 
 abbrev pub invariant-loop-step : goal.invariant-loop-step
 invariant-loop-step l = record {
-  before : l.step ≤ l.fn.passed.left;
+  before : l.step ≤ l.fn.left;
   long : length l.marks ≡ length l.fn.marks;
-  rows : HaveRows l.fn.limit (record {
-    first = l.first;
-    second = l.second;
-    third = l.third;
-    fourth = l.fourth;
-  });
-  lanes : ForBackward l.fn.self (λ tables. AreLanes tables l.fn.haystack l.fn.span l.fn.at l.fn.part l.fn.passed.left
-      l.fn.passed.lanes
-      → AreLanes tables l.fn.haystack l.fn.span l.fn.at l.fn.part l.step (record {
-        first = l.first;
-        second = l.second;
-        third = l.third;
-        fourth = l.fourth;
-      }));
-  marks : ForBackward l.fn.self (λ tables. AreLanes tables l.fn.haystack l.fn.span l.fn.at l.fn.part l.fn.passed.left
-      l.fn.passed.lanes
-      → AreMarksBehind tables l.fn.haystack l.fn.span.end l.fn.marks l.fn.at l.fn.part l.fn.passed.left
+  rows : HaveRows l.fn.limit l.now;
+  lanes : ForBackward l.fn.self (λ tables. AreLanes tables l.fn.haystack l.fn.span l.fn.at l.fn.part l.fn.left
+      l.fn.lanes
+      → AreLanes tables l.fn.haystack l.fn.span l.fn.at l.fn.part l.step l.now);
+  marks : ForBackward l.fn.self (λ tables. AreLanes tables l.fn.haystack l.fn.span l.fn.at l.fn.part l.fn.left
+      l.fn.lanes
+      → AreMarksBehind tables l.fn.haystack l.fn.span.end l.fn.marks l.fn.at l.fn.part l.fn.left
       → AreMarksBehind tables l.fn.haystack l.fn.span.end l.marks l.fn.at l.fn.part l.step);
-  counted : l.tally ≡ record l.fn.tally { scanned = l.fn.tally.scanned + 4 * (l.fn.passed.left - l.step) };
+  counted : l.tally ≡ record l.fn.tally { scanned = l.fn.tally.scanned + 4 * (l.fn.left - l.step) };
 }

@@ -1,24 +1,10 @@
-use Rattle.std.proofs.Common.{◌≡◌, ◌+◌, ◌<◌, ◌∙◌, ◌++◌, ◌∷◌, [], ap, arith, length, ℕ, sym, subst}
+use Rattle.std.proofs.Common.{◌≡◌, ◌+◌, ◌∙◌, ap, length, ℕ, sym, subst}
 use Rattle.std.specs.Global.{Vec}
 use Rattle.literal_search.specs.Inside.Grown.{AreWords}
 use Rattle.literal_search.specs.Inside.Growing.{texts_of, words_of}
-use Rattle.literal_search.specs.Table.{LeadsTo}
-use Rattle.literal_search.specs.Words.{live_suffix, word_of}
 use Rattle.literal_search.specs.declared.grow.Texts.{Texts}
-use Rattle.literal_search.proofs.lemmas.Growing.{words_kept, words_length}
+use Rattle.literal_search.proofs.lemmas.Growing.{words_kept}
 use Rattle.literal_search.proofs.grow.Growing.add_place.Goals as goal
-
-pub push_next-requires-clause-leads : goal.push_next-requires-clause-leads
-push_next-requires-clause-leads c =
-    let g = c.args.self.now in
-    let g' = c.next.new.self in
-    let said = c.in_ok-next.ensures in
-    let below : c.args.state < length (words_of g) =
-    omega (arith, c.requires.is_state, words_length g.texts g.states.items) in
-    subst (λ (u : Texts). LeadsTo (texts_of u) (words_of g') u.width c.in_ok-next.next
-    (live_suffix (texts_of u) (word_of (words_of g') c.args.state ++ c.args.class ∷ []))) (sym said.same.0)
-    (subst (λ w. LeadsTo (texts_of g.texts) (words_of g') g.texts.width c.in_ok-next.next
-    (live_suffix (texts_of g.texts) (w ++ c.args.class ∷ []))) (sym (said.kept.same c.args.state below)) said.leads)
 
 pub returns-clause-words : goal.returns-clause-words
 returns-clause-words c =

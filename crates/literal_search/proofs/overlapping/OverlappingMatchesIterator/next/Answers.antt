@@ -3,6 +3,3 @@ use Rattle.literal_search.proofs.overlapping.OverlappingMatchesIterator.next.Goa
 
 pub returns-clause-goes : goal.returns-clause-goes
 returns-clause-goes c = makes_progress _ _ _ c.next_counted.ensures.gives
-
-pub returns-clause-steps : goal.returns-clause-steps
-returns-clause-steps c = c.next_counted.ensures.gives

@@ -1,27 +1,9 @@
-use Rattle.std.proofs.Common.{◌+◌, ◌<◌, ◌∙◌, arith, ap, get_or, length, rules, subst, sym}
+use Rattle.std.proofs.Common.{◌+◌, ◌∙◌, arith, ap, get_or, subst, sym}
 use Rattle.literal_base.specs.MatchValue.{MatchValue}
 use Rattle.literal_search.specs.Inside.LentTables.{IsNextBy, tables_by}
-use Rattle.literal_search.proofs.lemmas.LentTables.{length_inside, lengths_for, next_by}
-use Rattle.literal_search.proofs.lemmas.Standing.{is_pattern}
+use Rattle.literal_search.proofs.lemmas.LentTables.{length_inside, next_by}
 use Rattle.literal_search.proofs.lemmas.Walk.{got_is}
 use Rattle.literal_search.proofs.prepared_overlapping.LentTables.first_of.Goals as goal
-
-pub returns-then-pattern-here-clause-prepared : goal.returns-then-pattern-here-clause-prepared
-returns-then-pattern-here-clause-prepared c = λ search are standing left.
-    let pattern_is = got_is c.args.self.now.ends.now _ c.get.result c.in_ok-pattern.field-0 c.get.ensures.lookup
-    c.in_ok-pattern.ensures.ok_part in
-    let here = standing.left.each c.args.here.next (omega arith) left in
-    omega (arith, here.1, pattern_is, c.if-pattern-here.true)
-
-pub returns-in_err-len-clause-prepared : goal.returns-in_err-len-clause-prepared
-returns-in_err-len-clause-prepared c = λ value are standing left.
-    let pattern_is = got_is c.args.self.now.ends.now _ c.get.result c.in_ok-pattern.field-0 c.get.ensures.lookup
-    c.in_ok-pattern.ensures.ok_part in
-    let below = is_pattern (tables_by value c.args.self.now) are.tables c.args.haystack.now
-    (λ k. omega (arith, c.type_inv.haystack k)) c.args.span c.requires.valid c.args.here standing left in
-    let inside : c.in_ok-pattern.field-0.now < length c.args.self.now.header.lengths.now =
-    omega (arith, below, pattern_is, lengths_for are) in
-    search rules
 
 pub returns-then-len-eq0-clause-prepared : goal.returns-then-len-eq0-clause-prepared
 returns-then-len-eq0-clause-prepared c = λ search are standing left.

@@ -20,7 +20,7 @@ returns c =
     let ends = ap (λ (l : List ℕ). length l) lent.ends_are
     ∙ length_part numbers (ends_at numbers) (listed_len numbers) (omega arith) (omega arith) in
     let end_is : 6 + length p.header.lengths.now + length p.header.rows.now + length p.starts.now + length p.ends.now
-    + 33 ≡ overlapping_len numbers =
+    + 35 ≡ overlapping_len numbers =
     omega (arith, lengths, rows, starts, ends) in
     let check_is = ap (λ end. check_of (slice_range numbers 2 end)) end_is in (
       λ same. subst IsWholeOverlapping c.self.view_is

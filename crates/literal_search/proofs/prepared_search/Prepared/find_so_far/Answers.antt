@@ -1,9 +1,6 @@
 use Rattle.std.proofs.Common.{◌∙◌}
 use Rattle.literal_search.proofs.prepared_search.Prepared.find_so_far.Goals as goal
 
-pub returns-in_err-found-clause-whatever_follows : goal.returns-in_err-found-clause-whatever_follows
-returns-in_err-found-clause-whatever_follows c = λ search is more. absurd (c.in_err-found.ensures.prepared search is)
-
 pub returns-clause-whatever_follows : goal.returns-clause-whatever_follows
 returns-clause-whatever_follows c = λ search is more.
     c.so_far.ensures.whatever_follows search.query search.ignore_case more

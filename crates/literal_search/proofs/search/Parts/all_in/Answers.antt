@@ -1,40 +1,67 @@
-use Rattle.std.proofs.Common.{List, [], ◌∷◌, ◌++◌, arith, rules, subst, sym}
+use Rattle.std.proofs.Common.{List, Option, [], ◌∷◌, ◌++◌, arith, rules, subst, sym}
+use Rattle.literal_base.specs.Leftmost.{IsLeftmost}
 use Rattle.literal_base.specs.MatchValue.{MatchValue}
-use Rattle.literal_base.specs.Occurs.{NothingOccurs}
+use Rattle.literal_base.specs.Occurs.{NothingOccurs, between}
+use Rattle.literal_search.specs.Inside.Backward.{AreMarked, IsPlaced, back_tables_by}
 use Rattle.literal_search.specs.Inside.Search.{IsGreedyUpTo, search_value, patterns_of}
+use Rattle.literal_search.specs.MatchesValue.{place_behind}
 use Rattle.literal_search.proofs.lemmas.GreedyIn.{leftmost_occurs, on_err, up_to_all, up_to_next}
 use Rattle.literal_search.proofs.search.Parts.all_in.Goals as goal
 
-pub returns-in_err-push-clause-no_memory : goal.returns-in_err-push-clause-no_memory
-returns-in_err-push-clause-no_memory c =
+pub returns-in_err-push-in-Ok-Some-clause-no_memory : goal.returns-in_err-push-in-Ok-Some-clause-no_memory
+returns-in_err-push-in-Ok-Some-clause-no_memory c =
     let p = c.args.self.now in
-    let haystack = c.args.haystack.now in
     let span = c.args.span in
-    on_err c.from_residual.result (¬ NothingOccurs (patterns_of p) p.ignore_case haystack span)
-    (leftmost_occurs (search_value p) haystack span c.loop-found.at c.in-Some.found c.loop-found.invariant.greedy.after
-    c.in-Some.ensures.leftmost)
+    on_err c.from_residual.result (¬ NothingOccurs (patterns_of p) p.ignore_case c.args.haystack.now span)
+    (leftmost_occurs (search_value p) c.args.haystack.now span c.loop-found.at c.in-Ok-Some.found
+    c.loop-found.invariant.greedy.after
+    (subst (λ (a : Option MatchValue). IsLeftmost (search_value p).query p.ignore_case c.args.haystack.now
+    (between c.loop-found.at span.end) a) c.in-Ok-Some.field-0-is
+    (c.in-Ok-Some.ensures.leftmost (search_value p) c.backward-backward.ensures.is_for c.loop-found.invariant.marked)))
 
 pub loop-found-preserved : goal.loop-found-preserved
 loop-found-preserved c =
     let p = c.args.self.now in
     let haystack = c.args.haystack.now in
     let span = c.args.span in
-    let found = c.in-Some.found in
+    let found = c.in-Ok-Some.found in
+    let so_far = c.loop-found.invariant in
+    let one = c.in-Ok-Some.ensures in
+    let is = c.in-Ok-Some.field-0-is in
+    let by = c.backward-backward.result in
+    let leftmost = subst (λ (a : Option MatchValue). IsLeftmost (search_value p).query p.ignore_case haystack
+    (between c.loop-found.at span.end) a) is
+    (one.leftmost (search_value p) c.backward-backward.ensures.is_for so_far.marked) in
     record {
       long = search rules;
-      placed = search rules;
-      marked = search rules;
+      placed = subst (λ e. IsPlaced by.table.longest span e c.next_match.new.marks) (sym c.end-at.ensures.end)
+          (subst (λ (a : Option MatchValue). IsPlaced by.table.longest span (place_behind span a)
+          c.next_match.new.marks) is one.placed);
+      marked = subst (λ e. AreMarked (back_tables_by (search_value p) by) haystack span e c.next_match.new.numbers
+          c.next_match.new.marks) (sym c.end-at.ensures.end)
+          (subst (λ (a : Option MatchValue). AreMarked (back_tables_by (search_value p) by) haystack span
+          (place_behind span a) c.next_match.new.numbers c.next_match.new.marks) is
+          (one.marked (search_value p) c.backward-backward.ensures.is_for so_far.marked));
       greedy = subst (λ (all : List MatchValue). IsGreedyUpTo (search_value p) haystack span all c.end-at.result)
-          (sym c.in_ok-push.ensures.items)
+          (sym c.in_ok-push-in-Ok-Some.ensures.items)
           (subst (λ e. IsGreedyUpTo (search_value p) haystack span (c.loop-found.all.items ++ found ∷ []) e)
           (sym c.end-at.ensures.end)
-          (up_to_next (search_value p) haystack span c.loop-found.all.items c.loop-found.at found
-          c.loop-found.invariant.greedy c.in-Some.ensures.leftmost));
+          (up_to_next (search_value p) haystack span c.loop-found.all.items c.loop-found.at found so_far.greedy
+          leftmost));
       scanned = search rules;
-      least = omega (arith, c.loop-found.invariant.least, c.in-Some.ensures.least);
+      least = omega (arith, so_far.least, one.least);
     }
 
-pub returns-clause-greedy : goal.returns-clause-greedy
-returns-clause-greedy c =
-    up_to_all (search_value c.args.self.now) c.args.haystack.now c.args.span c.loop-found.all.items c.loop-found.at
-    c.loop-found.invariant.greedy c.in_default.ensures.leftmost
+pub returns-in-Ok-None-clause-greedy : goal.returns-in-Ok-None-clause-greedy
+returns-in-Ok-None-clause-greedy c =
+    let p = c.args.self.now in
+    up_to_all (search_value p) c.args.haystack.now c.args.span c.loop-found.all.items c.loop-found.at
+    c.loop-found.invariant.greedy
+    (subst (λ (a : Option MatchValue). IsLeftmost (search_value p).query p.ignore_case c.args.haystack.now
+    (between c.loop-found.at c.args.span.end) a) c.in-Ok-None.field-0-is
+    (c.in-Ok-None.ensures.leftmost (search_value p) c.backward-backward.ensures.is_for c.loop-found.invariant.marked))
+
+pub unreachable-requires : goal.unreachable-requires
+unreachable-requires c =
+    c.in-Err.ensures.leftmost (search_value c.args.self.now) c.backward-backward.ensures.is_for
+    c.loop-found.invariant.marked

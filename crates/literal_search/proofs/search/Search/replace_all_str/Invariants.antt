@@ -1,20 +1,10 @@
-use Rattle.std.proofs.Common.{◌≡◌, ◌++◌, ◌≤◌, List, ℕ, IsCharBoundary, length, map, string_bytes}
-use Rattle.std.specs.Borrow.{Bor}
-use Rattle.literal_base.specs.MatchValue.{MatchValue}
-use Rattle.literal_search.specs.Replaced.{replaced}
+use Rattle.std.proofs.Common.{IsCharBoundary, string_bytes}
+use Rattle.literal_search.proofs.lemmas.Replaced.{IsWrittenTo}
 use Rattle.literal_search.proofs.search.Search.replace_all_str.Given as goal
 
--- whatever matches are still to come, the text so far goes on as it has to, behind a character
 abbrev pub invariant-loop-found : goal.invariant-loop-found
-invariant-loop-found l =
-    let given = map (λ (r : Bor (List ℕ)). r.now) l.replacements in
-    record {
-      search_is : l.found-iterator.search ≡ l.self;
-      haystack_is : l.found-iterator.haystack ≡ l.haystack;
-      at_is : l.found-iterator.at ≡ l.at;
-      to_end : l.found-iterator.span.end ≡ length l.found-iterator.haystack;
-      within : l.at ≤ length l.haystack;
-      between : IsCharBoundary l.haystack l.at;
-      text : (more : List MatchValue) → string_bytes l.text ++ replaced l.haystack given l.at more
-          ≡ replaced l.haystack given 0 (l.yielded ++ more);
-    }
+invariant-loop-found l = record {
+  written : IsWrittenTo l.self l.haystack l.replacements l.found-iterator l.at
+      (string_bytes l.text) l.yielded;
+  between : IsCharBoundary l.haystack l.at;
+}

@@ -1,11 +1,11 @@
-use Rattle.std.proofs.Common.{◌≡◌, ◌∙◌, ℕ, List, [], ap, arith, inl, inr, length, map, subst, sym}
+use Rattle.std.proofs.Common.{◌≡◌, ◌∙◌, ℕ, List, [], ap, false, arith, inl, inr, length, map, subst, sym}
 use Rattle.std.proofs.lemmas.Bool.{cases_lt}
 use Rattle.std.proofs.lemmas.List.{length-map, nil_from_length}
 use Rattle.std.specs.Global.{Vec}
 use Rattle.literal_search.specs.Inside.Kept.{numbers_kept}
 use Rattle.literal_search.specs.Inside.Search.{AreKept, patterns_of, search_value}
 use Rattle.literal_search.specs.SearchValue.{search_by}
-use Rattle.literal_search.proofs.lemmas.Copied.{none_are_kept}
+use Rattle.literal_search.proofs.lemmas.NoPattern.{none_are_kept}
 use Rattle.literal_search.proofs.search.Search.try_clone.Goals as goal
 
 pub invariant_of-result : goal.invariant_of-result
@@ -22,7 +22,7 @@ invariant_of-result c =
           let nil : patterns_of p ≡ [] = nil_from_length (patterns_of p)
           (length-map p.patterns.items (λ (pattern : Vec ℕ). pattern.items) ∙ no) in
           subst (AreKept (search_value p)) (sym (c.in_ok-numbers.ensures.none (omega (arith, no, long))))
-          (subst (λ (l : List (List ℕ)). AreKept (search_by p.kind p.ignore_case l) (numbers_kept [])) (sym nil)
+          (subst (λ (l : List (List ℕ)). AreKept (search_by p.kind p.ignore_case l) (numbers_kept false [])) (sym nil)
           (none_are_kept p.kind p.ignore_case))
     ] in
     subst (λ (l : List (List ℕ)). AreKept (search_by p.kind p.ignore_case l) c.in_ok-numbers.numbers) (sym same) kept

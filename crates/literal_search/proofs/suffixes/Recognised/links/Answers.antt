@@ -1,35 +1,13 @@
-use Rattle.std.proofs.Common.{◌≡◌, ◌+◌, ◌-◌, ◌<◌, ◌≤◌, ◌^◌, ◌∙◌, ℕ, List, get_or, length, arith, sym, ap, subst}
-use Rattle.std.proofs.lemmas.List.{get_or-replicate, get_or_default, length-map, length-replicate}
+use Rattle.std.proofs.Common.{◌≡◌, ◌+◌, ◌-◌, ◌<◌, ◌≤◌, ◌^◌, ◌∙◌, ℕ, get_or, length, arith, sym, subst}
+use Rattle.std.proofs.lemmas.List.{get_or_default, length-map}
 use Rattle.std.specs.Global.{Vec}
 use Rattle.literal_search.specs.Inside.Classes.{symbols_in}
 use Rattle.literal_search.specs.Inside.Lists.{AreNextEquals, AreOutputLinks, symbols_of}
 use Rattle.literal_search.specs.Inside.Suffixes.{IsOutputLink, IsNextEqual}
-use Rattle.literal_search.specs.Table.{nothing}
-use Rattle.literal_search.proofs.lemmas.Chains.{first_equal_of, heads_on, heads_start, link_to_equal}
-use Rattle.literal_search.proofs.lemmas.Chains.{link_to_shorter, links_on, links_start}
+use Rattle.literal_search.proofs.lemmas.Chains.{first_equal_of, heads_on, link_to_equal}
+use Rattle.literal_search.proofs.lemmas.Chains.{link_to_shorter, links_on}
 use Rattle.literal_search.proofs.suffixes.Recognised.links.Goals as goal
 use Rattle.literal_search.proofs.suffixes.Recognised.links.Goals.{then-equal, else-equal}
-
-pub loop-pattern-init : goal.loop-pattern-init
-loop-pattern-init c =
-    let r = c.args.self.now in
-    let texts = symbols_of r in
-    let count = length r.patterns.now in
-    let known : length texts ≡ count = length-map r.patterns.now (λ (p : Vec ℕ). symbols_in r.classes.now p.items) in
-    let heads = c.in_ok-heads.heads.items in
-    let links = c.in_ok-links.links.items in
-    let heads_are = c.in_ok-heads.ensures.items_if_clones_equal (λ y is. is) in
-    let links_are = c.in_ok-links.ensures.items_if_clones_equal (λ y is. is) in
-    let heads_long : length heads ≡ length texts =
-    ap (λ (l : List ℕ). length l) heads_are ∙ (length-replicate count nothing ∙ sym known) in
-    let links_long : length links ≡ length texts =
-    ap (λ (l : List ℕ). length l) links_are ∙ (length-replicate count nothing ∙ sym known) in
-    record {
-      links = subst (AreOutputLinks texts links) known (links_start texts links links_long);
-      heads = subst (AreNextEquals texts heads) known (heads_start texts heads heads_long (λ k below.
-          ap (λ l. get_or l k 0) heads_are
-          ∙ get_or-replicate count k nothing 0 (omega (arith, heads_long, known))));
-    }
 
 pub index-equal-requires : goal.index-equal-requires
 index-equal-requires c =

@@ -7,16 +7,9 @@ use Rattle.literal_base.specs.Occurs.{pattern_at}
 use Rattle.literal_search.specs.Inside.Lists.{StandsBehind, symbols_of}
 use Rattle.literal_search.specs.Table.{nothing}
 use Rattle.literal_search.specs.Words.{ending}
-use Rattle.literal_search.proofs.lemmas.Recognised.{ends_there, pattern_push, stands_on, stands_start, symbols_are}
+use Rattle.literal_search.proofs.lemmas.Recognised.{ends_there, pattern_push, stands_on, symbols_are}
 use Rattle.literal_search.proofs.suffixes.Recognised.longest_suffix.Goals as goal
 use Rattle.literal_search.proofs.suffixes.Recognised.longest_suffix.Goals.{then-code-lt-ENDS, else-code-lt-ENDS}
-
-pub loop-at-init : goal.loop-at-init
-loop-at-init c =
-    let none : c.args.from - c.args.from ≡ 0 = omega arith in
-    let text = drop c.args.from (pattern_at (symbols_of c.args.self.now) c.args.pattern) in
-    stands_start c.args.self.now c.requires.recognise (take (c.args.from - c.args.from) text)
-    (ap (λ n. take n text) none)
 
 pub loop-at-preserved : goal.loop-at-preserved
 loop-at-preserved c =

@@ -1,39 +1,52 @@
-use Rattle.std.proofs.Common.{◌≡◌, ◌≤◌, ◌-◌, ◌^◌, ℕ, arith, get_or, length, min, subst}
+use Rattle.std.proofs.Common.{◌≡◌, ◌<◌, ◌≤◌, ◌-◌, ◌^◌, ℕ, arith, get_or, inl, inr, length, min, subst}
 use Rattle.std.proofs.lemmas.List.{length-map}
 use Rattle.std.specs.Global.{Vec}
 use Rattle.literal_base.specs.Occurs.{pattern_at}
-use Rattle.literal_search.specs.Inside.Best.{IsSmallestBut}
 use Rattle.literal_search.specs.Inside.Classes.{symbols_in}
-use Rattle.literal_search.specs.Inside.Lists.{symbols_of}
-use Rattle.literal_search.proofs.lemmas.BestSuffixes.{next_below, smallest_falls, smallest_on}
+use Rattle.literal_search.specs.Inside.Lists.{Recognise, symbols_of}
+use Rattle.literal_search.specs.declared.suffixes.Recognised.{Recognised}
+use Rattle.literal_search.proofs.lemmas.BestSuffixes.{IsSmallestUpTo, smallest_first, smallest_is_best, smallest_on}
+use Rattle.literal_search.proofs.lemmas.Chains.{left_falls}
 use Rattle.literal_search.proofs.suffixes.Recognised.smallest_suffix.Goals as goal
+
+few : (r : Recognised) → Recognise r → length (symbols_of r) ≤ 2 ^ 31 - 1
+few r recognise = omega (
+  arith,
+  length-map r.patterns.now (λ (p : Vec ℕ). symbols_in r.classes.now p.items),
+  recognise.few,
+)
+
+pub loop-next-init : goal.loop-next-init
+loop-next-init c =
+    smallest_first (symbols_of c.args.self.now) c.requires.recognise.some
+    (few c.args.self.now c.requires.recognise) c.args.pattern c.requires.first
 
 pub loop-next-preserved : goal.loop-next-preserved
 loop-next-preserved c =
     let texts = symbols_of c.args.self.now in
-    let known : length texts ≡ length c.args.self.now.patterns.now =
-    length-map c.args.self.now.patterns.now (λ (p : Vec ℕ). symbols_in c.args.self.now.classes.now p.items) in
-    let few : length texts ≤ 2 ^ 31 - 1 = omega (arith, known, c.requires.recognise.few) in
-    let some = c.requires.recognise.some in
-    let text = pattern_at texts c.args.pattern in
-    let below = next_below texts some few text c.loop-next.smallest c.loop-next.next c.loop-next.invariant
-    c.loop-next-test.true in
-    let link = get_or c.args.shorter.now c.loop-next.next 0 in
+    let below : c.loop-next.next < length texts = elim c.loop-next.invariant.has.next_is [
+      | inl none ↦ absurd (c.loop-next-test.true none)
+      | inr here ↦ here.is_pattern
+    ] in
+    let link = get_or c.args.links.now c.loop-next.next 0 in
     let is : min c.loop-next.smallest c.loop-next.next ≡ c.min-smallest.result = omega arith in
-    subst (λ n. IsSmallestBut texts text n link) is
-    (smallest_on texts some few text c.loop-next.smallest c.loop-next.next c.loop-next.invariant c.loop-next-test.true
-    link (c.requires.shorter.each c.loop-next.next (omega (arith, below, known))))
+    subst (λ n. IsSmallestUpTo texts (pattern_at texts c.args.pattern) n link) is
+    (smallest_on texts c.requires.recognise.some (few c.args.self.now c.requires.recognise)
+    (pattern_at texts c.args.pattern) c.loop-next.smallest c.loop-next.next link c.loop-next.invariant
+    c.loop-next-test.true (c.requires.links.each c.loop-next.next (omega arith) below))
 
 pub loop-next-smaller : goal.loop-next-smaller
 loop-next-smaller c =
     let texts = symbols_of c.args.self.now in
-    let known : length texts ≡ length c.args.self.now.patterns.now =
-    length-map c.args.self.now.patterns.now (λ (p : Vec ℕ). symbols_in c.args.self.now.classes.now p.items) in
-    let few : length texts ≤ 2 ^ 31 - 1 = omega (arith, known, c.requires.recognise.few) in
-    let some = c.requires.recognise.some in
-    let text = pattern_at texts c.args.pattern in
-    let below = next_below texts some few text c.loop-next.smallest c.loop-next.next c.loop-next.invariant
-    c.loop-next-test.true in
-    smallest_falls texts some few text c.loop-next.smallest c.loop-next.next c.loop-next.invariant
-    c.loop-next-test.true (get_or c.args.shorter.now c.loop-next.next 0)
-    (c.requires.shorter.each c.loop-next.next (omega (arith, below, known)))
+    let below : c.loop-next.next < length texts = elim c.loop-next.invariant.has.next_is [
+      | inl none ↦ absurd (c.loop-next-test.true none)
+      | inr here ↦ here.is_pattern
+    ] in
+    left_falls texts c.requires.recognise.some (few c.args.self.now c.requires.recognise) c.loop-next.next _ below
+    (c.requires.links.each c.loop-next.next (omega arith) below)
+
+pub returns : goal.returns
+returns c =
+    let texts = symbols_of c.args.self.now in
+    smallest_is_best texts (pattern_at texts c.args.pattern) c.loop-next.smallest c.loop-next.next
+    c.loop-next.invariant c.loop-next-test.false

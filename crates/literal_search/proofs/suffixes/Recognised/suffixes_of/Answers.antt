@@ -1,20 +1,14 @@
-use Rattle.std.proofs.Common.{◌≡◌, ◌<◌, ◌≤◌, ◌^◌, ◌∙◌, ℕ, List, Some, ap, arith, ◌-◌, get_or, inl, inr, length}
+use Rattle.std.proofs.Common.{◌≡◌, ◌<◌, ◌≤◌, ◌^◌, ℕ, List, Some, arith, ◌-◌, get_or, inl, inr, length}
 use Rattle.std.proofs.Common.{subst, sym}
 use Rattle.std.proofs.lemmas.List.{length-map}
 use Rattle.std.specs.Global.{Vec}
-use Rattle.std.specs.Option.{unwrap_or}
 use Rattle.literal_base.specs.Occurs.{pattern_at}
 use Rattle.literal_search.specs.Inside.Classes.{symbols_in}
 use Rattle.literal_search.specs.Inside.Suffixes.{HasUpTo}
 use Rattle.literal_search.specs.Inside.Lists.{symbols_of}
-use Rattle.literal_search.specs.Table.{nothing}
 use Rattle.literal_search.specs.Words.{ending}
 use Rattle.literal_search.proofs.lemmas.Chains.{first_equal_of, left_falls, up_to_all, up_to_first, up_to_more}
 use Rattle.literal_search.proofs.suffixes.Recognised.suffixes_of.Goals as goal
-
-pub returns-then-longest_suffix-pattern-clause-ends : goal.returns-then-longest_suffix-pattern-clause-ends
-returns-then-longest_suffix-pattern-clause-ends c = λ first.
-    absurd (c.if-longest_suffix-pattern.true (c.longest_suffix.ensures ∙ ap (λ o. unwrap_or o nothing) first))
 
 pub loop-next-init : goal.loop-next-init
 loop-next-init c =
@@ -71,17 +65,3 @@ returns-clause-ends c = λ first.
     up_to_all texts c.requires.recognise.some few (pattern_at texts c.args.pattern) c.loop-next.list.items
     c.sort.new.self.items c.loop-next.next c.loop-next.invariant c.loop-next-test.false c.sort.ensures.permutation
     c.in_ok-sort.ensures.sorted
-
-pub returns-clause-none : goal.returns-clause-none
-returns-clause-none c = λ other.
-    let r = c.args.self.now in
-    let texts = symbols_of r in
-    let known : length texts ≡ length r.patterns.now =
-    length-map r.patterns.now (λ (p : Vec ℕ). symbols_in r.classes.now p.items) in
-    let few : length texts ≤ 2 ^ 31 - 1 = omega (arith, known, c.requires.recognise.few) in
-    let below : c.args.pattern < length texts = omega (arith, known, c.requires.is_pattern) in
-    let is = first_equal_of texts c.requires.recognise.some few c.args.pattern c.longest_suffix.result below
-    c.longest_suffix.ensures in
-    absurd (other (subst (λ (f : ℕ). ending texts (pattern_at texts f)
-    ≡ Some f) c.if-longest_suffix-pattern.false
-    is.first_is))

@@ -73,22 +73,6 @@ loop-step-preserved c =
           ∙ ap (λ (n : ℕ). let n' : Counts = record c.args.tally.now { scanned = n } in n') sum);
     }
 
-pub loop-step-init : goal.loop-step-init
-loop-step-init c =
-    let t = c.args.self.now in
-    let first = at_first (classes_by t) (rows_by t) c.args.haystack.now t.width in
-    record {
-      first_within = c.requires.some;
-      second_within = c.requires.some;
-      third_within = c.requires.some;
-      fourth_within = c.requires.some;
-      first = λ are. first c.args.at;
-      second = λ are. first (c.args.at + c.args.block);
-      third = λ are. first (c.args.at + 2 * c.args.block);
-      fourth = λ are. first (c.args.at + 3 * c.args.block);
-      counted = ap (λ (n : ℕ). let n' : Counts = record c.args.tally.now { scanned = n } in n') (omega arith);
-    }
-
 -- all of one of the spans
 whole : (t : Table) (haystack : List ℕ) (start start' step len place : ℕ) → start ≡ start' → step ≡ len
     → WalksOn t.width (rows_by t) 0 (classes_by t) haystack start (start + step) place

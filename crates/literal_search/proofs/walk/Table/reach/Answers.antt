@@ -1,17 +1,8 @@
 use Rattle.std.proofs.Common.{◌≡◌, ◌+◌, ◌-◌, ◌<◌, ◌∙◌, ℕ, ap, arith, get_or, inl, inr, length, subst, sym}
 use Rattle.literal_base.specs.Counts.{Counts}
 use Rattle.literal_search.specs.Inside.Walk.{IsFirstEnd, NoneEnds, WalksOn, classes_by, rows_by}
-use Rattle.literal_search.proofs.lemmas.Walk.{number_leads, reaches_end, walks_further, walks_start}
+use Rattle.literal_search.proofs.lemmas.Walk.{number_leads, reaches_end, walks_further}
 use Rattle.literal_search.proofs.walk.Table.reach.Goals as goal
-
-pub loop-at-init : goal.loop-at-init
-loop-at-init c =
-    record {
-      within = omega (arith, c.if-from-limit.false);
-      walks = λ are. walks_start c.args.self.now.width (rows_by c.args.self.now) c.args.from
-          (classes_by c.args.self.now) c.args.haystack.now c.args.span.start;
-      counted = ap (λ (n : ℕ). let t : Counts = record c.args.tally.now { scanned = n } in t) (omega arith);
-    }
 
 pub loop-at-preserved : goal.loop-at-preserved
 loop-at-preserved c =

@@ -1,0 +1,49 @@
+-- Two rare bytes of a pattern, and what a scan by them passes over.
+use Rattle.std.specs.Prelude.{◌≡◌, ℕ, ◌+◌, ◌<◌, Bool, true, List, length, min, slice_index, bit_or}
+use Rattle.std.specs.List.{All}
+use Rattle.literal_base.specs.declared.search.Span.{Span}
+use Rattle.literal_base.specs.Occurs.{Occurs, same_byte}
+use Rattle.literal_fingerprints.specs.declared.pair.RareByte.{RareByte}
+use Rattle.literal_fingerprints.specs.declared.pair.RarePair.{RarePair}
+
+-- a byte is the rare one, once the bits of the mask are set in it
+abbrev pub IsRare : RareByte → ℕ → Type 0
+IsRare rare byte = bit_or byte rare.mask ≡ rare.byte
+
+-- the pair in eight bytes, of which the first and the last mean nothing
+abbrev pub pair_in : List ℕ → RarePair
+pair_in bytes = record {
+  first = record { byte = slice_index bytes 1; mask = slice_index bytes 2 };
+  second = record { byte = slice_index bytes 3; mask = slice_index bytes 4 };
+  offset = slice_index bytes 5;
+  apart = slice_index bytes 6;
+}
+
+-- the offset of the first byte in a pattern: at most two
+abbrev pub first_offset : RarePair → ℕ
+first_offset pair = min pair.offset 2
+
+-- the offset of the second byte: at most three bytes behind the first
+abbrev pub second_offset : RarePair → ℕ
+second_offset pair = first_offset pair + min pair.apart 3
+
+-- the haystack has both bytes where a pattern has them that begins at a place
+abbrev pub HasPair : RarePair → List ℕ → ℕ → Type 0
+HasPair pair haystack at =
+    IsRare pair.first (slice_index haystack (at + first_offset pair))
+    × IsRare pair.second (slice_index haystack (at + second_offset pair))
+
+-- each text that begins with the pattern has both bytes there
+pub record IsPairOf (pair : RarePair) (ignore_case : Bool) (pattern : List ℕ) : Type 0 where
+  pub inside : second_offset pair < length pattern
+  pub first : (byte : ℕ) → same_byte ignore_case byte (slice_index pattern (first_offset pair)) ≡ true
+      → IsRare pair.first byte
+  pub second : (byte : ℕ) → same_byte ignore_case byte (slice_index pattern (second_offset pair)) ≡ true
+      → IsRare pair.second byte
+
+-- of all patterns that have the pair, none begins before the place that lies whole in the span
+abbrev pub NoPairBegins : RarePair → List ℕ → Span → ℕ → Type 0
+NoPairBegins pair haystack span place =
+    (patterns : List (List ℕ)) (ignore_case : Bool)
+    → All (λ (pattern : List ℕ). IsPairOf pair ignore_case pattern) patterns → (i at : ℕ) → at < place
+    → ¬ Occurs patterns ignore_case haystack span i at

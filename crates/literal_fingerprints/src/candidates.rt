@@ -1,0 +1,83 @@
+//! The scan that suits a list of patterns.
+ghost use Rattle.std.specs.Prelude.{◌≡◌, ◌+◌, ◌-◌, ◌*◌, ◌<◌, ◌≤◌, IfSome, length, map};
+ghost use Rattle.literal_base.specs.Occurs.{IsValidSpan};
+ghost use Rattle.literal_fingerprints.specs.CandidateScans.{NoneBeginsBefore, StopsAtEach, ahead_of};
+ghost use Rattle.literal_fingerprints.specs.declared.candidates.CandidateScan.TheVariants.{Pair};
+
+use crate::fingerprints::Fingerprints;
+use crate::pair::RarePair;
+use literal_base::Span;
+use literal_base::count::Tally;
+
+/// Tells at which places of a haystack a pattern of a list may begin: at candidates.
+#[derive(Clone, Copy)]
+pub enum CandidateScan {
+    /// By the fingerprints of several patterns.
+    Fingerprints(Fingerprints),
+    /// By two rare bytes of one pattern.
+    Pair(RarePair),
+}
+
+impl CandidateScan {
+    /// The scan for some patterns: by a pair for one that has rare bytes, and else by fingerprints. There is none where
+    /// there is no pattern, or an empty one, and where there are no fingerprints.
+    pub fn new(ignore_case: bool, patterns: &[Vec<u8>]) -> Option<CandidateScan>
+        ensures stops { IfSome result
+            (λ scan. StopsAtEach scan ignore_case (map (λ pattern. pattern.items) patterns.now)) }
+        ensures some { IfSome result (λ _. (0 < length patterns.now) × (length patterns.now ≤ 64)) }
+    {
+        if let Some(pair) = pair_for(ignore_case, patterns) {
+            return Some(CandidateScan::Pair(pair));
+        }
+        match Fingerprints::new(ignore_case, patterns) {
+            Some(fingerprints) => Some(CandidateScan::Fingerprints(fingerprints)),
+            None => None,
+        }
+    }
+
+    /// A place of the span, or its end, before which no pattern begins that lies whole in the span. The span has to be
+    /// valid.
+    #[inline(always)]
+    pub fn next(&self, haystack: &[u8], span: Span, tally: &mut Tally) -> usize
+        requires { IsValidSpan haystack.now span }
+        ensures inside { (span.start ≤ result) × (result ≤ span.end) }
+        ensures passed { NoneBeginsBefore self.now haystack.now span result }
+        ensures others { tally.new ≡ record tally.old { scanned = tally.new.scanned } }
+        ensures once { tally.new.scanned ≤ tally.old.scanned + (span.end - span.start) }
+        ensures read { tally.old.scanned + result ≤ tally.new.scanned + span.start }
+        ensures counted { tally.new.scanned + span.start ≤ tally.old.scanned + result + ahead_of self.now }
+        ensures thrice { tally.new.scanned + 3 * span.start ≤ tally.old.scanned + 3 * result + 16 }
+    {
+        match self {
+            CandidateScan::Fingerprints(fingerprints) => fingerprints.next(haystack, span, tally),
+            CandidateScan::Pair(pair) => pair.next(haystack, span, tally),
+        }
+    }
+
+    /// How many bytes a scan reads at most behind the place at which it stops.
+    pub fn ahead(&self) -> usize
+        ensures { result ≡ ahead_of self.now }
+    {
+        match self {
+            CandidateScan::Fingerprints(_) => 19,
+            CandidateScan::Pair(_) => 37,
+        }
+    }
+}
+
+/// The pair of one pattern, if its bytes are rare, or the pattern has no others.
+fn pair_for(ignore_case: bool, patterns: &[Vec<u8>]) -> Option<RarePair>
+    ensures stops { IfSome result
+        (λ pair. StopsAtEach (Pair pair) ignore_case (map (λ pattern. pattern.items) patterns.now)) }
+    ensures one { IfSome result (λ _. length patterns.now ≡ 1) }
+{
+    if patterns.len() != 1 {
+        return None;
+    }
+    let pattern = &patterns[0];
+    let pair = RarePair::new(ignore_case, pattern)?;
+    if pattern.len() > 2 && !pair.is_rare() {
+        return None;
+    }
+    Some(pair)
+}

@@ -1,0 +1,364 @@
+//! Two rare bytes of a pattern, and the scan by them.
+ghost use Rattle.std.specs.Prelude.{◌≡◌, ◌⊎◌, ℕ, ◌+◌, ◌-◌, ◌*◌, ◌<◌, ◌≤◌, List, MatchOption, bit_and};
+ghost use Rattle.std.specs.Prelude.{◌≢◌, length, min, slice_index, true};
+ghost use Rattle.literal_base.specs.Occurs.{IsValidSpan, same_byte};
+ghost use Rattle.literal_fingerprints.specs.Inside.Hits.{hit, hit_at};
+ghost use Rattle.literal_fingerprints.specs.Inside.Lanes.{HasLanes};
+ghost use Rattle.literal_fingerprints.specs.RarePairs.{HasPair, IsPairOf, IsRare, NoPairBegins, pair_in, second_offset};
+
+use crate::lanes::{LANES, both, byte_at, either, load, shifted, wanted, zeros_before};
+use crate::nibbles::other_case;
+use literal_base::Span;
+use literal_base::byte_frequencies::freq_rank;
+use literal_base::count::Tally;
+use std::simd::prelude::*;
+
+/// The largest offset of the first byte of a pair in its pattern.
+const LAST: usize = 2;
+
+/// How many bytes a pair takes as bytes.
+pub const PAIR_BYTES: usize = 8;
+
+/// Below this sum of their ranks two bytes are rare. Pairs such as `th` are not.
+const RARE: usize = 470;
+
+/// The largest distance between the two bytes of a pair.
+const APART: usize = 3;
+
+/// A byte of a pattern. It is compared with the bytes of a haystack once the bits of a mask are set in these. The mask
+/// has the bits in which the byte and its other case differ: none where case is kept, and for a byte that is no letter.
+#[derive(Clone, Copy)]
+pub struct RareByte {
+    pub byte: u8,
+    pub mask: u8,
+}
+
+impl RareByte {
+    /// A byte of a pattern, with case kept or ignored.
+    fn new(ignore_case: bool, byte: u8) -> RareByte
+        ensures { (other : ℕ) → same_byte ignore_case other byte ≡ true → IsRare result other }
+    {
+        let other = other_case(ignore_case, byte);
+        let mask = byte ^ other;
+        RareByte {
+            byte: byte | mask,
+            mask,
+        }
+    }
+}
+
+/// Two bytes of a pattern, by which a scan tells at which places of a haystack the pattern may begin.
+#[derive(Clone, Copy)]
+pub struct RarePair {
+    pub first: RareByte,
+    pub second: RareByte,
+    /// The offset of the first byte in the pattern: at most two. A larger number means two.
+    pub offset: u8,
+    /// How far behind the first byte the second one is: at most three bytes. A larger number means three.
+    pub apart: u8,
+}
+
+/// Where 16 bytes of a haystack are the two bytes of a pair: lanes of 255, and of 0 elsewhere.
+#[derive(Clone, Copy)]
+struct Compared {
+    first: u8x16,
+    second: u8x16,
+}
+
+impl Compared {
+    /// Lanes that are not 0 where both bytes are, the second in the lane, and the first so many lanes before it. The
+    /// first may lie in the 16 bytes before.
+    #[inline(always)]
+    fn pairs_after(self, before: u8x16, apart: usize) -> u8x16
+        requires { apart ≤ 3 }
+        ensures { (f g : ℕ → ℕ) → HasLanes before f → HasLanes self.first (λ k. f (16 + k)) → HasLanes self.second g
+            → HasLanes result (λ k. bit_and (f (16 - apart + k)) (g k)) }
+    {
+        both(shifted(apart, before, self.first), self.second)
+    }
+}
+
+impl RarePair {
+    /// The pair of a pattern that is not empty, with case kept or ignored.
+    pub fn new(ignore_case: bool, pattern: &[u8]) -> Option<RarePair>
+        ensures { MatchOption result (length pattern.now ≡ 0) (λ pair. IsPairOf pair ignore_case pattern.now) }
+    {
+        if pattern.is_empty() {
+            return None;
+        }
+        let (first, second) = rarest_two(pattern);
+        Some(RarePair {
+            first: RareByte::new(ignore_case, pattern[first]),
+            second: RareByte::new(ignore_case, pattern[second]),
+            offset: first as u8,
+            apart: (second - first) as u8,
+        })
+    }
+
+    /// Whether both bytes are so rare that few places have them.
+    pub fn is_rare(&self) -> bool {
+        freq_rank(self.first.byte) as usize + (freq_rank(self.second.byte) as usize) < RARE
+    }
+
+    /// This pair as bytes, by which [`RarePair::from_bytes`] makes it again. The first is not 0.
+    pub fn to_bytes(&self) -> [u8; PAIR_BYTES]
+        ensures pair { pair_in result ≡ self.now }
+        ensures some { 0 < slice_index result 0 }
+    {
+        let (first, second) = (self.first, self.second);
+        [
+            1,
+            first.byte,
+            first.mask,
+            second.byte,
+            second.mask,
+            self.offset,
+            self.apart,
+            0,
+        ]
+    }
+
+    /// The pair of these bytes, whatever they are. The first and the last mean nothing.
+    #[inline(always)]
+    pub fn from_bytes(bytes: &[u8; PAIR_BYTES]) -> RarePair
+        ensures { result ≡ pair_in bytes.now }
+    {
+        RarePair {
+            first: RareByte {
+                byte: bytes[1],
+                mask: bytes[2],
+            },
+            second: RareByte {
+                byte: bytes[3],
+                mask: bytes[4],
+            },
+            offset: bytes[5],
+            apart: bytes[6],
+        }
+    }
+
+    /// A place of the span, or its end, before which no pattern with this pair begins that lies whole in the span. The
+    /// span has to be valid. The scan stops at the first place at which the haystack has both bytes, or before. Bytes
+    /// are read 16 at a time, and 32 at a time behind the first 16, each once. Of the last bytes, fewer than 16, each
+    /// is compared with the second byte alone.
+    pub fn next(&self, haystack: &[u8], span: Span, tally: &mut Tally) -> usize
+        requires { IsValidSpan haystack.now span }
+        ensures inside { (span.start ≤ result) × (result ≤ span.end) }
+        ensures passed { NoPairBegins self.now haystack.now span result }
+        ensures stops { HasPair self.now haystack.now result
+            ⊎ ((result ≡ span.start) ⊎ (span.end < result + second_offset self.now + 16)) }
+        ensures others { tally.new ≡ record tally.old { scanned = tally.new.scanned } }
+        ensures once { tally.new.scanned ≤ tally.old.scanned + (span.end - span.start) }
+        ensures read { tally.old.scanned + result ≤ tally.new.scanned + span.start }
+        ensures counted { tally.new.scanned + span.start ≤ tally.old.scanned + result + 37 }
+        ensures thrice { tally.new.scanned + 3 * span.start ≤ tally.old.scanned + 3 * result + 16 }
+    {
+        if self.first.mask == 0 && self.second.mask == 0 {
+            self.next_by(0, 0, haystack, span, tally)
+        } else {
+            self.next_by(self.first.mask, self.second.mask, haystack, span, tally)
+        }
+    }
+
+    /// The same by these masks. For each distance there is a loop of its own, which shifts by a constant.
+    #[inline(always)]
+    fn next_by(
+        &self,
+        first_mask: u8,
+        second_mask: u8,
+        haystack: &[u8],
+        span: Span,
+        tally: &mut Tally,
+    ) -> usize
+        requires valid { IsValidSpan haystack.now span }
+        requires first { first_mask ≡ self.now.first.mask }
+        requires second { second_mask ≡ self.now.second.mask }
+        ensures inside { (span.start ≤ result) × (result ≤ span.end) }
+        ensures passed { NoPairBegins self.now haystack.now span result }
+        ensures stops { HasPair self.now haystack.now result
+            ⊎ ((result ≡ span.start) ⊎ (span.end < result + second_offset self.now + 16)) }
+        ensures others { tally.new ≡ record tally.old { scanned = tally.new.scanned } }
+        ensures once { tally.new.scanned ≤ tally.old.scanned + (span.end - span.start) }
+        ensures read { tally.old.scanned + result ≤ tally.new.scanned + span.start }
+        ensures counted { tally.new.scanned + span.start ≤ tally.old.scanned + result + 37 }
+        ensures thrice { tally.new.scanned + 3 * span.start ≤ tally.old.scanned + 3 * result + 16 }
+    {
+        match self.apart {
+            0 => self.scan(first_mask, second_mask, 0, haystack, span, tally),
+            1 => self.scan(first_mask, second_mask, 1, haystack, span, tally),
+            2 => self.scan(first_mask, second_mask, 2, haystack, span, tally),
+            _ => self.scan(first_mask, second_mask, 3, haystack, span, tally),
+        }
+    }
+
+    /// The same by these masks, and this distance.
+    #[inline(always)]
+    fn scan(
+        &self,
+        first_mask: u8,
+        second_mask: u8,
+        apart: usize,
+        haystack: &[u8],
+        span: Span,
+        tally: &mut Tally,
+    ) -> usize
+        requires valid { IsValidSpan haystack.now span }
+        requires first { first_mask ≡ self.now.first.mask }
+        requires second { second_mask ≡ self.now.second.mask }
+        requires apart { apart ≡ min self.now.apart 3 }
+        ensures inside { (span.start ≤ result) × (result ≤ span.end) }
+        ensures passed { NoPairBegins self.now haystack.now span result }
+        ensures stops { HasPair self.now haystack.now result
+            ⊎ ((result ≡ span.start) ⊎ (span.end < result + second_offset self.now + 16)) }
+        ensures others { tally.new ≡ record tally.old { scanned = tally.new.scanned } }
+        ensures once { tally.new.scanned ≤ tally.old.scanned + (span.end - span.start) }
+        ensures read { tally.old.scanned + result ≤ tally.new.scanned + span.start }
+        ensures counted { tally.new.scanned + span.start ≤ tally.old.scanned + result + 37 }
+        ensures thrice { tally.new.scanned + 3 * span.start ≤ tally.old.scanned + 3 * result + 16 }
+    {
+        let behind = (self.offset as usize).min(LAST) + apart;
+        if span.end - span.start < LANES {
+            return self.scan_rest(second_mask, behind, haystack, span.start, span, tally);
+        }
+        let here = self.compare(first_mask, second_mask, load(haystack, span.start, tally));
+        let passed = zeros_before(here.pairs_after(u8x16::splat(0), apart));
+        if passed < LANES {
+            return span.start + passed.saturating_sub(behind);
+        }
+        let mut before = here.first;
+        let mut at = span.start + LANES;
+        while 2 * LANES <= span.end - at {
+            let one = self.compare(first_mask, second_mask, load(haystack, at, tally));
+            let two = self.compare(first_mask, second_mask, load(haystack, at + LANES, tally));
+            let front = one.pairs_after(before, apart);
+            let back = two.pairs_after(one.first, apart);
+            if zeros_before(either(front, back)) < LANES {
+                return at + zeros_before_both(front, back) - behind;
+            }
+            before = two.first;
+            at += 2 * LANES;
+        }
+        if span.end - at < LANES {
+            return self.scan_rest(second_mask, behind, haystack, at, span, tally);
+        }
+        let last = self.compare(first_mask, second_mask, load(haystack, at, tally));
+        let passed = zeros_before(last.pairs_after(before, apart));
+        if passed < LANES {
+            return at + passed - behind;
+        }
+        self.scan_rest(second_mask, behind, haystack, at + LANES, span, tally)
+    }
+
+    /// Compares the bytes of a span from a place on with the second byte of the pair, which is so far behind the start
+    /// of a pattern.
+    fn scan_rest(
+        &self,
+        second_mask: u8,
+        behind: usize,
+        haystack: &[u8],
+        from: usize,
+        span: Span,
+        tally: &mut Tally,
+    ) -> usize
+        requires valid { IsValidSpan haystack.now span }
+        requires after { span.start ≤ from }
+        requires inside { from ≤ span.end }
+        ensures inside { (span.start ≤ result) × (result ≤ span.end) }
+        ensures none { (place : ℕ) → span.start ≤ place → place < result → from ≤ place + behind
+            → place + behind < span.end
+            → hit self.now.second.byte second_mask (slice_index haystack.now (place + behind)) ≡ 0 }
+        ensures far { (result ≡ span.start) ⊎ (from ≤ result + behind) }
+        ensures others { tally.new ≡ record tally.old { scanned = tally.new.scanned } }
+        ensures once { tally.new.scanned ≤ tally.old.scanned + (span.end - from) }
+        ensures read { tally.old.scanned + result ≤ tally.new.scanned + from }
+        ensures counted { tally.new.scanned + from ≤ tally.old.scanned + result + behind + 1 }
+    {
+        for at in from..span.end {
+            let byte = byte_at(haystack, at, tally);
+            if byte | second_mask == self.second.byte {
+                return at.saturating_sub(behind).max(span.start);
+            }
+        }
+        span.end
+    }
+
+    /// Where 16 bytes of a haystack are the two bytes, by these masks.
+    #[inline(always)]
+    fn compare(&self, first_mask: u8, second_mask: u8, bytes: u8x16) -> Compared
+        ensures first { (haystack : List ℕ) (origin at : ℕ) → origin ≤ at
+            → HasLanes bytes (λ k. slice_index haystack (at + k))
+            → HasLanes result.first (λ k. hit_at self.now.first.byte first_mask haystack origin (at + (16 + k))) }
+        ensures second { (haystack : List ℕ) (origin at : ℕ) → origin ≤ at
+            → HasLanes bytes (λ k. slice_index haystack (at + k))
+            → HasLanes result.second (λ k. hit_at self.now.second.byte second_mask haystack origin (at + (16 + k))) }
+    {
+        Compared {
+            first: wanted(bytes, self.first.byte, first_mask),
+            second: wanted(bytes, self.second.byte, second_mask),
+        }
+    }
+}
+
+/// How many lanes of two vectors come before the first that is not 0.
+#[inline(always)]
+fn zeros_before_both(front: u8x16, back: u8x16) -> usize
+    ensures few { result ≤ 32 }
+    ensures front { (k : ℕ) → k < result → k < 16 → slice_index front k ≡ 0 }
+    ensures back { (k : ℕ) → 16 + k < result → slice_index back k ≡ 0 }
+    ensures stops_front { result < 16 → slice_index front result ≢ 0 }
+    ensures stops_back { 16 ≤ result → result < 32 → slice_index back (result - 16) ≢ 0 }
+    ensures none { 32 ≤ result → (k : ℕ) → k < 16 → slice_index front k ≡ 0 × (slice_index back k ≡ 0) }
+{
+    let passed = zeros_before(front);
+    if passed < LANES {
+        return passed;
+    }
+    LANES + zeros_before(back)
+}
+
+/// The offsets of two rare bytes of a pattern, the first before the second or the same. A pattern of one byte has one.
+fn rarest_two(pattern: &[u8]) -> (usize, usize)
+    requires { 0 < length pattern.now }
+    ensures first { result.0 ≤ 2 }
+    ensures ordered { result.0 ≤ result.1 }
+    ensures near { result.1 ≤ result.0 + 3 }
+    ensures inside { result.1 < length pattern.now }
+{
+    let mut rarest = (0, 0);
+    let mut least = usize::MAX;
+    for second in 1..pattern.len().min(LAST + APART + 1) {
+        let first = rarest_before(pattern, second);
+        let rank = rank_at(pattern, first) + rank_at(pattern, second);
+        if rank < least {
+            rarest = (first, second);
+            least = rank;
+        }
+    }
+    rarest
+}
+
+/// The offset of the rarest of the first three bytes that come at most three bytes before a place.
+fn rarest_before(pattern: &[u8], place: usize) -> usize
+    requires some { 0 < place }
+    requires short { place ≤ 5 }
+    requires inside { place ≤ length pattern.now }
+    ensures first { result ≤ 2 }
+    ensures before { result < place }
+    ensures near { place ≤ result + 3 }
+{
+    let mut rarest = (place - 1).min(LAST);
+    for at in place.saturating_sub(APART)..rarest {
+        if rank_at(pattern, at) < rank_at(pattern, rarest) {
+            rarest = at;
+        }
+    }
+    rarest
+}
+
+/// How common a byte of the pattern is.
+fn rank_at(pattern: &[u8], at: usize) -> usize
+    requires { at < length pattern.now }
+    ensures { result < 256 }
+{
+    freq_rank(pattern[at]) as usize
+}

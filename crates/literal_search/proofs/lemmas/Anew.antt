@@ -1,1 +1,0 @@
--- A walk that is back in the first state.

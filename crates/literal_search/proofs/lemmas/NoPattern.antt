@@ -1,0 +1,97 @@
+-- The numbers of a search for no pattern.
+use Rattle.std.proofs.Common.{◌≡◌, ◌≤◌, ℕ, Bool, [], ◌∷◌, arith, get_or, refl, subst, suc, sym, zero}
+use Rattle.std.specs.List.{repeat}
+use Rattle.literal_base.specs.declared.packed.MatchKind.{MatchKind}
+use Rattle.literal_search.specs.Inside.Classes.{AreClasses}
+use Rattle.literal_search.specs.Inside.Overlapping.{AreListed}
+use Rattle.literal_search.specs.Inside.Prepared.{numbers_for}
+use Rattle.literal_search.specs.Inside.Rows.{packed_classes}
+use Rattle.literal_search.specs.Inside.Search.{AreKept}
+use Rattle.literal_search.specs.Inside.Standing.{overlapping_value}
+use Rattle.literal_search.specs.Prepared.{AreBackTables, BackTables, check_of}
+use Rattle.literal_search.specs.PreparedOverlapping.{AreTables, Tables}
+use Rattle.literal_search.specs.SearchValue.{CanBeKept, NeedFewStates, search_by}
+use Rattle.literal_search.specs.States.{HasTooManyStates}
+use Rattle.literal_search.specs.Table.{nothing}
+use Rattle.literal_search.specs.declared.prepared.TheConstants.{SCAN_LEN, NO_LISTED, NO_PATTERN}
+use Rattle.literal_search.specs.declared.prepared.TheConstants.{OVERLAPPING_VERSION, PREPARED_VERSION}
+use Rattle.literal_search.proofs.lemmas.BackTables.{kept_all}
+use Rattle.literal_search.proofs.lemmas.LentTables.{listed_all}
+use Rattle.literal_search.proofs.lemmas.Rows.{none_few, none_long, none_recognised, one_class, zeros_classes}
+
+-- they are those that would be written
+pattern_written : NO_PATTERN ≡ numbers_for PREPARED_VERSION (repeat 256 (0 ∷ [])) 1 [] (0 ∷ nothing ∷ []) []
+    (repeat SCAN_LEN (0 ∷ []))
+unfolding check_of packed_classes
+pattern_written = refl
+
+listed_written : NO_LISTED ≡ numbers_for OVERLAPPING_VERSION (repeat 256 (0 ∷ [])) 1 [] (0 ∷ nothing ∷ []) (0 ∷ [])
+    (repeat SCAN_LEN (0 ∷ []))
+unfolding check_of packed_classes
+listed_written = refl
+
+none_kept : CanBeKept []
+none_kept = record { some = λ i d below. absurd (omega (arith, below)); few = omega arith }
+
+-- and are kept
+pub none_are_kept : (kind : MatchKind) (ignore_case : Bool) → AreKept (search_by kind ignore_case []) NO_PATTERN
+none_are_kept kind ignore_case =
+    let t : BackTables = record {
+      search = search_by kind ignore_case [];
+      classes = repeat 256 (0 ∷ []);
+      width = 1;
+      rows = 0 ∷ nothing ∷ [];
+      best = [];
+      longest = 0;
+    } in
+    let are : AreBackTables t = record {
+      classes = zeros_classes;
+      tells = λ i k byte below. absurd (omega (arith, below));
+      recognises = none_recognised;
+      best = record { long = refl; each = λ i below. absurd (omega (arith, below)) };
+      longest = refl;
+      kept = none_kept;
+    } in
+    subst (AreKept t.search) (sym pattern_written) (kept_all t are (repeat SCAN_LEN (0 ∷ [])) refl
+    (λ some. absurd (omega (arith, some))) (sym (one_class ignore_case)) none_long)
+
+pub none_are_listed : (ignore_case : Bool) → AreListed (record { patterns = []; ignore_case = ignore_case }) NO_LISTED
+none_are_listed ignore_case =
+    let t : Tables = record {
+      patterns = [];
+      ignore_case = ignore_case;
+      classes = repeat 256 (0 ∷ []);
+      width = 1;
+      rows = 0 ∷ nothing ∷ [];
+      ends = [];
+      starts = 0 ∷ [];
+    } in
+    let are : AreTables t = record {
+      classes = zeros_classes;
+      tells = λ i k byte below. absurd (omega (arith, below));
+      recognises = none_recognised;
+      lists = record {
+        long = refl;
+        ordered = λ i below. absurd (omega (arith, below));
+        inside = inside;
+        last = refl;
+        each = λ i below first. absurd (omega (arith, below));
+        others = λ i below not. absurd (omega (arith, below));
+      };
+      kept = none_kept;
+    } in
+    subst (AreListed (overlapping_value t)) (sym listed_written) (listed_all t are (repeat SCAN_LEN (0 ∷ []))
+    refl (λ some. absurd (omega (arith, some))) (record { width = sym (one_class ignore_case); rows = none_long }))
+  where
+    inside : (i : ℕ) → i ≤ 0 → get_or (0 ∷ []) i 0 ≤ 0
+    inside zero below = omega arith
+    inside (suc i) below = absurd (omega (arith, below))
+
+-- they need few states, reversed or not
+pub none_need_few_states : (ignore_case : Bool) → NeedFewStates ignore_case []
+none_need_few_states ignore_case = (
+  repeat 256 (0 ∷ []),
+  subst (AreClasses (repeat 256 (0 ∷ []))) (sym (one_class ignore_case)) zeros_classes,
+  (λ i k byte below. absurd (omega (arith, below))),
+  λ many. none_few (subst (HasTooManyStates []) (one_class ignore_case) many),
+)
