@@ -430,8 +430,8 @@ impl<'t> Backward<'t> {
         }
     }
 
-    /// The first place of four neighbouring parts at which a pattern begins, by four walks that stopped at some place of
-    /// each. Each is followed alone, from the left, up to the one that finds something.
+    /// The first place of four neighbouring parts at which a pattern begins, by four walks that stopped at some place
+    /// of each. Each is followed alone, from the left, up to the one that finds something.
     #[inline(never)]
     fn first_of_lanes(
         &self,
