@@ -41,9 +41,12 @@ pub record IsPairOf (pair : RarePair) (ignore_case : Bool) (pattern : List ℕ) 
   pub second : (byte : ℕ) → same_byte ignore_case byte (slice_index pattern (second_offset pair)) ≡ true
       → IsRare pair.second byte
 
+-- the same of each pattern
+abbrev pub AreOf : RarePair → Bool → List (List ℕ) → Type 0
+AreOf pair ignore_case patterns = All (λ (pattern : List ℕ). IsPairOf pair ignore_case pattern) patterns
+
 -- of all patterns that have the pair, none begins before the place that lies whole in the span
 abbrev pub NoPairBegins : RarePair → List ℕ → Span → ℕ → Type 0
 NoPairBegins pair haystack span place =
-    (patterns : List (List ℕ)) (ignore_case : Bool)
-    → All (λ (pattern : List ℕ). IsPairOf pair ignore_case pattern) patterns → (i at : ℕ) → at < place
+    (patterns : List (List ℕ)) (ignore_case : Bool) → AreOf pair ignore_case patterns → (i at : ℕ) → at < place
     → ¬ Occurs patterns ignore_case haystack span i at

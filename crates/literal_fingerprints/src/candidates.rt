@@ -2,20 +2,20 @@
 ghost use Rattle.std.specs.Prelude.{◌≡◌, ◌+◌, ◌-◌, ◌*◌, ◌<◌, ◌≤◌, IfSome, length, map};
 ghost use Rattle.literal_base.specs.Occurs.{IsValidSpan};
 ghost use Rattle.literal_fingerprints.specs.CandidateScans.{NoneBeginsBefore, StopsAtEach, ahead_of};
-ghost use Rattle.literal_fingerprints.specs.declared.candidates.CandidateScan.TheVariants.{Pair};
+ghost use Rattle.literal_fingerprints.specs.RarePairs.{AreOf};
 
-use crate::fingerprints::Fingerprints;
+use crate::fingerprints::{BYTES, Fingerprints};
 use crate::pair::RarePair;
 use literal_base::Span;
 use literal_base::count::Tally;
 
 /// Tells at which places of a haystack a pattern of a list may begin: at candidates.
 #[derive(Clone, Copy)]
-pub enum CandidateScan {
-    /// By the fingerprints of several patterns.
-    Fingerprints(Fingerprints),
-    /// By two rare bytes of one pattern.
-    Pair(RarePair),
+pub struct CandidateScan {
+    /// The fingerprints of the patterns. Where there is a pair, they have no meaning.
+    pub fingerprints: Fingerprints,
+    /// Two bytes of the only pattern.
+    pub pair: Option<RarePair>,
 }
 
 impl CandidateScan {
@@ -27,12 +27,16 @@ impl CandidateScan {
         ensures some { IfSome result (λ _. (0 < length patterns.now) × (length patterns.now ≤ 64)) }
     {
         if let Some(pair) = pair_for(ignore_case, patterns) {
-            return Some(CandidateScan::Pair(pair));
+            return Some(CandidateScan {
+                fingerprints: Fingerprints::from_bytes(&[0; BYTES]),
+                pair: Some(pair),
+            });
         }
-        match Fingerprints::new(ignore_case, patterns) {
-            Some(fingerprints) => Some(CandidateScan::Fingerprints(fingerprints)),
-            None => None,
-        }
+        let fingerprints = Fingerprints::new(ignore_case, patterns)?;
+        Some(CandidateScan {
+            fingerprints,
+            pair: None,
+        })
     }
 
     /// A place of the span, or its end, before which no pattern begins that lies whole in the span. The span has to be
@@ -48,9 +52,9 @@ impl CandidateScan {
         ensures counted { tally.new.scanned + span.start ≤ tally.old.scanned + result + ahead_of self.now }
         ensures thrice { tally.new.scanned + 3 * span.start ≤ tally.old.scanned + 3 * result + 16 }
     {
-        match self {
-            CandidateScan::Fingerprints(fingerprints) => fingerprints.next(haystack, span, tally),
-            CandidateScan::Pair(pair) => pair.next(haystack, span, tally),
+        match &self.pair {
+            None => self.fingerprints.next(haystack, span, tally),
+            Some(pair) => pair.next(haystack, span, tally),
         }
     }
 
@@ -58,9 +62,9 @@ impl CandidateScan {
     pub fn ahead(&self) -> usize
         ensures { result ≡ ahead_of self.now }
     {
-        match self {
-            CandidateScan::Fingerprints(_) => 19,
-            CandidateScan::Pair(_) => 37,
+        match self.pair {
+            None => 19,
+            Some(_) => 37,
         }
     }
 }
@@ -68,7 +72,7 @@ impl CandidateScan {
 /// The pair of one pattern, if its bytes are rare, or the pattern has no others.
 fn pair_for(ignore_case: bool, patterns: &[Vec<u8>]) -> Option<RarePair>
     ensures stops { IfSome result
-        (λ pair. StopsAtEach (Pair pair) ignore_case (map (λ pattern. pattern.items) patterns.now)) }
+        (λ pair. AreOf pair ignore_case (map (λ pattern. pattern.items) patterns.now)) }
     ensures one { IfSome result (λ _. length patterns.now ≡ 1) }
 {
     if patterns.len() != 1 {

@@ -36,6 +36,7 @@ pub mod Replaced
 pub mod Rewriting
 pub mod Rows
 pub mod Scan
+pub mod ScanNumbers
 pub mod SoFar
 pub mod Standing
 pub mod States

@@ -1,6 +1,6 @@
 -- A search as numbers in an array that is lent.
 use Rattle.std.specs.Prelude.{◌≡◌, ◌+◌, ◌*◌, ◌/◌, ◌%◌, ◌^◌, ◌<◌, ◌≤◌, ℕ, Bool, List, length, map, take, drop, fold}
-use Rattle.std.specs.Prelude.{◌==◌, if◌then◌else◌, slice_index, slice_range}
+use Rattle.std.specs.Prelude.{◌==◌, None, Option, Some, if◌then◌else◌, slice_index, slice_range}
 use Rattle.std.specs.Int.Bits.{bit_xor}
 use Rattle.std.specs.List.{All}
 use Rattle.literal_base.specs.MatchValue.{MatchValue}
@@ -8,7 +8,7 @@ use Rattle.literal_base.specs.declared.search.Span.{Span}
 use Rattle.literal_fingerprints.specs.CandidateScans.{StopsAtEach}
 use Rattle.literal_fingerprints.specs.RarePairs.{pair_in}
 use Rattle.literal_fingerprints.specs.declared.candidates.CandidateScan.{CandidateScan}
-use Rattle.literal_fingerprints.specs.declared.candidates.CandidateScan.TheVariants.{Fingerprints, Pair}
+use Rattle.literal_fingerprints.specs.declared.pair.RarePair.{RarePair}
 use Rattle.literal_fingerprints.specs.FingerprintsValue.{fingerprints_in}
 use Rattle.literal_search.specs.SearchValue.{CanBeKept, HoldsInClasses, longest_of, SearchValue}
 use Rattle.literal_search.specs.SearchValue.{reversed}
@@ -59,18 +59,17 @@ classes_in numbers = unpacked (slice_range numbers (rows_end numbers) (rows_end 
 abbrev pub shortest_by : List ℕ → ℕ
 shortest_by prints = slice_index prints 0
 
--- the bytes of a rare pair, by the last two of such numbers: each holds four of them, the first in its lowest eight
--- bits
-abbrev pub pair_bytes : List ℕ → List ℕ
-pair_bytes prints = unpacked (drop PAIR_AT prints)
+-- the rare pair in eight bytes: there is one if the first is not 0
+abbrev pub pair_of : List ℕ → Option RarePair
+pair_of bytes = if slice_index bytes 0 == 0 then None else Some (pair_in bytes)
 
--- the scan by such numbers: by the rare pair, or, if the first byte of this is 0, by the fingerprints whose bytes the
--- others hold in the same way
+-- the scan by such numbers: the fingerprints and the pair whose bytes they hold, each four of them, the first in its
+-- lowest eight bits
 unfoldable pub scan_by : List ℕ → CandidateScan
-scan_by prints =
-    if slice_index (pair_bytes prints) 0 == 0
-    then Fingerprints (fingerprints_in (unpacked (slice_range prints 1 PAIR_AT)))
-    else Pair (pair_in (pair_bytes prints))
+scan_by prints = record {
+  fingerprints = fingerprints_in (unpacked (slice_range prints 1 PAIR_AT));
+  pair = pair_of (unpacked (drop PAIR_AT prints));
+}
 
 -- a number of 32 bits, stirred so that no other becomes the same: its upper half is xored into its lower one, and then
 -- it is multiplied by an odd factor, in 32 bits

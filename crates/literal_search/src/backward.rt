@@ -199,8 +199,8 @@ impl<'t> Backward<'t> {
     }
 
     /// The same where it isn't known. A scan for candidates passes over bytes. Where it stops, the place alone is
-    /// marked, if it passed over enough; else a block. It is called, and not put in its place, so that the next match in a marked
-    /// block costs little.
+    /// marked, if it passed over enough; else a block. It is called, and not put in its place, so that the next match
+    /// in a marked block costs little.
     #[inline(never)]
     fn mark_ahead(
         &self,

@@ -9,8 +9,8 @@ ghost use Rattle.literal_base.specs.declared.search.Span.{Span};
 ghost use Rattle.literal_search.specs.At.{IsMatchAt};
 ghost use Rattle.literal_search.specs.Inside.Backward.{ForBackward, IsMatchBy};
 ghost use Rattle.literal_search.specs.Inside.Backward.{IsSafe, NoneFrom};
-ghost use Rattle.literal_search.specs.Inside.Leftmost.{AreLanes, AreSteps, HasBytes, HavePassed, HaveRows, IsFirstBegun};
-ghost use Rattle.literal_search.specs.Inside.Leftmost.{IsFourParts, NoneBehind};
+ghost use Rattle.literal_search.specs.Inside.Leftmost.{AreLanes, AreSteps, HasBytes, HavePassed, HaveRows};
+ghost use Rattle.literal_search.specs.Inside.Leftmost.{IsFirstBegun, IsFourParts, NoneBehind};
 ghost use Rattle.literal_search.specs.Inside.Leftmost.{IsLane, IsLed};
 ghost use Rattle.literal_search.specs.Inside.Leftmost.{IsFront, IsLimit, IsPaid, IsPart, IsStep, LiesInPart, ReadsFor};
 ghost use Rattle.literal_search.specs.Inside.Leftmost.{AreFor, ahead_by, owed_by};
@@ -43,7 +43,8 @@ const MOST_CREDIT: usize = 2048;
 /// A scan for candidates looks up at most this many bytes more than three times those that it passes over.
 pub(crate) const OVERLAP: usize = 19;
 
-/// At which rows four walks stand, each in one of four neighbouring parts of a span, or the numbers that they read last.
+/// The rows at which four walks stand, each in one of four neighbouring parts of a span, or the numbers that they read
+/// last.
 #[derive(Clone, Copy)]
 pub struct Lanes {
     pub first: usize,
@@ -237,8 +238,8 @@ impl<'t> Backward<'t> {
         Ok(place)
     }
 
-    /// The first place at which a pattern begins of a part of a span, and of what is known to begin behind it, by a walk
-    /// that stands at the part's end.
+    /// The first place of a part of a span at which a pattern begins, or else the one that is known behind it, by a
+    /// walk that stands at the part's end.
     #[inline(always)]
     fn first_in(
         &self,
@@ -465,34 +466,26 @@ impl<'t> Backward<'t> {
     {
         let (codes, last) = (passed.codes, passed.left - 1);
         let (two, three, four) = (at + part, at + 2 * part, at + 3 * part);
-        let part = Span {
-            start: at,
-            end: at + last,
-        };
+        let (start, end) = (at, at + last);
+        let part = Span { start, end };
         let first = self.first_before(classes, haystack, span, part, codes.first, limit, tally)?;
         if first.is_some() {
             return Ok(first);
         }
-        let part = Span {
-            start: two,
-            end: two + last,
-        };
+        let (start, end) = (two, two + last);
+        let part = Span { start, end };
         let first = self.first_before(classes, haystack, span, part, codes.second, limit, tally)?;
         if first.is_some() {
             return Ok(first);
         }
-        let part = Span {
-            start: three,
-            end: three + last,
-        };
+        let (start, end) = (three, three + last);
+        let part = Span { start, end };
         let first = self.first_before(classes, haystack, span, part, codes.third, limit, tally)?;
         if first.is_some() {
             return Ok(first);
         }
-        let part = Span {
-            start: four,
-            end: four + last,
-        };
+        let (start, end) = (four, four + last);
+        let part = Span { start, end };
         self.first_before(classes, haystack, span, part, codes.fourth, limit, tally)
     }
 

@@ -6,7 +6,7 @@ ghost use Rattle.std.specs.Prelude.{min, slice_index, slice_range};
 ghost use Rattle.std.specs.Int.{from_le_bytes, w32};
 ghost use Rattle.std.specs.List.{repeat};
 ghost use Rattle.literal_search.specs.Prepared.{AreShort, HasParts};
-ghost use Rattle.literal_search.specs.Prepared.{check_of, scan_by, shortest_by};
+ghost use Rattle.literal_search.specs.Prepared.{check_of, pair_of, scan_by, shortest_by};
 ghost use Rattle.literal_search.specs.Inside.Prepared.{IsHeader, Puts, numbers_for, header_table};
 ghost use Rattle.literal_search.specs.Inside.Packed.{packed, unpacked};
 ghost use Rattle.literal_search.specs.Inside.Rows.{packed_classes};
@@ -187,11 +187,18 @@ pub fn scan_numbers(shortest: usize, scan: Option<&CandidateScan>) -> [u32; SCAN
         return numbers;
     };
     numbers[0] = shortest.min(u32::MAX as usize) as u32;
-    match scan {
-        CandidateScan::Fingerprints(fingerprints) => {
-            pack(&fingerprints.to_bytes(), &mut numbers[1..PAIR_AT]);
-        }
-        CandidateScan::Pair(pair) => pack(&pair.to_bytes(), &mut numbers[PAIR_AT..]),
+    numbers[PAIR_AT..].copy_from_slice(&pair_numbers(&scan.pair));
+    pack(&scan.fingerprints.to_bytes(), &mut numbers[1..PAIR_AT]);
+    numbers
+}
+
+/// The numbers of a rare pair, and zeros if there is none.
+fn pair_numbers(pair: &Option<RarePair>) -> [u32; PAIR_BYTES / 4]
+    ensures { pair_of (unpacked result) ≡ pair.now }
+{
+    let mut numbers = [0; PAIR_BYTES / 4];
+    if let Some(pair) = pair {
+        pack(&pair.to_bytes(), &mut numbers);
     }
     numbers
 }
@@ -234,14 +241,26 @@ fn scan_by(prints: &[u32]) -> CandidateScan
     requires { length prints.now ≡ SCAN_LEN }
     ensures { result ≡ scan_by prints.now }
 {
-    let mut pair = [0; PAIR_BYTES];
-    unpack(&prints[PAIR_AT..], &mut pair);
-    if pair[0] == 0 {
-        let mut bytes = [0; BYTES];
-        unpack(&prints[1..PAIR_AT], &mut bytes);
-        return CandidateScan::Fingerprints(Fingerprints::from_bytes(&bytes));
+    let mut bytes = [0; BYTES];
+    unpack(&prints[1..PAIR_AT], &mut bytes);
+    CandidateScan {
+        fingerprints: Fingerprints::from_bytes(&bytes),
+        pair: pair_by(&prints[PAIR_AT..]),
     }
-    CandidateScan::Pair(RarePair::from_bytes(&pair))
+}
+
+/// The rare pair of its numbers, if these are of one.
+#[inline(always)]
+fn pair_by(numbers: &[u32]) -> Option<RarePair>
+    requires { length numbers.now ≡ 2 }
+    ensures { result ≡ pair_of (unpacked numbers.now) }
+{
+    let mut bytes = [0; PAIR_BYTES];
+    unpack(numbers, &mut bytes);
+    if bytes[0] == 0 {
+        return None;
+    }
+    Some(RarePair::from_bytes(&bytes))
 }
 
 /// Writes the bytes that numbers hold in this way.

@@ -14,6 +14,13 @@ use Rattle.literal_search.specs.declared.suffixes.Recognised.{Recognised}
 use Rattle.literal_search.proofs.lemmas.Walk.{at_with_end, at_without_end, ends_at}
 use Rattle.literal_search.proofs.lemmas.Walk.{row_at, slice_push}
 
+-- there are the symbols of each pattern, and so few
+pub symbols_count : (r : Recognised) → length (symbols_of r) ≡ length r.patterns.now
+symbols_count r = length-map r.patterns.now (λ (p : Vec ℕ). symbols_in r.classes.now p.items)
+
+pub symbols_few : (r : Recognised) → Recognise r → length (symbols_of r) ≤ 2 ^ 31 - 1
+symbols_few r recognise = omega (arith, symbols_count r, recognise.few)
+
 module _ (r : Recognised) (recognise : Recognise r) where
   -- the symbols of a pattern that was read
   pub symbols_are : (pattern : ℕ) (read : Vec ℕ) → pattern < length r.patterns.now

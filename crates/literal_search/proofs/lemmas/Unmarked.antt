@@ -1,6 +1,7 @@
 -- Sixteen marks, of which a mask tells where one says that a pattern begins.
 use Rattle.std.proofs.Common.{◌≡◌, ℕ, ◌+◌, ◌-◌, ◌%◌, ◌^◌, ◌<◌, ◌≤◌, ◌∙◌, List, [], ◌∷◌, Bool, true, not}
-use Rattle.std.proofs.Common.{ap, arith, bit_or, cond, drop, get_or, leb, length, map, refl, replicate, suc, sym, take, w32, zero}
+use Rattle.std.proofs.Common.{ap, arith, bit_or, cond, drop, get_or, leb, length, map, refl, replicate, suc, sym}
+use Rattle.std.proofs.Common.{take, w32, zero}
 use Rattle.std.proofs.lemmas.Bool.{leb-false, not-true}
 use Rattle.std.proofs.lemmas.Nat.{le_or_l, le_or_r}
 use Rattle.std.proofs.lemmas.List.Sums.{prefix_len-le-length, prefix_len_passes}

@@ -9,5 +9,6 @@ pub returns-clause-first : goal.returns-clause-first
 returns-clause-first c = λ search is end upto before step none.
     c.first_in.ensures.first search is end upto (omega (arith, before))
     (c.in_ok-place.ensures.lane search is c.args.haystack.now c.args.span end c.args.part.end refl step)
-    (c.in_ok-place.ensures.first search is c.args.haystack.now c.args.span end (c.args.part.end + 1) c.args.part.end upto
+    (c.in_ok-place.ensures.first search is c.args.haystack.now c.args.span end (c.args.part.end + 1) c.args.part.end
+    upto
     refl refl before step none)

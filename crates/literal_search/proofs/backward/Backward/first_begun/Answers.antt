@@ -1,4 +1,5 @@
-use Rattle.std.proofs.Common.{◌≡◌, ℕ, ◌+◌, ◌-◌, ◌*◌, ◌<◌, ◌≤◌, ◌∙◌, IfOk, Err, None, Ok, Option, Result, Some, ap, arith, inl, inr, refl, subst, sym}
+use Rattle.std.proofs.Common.{◌≡◌, ℕ, ◌+◌, ◌-◌, ◌*◌, ◌<◌, ◌≤◌, ◌∙◌, IfOk, Err, None, Ok, Option, Result, Some, ap}
+use Rattle.std.proofs.Common.{arith, inl, inr, refl, subst, sym}
 use Rattle.std.proofs.lemmas.Bool.{cases_lt}
 use Rattle.literal_base.specs.Counts.{Counts}
 use Rattle.literal_search.specs.Inside.Backward.{back_tables_by}

@@ -35,5 +35,6 @@ loop-at-preserved c =
 pub returns-clause-first : goal.returns-clause-first
 returns-clause-first c = λ search is end upto before lane behind.
     let start : c.loop-at.at ≡ c.args.part.start = omega (arith, c.loop-at-test.false, c.loop-at.invariant.after) in
-    subst (λ n. IsFirstBegun (back_tables_by search c.args.self.now) c.args.haystack.now c.args.span.end (between n upto)
+    subst (λ n. IsFirstBegun (back_tables_by search c.args.self.now) c.args.haystack.now c.args.span.end (between n
+    upto)
     c.loop-at.first) start (c.loop-at.invariant.first search is end upto before lane behind)

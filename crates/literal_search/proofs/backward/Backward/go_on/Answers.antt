@@ -12,7 +12,8 @@ returns-then-code-limit-clause-lane c = λ search is haystack span end to to_is 
 pub returns-then-code-limit-clause-first : goal.returns-then-code-limit-clause-first
 returns-then-code-limit-clause-first c = λ search is haystack span end next to upto next_is to_is before step first.
     let small = c.requires.limit.is in
-    first_on (back_tables_by search c.args.self.now) haystack span end to c.args.code (omega (arith, to_is, before)) step
+    first_on (back_tables_by search c.args.self.now) haystack span end to c.args.code (omega (arith, to_is, before))
+    step
     upto next (omega (arith, next_is, to_is)) c.args.begun.now c.args.begun.now
     (λ large. absurd (omega (arith, small, large, c.if-code-limit.true))) (λ _. refl) first
 
@@ -32,7 +33,8 @@ returns-clause-lane c = λ search is haystack span end to to_is step. step.lane
 pub returns-clause-first : goal.returns-clause-first
 returns-clause-first c = λ search is haystack span end next to upto next_is to_is before step first.
     let limit = c.requires.limit.is in
-    first_on (back_tables_by search c.args.self.now) haystack span end to c.args.code (omega (arith, to_is, before)) step
+    first_on (back_tables_by search c.args.self.now) haystack span end to c.args.code (omega (arith, to_is, before))
+    step
     upto next (omega (arith, next_is, to_is)) c.args.begun.now (Some (record { at = c.args.at; code = c.args.code }))
     (λ _. ap (λ (n : ℕ). let o : Option Begun = Some (record { at = n; code = c.args.code }) in o) (sym to_is))
     (λ small. absurd (omega (arith, small, limit, c.if-code-limit.false, c.if-on-limit.false))) first

@@ -1,11 +1,10 @@
-use Rattle.std.proofs.Common.{◌≡◌, ◌+◌, ◌-◌, ◌<◌, ◌≤◌, ◌^◌, ◌∙◌, ℕ, get_or, length, arith, sym, subst}
-use Rattle.std.proofs.lemmas.List.{get_or_default, length-map}
-use Rattle.std.specs.Global.{Vec}
-use Rattle.literal_search.specs.Inside.Classes.{symbols_in}
+use Rattle.std.proofs.Common.{◌≡◌, ◌+◌, ◌-◌, ◌<◌, ◌∙◌, get_or, length, arith, sym, subst}
+use Rattle.std.proofs.lemmas.List.{get_or_default}
 use Rattle.literal_search.specs.Inside.Lists.{AreNextEquals, AreOutputLinks, symbols_of}
 use Rattle.literal_search.specs.Inside.Suffixes.{IsOutputLink, IsNextEqual}
 use Rattle.literal_search.proofs.lemmas.Chains.{first_equal_of, heads_on, link_to_equal}
 use Rattle.literal_search.proofs.lemmas.Chains.{link_to_shorter, links_on}
+use Rattle.literal_search.proofs.lemmas.Recognised.{symbols_count, symbols_few}
 use Rattle.literal_search.proofs.suffixes.Recognised.links.Goals as goal
 use Rattle.literal_search.proofs.suffixes.Recognised.links.Goals.{then-equal, else-equal}
 
@@ -13,11 +12,10 @@ pub index-equal-requires : goal.index-equal-requires
 index-equal-requires c =
     let r = c.args.self.now in
     let texts = symbols_of r in
-    let known : length texts ≡ length r.patterns.now =
-    length-map r.patterns.now (λ (p : Vec ℕ). symbols_in r.classes.now p.items) in
+    let known = symbols_count r in
     let p = c.loop-pattern.pattern - 1 in
     let below : p < length texts = omega (arith, known) in
-    let first = first_equal_of texts c.requires.some (omega (arith, known, c.requires.few)) p
+    let first = first_equal_of texts c.requires.some (symbols_few r c.requires) p
     c.longest_suffix-first.result
     below c.longest_suffix-first.ensures in
     omega (arith, first.below, c.loop-pattern.invariant.heads.long, c.loop-pattern.heads.ok.0)
@@ -26,11 +24,10 @@ pub index_mut-requires-in-loop-pattern : goal.index_mut-requires-in-loop-pattern
 index_mut-requires-in-loop-pattern c =
     let r = c.args.self.now in
     let texts = symbols_of r in
-    let known : length texts ≡ length r.patterns.now =
-    length-map r.patterns.now (λ (p : Vec ℕ). symbols_in r.classes.now p.items) in
+    let known = symbols_count r in
     let p = c.loop-pattern.pattern - 1 in
     let below : p < length texts = omega (arith, known) in
-    let first = first_equal_of texts c.requires.some (omega (arith, known, c.requires.few)) p
+    let first = first_equal_of texts c.requires.some (symbols_few r c.requires) p
     c.longest_suffix-first.result
     below c.longest_suffix-first.ensures in
     omega (arith, first.below, c.loop-pattern.invariant.heads.long, c.loop-pattern.heads.ok.0)
@@ -40,9 +37,8 @@ loop-pattern-preserved c =
     let r = c.args.self.now in
     let texts = symbols_of r in
     let some = c.requires.some in
-    let known : length texts ≡ length r.patterns.now =
-    length-map r.patterns.now (λ (p : Vec ℕ). symbols_in r.classes.now p.items) in
-    let few : length texts ≤ 2 ^ 31 - 1 = omega (arith, known, c.requires.few) in
+    let known = symbols_count r in
+    let few = symbols_few r c.requires in
     let p = c.loop-pattern.pattern - 1 in
     let next : c.loop-pattern.pattern ≡ p + 1 = omega arith in
     let below : p < length texts = omega (arith, known) in

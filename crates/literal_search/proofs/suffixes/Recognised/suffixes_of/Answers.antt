@@ -1,13 +1,11 @@
-use Rattle.std.proofs.Common.{◌≡◌, ◌<◌, ◌≤◌, ◌^◌, ℕ, List, Some, arith, ◌-◌, get_or, inl, inr, length}
+use Rattle.std.proofs.Common.{◌≡◌, ◌<◌, ℕ, List, Some, arith, get_or, inl, inr, length}
 use Rattle.std.proofs.Common.{subst, sym}
-use Rattle.std.proofs.lemmas.List.{length-map}
-use Rattle.std.specs.Global.{Vec}
 use Rattle.literal_base.specs.Occurs.{pattern_at}
-use Rattle.literal_search.specs.Inside.Classes.{symbols_in}
 use Rattle.literal_search.specs.Inside.Suffixes.{HasUpTo}
 use Rattle.literal_search.specs.Inside.Lists.{symbols_of}
 use Rattle.literal_search.specs.Words.{ending}
 use Rattle.literal_search.proofs.lemmas.Chains.{first_equal_of, left_falls, up_to_all, up_to_first, up_to_more}
+use Rattle.literal_search.proofs.lemmas.Recognised.{symbols_count, symbols_few}
 use Rattle.literal_search.proofs.suffixes.Recognised.suffixes_of.Goals as goal
 
 pub loop-next-init : goal.loop-next-init
@@ -15,9 +13,8 @@ loop-next-init c =
     let r = c.args.self.now in
     let texts = symbols_of r in
     let some = c.requires.recognise.some in
-    let known : length texts ≡ length r.patterns.now =
-    length-map r.patterns.now (λ (p : Vec ℕ). symbols_in r.classes.now p.items) in
-    let few : length texts ≤ 2 ^ 31 - 1 = omega (arith, known, c.requires.recognise.few) in
+    let known = symbols_count r in
+    let few = symbols_few c.args.self.now c.requires.recognise in
     let below : c.args.pattern < length texts = omega (arith, known, c.requires.is_pattern) in
     let is = first_equal_of texts some few c.args.pattern c.longest_suffix.result below c.longest_suffix.ensures in
     let first : ending texts (pattern_at texts c.args.pattern) ≡ Some c.args.pattern =
@@ -29,9 +26,8 @@ loop-next-init c =
 pub loop-next-preserved : goal.loop-next-preserved
 loop-next-preserved c =
     let texts = symbols_of c.args.self.now in
-    let known : length texts ≡ length c.args.self.now.patterns.now =
-    length-map c.args.self.now.patterns.now (λ (p : Vec ℕ). symbols_in c.args.self.now.classes.now p.items) in
-    let few : length texts ≤ 2 ^ 31 - 1 = omega (arith, known, c.requires.recognise.few) in
+    let known = symbols_count c.args.self.now in
+    let few = symbols_few c.args.self.now c.requires.recognise in
     let below : c.loop-next.next < length texts = elim c.loop-next.invariant.next_is [
       | inl none ↦ absurd (c.loop-next-test.true none)
       | inr here ↦ here.is_pattern
@@ -46,9 +42,8 @@ loop-next-preserved c =
 pub loop-next-smaller : goal.loop-next-smaller
 loop-next-smaller c =
     let texts = symbols_of c.args.self.now in
-    let known : length texts ≡ length c.args.self.now.patterns.now =
-    length-map c.args.self.now.patterns.now (λ (p : Vec ℕ). symbols_in c.args.self.now.classes.now p.items) in
-    let few : length texts ≤ 2 ^ 31 - 1 = omega (arith, known, c.requires.recognise.few) in
+    let known = symbols_count c.args.self.now in
+    let few = symbols_few c.args.self.now c.requires.recognise in
     let below : c.loop-next.next < length texts = elim c.loop-next.invariant.next_is [
       | inl none ↦ absurd (c.loop-next-test.true none)
       | inr here ↦ here.is_pattern
@@ -59,9 +54,8 @@ loop-next-smaller c =
 pub returns-clause-ends : goal.returns-clause-ends
 returns-clause-ends c = λ first.
     let texts = symbols_of c.args.self.now in
-    let known : length texts ≡ length c.args.self.now.patterns.now =
-    length-map c.args.self.now.patterns.now (λ (p : Vec ℕ). symbols_in c.args.self.now.classes.now p.items) in
-    let few : length texts ≤ 2 ^ 31 - 1 = omega (arith, known, c.requires.recognise.few) in
+    let known = symbols_count c.args.self.now in
+    let few = symbols_few c.args.self.now c.requires.recognise in
     up_to_all texts c.requires.recognise.some few (pattern_at texts c.args.pattern) c.loop-next.list.items
     c.sort.new.self.items c.loop-next.next c.loop-next.invariant c.loop-next-test.false c.sort.ensures.permutation
     c.in_ok-sort.ensures.sorted
