@@ -126,7 +126,8 @@ module _ (first first_mask second second_mask apart : ℕ) (haystack : List ℕ)
       has_first k place =
           let inside = far in
           let same : at + (16 - apart + n) ≡ k + 16 = omega arith in
-          is_hit first first_mask (get_or haystack k 0) (λ none. both.0 (ap (hit_at first first_mask haystack origin) same
+          is_hit first first_mask (get_or haystack k 0) (λ none. both.0 (ap (hit_at first first_mask haystack origin)
+          same
           ∙ (hit_in first first_mask haystack origin k (omega arith) ∙ none)))
 
       pub has_second : (k : ℕ) → k ≡ at + n → bit_or (get_or haystack k 0) second_mask ≡ second
@@ -141,7 +142,8 @@ module _ (first first_mask second second_mask apart : ℕ) (haystack : List ℕ)
       → origin ≤ at → (n : ℕ) → n ≤ 32 → ((k : ℕ) → k < n → k < 16 → get_or front k 0 ≡ 0)
       → ((k : ℕ) → 16 + k < n → get_or back k 0 ≡ 0) → NoneHit at → NoneHit (at + n)
   none_more_of_two few at front back has_front has_back after n within zero_front zero_back old = elim (cases_lt n 16) [
-    | inl short ↦ none_more few at front has_front after n (omega arith) (λ k below. zero_front k below (omega arith)) old
+    | inl short ↦ none_more few at front has_front after n (omega arith) (λ k below. zero_front k below (omega
+        arith)) old
     | inr long ↦
         let place : at + 16 + (n - 16) ≡ at + n = omega arith in
         subst NoneHit place
@@ -185,7 +187,15 @@ module _ (pair : RarePair) (first_mask second_mask apart offset : ℕ) (is_first
         ∙ is.second _ (bytes (own + min pair.apart 3) inside)) in
         let both = meets _ _ 255 255 first
         (ap (λ j. hit pair.second.byte second_mask (get_or haystack j 0)) place ∙ second) in
-        absurd (omega (arith, sym both ∙ none begin after before (omega (arith, occurs.before_end, is_offset, is_apart))))
+        absurd (omega (
+          arith,
+          sym both ∙ none begin after before (omega (
+            arith,
+            occurs.before_end,
+            is_offset,
+            is_apart,
+          )),
+        ))
 
     -- where none is of which the second byte lies before a place
     pub none_by : (start at place : ℕ) → ((p : ℕ) → start ≤ p → p < place → p + (offset + apart) < at)
@@ -218,9 +228,11 @@ module _ (pair : RarePair) (first_mask second_mask apart offset : ℕ) (is_first
         → HasPair pair haystack (at + n - (offset + apart))
     has_pair start at lanes has after n below stops low =
         let place = at + n - (offset + apart) in
-        let one = has_first pair.first.byte first_mask pair.second.byte second_mask apart haystack start few at lanes has
+        let one = has_first pair.first.byte first_mask pair.second.byte second_mask apart haystack start few at lanes
+        has
         after n below stops (place + first_offset pair) (omega (arith, is_offset)) in
-        let two = has_second pair.first.byte first_mask pair.second.byte second_mask apart haystack start few at lanes has
+        let two = has_second pair.first.byte first_mask pair.second.byte second_mask apart haystack start few at
+        lanes has
         after n below stops (place + (first_offset pair + min pair.apart 3)) (omega (arith, is_offset, is_apart)) in (
           ap (bit_or (get_or haystack (place + first_offset pair) 0)) (sym is_first) ∙ one,
           ap (bit_or (get_or haystack (place + (first_offset pair + min pair.apart 3)) 0)) (sym is_second) ∙ two,

@@ -8,7 +8,8 @@ use Rattle.std.proofs.lemmas.List.{get_or-append_right, get_or-take, get_or_appe
 use Rattle.std.proofs.lemmas.List.Sums.{prefix_len-le-length, prefix_len_passes, prefix_len_stops}
 use Rattle.std.proofs.lemmas.Simd.{Each1-from_get_or, SwzOk, SwzOk-from_below, bitmask_splat, get_or-chunk}
 use Rattle.std.proofs.lemmas.Simd.{get_or-replicate, get_or-swz_l_below, get_or-zip2, leading_from_mask_l, length-chunk}
-use Rattle.std.proofs.lemmas.Simd.{get_or-sel_l, length-sel_l, length-swz_l, length-zip2, pick_l-range_with_len, swz_l, trailing_mask_l}
+use Rattle.std.proofs.lemmas.Simd.{get_or-sel_l, length-sel_l, length-swz_l, length-zip2, pick_l-range_with_len}
+use Rattle.std.proofs.lemmas.Simd.{swz_l, trailing_mask_l}
 use Rattle.std.specs.List.{prefix_len, range_with_len}
 use Rattle.std.specs.Simd.Lanes.{mask_l, pick_l, sel_l, top, zip2}
 use lib.Count.{count_trailing_zeros}
@@ -52,7 +53,8 @@ lanes_of_splat f a x p =
 
 -- one of two bytes, by a test of each lane with a third
 pub lanes_of_choice : (t : ℕ → ℕ → Bool) (a : List ℕ) (x y z : ℕ) → length a ≡ 16
-    → HasLanes (sel_l (zip2 t a (replicate 16 x)) (replicate 16 y) (replicate 16 z)) (λ k. cond (t (get_or a k 0) x) y z)
+    → HasLanes (sel_l (zip2 t a (replicate 16 x)) (replicate 16 y) (replicate 16 z)) (λ k. cond (t (get_or a k 0) x)
+    y z)
 lanes_of_choice t a x y z p =
     let tests = zip2 t a (replicate 16 x) in
     let long : length tests ≡ 16 = length-zip2 t a (replicate 16 x) p ∙ p in

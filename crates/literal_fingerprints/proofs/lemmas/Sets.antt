@@ -1,5 +1,6 @@
 -- Sets of buckets, as bits of numbers.
-use Rattle.std.proofs.Common.{◌≡◌, ◌≢◌, ℕ, ◌%◌, ◌/◌, ◌∙◌, List, IsTrue, not, ap, arith, bit_and, bit_or, get_or, replicate, sym}
+use Rattle.std.proofs.Common.{◌≡◌, ◌≢◌, ℕ, ◌%◌, ◌/◌, ◌∙◌, List, IsTrue, not, ap, arith, bit_and, bit_or, get_or}
+use Rattle.std.proofs.Common.{replicate, sym}
 use Rattle.std.proofs.lemmas.Bool.Decides.{nat_tests}
 use Rattle.std.proofs.lemmas.Nat.{and_assoc, and_comm}
 use Rattle.std.proofs.lemmas.Nat.Bits.{bit_at-lt, bit_at_or, bit_at_xor, same_from_bits}

@@ -1,8 +1,8 @@
-use Rattle.std.proofs.Common.{◌≡◌, ◌+◌, ◌-◌, ◌<◌, ◌≤◌, ◌∙◌, ap, arith, get_or, inl, inr, rules, subst, sym, ℕ}
+use Rattle.std.proofs.Common.{◌≡◌, ◌+◌, ◌-◌, ◌<◌, ◌≤◌, ◌∙◌, arith, get_or, inl, inr, rules, subst, sym, ℕ}
 use Rattle.std.proofs.lemmas.Bool.{cases_lt}
-use Rattle.literal_base.specs.Counts.{Counts}
-use Rattle.literal_fingerprints.proofs.lemmas.Hits.{LanesOf, NoneOf, has_pair, neither, next_hits}
-use Rattle.literal_fingerprints.proofs.lemmas.Hits.{no_pair_begins, none_by, none_by_rest, none_hit_before, none_more, none_more_of_two, none_of_either}
+use Rattle.literal_fingerprints.proofs.lemmas.Hits.{LanesOf, has_pair, neither, next_hits}
+use Rattle.literal_fingerprints.proofs.lemmas.Hits.{no_pair_begins, none_by, none_by_rest, none_hit_before}
+use Rattle.literal_fingerprints.proofs.lemmas.Hits.{none_more, none_more_of_two, none_of_either}
 use Rattle.literal_fingerprints.specs.RarePairs.{HasPair}
 use Rattle.literal_fingerprints.proofs.pair.RarePair.scan.Goals as goal
 
@@ -11,7 +11,8 @@ returns-then-span-lt-LANES-clause-passed c =
     let pair = c.args.self.now in
     let haystack = c.args.haystack.now in
     let start = c.args.span.start in
-    no_pair_begins pair c.args.first_mask c.args.second_mask c.args.apart c.min.result c.requires.first c.requires.second
+    no_pair_begins pair c.args.first_mask c.args.second_mask c.args.apart c.min.result c.requires.first
+    c.requires.second
     c.requires.apart c.min.ensures haystack c.args.span c.requires.valid _
     (none_by_rest pair c.args.first_mask c.args.second_mask c.args.apart c.min.result c.requires.first c.requires.second
     c.requires.apart c.min.ensures haystack c.args.span start _
@@ -22,14 +23,17 @@ returns-then-passed-lt-LANES-clause-passed c =
     let pair = c.args.self.now in
     let haystack = c.args.haystack.now in
     let start = c.args.span.start in
-    let lanes : LanesOf pair c.args.first_mask c.args.second_mask c.args.apart c.min.result c.requires.first c.requires.second
+    let lanes : LanesOf pair c.args.first_mask c.args.second_mask c.args.apart c.min.result c.requires.first
+    c.requires.second
     c.requires.apart c.min.ensures haystack start c.pairs_after.result start =
     c.pairs_after.ensures _ _ (none_hit_before pair.first.byte c.args.first_mask haystack start)
     (c.compare-here.ensures.first haystack start start (omega arith) c.load.ensures.lanes)
     (c.compare-here.ensures.second haystack start start (omega arith) c.load.ensures.lanes) in
-    no_pair_begins pair c.args.first_mask c.args.second_mask c.args.apart c.min.result c.requires.first c.requires.second
+    no_pair_begins pair c.args.first_mask c.args.second_mask c.args.apart c.min.result c.requires.first
+    c.requires.second
     c.requires.apart c.min.ensures haystack c.args.span c.requires.valid _
-    (λ p after before inside. none_by pair c.args.first_mask c.args.second_mask c.args.apart c.min.result c.requires.first c.requires.second
+    (λ p after before inside. none_by pair c.args.first_mask c.args.second_mask c.args.apart c.min.result
+    c.requires.first c.requires.second
     c.requires.apart c.min.ensures haystack start (start + c.zeros_before-passed.result) _
     (λ q above below. omega (arith, c.saturating_sub.ensures))
     (none_more pair.first.byte c.args.first_mask pair.second.byte c.args.second_mask c.args.apart haystack start
@@ -42,7 +46,8 @@ returns-then-passed-lt-LANES-clause-stops c =
     let pair = c.args.self.now in
     let haystack = c.args.haystack.now in
     let start = c.args.span.start in
-    let lanes : LanesOf pair c.args.first_mask c.args.second_mask c.args.apart c.min.result c.requires.first c.requires.second
+    let lanes : LanesOf pair c.args.first_mask c.args.second_mask c.args.apart c.min.result c.requires.first
+    c.requires.second
     c.requires.apart c.min.ensures haystack start c.pairs_after.result start =
     c.pairs_after.ensures _ _ (none_hit_before pair.first.byte c.args.first_mask haystack start)
     (c.compare-here.ensures.first haystack start start (omega arith) c.load.ensures.lanes)
@@ -52,9 +57,13 @@ returns-then-passed-lt-LANES-clause-stops c =
     elim (cases_lt passed behind) [
       | inl before ↦ inr (inl (omega (arith, c.saturating_sub.ensures)))
       | inr after ↦
-          let place : start + passed - behind ≡ start + c.saturating_sub.result = omega (arith, c.saturating_sub.ensures) in
+          let place : start + passed - behind ≡ start + c.saturating_sub.result = omega (
+            arith,
+            c.saturating_sub.ensures,
+          ) in
           inl (subst (λ n. HasPair pair haystack n) place
-          (has_pair pair c.args.first_mask c.args.second_mask c.args.apart c.min.result c.requires.first c.requires.second c.requires.apart c.min.ensures haystack start start
+          (has_pair pair c.args.first_mask c.args.second_mask c.args.apart c.min.result c.requires.first
+          c.requires.second c.requires.apart c.min.ensures haystack start start
           c.pairs_after.result lanes (omega arith) passed c.if-passed-lt-LANES.true
           (c.zeros_before-passed.ensures.stops c.if-passed-lt-LANES.true) (omega arith)))
     ]
@@ -64,7 +73,8 @@ loop-at-init c =
     let pair = c.args.self.now in
     let haystack = c.args.haystack.now in
     let start = c.args.span.start in
-    let lanes : LanesOf pair c.args.first_mask c.args.second_mask c.args.apart c.min.result c.requires.first c.requires.second
+    let lanes : LanesOf pair c.args.first_mask c.args.second_mask c.args.apart c.min.result c.requires.first
+    c.requires.second
     c.requires.apart c.min.ensures haystack start c.pairs_after.result start =
     c.pairs_after.ensures _ _ (none_hit_before pair.first.byte c.args.first_mask haystack start)
     (c.compare-here.ensures.first haystack start start (omega arith) c.load.ensures.lanes)
@@ -92,22 +102,26 @@ returns-then-zeros_before-lt-LANES-clause-passed c =
     let after : start ≤ at = omega (arith, before.low) in
     let later : start ≤ at + 16 = omega (arith, before.low) in
     let first = c.compare-one.ensures.first haystack start at after c.load-in-loop-at.ensures.lanes in
-    let front : LanesOf pair c.args.first_mask c.args.second_mask c.args.apart c.min.result c.requires.first c.requires.second
+    let front : LanesOf pair c.args.first_mask c.args.second_mask c.args.apart c.min.result c.requires.first
+    c.requires.second
     c.requires.apart c.min.ensures haystack start c.pairs_after-front.result at =
     c.pairs_after-front.ensures _ _ before.before first
     (c.compare-one.ensures.second haystack start at after c.load-in-loop-at.ensures.lanes) in
     let between = next_hits pair.first.byte c.args.first_mask haystack start at (at + 16) c.compare-one.result.first
     (omega arith) first in
-    let back : LanesOf pair c.args.first_mask c.args.second_mask c.args.apart c.min.result c.requires.first c.requires.second
+    let back : LanesOf pair c.args.first_mask c.args.second_mask c.args.apart c.min.result c.requires.first
+    c.requires.second
     c.requires.apart c.min.ensures haystack start c.pairs_after-back.result (at + 16) =
     c.pairs_after-back.ensures _ _ between
     (c.compare-two.ensures.first haystack start (at + 16) later c.load-in-loop-at-2.ensures.lanes)
     (c.compare-two.ensures.second haystack start (at + 16) later c.load-in-loop-at-2.ensures.lanes) in
     let passed = c.zeros_before_both.result in
     let zeros = c.zeros_before_both.ensures in
-    no_pair_begins pair c.args.first_mask c.args.second_mask c.args.apart c.min.result c.requires.first c.requires.second
+    no_pair_begins pair c.args.first_mask c.args.second_mask c.args.apart c.min.result c.requires.first
+    c.requires.second
     c.requires.apart c.min.ensures haystack c.args.span c.requires.valid _
-    (λ p later earlier inside. none_by pair c.args.first_mask c.args.second_mask c.args.apart c.min.result c.requires.first c.requires.second
+    (λ p later earlier inside. none_by pair c.args.first_mask c.args.second_mask c.args.apart c.min.result
+    c.requires.first c.requires.second
     c.requires.apart c.min.ensures haystack start (at + passed) _
     (λ q above below. omega arith)
     (none_more_of_two pair.first.byte c.args.first_mask pair.second.byte c.args.second_mask c.args.apart haystack start
@@ -124,13 +138,15 @@ returns-then-zeros_before-lt-LANES-clause-stops c =
     let after : start ≤ at = omega (arith, before.low) in
     let later : start ≤ at + 16 = omega (arith, before.low) in
     let first = c.compare-one.ensures.first haystack start at after c.load-in-loop-at.ensures.lanes in
-    let front : LanesOf pair c.args.first_mask c.args.second_mask c.args.apart c.min.result c.requires.first c.requires.second
+    let front : LanesOf pair c.args.first_mask c.args.second_mask c.args.apart c.min.result c.requires.first
+    c.requires.second
     c.requires.apart c.min.ensures haystack start c.pairs_after-front.result at =
     c.pairs_after-front.ensures _ _ before.before first
     (c.compare-one.ensures.second haystack start at after c.load-in-loop-at.ensures.lanes) in
     let between = next_hits pair.first.byte c.args.first_mask haystack start at (at + 16) c.compare-one.result.first
     (omega arith) first in
-    let back : LanesOf pair c.args.first_mask c.args.second_mask c.args.apart c.min.result c.requires.first c.requires.second
+    let back : LanesOf pair c.args.first_mask c.args.second_mask c.args.apart c.min.result c.requires.first
+    c.requires.second
     c.requires.apart c.min.ensures haystack start c.pairs_after-back.result (at + 16) =
     c.pairs_after-back.ensures _ _ between
     (c.compare-two.ensures.first haystack start (at + 16) later c.load-in-loop-at-2.ensures.lanes)
@@ -139,14 +155,16 @@ returns-then-zeros_before-lt-LANES-clause-stops c =
     let zeros = c.zeros_before_both.ensures in
     let behind = c.min.result + c.args.apart in
     elim (cases_lt passed 16) [
-      | inl in_front ↦ inl (has_pair pair c.args.first_mask c.args.second_mask c.args.apart c.min.result c.requires.first c.requires.second
+      | inl in_front ↦ inl (has_pair pair c.args.first_mask c.args.second_mask c.args.apart c.min.result
+          c.requires.first c.requires.second
           c.requires.apart c.min.ensures haystack start at c.pairs_after-front.result front after passed
           in_front (zeros.stops_front in_front) (omega (arith, before.low, c.requires.apart, c.min.ensures)))
       | inr not ↦ elim (cases_lt passed 32) [
         | inl in_back ↦
             let place : at + 16 + (passed - 16) ≡ at + passed = omega arith in
             inl (subst (λ n. HasPair pair haystack (n - behind)) place
-            (has_pair pair c.args.first_mask c.args.second_mask c.args.apart c.min.result c.requires.first c.requires.second
+            (has_pair pair c.args.first_mask c.args.second_mask c.args.apart c.min.result c.requires.first
+            c.requires.second
             c.requires.apart c.min.ensures haystack start (at + 16) c.pairs_after-back.result back later
             (passed - 16) (omega arith) (zeros.stops_back (omega arith) in_back)
             (omega (arith, before.low, c.requires.apart, c.min.ensures))))
@@ -169,13 +187,15 @@ loop-at-preserved c =
     let after : start ≤ at = omega (arith, before.low) in
     let later : start ≤ at + 16 = omega (arith, before.low) in
     let first = c.compare-one.ensures.first haystack start at after c.load-in-loop-at.ensures.lanes in
-    let front : LanesOf pair c.args.first_mask c.args.second_mask c.args.apart c.min.result c.requires.first c.requires.second
+    let front : LanesOf pair c.args.first_mask c.args.second_mask c.args.apart c.min.result c.requires.first
+    c.requires.second
     c.requires.apart c.min.ensures haystack start c.pairs_after-front.result at =
     c.pairs_after-front.ensures _ _ before.before first
     (c.compare-one.ensures.second haystack start at after c.load-in-loop-at.ensures.lanes) in
     let between = next_hits pair.first.byte c.args.first_mask haystack start at (at + 16) c.compare-one.result.first
     (omega arith) first in
-    let back : LanesOf pair c.args.first_mask c.args.second_mask c.args.apart c.min.result c.requires.first c.requires.second
+    let back : LanesOf pair c.args.first_mask c.args.second_mask c.args.apart c.min.result c.requires.first
+    c.requires.second
     c.requires.apart c.min.ensures haystack start c.pairs_after-back.result (at + 16) =
     c.pairs_after-back.ensures _ _ between
     (c.compare-two.ensures.first haystack start (at + 16) later c.load-in-loop-at-2.ensures.lanes)
@@ -190,7 +210,8 @@ loop-at-preserved c =
       before = next_hits pair.first.byte c.args.first_mask haystack start (at + 16) (at + 32)
           c.compare-two.result.first (omega arith)
           (c.compare-two.ensures.first haystack start (at + 16) later c.load-in-loop-at-2.ensures.lanes);
-      none = none_more_of_two pair.first.byte c.args.first_mask pair.second.byte c.args.second_mask c.args.apart haystack start
+      none = none_more_of_two pair.first.byte c.args.first_mask pair.second.byte c.args.second_mask c.args.apart
+          haystack start
           (omega (arith, c.requires.apart)) at
           c.pairs_after-front.result c.pairs_after-back.result front back after 32 (omega arith)
           (λ k below under. (zero k under).0) (λ k below. (zero k (omega arith)).1) before.none;
@@ -201,7 +222,8 @@ pub returns-then-span-at-lt-LANES-clause-passed : goal.returns-then-span-at-lt-L
 returns-then-span-at-lt-LANES-clause-passed c =
     let pair = c.args.self.now in
     let haystack = c.args.haystack.now in
-    no_pair_begins pair c.args.first_mask c.args.second_mask c.args.apart c.min.result c.requires.first c.requires.second
+    no_pair_begins pair c.args.first_mask c.args.second_mask c.args.apart c.min.result c.requires.first
+    c.requires.second
     c.requires.apart c.min.ensures haystack c.args.span c.requires.valid _
     (none_by_rest pair c.args.first_mask c.args.second_mask c.args.apart c.min.result c.requires.first c.requires.second
     c.requires.apart c.min.ensures haystack c.args.span c.loop-at.at _
@@ -215,14 +237,17 @@ returns-then-passed-lt-LANES-2-clause-passed c =
     let at = c.loop-at.at in
     let before = c.loop-at.invariant in
     let after : start ≤ at = omega (arith, before.low) in
-    let lanes : LanesOf pair c.args.first_mask c.args.second_mask c.args.apart c.min.result c.requires.first c.requires.second
+    let lanes : LanesOf pair c.args.first_mask c.args.second_mask c.args.apart c.min.result c.requires.first
+    c.requires.second
     c.requires.apart c.min.ensures haystack start c.pairs_after-2.result at =
     c.pairs_after-2.ensures _ _ before.before
     (c.compare-last.ensures.first haystack start at after c.load-2.ensures.lanes)
     (c.compare-last.ensures.second haystack start at after c.load-2.ensures.lanes) in
-    no_pair_begins pair c.args.first_mask c.args.second_mask c.args.apart c.min.result c.requires.first c.requires.second
+    no_pair_begins pair c.args.first_mask c.args.second_mask c.args.apart c.min.result c.requires.first
+    c.requires.second
     c.requires.apart c.min.ensures haystack c.args.span c.requires.valid _
-    (λ p later earlier inside. none_by pair c.args.first_mask c.args.second_mask c.args.apart c.min.result c.requires.first c.requires.second
+    (λ p later earlier inside. none_by pair c.args.first_mask c.args.second_mask c.args.apart c.min.result
+    c.requires.first c.requires.second
     c.requires.apart c.min.ensures haystack start (at + c.zeros_before-passed-2.result) _
     (λ q above below. omega arith)
     (none_more pair.first.byte c.args.first_mask pair.second.byte c.args.second_mask c.args.apart haystack start
@@ -237,15 +262,22 @@ returns-then-passed-lt-LANES-2-clause-stops c =
     let at = c.loop-at.at in
     let before = c.loop-at.invariant in
     let after : start ≤ at = omega (arith, before.low) in
-    let lanes : LanesOf pair c.args.first_mask c.args.second_mask c.args.apart c.min.result c.requires.first c.requires.second
+    let lanes : LanesOf pair c.args.first_mask c.args.second_mask c.args.apart c.min.result c.requires.first
+    c.requires.second
     c.requires.apart c.min.ensures haystack start c.pairs_after-2.result at =
     c.pairs_after-2.ensures _ _ before.before
     (c.compare-last.ensures.first haystack start at after c.load-2.ensures.lanes)
     (c.compare-last.ensures.second haystack start at after c.load-2.ensures.lanes) in
     let passed = c.zeros_before-passed-2.result in
-    inl (has_pair pair c.args.first_mask c.args.second_mask c.args.apart c.min.result c.requires.first c.requires.second c.requires.apart c.min.ensures haystack start at
+    inl (has_pair pair c.args.first_mask c.args.second_mask c.args.apart c.min.result c.requires.first
+    c.requires.second c.requires.apart c.min.ensures haystack start at
     c.pairs_after-2.result lanes after passed c.if-passed-lt-LANES-2.true
-    (c.zeros_before-passed-2.ensures.stops c.if-passed-lt-LANES-2.true) (omega (arith, before.low, c.requires.apart, c.min.ensures)))
+    (c.zeros_before-passed-2.ensures.stops c.if-passed-lt-LANES-2.true) (omega (
+      arith,
+      before.low,
+      c.requires.apart,
+      c.min.ensures,
+    )))
 
 pub returns-clause-passed : goal.returns-clause-passed
 returns-clause-passed c =
@@ -255,12 +287,14 @@ returns-clause-passed c =
     let at = c.loop-at.at in
     let before = c.loop-at.invariant in
     let after : start ≤ at = omega (arith, before.low) in
-    let lanes : LanesOf pair c.args.first_mask c.args.second_mask c.args.apart c.min.result c.requires.first c.requires.second
+    let lanes : LanesOf pair c.args.first_mask c.args.second_mask c.args.apart c.min.result c.requires.first
+    c.requires.second
     c.requires.apart c.min.ensures haystack start c.pairs_after-2.result at =
     c.pairs_after-2.ensures _ _ before.before
     (c.compare-last.ensures.first haystack start at after c.load-2.ensures.lanes)
     (c.compare-last.ensures.second haystack start at after c.load-2.ensures.lanes) in
-    no_pair_begins pair c.args.first_mask c.args.second_mask c.args.apart c.min.result c.requires.first c.requires.second
+    no_pair_begins pair c.args.first_mask c.args.second_mask c.args.apart c.min.result c.requires.first
+    c.requires.second
     c.requires.apart c.min.ensures haystack c.args.span c.requires.valid _
     (none_by_rest pair c.args.first_mask c.args.second_mask c.args.apart c.min.result c.requires.first c.requires.second
     c.requires.apart c.min.ensures haystack c.args.span (at + 16) _
