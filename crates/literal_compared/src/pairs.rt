@@ -137,15 +137,15 @@ fn plainly(
 }
 
 /// The list of all matches is that of the plain search, each behind the one before it.
-fn assert_all(
-    rt: &impl Abort,
-    of: (bool, &[u8]),
-    haystack: &[u8],
-    all: &[Match],
-) {
+fn assert_all(rt: &impl Abort, of: (bool, &[u8]), haystack: &[u8], all: &[Match]) {
     let mut start = 0;
     for found in all {
-        assert_same(rt, Some(place(*found)), plainly(of, haystack, start), "a match");
+        assert_same(
+            rt,
+            Some(place(*found)),
+            plainly(of, haystack, start),
+            "a match",
+        );
         start = found.end();
     }
     assert_same(rt, None, plainly(of, haystack, start), "the end");
@@ -160,7 +160,12 @@ fn assert_first(
     haystack: &[u8],
 ) {
     let wanted = plainly(of, haystack, 0);
-    assert_same(rt, search.find(haystack).map(place), wanted, "the first match");
+    assert_same(
+        rt,
+        search.find(haystack).map(place),
+        wanted,
+        "the first match",
+    );
     let mut all = overlapping.find_overlapping_iter(haystack);
     let first = all.next();
     assert_same(rt, first.map(place), wanted, "the first occurrence");

@@ -69,7 +69,7 @@ impl CandidateScan {
     }
 }
 
-/// The pair of one pattern, if its bytes are rare, or the pattern has no others.
+/// The pair of one pattern, if its bytes are rare.
 fn pair_for(ignore_case: bool, patterns: &[Vec<u8>]) -> Option<RarePair>
     ensures stops { IfSome result
         (λ pair. AreOf pair ignore_case (map (λ pattern. pattern.items) patterns.now)) }
@@ -78,10 +78,6 @@ fn pair_for(ignore_case: bool, patterns: &[Vec<u8>]) -> Option<RarePair>
     if patterns.len() != 1 {
         return None;
     }
-    let pattern = &patterns[0];
-    let pair = RarePair::new(ignore_case, pattern)?;
-    if pattern.len() > 2 && !pair.is_rare() {
-        return None;
-    }
-    Some(pair)
+    let pair = RarePair::new(ignore_case, &patterns[0])?;
+    if pair.is_rare() { Some(pair) } else { None }
 }

@@ -245,7 +245,7 @@ fn scan_by(prints: &[u32]) -> CandidateScan
     unpack(&prints[1..PAIR_AT], &mut bytes);
     CandidateScan {
         fingerprints: Fingerprints::from_bytes(&bytes),
-        pair: pair_by(&prints[PAIR_AT..]),
+        pair: pair_by(&prints[PAIR_AT..SCAN_LEN]),
     }
 }
 

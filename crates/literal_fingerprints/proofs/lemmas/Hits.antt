@@ -142,8 +142,8 @@ module _ (first first_mask second second_mask apart : ℕ) (haystack : List ℕ)
       → origin ≤ at → (n : ℕ) → n ≤ 32 → ((k : ℕ) → k < n → k < 16 → get_or front k 0 ≡ 0)
       → ((k : ℕ) → 16 + k < n → get_or back k 0 ≡ 0) → NoneHit at → NoneHit (at + n)
   none_more_of_two few at front back has_front has_back after n within zero_front zero_back old = elim (cases_lt n 16) [
-    | inl short ↦
-        none_more few at front has_front after n (omega arith) (λ k below. zero_front k below (omega arith)) old
+    | inl short ↦ none_more few at front has_front after n (omega arith) (λ k below. zero_front k below (omega
+        arith)) old
     | inr long ↦
         let place : at + 16 + (n - 16) ≡ at + n = omega arith in
         subst NoneHit place
@@ -231,8 +231,8 @@ module _ (pair : RarePair) (first_mask second_mask apart offset : ℕ) (is_first
         let one = has_first pair.first.byte first_mask pair.second.byte second_mask apart haystack start few at lanes
         has
         after n below stops (place + first_offset pair) (omega (arith, is_offset)) in
-        let two = has_second pair.first.byte first_mask pair.second.byte second_mask apart haystack start few at lanes
-        has
+        let two = has_second pair.first.byte first_mask pair.second.byte second_mask apart haystack start few at
+        lanes has
         after n below stops (place + (first_offset pair + min pair.apart 3)) (omega (arith, is_offset, is_apart)) in (
           ap (bit_or (get_or haystack (place + first_offset pair) 0)) (sym is_first) ∙ one,
           ap (bit_or (get_or haystack (place + (first_offset pair + min pair.apart 3)) 0)) (sym is_second) ∙ two,

@@ -53,8 +53,8 @@ lanes_of_splat f a x p =
 
 -- one of two bytes, by a test of each lane with a third
 pub lanes_of_choice : (t : ℕ → ℕ → Bool) (a : List ℕ) (x y z : ℕ) → length a ≡ 16
-    → HasLanes (sel_l (zip2 t a (replicate 16 x)) (replicate 16 y) (replicate 16 z)) (λ k. cond (t (get_or a k 0) x) y
-    z)
+    → HasLanes (sel_l (zip2 t a (replicate 16 x)) (replicate 16 y) (replicate 16 z)) (λ k. cond (t (get_or a k 0) x)
+    y z)
 lanes_of_choice t a x y z p =
     let tests = zip2 t a (replicate 16 x) in
     let long : length tests ≡ 16 = length-zip2 t a (replicate 16 x) p ∙ p in

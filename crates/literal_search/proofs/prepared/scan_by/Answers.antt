@@ -1,4 +1,4 @@
-use Rattle.std.proofs.Common.{◌-◌, ◌∙◌, ap, arith, drop, length}
+use Rattle.std.proofs.Common.{◌∙◌, ap, arith, drop}
 use Rattle.std.proofs.lemmas.List.{length-drop, take_all}
 use Rattle.literal_fingerprints.specs.FingerprintsValue.{fingerprints_in}
 use Rattle.literal_search.specs.Inside.Packed.{unpacked}
@@ -12,4 +12,4 @@ returns c =
     let prints = c.args.prints.now in
     same_scan _ _ _ _ (c.from_bytes.ensures ∙ ap fingerprints_in c.unpack.ensures)
     (c.pair_by.ensures ∙ ap (λ n. pair_of (unpacked n))
-    (take_all (length prints - 33) (drop 33 prints) (omega (arith, length-drop 33 prints))))
+    (take_all 2 (drop 33 prints) (omega (arith, length-drop 33 prints, c.requires))))

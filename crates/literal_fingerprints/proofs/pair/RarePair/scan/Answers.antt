@@ -1,9 +1,8 @@
-use Rattle.std.proofs.Common.{◌≡◌, ◌+◌, ◌-◌, ◌<◌, ◌≤◌, ◌∙◌, ap, arith, get_or, inl, inr, rules, subst, sym, ℕ}
+use Rattle.std.proofs.Common.{◌≡◌, ◌+◌, ◌-◌, ◌<◌, ◌≤◌, ◌∙◌, arith, get_or, inl, inr, rules, subst, sym, ℕ}
 use Rattle.std.proofs.lemmas.Bool.{cases_lt}
-use Rattle.literal_base.specs.Counts.{Counts}
-use Rattle.literal_fingerprints.proofs.lemmas.Hits.{LanesOf, NoneOf, has_pair, neither, next_hits}
-use Rattle.literal_fingerprints.proofs.lemmas.Hits.{no_pair_begins, none_by, none_by_rest, none_hit_before, none_more}
-use Rattle.literal_fingerprints.proofs.lemmas.Hits.{none_more_of_two, none_of_either}
+use Rattle.literal_fingerprints.proofs.lemmas.Hits.{LanesOf, has_pair, neither, next_hits}
+use Rattle.literal_fingerprints.proofs.lemmas.Hits.{no_pair_begins, none_by, none_by_rest, none_hit_before}
+use Rattle.literal_fingerprints.proofs.lemmas.Hits.{none_more, none_more_of_two, none_of_either}
 use Rattle.literal_fingerprints.specs.RarePairs.{HasPair}
 use Rattle.literal_fingerprints.proofs.pair.RarePair.scan.Goals as goal
 
@@ -156,9 +155,8 @@ returns-then-zeros_before-lt-LANES-clause-stops c =
     let zeros = c.zeros_before_both.ensures in
     let behind = c.min.result + c.args.apart in
     elim (cases_lt passed 16) [
-      | inl in_front ↦
-          inl (has_pair pair c.args.first_mask c.args.second_mask c.args.apart c.min.result c.requires.first
-          c.requires.second
+      | inl in_front ↦ inl (has_pair pair c.args.first_mask c.args.second_mask c.args.apart c.min.result
+          c.requires.first c.requires.second
           c.requires.apart c.min.ensures haystack start at c.pairs_after-front.result front after passed
           in_front (zeros.stops_front in_front) (omega (arith, before.low, c.requires.apart, c.min.ensures)))
       | inr not ↦ elim (cases_lt passed 32) [
