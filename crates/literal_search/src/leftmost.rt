@@ -714,14 +714,14 @@ impl<'t> Backward<'t> {
         ensures counted { IfOk result
             (ReadsFor self.now.table.longest span tally.old.scanned tally.new.scanned) }
     {
-        let scan = scan_in(self.prints);
-        let owed = owed_by(&scan);
+        let scan = &scan_in(self.prints);
+        let owed = owed_by(scan);
         let begin = Front {
             at: span.start,
             credit: 0,
             part: FIRST.max(self.table.longest / 2 + 3),
         };
-        let mut front = self.pass_on(&scan, haystack, span, begin, tally);
+        let mut front = self.pass_on(scan, haystack, span, begin, tally);
         if front.at == span.end {
             return Ok(None);
         }
@@ -732,9 +732,7 @@ impl<'t> Backward<'t> {
             if looked.first.is_some() {
                 return Ok(looked.first);
             }
-            // (read again: it takes less than to keep all of it over the walks)
-            let scan = scan_in(self.prints);
-            front = self.pass_on(&scan, haystack, span, looked.front, tally);
+            front = self.pass_on(scan, haystack, span, looked.front, tally);
         }
         let rest = Span {
             start: front.at,

@@ -1,28 +1,16 @@
 use Rattle.std.proofs.Common.{◌≡◌, ℕ, ◌+◌, ◌-◌, ◌*◌, ◌<◌, ◌≤◌, ◌∙◌, IfOk, Err, None, Ok, Option, Result, Some, ap}
-use Rattle.std.proofs.Common.{List, MatchOption, arith, inl, inr, refl, subst, sym}
+use Rattle.std.proofs.Common.{arith, inl, inr, refl, subst, sym}
 use Rattle.std.proofs.lemmas.Bool.{cases_lt}
 use Rattle.literal_base.specs.Counts.{Counts}
 use Rattle.literal_search.specs.Inside.Backward.{back_tables_by}
 use Rattle.literal_base.specs.declared.search.Span.{Span}
-use Rattle.literal_fingerprints.specs.declared.candidates.CandidateScan.{CandidateScan}
-use Rattle.literal_search.specs.Inside.Leftmost.{IsFront, LiesInPart, ReadsFor, owed_by}
-use Rattle.literal_search.specs.Prepared.{scan_by, shortest_by}
+use Rattle.literal_search.specs.Inside.Leftmost.{IsFront, LiesInPart, ReadsFor}
 use Rattle.literal_search.specs.SearchValue.{first_part}
 use Rattle.literal_search.specs.declared.backward.Begun.{Begun}
 use Rattle.literal_search.specs.declared.prepared.Damaged.{Damaged}
 use Rattle.literal_search.proofs.lemmas.Leftmost.{found_reads, lane_begins, no_first, none_on, ok_part_on}
 use Rattle.literal_search.proofs.lemmas.Leftmost.{part_on, some_first}
 use Rattle.literal_search.proofs.backward.Backward.first_begun.Goals as goal
-
--- the scan is the same where it is read again
-same_owed : (prints : List ℕ) (one two : Option CandidateScan)
-    → MatchOption one (shortest_by prints ≡ 0) (λ s. (0 < shortest_by prints) × (s ≡ scan_by prints))
-    → MatchOption two (shortest_by prints ≡ 0) (λ s. (0 < shortest_by prints) × (s ≡ scan_by prints))
-    → owed_by one ≡ owed_by two
-same_owed prints None None one two = refl
-same_owed prints None (Some scan) one two = absurd (omega (arith, one, two.0))
-same_owed prints (Some scan) None one two = absurd (omega (arith, two, one.0))
-same_owed prints (Some scan) (Some other) one two = refl
 
 -- a walk through the rest of a span has looked up what is allowed for its answer
 rest_reads : (longest : ℕ) (span : Span) (old now new at : ℕ) → old + at ≤ now + span.start
@@ -106,11 +94,9 @@ loop-block-preserved c =
     let so_far = c.loop-block.invariant in
     let looked = c.in_ok-looked.looked in
     let none = sym c.is_some.ensures ∙ c.if-is_some.false in
-    let same = same_owed c.args.self.now.prints.now c.scan_in-scan-in-Some.result c.scan_in-scan.result
-    c.scan_in-scan-in-Some.ensures c.scan_in-scan.ensures ∙ sym c.owed_by-owed.ensures in
     record {
       front = subst (λ n. IsFront c.args.self.now c.args.span n c.args.tally.now.scanned
-          c.pass_on-front-in-Some.new.tally.scanned c.pass_on-front-in-Some.result) same
+          c.pass_on-front-in-Some.new.tally.scanned c.pass_on-front-in-Some.result) (sym c.owed_by-owed.ensures)
           (c.pass_on-front-in-Some.ensures.front c.args.tally.now.scanned
           (c.in_ok-looked.ensures.front c.args.tally.now.scanned so_far.front none));
       none = λ search is.
