@@ -52,7 +52,8 @@ impl CandidateScan {
         ensures counted { tally.new.scanned + span.start ≤ tally.old.scanned + result + ahead_of self.now }
         ensures thrice { tally.new.scanned + 3 * span.start ≤ tally.old.scanned + 3 * result + 16 }
     {
-        match &self.pair {
+        // (a copy of the pair: a reference to it would keep the fingerprints out of registers, too)
+        match self.pair {
             None => self.fingerprints.next(haystack, span, tally),
             Some(pair) => pair.next(haystack, span, tally),
         }
