@@ -1,5 +1,5 @@
 -- Sixteen marks, of which a mask tells where one says that a pattern begins.
-use Rattle.std.proofs.Common.{◌≡◌, ℕ, ◌+◌, ◌-◌, ◌%◌, ◌^◌, ◌<◌, ◌≤◌, ◌∙◌, List, [], ◌∷◌, Bool, true, not}
+use Rattle.std.proofs.Common.{◌≡◌, ℕ, ◌+◌, ◌-◌, ◌%◌, ◌^◌, ◌<◌, ◌≤◌, ◌∙◌, List, [], ◌∷◌, not}
 use Rattle.std.proofs.Common.{ap, arith, bit_or, cond, drop, get_or, leb, length, map, refl, replicate, suc, sym}
 use Rattle.std.proofs.Common.{take, w32, zero}
 use Rattle.std.proofs.lemmas.Bool.{leb-false, not-true}

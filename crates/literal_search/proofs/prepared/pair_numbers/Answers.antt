@@ -1,4 +1,4 @@
-use Rattle.std.proofs.Common.{◌≡◌, ◌∙◌, None, Option, Some, ap, arith, cond, get_or, sym}
+use Rattle.std.proofs.Common.{◌∙◌, None, Option, Some, ap, arith, cond, get_or, sym}
 use Rattle.std.proofs.lemmas.Bool.{ne_eqb}
 use Rattle.literal_fingerprints.specs.RarePairs.{pair_in}
 use Rattle.literal_fingerprints.specs.declared.pair.RarePair.{RarePair}

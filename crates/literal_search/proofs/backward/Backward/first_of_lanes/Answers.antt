@@ -1,4 +1,4 @@
-use Rattle.std.proofs.Common.{◌∙◌, ◌+◌, ◌-◌, ◌*◌, arith, sym}
+use Rattle.std.proofs.Common.{◌∙◌, ◌+◌, ◌*◌, arith, sym}
 use Rattle.literal_search.specs.Inside.Backward.{back_tables_by}
 use Rattle.literal_search.proofs.lemmas.Leftmost.{no_first, none_on, ok_part_on, part_on, some_first}
 use Rattle.literal_search.proofs.backward.Backward.first_of_lanes.Goals as goal

@@ -2,7 +2,7 @@ use Rattle.std.proofs.Common.{◌≡◌, ◌+◌, ◌-◌, ◌*◌, ◌≤◌, �
 use Rattle.std.proofs.lemmas.Bool.{false≢true}
 use Rattle.literal_base.specs.Counts.{Counts}
 use Rattle.literal_search.specs.Inside.Backward.{AreBackFor, back_tables_by}
-use Rattle.literal_search.specs.Inside.Leftmost.{AreLanes, AreSteps, NoneBehind}
+use Rattle.literal_search.specs.Inside.Leftmost.{AreLanes, NoneBehind}
 use Rattle.literal_search.specs.SearchValue.{SearchValue}
 use Rattle.literal_search.specs.declared.leftmost.Lanes.{Lanes}
 use Rattle.literal_search.proofs.lemmas.Leftmost.{lanes_on, none_on_four, one_more, rows_if_none, steps_in_four}
