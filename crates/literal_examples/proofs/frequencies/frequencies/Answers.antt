@@ -54,7 +54,7 @@ loop-found-preserved c =
         length_push c.loop-found.yielded found,
       );
       len = search rules;
-      counted = λ i below. grind (arith, common_steps, so_far.counted i);
+      counted = λ i below. grind (arith, common_steps, so_far.counted i) steps 40000000;
     }
 
 pub returns-clause-counted : goal.returns-clause-counted
