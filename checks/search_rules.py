@@ -44,7 +44,8 @@ TICKS = {
     RABIN_KARP: {"Rolling::push": ("tick_hashed", "ebc0e88b6d30"), "Rolling::roll": ("tick_hashed", "5b80638e8bc9")},
     ENTRIES: {"BucketEntries::entry": ("tick_entries", "95314473946b")},
     "crates/literal_fingerprints/src/lanes.rt": {
-        "lanes::load": ("tick_scanned", "81399e5b4db7"), "lanes::byte_at": ("tick_scanned", "20400241e889"),
+        "lanes::load": ("tick_scanned", "81399e5b4db7"), "lanes::load_rest": ("tick_scanned", "6704b36834f4"),
+        "lanes::byte_at": ("tick_scanned", "20400241e889"),
     },
     "crates/literal_prefilters/src/prefilter/byte_table.rt": {"ByteTable::find": ("tick_scanned", "9327f693401c")},
     CONFIRMING: {"confirming::confirm": ("tick_tried", ""), "confirming::confirm_by_table": ("tick_tried", "")},

@@ -1,7 +1,7 @@
 //! The scan that suits a list of patterns.
 ghost use Rattle.std.specs.Prelude.{◌≡◌, ◌+◌, ◌-◌, ◌*◌, ◌<◌, ◌≤◌, IfSome, length, map};
 ghost use Rattle.literal_base.specs.Occurs.{IsValidSpan};
-ghost use Rattle.literal_fingerprints.specs.CandidateScans.{NoneBeginsBefore, StopsAtEach, ahead_of};
+ghost use Rattle.literal_fingerprints.specs.CandidateScans.{MayStop, NoneBeginsBefore, StopsAtEach, ahead_of};
 ghost use Rattle.literal_fingerprints.specs.RarePairs.{AreOf};
 
 use crate::fingerprints::{BYTES, Fingerprints};
@@ -14,13 +14,13 @@ use literal_base::count::Tally;
 pub struct CandidateScan {
     /// The fingerprints of the patterns. Where there is a pair, they have no meaning.
     pub fingerprints: Fingerprints,
-    /// Two bytes of the only pattern.
+    /// Two or three bytes of the only pattern.
     pub pair: Option<RarePair>,
 }
 
 impl CandidateScan {
-    /// The scan for some patterns: by a pair for one that has rare bytes, and else by fingerprints. There is none where
-    /// there is no pattern, or an empty one, and where there are no fingerprints.
+    /// The scan for some patterns: by a pair for one, and by fingerprints for several. There is none where there is no
+    /// pattern, or an empty one, and where there are no fingerprints.
     pub fn new(ignore_case: bool, patterns: &[Vec<u8>]) -> Option<CandidateScan>
         ensures stops { IfSome result
             (λ scan. StopsAtEach scan ignore_case (map (λ pattern. pattern.items) patterns.now)) }
@@ -46,6 +46,7 @@ impl CandidateScan {
         requires { IsValidSpan haystack.now span }
         ensures inside { (span.start ≤ result) × (result ≤ span.end) }
         ensures passed { NoneBeginsBefore self.now haystack.now span result }
+        ensures stops { MayStop self.now haystack.now span result }
         ensures others { tally.new ≡ record tally.old { scanned = tally.new.scanned } }
         ensures once { tally.new.scanned ≤ tally.old.scanned + (span.end - span.start) }
         ensures read { tally.old.scanned + result ≤ tally.new.scanned + span.start }
@@ -70,7 +71,7 @@ impl CandidateScan {
     }
 }
 
-/// The pair of one pattern, if its bytes are rare.
+/// The pair of one pattern.
 fn pair_for(ignore_case: bool, patterns: &[Vec<u8>]) -> Option<RarePair>
     ensures stops { IfSome result
         (λ pair. AreOf pair ignore_case (map (λ pattern. pattern.items) patterns.now)) }
@@ -79,6 +80,5 @@ fn pair_for(ignore_case: bool, patterns: &[Vec<u8>]) -> Option<RarePair>
     if patterns.len() != 1 {
         return None;
     }
-    let pair = RarePair::new(ignore_case, &patterns[0])?;
-    if pair.is_rare() { Some(pair) } else { None }
+    RarePair::new(ignore_case, &patterns[0])
 }

@@ -9,7 +9,7 @@ ghost use Rattle.literal_fingerprints.specs.Inside.Nibbles.{halves_of};
 ghost use Rattle.literal_fingerprints.specs.Inside.Scan.{IsLookedUp};
 
 use crate::buckets::{Buckets, LOOKED_AT};
-use crate::lanes::{LANES, load, look_up, zeros_before};
+use crate::lanes::{LANES, load, load_rest, look_up, zeros_before};
 use crate::looked_up::LookedUp;
 use crate::nibbles::{HALVES, Nibbles};
 use literal_base::Span;
@@ -150,7 +150,8 @@ impl Fingerprints {
 
     /// A place of the span, or its end, before which no pattern begins that lies whole in the span. The span has to be
     /// valid. The scan stops at the first place at which a pattern may begin by its fingerprint. Bytes are read 16 at
-    /// a time, each once; what is left of the span behind the last 16 is not read.
+    /// a time, each once, and those that are left behind the last 16 together. With 14 or 15 of them the scan ends up
+    /// to two places before the end of the span.
     pub fn next(&self, haystack: &[u8], span: Span, tally: &mut Tally) -> usize
         requires { IsValidSpan haystack.now span }
         ensures inside { (span.start ≤ result) × (result ≤ span.end) }
@@ -173,7 +174,12 @@ impl Fingerprints {
             before = here;
             at += LANES;
         }
-        at.saturating_sub(LOOKED_AT - 1).max(span.start)
+        let here = self.look_up(load_rest(haystack, at, span.end, tally));
+        let passed = zeros_before(here.shared_after(before));
+        (at + passed)
+            .saturating_sub(LOOKED_AT - 1)
+            .max(span.start)
+            .min(span.end)
     }
 
     /// What the tables give 16 bytes of a haystack.

@@ -1,5 +1,6 @@
 //! Vectors of 16 bytes, lane by lane.
 ghost use Rattle.std.specs.Prelude.{◌≡◌, ◌≢◌, ℕ, ◌+◌, ◌-◌, ◌/◌, ◌%◌, ◌<◌, ◌≤◌, length, slice_index, bit_and, bit_or};
+ghost use Rattle.std.specs.Prelude.{take};
 ghost use Rattle.literal_fingerprints.specs.FingerprintsValue.{buckets_of};
 ghost use Rattle.literal_fingerprints.specs.Inside.Nibbles.{half_table};
 ghost use Rattle.literal_fingerprints.specs.Inside.Hits.{hit};
@@ -23,6 +24,24 @@ pub fn load(haystack: &[u8], at: usize, tally: &mut Tally) -> u8x16
         tally.tick_scanned();
     }
     u8x16::from_slice(&haystack[at..])
+}
+
+/// The bytes of a haystack from a place on up to an end, fewer than 16, and zeros behind them. Each byte so counts as
+/// scanned.
+#[inline(always)]
+pub fn load_rest(haystack: &[u8], at: usize, end: usize, tally: &mut Tally) -> u8x16
+    requires ordered { at ≤ end }
+    requires few { end < at + 16 }
+    requires inside { end ≤ length haystack.now }
+    ensures lanes { HasLanes result (λ k. slice_index (take end haystack.now) (at + k)) }
+    ensures ticks { tally.new ≡ record tally.old { scanned = tally.old.scanned + (end - at) } }
+{
+    for _ in at..end {
+        tally.tick_scanned();
+    }
+    let mut bytes = [0; LANES];
+    bytes[..end - at].copy_from_slice(&haystack[at..end]);
+    u8x16::from_slice(&bytes)
 }
 
 /// The byte of a haystack at a place, which so counts as scanned.

@@ -1,10 +1,11 @@
-//! Two rare bytes of a pattern, and the scan by them.
-ghost use Rattle.std.specs.Prelude.{◌≡◌, ◌⊎◌, ℕ, ◌+◌, ◌-◌, ◌*◌, ◌<◌, ◌≤◌, List, MatchOption, bit_and};
+//! Two or three rare bytes of a pattern, and the scan by them.
+ghost use Rattle.std.specs.Prelude.{◌≡◌, ℕ, ◌+◌, ◌-◌, ◌*◌, ◌<◌, ◌≤◌, List, MatchOption};
 ghost use Rattle.std.specs.Prelude.{◌≢◌, length, min, slice_index, true};
 ghost use Rattle.literal_base.specs.Occurs.{IsValidSpan, same_byte};
-ghost use Rattle.literal_fingerprints.specs.Inside.Hits.{hit, hit_at};
+ghost use Rattle.literal_fingerprints.specs.Inside.Hits.{AreHits, hit, pair_hit_at};
 ghost use Rattle.literal_fingerprints.specs.Inside.Lanes.{HasLanes};
-ghost use Rattle.literal_fingerprints.specs.RarePairs.{HasPair, IsPairOf, IsRare, NoPairBegins, pair_in, second_offset};
+ghost use Rattle.literal_fingerprints.specs.RarePairs.{IsPairOf, IsRare, NoPairBegins, PairMayStop, has_between};
+ghost use Rattle.literal_fingerprints.specs.RarePairs.{pair_in};
 
 use crate::lanes::{LANES, both, byte_at, either, load, shifted, wanted, zeros_before};
 use crate::nibbles::other_case;
@@ -19,8 +20,8 @@ const LAST: usize = 2;
 /// How many bytes a pair takes as bytes.
 pub const PAIR_BYTES: usize = 8;
 
-/// Below this sum of their ranks two bytes are rare. Pairs such as `th` are not.
-const RARE: usize = 470;
+/// Below this sum of their ranks two bytes are so rare that a third one does not help.
+const RARE: usize = 455;
 
 /// The largest distance between the two bytes of a pair.
 const APART: usize = 3;
@@ -47,7 +48,8 @@ impl RareByte {
     }
 }
 
-/// Two bytes of a pattern, by which a scan tells at which places of a haystack the pattern may begin.
+/// Two bytes of a pattern, and maybe one between them, by which a scan tells at which places of a haystack the pattern
+/// may begin.
 #[derive(Clone, Copy)]
 pub struct RarePair {
     pub first: RareByte,
@@ -56,25 +58,52 @@ pub struct RarePair {
     pub offset: u8,
     /// How far behind the first byte the second one is: at most three bytes. A larger number means three.
     pub apart: u8,
+    /// The byte behind the first one, with the same mask, if the second one is two bytes or more behind the first. 0
+    /// stands for any byte.
+    pub between: u8,
 }
 
-/// Where 16 bytes of a haystack are the two bytes of a pair: lanes of 255, and of 0 elsewhere.
+/// Where 16 bytes of a haystack are each byte of a pair: lanes of 255, and of 0 elsewhere.
 #[derive(Clone, Copy)]
 struct Compared {
     first: u8x16,
+    between: u8x16,
     second: u8x16,
 }
 
 impl Compared {
-    /// Lanes that are not 0 where both bytes are, the second in the lane, and the first so many lanes before it. The
-    /// first may lie in the 16 bytes before.
+    /// Before a span no byte is one of a pair.
     #[inline(always)]
-    fn pairs_after(self, before: u8x16, apart: usize) -> u8x16
-        requires { apart ≤ 3 }
-        ensures { (f g : ℕ → ℕ) → HasLanes before f → HasLanes self.first (λ k. f (16 + k)) → HasLanes self.second g
-            → HasLanes result (λ k. bit_and (f (16 - apart + k)) (g k)) }
+    fn before_span() -> Compared
+        ensures { (pair : RarePair) (first_mask second_mask : ℕ) (haystack : List ℕ) (start : ℕ)
+            → AreHits result pair first_mask second_mask haystack start start }
     {
-        both(shifted(apart, before, self.first), self.second)
+        let none = u8x16::splat(0);
+        Compared {
+            first: none,
+            between: none,
+            second: none,
+        }
+    }
+
+    /// Lanes that are not 0 where the bytes of a pair are, the second in the lane, and the first so many lanes before
+    /// it. The first may lie in the 16 bytes before.
+    #[inline(always)]
+    fn pairs_after(self, before: Compared, by_three: bool, apart: usize) -> u8x16
+        requires near { apart ≤ 3 }
+        requires far { by_three ≡ true → 2 ≤ apart }
+        ensures { (pair : RarePair) (first_mask second_mask : ℕ) (haystack : List ℕ) (start at : ℕ)
+            → AreHits before pair first_mask second_mask haystack start at
+            → AreHits self pair first_mask second_mask haystack start (at + 16)
+            → HasLanes result (λ k. pair_hit_at pair first_mask second_mask by_three apart haystack start
+            (at + (16 - apart + k))) }
+    {
+        let ends = both(shifted(apart, before.first, self.first), self.second);
+        if by_three {
+            both(ends, shifted(apart - 1, before.between, self.between))
+        } else {
+            ends
+        }
     }
 }
 
@@ -86,18 +115,15 @@ impl RarePair {
         if pattern.is_empty() {
             return None;
         }
-        let (first, second) = rarest_two(pattern);
+        let (first, second) = rarest_places(pattern);
+        let rare = RareByte::new(ignore_case, pattern[first]);
         Some(RarePair {
-            first: RareByte::new(ignore_case, pattern[first]),
+            first: rare,
             second: RareByte::new(ignore_case, pattern[second]),
             offset: first as u8,
             apart: (second - first) as u8,
+            between: between_byte(ignore_case, pattern, first, second, rare.mask),
         })
-    }
-
-    /// Whether both bytes are so rare that few places have them.
-    pub fn is_rare(&self) -> bool {
-        freq_rank(self.first.byte) as usize + (freq_rank(self.second.byte) as usize) < RARE
     }
 
     /// This pair as bytes, by which [`RarePair::from_bytes`] makes it again. The first is not 0.
@@ -114,11 +140,11 @@ impl RarePair {
             second.mask,
             self.offset,
             self.apart,
-            0,
+            self.between,
         ]
     }
 
-    /// The pair of these bytes, whatever they are. The first and the last mean nothing.
+    /// The pair of these bytes, whatever they are. The first means nothing.
     #[inline(always)]
     pub fn from_bytes(bytes: &[u8; PAIR_BYTES]) -> RarePair
         ensures { result ≡ pair_in bytes.now }
@@ -134,69 +160,54 @@ impl RarePair {
             },
             offset: bytes[5],
             apart: bytes[6],
+            between: bytes[7],
         }
     }
 
     /// A place of the span, or its end, before which no pattern with this pair begins that lies whole in the span. The
-    /// span has to be valid. The scan stops at the first place at which the haystack has both bytes, or before. Bytes
-    /// are read 16 at a time, and 32 at a time behind the first 16, each once. Of the last bytes, fewer than 16, each
-    /// is compared with the second byte alone.
+    /// span has to be valid. The scan stops at the first place at which the haystack has the bytes of the pair, or
+    /// before. Bytes are read 16 at a time, and 32 at a time behind the first 16, each once. Of the last bytes, fewer
+    /// than 16, each is compared with the second byte alone. For each distance there is a loop of its own, which shifts
+    /// by a constant.
     pub fn next(&self, haystack: &[u8], span: Span, tally: &mut Tally) -> usize
         requires { IsValidSpan haystack.now span }
         ensures inside { (span.start ≤ result) × (result ≤ span.end) }
         ensures passed { NoPairBegins self.now haystack.now span result }
-        ensures stops { HasPair self.now haystack.now result
-            ⊎ ((result ≡ span.start) ⊎ (span.end < result + second_offset self.now + 16)) }
+        ensures stops { PairMayStop self.now haystack.now span result }
         ensures others { tally.new ≡ record tally.old { scanned = tally.new.scanned } }
         ensures once { tally.new.scanned ≤ tally.old.scanned + (span.end - span.start) }
         ensures read { tally.old.scanned + result ≤ tally.new.scanned + span.start }
         ensures counted { tally.new.scanned + span.start ≤ tally.old.scanned + result + 37 }
         ensures thrice { tally.new.scanned + 3 * span.start ≤ tally.old.scanned + 3 * result + 16 }
     {
-        if self.first.mask == 0 && self.second.mask == 0 {
-            self.next_by(0, 0, haystack, span, tally)
-        } else {
-            self.next_by(self.first.mask, self.second.mask, haystack, span, tally)
+        let (first, second) = (self.first.mask, self.second.mask);
+        if first == 0 && second == 0 {
+            return match (self.apart, self.between) {
+                (0, _) => self.scan(0, 0, false, 0, haystack, span, tally),
+                (1, _) => self.scan(0, 0, false, 1, haystack, span, tally),
+                (2, 0) => self.scan(0, 0, false, 2, haystack, span, tally),
+                (2, _) => self.scan(0, 0, true, 2, haystack, span, tally),
+                (_, 0) => self.scan(0, 0, false, 3, haystack, span, tally),
+                (_, _) => self.scan(0, 0, true, 3, haystack, span, tally),
+            };
+        }
+        match (self.apart, self.between) {
+            (0, _) => self.scan(first, second, false, 0, haystack, span, tally),
+            (1, _) => self.scan(first, second, false, 1, haystack, span, tally),
+            (2, 0) => self.scan(first, second, false, 2, haystack, span, tally),
+            (2, _) => self.scan(first, second, true, 2, haystack, span, tally),
+            (_, 0) => self.scan(first, second, false, 3, haystack, span, tally),
+            (_, _) => self.scan(first, second, true, 3, haystack, span, tally),
         }
     }
 
-    /// The same by these masks. For each distance there is a loop of its own, which shifts by a constant.
-    #[inline(always)]
-    fn next_by(
-        &self,
-        first_mask: u8,
-        second_mask: u8,
-        haystack: &[u8],
-        span: Span,
-        tally: &mut Tally,
-    ) -> usize
-        requires valid { IsValidSpan haystack.now span }
-        requires first { first_mask ≡ self.now.first.mask }
-        requires second { second_mask ≡ self.now.second.mask }
-        ensures inside { (span.start ≤ result) × (result ≤ span.end) }
-        ensures passed { NoPairBegins self.now haystack.now span result }
-        ensures stops { HasPair self.now haystack.now result
-            ⊎ ((result ≡ span.start) ⊎ (span.end < result + second_offset self.now + 16)) }
-        ensures others { tally.new ≡ record tally.old { scanned = tally.new.scanned } }
-        ensures once { tally.new.scanned ≤ tally.old.scanned + (span.end - span.start) }
-        ensures read { tally.old.scanned + result ≤ tally.new.scanned + span.start }
-        ensures counted { tally.new.scanned + span.start ≤ tally.old.scanned + result + 37 }
-        ensures thrice { tally.new.scanned + 3 * span.start ≤ tally.old.scanned + 3 * result + 16 }
-    {
-        match self.apart {
-            0 => self.scan(first_mask, second_mask, 0, haystack, span, tally),
-            1 => self.scan(first_mask, second_mask, 1, haystack, span, tally),
-            2 => self.scan(first_mask, second_mask, 2, haystack, span, tally),
-            _ => self.scan(first_mask, second_mask, 3, haystack, span, tally),
-        }
-    }
-
-    /// The same by these masks, and this distance.
+    /// The same by these masks and this distance, with the byte between the two or without.
     #[inline(always)]
     fn scan(
         &self,
         first_mask: u8,
         second_mask: u8,
+        by_three: bool,
         apart: usize,
         haystack: &[u8],
         span: Span,
@@ -205,11 +216,11 @@ impl RarePair {
         requires valid { IsValidSpan haystack.now span }
         requires first { first_mask ≡ self.now.first.mask }
         requires second { second_mask ≡ self.now.second.mask }
+        requires three { by_three ≡ has_between self.now }
         requires apart { apart ≡ min self.now.apart 3 }
         ensures inside { (span.start ≤ result) × (result ≤ span.end) }
         ensures passed { NoPairBegins self.now haystack.now span result }
-        ensures stops { HasPair self.now haystack.now result
-            ⊎ ((result ≡ span.start) ⊎ (span.end < result + second_offset self.now + 16)) }
+        ensures stops { PairMayStop self.now haystack.now span result }
         ensures others { tally.new ≡ record tally.old { scanned = tally.new.scanned } }
         ensures once { tally.new.scanned ≤ tally.old.scanned + (span.end - span.start) }
         ensures read { tally.old.scanned + result ≤ tally.new.scanned + span.start }
@@ -221,28 +232,29 @@ impl RarePair {
             return self.scan_rest(second_mask, behind, haystack, span.start, span, tally);
         }
         let here = self.compare(first_mask, second_mask, load(haystack, span.start, tally));
-        let passed = zeros_before(here.pairs_after(u8x16::splat(0), apart));
+        let passed = zeros_before(here.pairs_after(Compared::before_span(), by_three, apart));
         if passed < LANES {
             return span.start + passed.saturating_sub(behind);
         }
-        let mut before = here.first;
+        let mut before = here;
         let mut at = span.start + LANES;
-        while 2 * LANES <= span.end - at {
+        let last = span.end.saturating_sub(2 * LANES);
+        while at <= last {
             let one = self.compare(first_mask, second_mask, load(haystack, at, tally));
             let two = self.compare(first_mask, second_mask, load(haystack, at + LANES, tally));
-            let front = one.pairs_after(before, apart);
-            let back = two.pairs_after(one.first, apart);
+            let front = one.pairs_after(before, by_three, apart);
+            let back = two.pairs_after(one, by_three, apart);
             if zeros_before(either(front, back)) < LANES {
                 return at + zeros_before_both(front, back) - behind;
             }
-            before = two.first;
+            before = two;
             at += 2 * LANES;
         }
         if span.end - at < LANES {
             return self.scan_rest(second_mask, behind, haystack, at, span, tally);
         }
         let last = self.compare(first_mask, second_mask, load(haystack, at, tally));
-        let passed = zeros_before(last.pairs_after(before, apart));
+        let passed = zeros_before(last.pairs_after(before, by_three, apart));
         if passed < LANES {
             return at + passed - behind;
         }
@@ -267,7 +279,7 @@ impl RarePair {
         ensures none { (place : ℕ) → span.start ≤ place → place < result → from ≤ place + behind
             → place + behind < span.end
             → hit self.now.second.byte second_mask (slice_index haystack.now (place + behind)) ≡ 0 }
-        ensures far { (result ≡ span.start) ⊎ (from ≤ result + behind) }
+        ensures far { from ≤ result + behind }
         ensures others { tally.new ≡ record tally.old { scanned = tally.new.scanned } }
         ensures once { tally.new.scanned ≤ tally.old.scanned + (span.end - from) }
         ensures read { tally.old.scanned + result ≤ tally.new.scanned + from }
@@ -282,18 +294,15 @@ impl RarePair {
         span.end
     }
 
-    /// Where 16 bytes of a haystack are the two bytes, by these masks.
+    /// Where 16 bytes of a haystack are each byte, by these masks.
     #[inline(always)]
     fn compare(&self, first_mask: u8, second_mask: u8, bytes: u8x16) -> Compared
-        ensures first { (haystack : List ℕ) (origin at : ℕ) → origin ≤ at
-            → HasLanes bytes (λ k. slice_index haystack (at + k))
-            → HasLanes result.first (λ k. hit_at self.now.first.byte first_mask haystack origin (at + (16 + k))) }
-        ensures second { (haystack : List ℕ) (origin at : ℕ) → origin ≤ at
-            → HasLanes bytes (λ k. slice_index haystack (at + k))
-            → HasLanes result.second (λ k. hit_at self.now.second.byte second_mask haystack origin (at + (16 + k))) }
+        ensures { (haystack : List ℕ) (start at : ℕ) → start ≤ at → HasLanes bytes (λ k. slice_index haystack (at + k))
+            → AreHits result self.now first_mask second_mask haystack start (at + 16) }
     {
         Compared {
             first: wanted(bytes, self.first.byte, first_mask),
+            between: wanted(bytes, self.between, first_mask),
             second: wanted(bytes, self.second.byte, second_mask),
         }
     }
@@ -316,6 +325,57 @@ fn zeros_before_both(front: u8x16, back: u8x16) -> usize
     LANES + zeros_before(back)
 }
 
+/// The offsets of the first and the last of two or three rare bytes of a pattern. A pattern of one byte has one.
+fn rarest_places(pattern: &[u8]) -> (usize, usize)
+    requires { 0 < length pattern.now }
+    ensures first { result.0 ≤ 2 }
+    ensures ordered { result.0 ≤ result.1 }
+    ensures near { result.1 ≤ result.0 + 3 }
+    ensures inside { result.1 < length pattern.now }
+{
+    let (first, second) = rarest_two(pattern);
+    if pattern.len() < 3 || rank_at(pattern, first) + rank_at(pattern, second) < RARE {
+        return (first, second);
+    }
+    rarest_three(pattern)
+}
+
+/// The offsets of the first and the last of three rare bytes of a pattern: two neighbours, and one of the two bytes
+/// behind them.
+fn rarest_three(pattern: &[u8]) -> (usize, usize)
+    requires { 3 ≤ length pattern.now }
+    ensures first { result.0 ≤ 2 }
+    ensures far { result.0 + 2 ≤ result.1 }
+    ensures near { result.1 ≤ result.0 + 3 }
+    ensures inside { result.1 < length pattern.now }
+{
+    let mut rarest = (0, 2);
+    let mut least = usize::MAX;
+    for first in 0..(pattern.len() - 2).min(LAST + 1) {
+        let second = rarer_behind(pattern, first + 2);
+        let rank = rank_at(pattern, first) + rank_at(pattern, first + 1) + rank_at(pattern, second);
+        if rank < least {
+            rarest = (first, second);
+            least = rank;
+        }
+    }
+    rarest
+}
+
+/// The rarer of the byte at a place and the next one.
+fn rarer_behind(pattern: &[u8], at: usize) -> usize
+    requires { at < length pattern.now }
+    ensures from { at ≤ result }
+    ensures near { result ≤ at + 1 }
+    ensures inside { result < length pattern.now }
+{
+    if at + 1 < pattern.len() && rank_at(pattern, at + 1) < rank_at(pattern, at) {
+        at + 1
+    } else {
+        at
+    }
+}
+
 /// The offsets of two rare bytes of a pattern, the first before the second or the same. A pattern of one byte has one.
 fn rarest_two(pattern: &[u8]) -> (usize, usize)
     requires { 0 < length pattern.now }
@@ -335,6 +395,26 @@ fn rarest_two(pattern: &[u8]) -> (usize, usize)
         }
     }
     rarest
+}
+
+/// The byte between two of a pattern, behind the first, if it is compared, too: if the two alone are not rare, and the
+/// mask of the first fits it. Else 0.
+fn between_byte(ignore_case: bool, pattern: &[u8], first: usize, second: usize, mask: u8) -> u8
+    requires ordered { first ≤ second }
+    requires inside { second < length pattern.now }
+    ensures { result ≢ 0 → first + 2 ≤ second → (byte : ℕ)
+        → same_byte ignore_case byte (slice_index pattern.now (first + 1)) ≡ true
+        → IsRare (record { byte = result; mask = mask }) byte }
+{
+    if second < first + 2 || rank_at(pattern, first) + rank_at(pattern, second) < RARE {
+        return 0;
+    }
+    let between = RareByte::new(ignore_case, pattern[first + 1]);
+    if between.mask == mask {
+        between.byte
+    } else {
+        0
+    }
 }
 
 /// The offset of the rarest of the first three bytes that come at most three bytes before a place.

@@ -72,11 +72,13 @@ fn scans_for_words(rt: HostRuntime) -> Result<(), Fail> {
         start: 25,
         end: haystack.len(),
     };
-    assert!(rt; scan.next(haystack, behind, tally) == 38);
+    assert!(rt; scan.next(haystack, behind, tally) == 46);
     let short = Span { start: 20, end: 35 };
-    assert!(rt; scan.next(haystack, short, tally) == 20);
+    assert!(rt; scan.next(haystack, short, tally) == 24);
+    let open = Span { start: 25, end: 40 };
+    assert!(rt; scan.next(haystack, open, tally) == 38);
     let same = Fingerprints::from_bytes(&scan.to_bytes());
-    assert!(rt; same.next(haystack, behind, tally) == 38);
+    assert!(rt; same.next(haystack, behind, tally) == 46);
     Ok(())
 }
 

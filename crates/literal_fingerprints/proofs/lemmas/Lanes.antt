@@ -1,10 +1,11 @@
 -- What operations on vectors of 16 bytes hold in each lane.
 use Rattle.std.proofs.Common.{◌≡◌, ◌≢◌, ℕ, ◌+◌, ◌-◌, ◌*◌, ◌/◌, ◌%◌, ◌^◌, ◌<◌, ◌≤◌, ◌∙◌, ◌++◌, List, true, false, not}
 use Rattle.std.proofs.Common.{eqb, length, get_or, replicate, refl, cond, map, sym, ap, arith, take, w8, inl, inr}
-use Rattle.std.proofs.Common.{Bool, length-append, subst}
+use Rattle.std.proofs.Common.{Bool, drop, length-append, subst, zero-add}
 use Rattle.std.proofs.lemmas.Bool.{cases_lt}
 use Rattle.std.proofs.lemmas.Bool.Decides.{nat_tests}
-use Rattle.std.proofs.lemmas.List.{get_or-append_right, get_or-take, get_or_append_left}
+use Rattle.std.proofs.lemmas.List.{get_or-append_right, get_or-drop, get_or-take, get_or_append_left, get_or_past}
+use Rattle.std.proofs.lemmas.List.{length-drop, length-take}
 use Rattle.std.proofs.lemmas.List.Sums.{prefix_len-le-length, prefix_len_passes, prefix_len_stops}
 use Rattle.std.proofs.lemmas.Simd.{Each1-from_get_or, SwzOk, SwzOk-from_below, bitmask_splat, get_or-chunk}
 use Rattle.std.proofs.lemmas.Simd.{get_or-replicate, get_or-swz_l_below, get_or-zip2, leading_from_mask_l, length-chunk}
@@ -12,7 +13,9 @@ use Rattle.std.proofs.lemmas.Simd.{get_or-sel_l, length-sel_l, length-swz_l, len
 use Rattle.std.proofs.lemmas.Simd.{swz_l, trailing_mask_l}
 use Rattle.std.specs.List.{prefix_len, range_with_len}
 use Rattle.std.specs.Simd.Lanes.{mask_l, pick_l, sel_l, top, zip2}
+use Rattle.std.specs.List.{slice_range}
 use lib.Count.{count_trailing_zeros}
+use lib.Lanes.{chunk}
 use Rattle.literal_fingerprints.specs.Inside.Lanes.{HasLanes}
 
 -- neighbouring lanes of two vectors
@@ -32,6 +35,52 @@ lanes_of_picked n few a b p q f first last =
                 ∙ (last.each (n + k - 16) (omega arith) ∙ ap f place)
           ]);
     }
+
+-- bytes up to an end, and zeros behind them
+byte_of_rest : (haystack rest zeros : List ℕ) (at end : ℕ) → at ≤ end → end ≤ length haystack
+    → rest ≡ slice_range haystack at end → zeros ≡ drop (end - at) (replicate 16 0) → length rest ≡ end - at
+    → (k : ℕ) → k < 16 → get_or (rest ++ zeros) k 0 ≡ get_or (take end haystack) (at + k) 0
+byte_of_rest haystack rest zeros at end ordered inside is_rest is_zeros long k below = elim (cases_lt k (end - at)) [
+  | inl before ↦
+      get_or_append_left rest zeros 0 k (omega arith)
+      ∙ (ap (λ l. get_or l k 0) is_rest
+      ∙ (get_or-take (end - at) (drop at haystack) k 0 before
+      ∙ (get_or-drop at haystack k 0 ∙ sym (get_or-take end haystack (at + k) 0 (omega arith)))))
+  | inr after ↦
+      let place : end - at + (k - (end - at)) ≡ k = omega arith in
+      get_or-append_right rest zeros (end - at) k 0 long after
+      ∙ (ap (λ l. get_or l (k - (end - at)) 0) is_zeros
+      ∙ (get_or-drop (end - at) (replicate {A = ℕ} 16 0) (k - (end - at)) 0
+      ∙ (ap (λ j. get_or (replicate {A = ℕ} 16 0) j 0) place
+      ∙ (get_or-replicate 16 k 0 0 below
+      ∙ sym (get_or_past (take end haystack) (at + k) 0 (omega (arith, length-take end haystack)))))))
+]
+
+pub lanes_of_rest : (haystack : List ℕ) (at end : ℕ) → at ≤ end → end < at + 16 → end ≤ length haystack
+    → HasLanes (chunk 0 16 (slice_range haystack at end ++ drop (end - at) (replicate {A = ℕ} 16 0)))
+    (λ k. get_or (take end haystack) (at + k) 0)
+lanes_of_rest haystack at end ordered few inside =
+    let rest : List ℕ = slice_range haystack at end in
+    let zeros : List ℕ = drop (end - at) (replicate {A = ℕ} 16 0) in
+    let long : length rest ≡ end - at =
+    omega (arith, length-take (end - at) (drop at haystack), length-drop at haystack) in
+    let all : length (rest ++ zeros) ≡ 16 =
+    omega (arith, length-append rest zeros, length-drop (end - at) (replicate {A = ℕ} 16 0)) in
+    record {
+      long = length-chunk 0 16 (rest ++ zeros) (omega arith);
+      each = λ k below.
+          get_or-chunk 0 16 (rest ++ zeros) k 0 below
+          ∙ ap (λ j. get_or (rest ++ zeros) j 0) (zero-add k)
+          ∙ byte_of_rest haystack rest zeros at end ordered inside refl refl long k below;
+    }
+
+-- bytes before the end are the same in what lies before it
+pub lanes_upto : (haystack : List ℕ) (end at : ℕ) → at + 16 ≤ end → (lanes : List ℕ)
+    → HasLanes lanes (λ k. get_or haystack (at + k) 0) → HasLanes lanes (λ k. get_or (take end haystack) (at + k) 0)
+lanes_upto haystack end at inside lanes has = record {
+  long = has.long;
+  each = λ k below. has.each k below ∙ sym (get_or-take end haystack (at + k) 0 (omega arith));
+}
 
 -- an operator on two vectors
 pub lanes_of_two : (f : ℕ → ℕ → ℕ) (a b : List ℕ) → length a ≡ 16 → length b ≡ 16

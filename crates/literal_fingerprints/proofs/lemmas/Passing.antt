@@ -1,5 +1,5 @@
 -- Where a pattern that passes begins, four bytes share a bucket.
-use Rattle.std.proofs.Common.{◌≡◌, ℕ, ◌+◌, ◌-◌, ◌<◌, ◌≤◌, ◌∙◌, Bool, true, false, List, length, get_or, drop}
+use Rattle.std.proofs.Common.{◌≡◌, ℕ, ◌+◌, ◌-◌, ◌<◌, ◌≤◌, ◌∙◌, Bool, true, false, List, length, get_or, drop, take}
 use Rattle.std.proofs.Common.{sym, subst, ap, arith, inl, inr, [], ◌∷◌, map}
 use Rattle.std.proofs.lemmas.Bool.{cases_lt, eq-eqb}
 use Rattle.std.proofs.lemmas.List.{get_or-drop, get_or-map, get_or-take, get_or_default, length-drop, length-map}
@@ -37,12 +37,18 @@ bytes_at patterns ignore_case haystack span valid i at occurs k below =
     subst (λ b. same_byte ignore_case b (get_or p k 0) ≡ true) is
     (same_at ignore_case part p occurs.same k (omega arith))
 
+-- where four bytes before the end of a span share no bucket, no pattern begins that lies in the span
 pub none_begins : (f : FingerprintsValue) (haystack : List ℕ) (span : Span) → IsValidSpan haystack span → (place : ℕ)
-    → ((at : ℕ) → span.start ≤ at → at < place → shared_buckets f (λ k. get_or haystack (at + k) 0) ≡ 0)
+    → ((at : ℕ) → span.start ≤ at → at < place
+    → shared_buckets f (λ k. get_or (take span.end haystack) (at + k) 0) ≡ 0)
     → NoneBegins f haystack span place
 none_begins f haystack span valid place none patterns ignore_case all i at before occurs =
-    (all i [] occurs.is_pattern).each (λ k. get_or haystack (at + k) 0)
-    (bytes_at patterns ignore_case haystack span valid i at occurs) (none at occurs.after_start before)
+    let p = pattern_at patterns i in
+    let inside = occurs.before_end in
+    (all i [] occurs.is_pattern).each (λ k. get_or (take span.end haystack) (at + k) 0)
+    (λ k below. subst (λ b. same_byte ignore_case b (get_or p k 0) ≡ true)
+    (sym (get_or-take span.end haystack (at + k) 0 (omega arith)))
+    (bytes_at patterns ignore_case haystack span valid i at occurs k below)) (none at occurs.after_start before)
 
 module _ (P : List ℕ → Type 0) (patterns : List (Vec ℕ)) where
   -- what holds of the first patterns holds of one more

@@ -1,6 +1,7 @@
 -- What a scan knows of the places that it has passed over.
 use Rattle.std.proofs.Common.{◌≡◌, ◌≢◌, ℕ, ◌+◌, ◌-◌, ◌<◌, ◌≤◌, ◌∙◌, List, ap, arith, bit_and, cond}
-use Rattle.std.proofs.Common.{get_or, inl, inr, subst, sym}
+use Rattle.std.proofs.Common.{get_or, inl, inr, subst, sym, take}
+use Rattle.std.proofs.lemmas.List.{get_or-take}
 use Rattle.std.proofs.lemmas.Bool.{cases_lt, le-ltb, lt-ltb}
 use Rattle.literal_fingerprints.specs.FingerprintsValue.{FingerprintsValue, HalfTable, PassesAt, buckets_of}
 use Rattle.literal_fingerprints.specs.FingerprintsValue.{shared_buckets}
@@ -92,3 +93,14 @@ module _ (f : FingerprintsValue) (haystack : List ℕ) (start at : ℕ) (lanes :
           let place : at + n - 3 + 16 ≡ at + (13 + n) = omega arith in
           some_shared (subst (λ j. shared_from f haystack start j ≡ 0) place
           (shared_in_span haystack start f (at + n - 3) (omega arith) ∙ none))
+
+-- four bytes that lie before an end share the same buckets in what lies before it
+pub passes_upto : (f : FingerprintsValue) (haystack : List ℕ) (end place : ℕ) → place + 3 < end
+    → PassesAt f (take end haystack) place → PassesAt f haystack place
+passes_upto f haystack end place inside passes none =
+    let byte : (k : ℕ) → k < 4 → get_or (take end haystack) (place + k) 0 ≡ get_or haystack (place + k) 0 =
+    λ k few. get_or-take end haystack (place + k) 0 (omega arith) in
+    passes (meets _ _ _ _
+    (meets _ _ _ _ (ap (buckets_of f.first) (byte 0 (omega arith))) (ap (buckets_of f.second) (byte 1 (omega arith))))
+    (meets _ _ _ _ (ap (buckets_of f.third) (byte 2 (omega arith))) (ap (buckets_of f.fourth) (byte 3 (omega arith))))
+    ∙ none)

@@ -1,6 +1,5 @@
 use Rattle.std.proofs.Common.{◌≡◌, ◌+◌, ◌-◌, ◌≤◌}
-use Rattle.literal_fingerprints.specs.Inside.Hits.{hit_at}
-use Rattle.literal_fingerprints.specs.Inside.Lanes.{HasLanes}
+use Rattle.literal_fingerprints.specs.Inside.Hits.{AreHits}
 use Rattle.literal_fingerprints.proofs.lemmas.Hits.{NoneHit}
 use Rattle.literal_fingerprints.proofs.pair.RarePair.scan.Given as goal
 
@@ -8,8 +7,8 @@ abbrev pub invariant-loop-at : goal.invariant-loop-at
 invariant-loop-at l = record {
   low : l.span.start + 16 ≤ l.at;
   high : l.at ≤ l.span.end;
-  before : HasLanes l.before (λ k. hit_at l.self.first.byte l.first_mask l.haystack l.span.start (l.at + k));
-  none : NoneHit l.self.first.byte l.first_mask l.self.second.byte l.second_mask l.apart l.haystack l.span.start l.at;
+  before : AreHits l.before l.self l.first_mask l.second_mask l.haystack l.span.start l.at;
+  none : NoneHit l.self l.first_mask l.second_mask l.by_three l.apart l.haystack l.span.start l.at;
   scanned : l.tally ≡ record l.fn.tally { scanned = l.fn.tally.scanned + (l.at - l.span.start) };
 }
 
