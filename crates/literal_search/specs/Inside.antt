@@ -1,8 +1,8 @@
 -- What models and private functions alone cite.
 pub mod Backward
-pub mod Best
 pub mod Classes
 pub mod Search
+pub mod Shadowed
 pub mod Suffixes
 pub mod Growing
 pub mod Grown

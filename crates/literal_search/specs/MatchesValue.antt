@@ -6,8 +6,7 @@ use Rattle.literal_base.specs.Leftmost.{IsLeftmost}
 use Rattle.literal_base.specs.MatchValue.{MatchValue}
 use Rattle.literal_base.specs.Occurs.{between}
 use Rattle.literal_base.specs.declared.search.Span.{Span}
-use Rattle.literal_search.specs.SearchValue.{ScansNext, looked_by}
-use Rattle.literal_search.specs.SearchValue.{SearchValue, longest_of}
+use Rattle.literal_search.specs.SearchValue.{ScansNext, looked_by, SearchValue, longest_of}
 
 -- a `Matches` as contracts see it: what is searched for, where, the place from which it goes on, and up to which
 -- place it has looked

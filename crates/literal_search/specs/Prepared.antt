@@ -11,7 +11,7 @@ use Rattle.literal_fingerprints.specs.declared.candidates.CandidateScan.{Candida
 use Rattle.literal_fingerprints.specs.declared.pair.RarePair.{RarePair}
 use Rattle.literal_fingerprints.specs.FingerprintsValue.{fingerprints_in}
 use Rattle.literal_search.specs.SearchValue.{CanBeKept, HoldsInClasses, longest_of, SearchValue}
-use Rattle.literal_search.specs.SearchValue.{reversed}
+use Rattle.literal_search.specs.SearchValue.{reversed, unshadowed}
 use Rattle.literal_search.specs.Inside.Classes.{AreClasses, Tells, symbols_in}
 use Rattle.literal_search.specs.Inside.Packed.{unpacked}
 use Rattle.literal_search.specs.States.{IsRowsLength}
@@ -19,7 +19,6 @@ use Rattle.literal_search.specs.Table.{Recognises}
 use Rattle.literal_search.specs.declared.classes.TheConstants.{CLASSES_LEN, PACKED_LEN}
 use Rattle.literal_search.specs.declared.prepared.ArrayTooShort.{ArrayTooShort}
 use Rattle.literal_search.specs.declared.prepared.TheConstants.{LENGTHS_AT, PAIR_AT, PREPARED_VERSION, SCAN_LEN}
-use Rattle.literal_search.specs.Inside.Best.{AreBest}
 use Rattle.literal_search.specs.MatchesValue.{MatchesValue}
 use Rattle.literal_ids.specs.declared.primitives.pattern_id.TheConstants.PatternID
 
@@ -105,45 +104,38 @@ pub record LiesIn (span : Span) (found : MatchValue) : Type 0 where
   pub some : found.start < found.end
   pub end : found.end ≤ span.end
 
--- what a search from the right reads: classes of bytes, rows, for each pattern the best of those that are prefixes of
--- it, and how long the longest is
+-- what a search from the right reads: classes of bytes, rows, and how long the longest pattern is
 pub record BackTables : Type 0 where
   pub search : SearchValue
   pub classes : List ℕ
   pub width : ℕ
   pub rows : List ℕ
-  pub best : List ℕ
   pub longest : ℕ
 
--- the classes of the patterns' bytes, read from their ends
+-- the classes of the patterns' bytes
+abbrev pub texts_of : BackTables → List (List ℕ)
+texts_of t = map (symbols_in t.classes) t.search.query.patterns
+
+-- those by which a search goes, read from their ends
 abbrev pub texts_back : BackTables → List (List ℕ)
-texts_back t = reversed (map (symbols_in t.classes) t.search.query.patterns)
+texts_back t = reversed (unshadowed t.search.query.kind (texts_of t))
 
 -- each byte has a class, by which those of the patterns are told from others; the rows are those of the reversed
--- texts, and for each of these the best suffix is known; none is empty
+-- texts, and no pattern is empty
 pub record AreBackTables (t : BackTables) : Type 0 where
   pub classes : AreClasses t.classes t.width
   pub tells : Tells t.search.ignore_case t.classes t.search.query.patterns
   pub recognises : Recognises (texts_back t) t.width t.rows
-  pub best : AreBest t.search.query.kind (texts_back t) t.best (length t.search.query.patterns)
   pub longest : t.longest ≡ longest_of t.search.query.patterns
   pub kept : CanBeKept t.search.query.patterns
 
--- where the numbers end that tell the best of its prefixes for each pattern, which stand behind the classes
-abbrev pub best_end : List ℕ → ℕ
-best_end numbers = classes_end numbers + slice_index numbers 3
-
--- these numbers
-abbrev pub best_in : List ℕ → List ℕ
-best_in numbers = slice_range numbers (classes_end numbers) (best_end numbers)
-
--- how many numbers are those of the search: behind these stand those of its scan for candidates
+-- how many numbers are those of the search: behind the classes stand those of its scan for candidates
 abbrev pub prepared_len : List ℕ → ℕ
-prepared_len numbers = best_end numbers + SCAN_LEN
+prepared_len numbers = classes_end numbers + SCAN_LEN
 
 -- the numbers of its scan for candidates
 abbrev pub prints_in : List ℕ → List ℕ
-prints_in numbers = slice_range numbers (best_end numbers) (prepared_len numbers)
+prints_in numbers = slice_range numbers (classes_end numbers) (prepared_len numbers)
 
 -- the array has the parts of a search for all leftmost matches, and is as long as these are; there is a row
 pub record HasAllParts (numbers : List ℕ) : Type 0 where
@@ -163,7 +155,6 @@ back_tables_in search numbers = record {
   classes = classes_in numbers;
   width = width_in numbers;
   rows = rows_in numbers;
-  best = best_in numbers;
   longest = longest_in numbers;
 }
 
@@ -183,13 +174,14 @@ pub record IsPrepared (search : SearchValue) (numbers : List ℕ) : Type 0 where
 abbrev pub ForPrepared : List ℕ → (SearchValue → Type 0) → Type 0
 ForPrepared numbers P = (search : SearchValue) → IsPrepared search numbers → P search
 
--- how many places a search takes: those of the header, two for each pattern, the rows of all states, the classes, and
+-- how many places a search takes: those of the header, one for each pattern, the rows of all states, the classes, and
 -- the scan for candidates
 unfoldable pub TakesPlaces : SearchValue → ℕ → Type 0
 TakesPlaces search needed =
-    HoldsInClasses (λ texts width. (rows : ℕ) × IsRowsLength (reversed texts) width rows
-    × (needed ≡ LENGTHS_AT + length search.query.patterns + rows + CLASSES_LEN + length search.query.patterns
-    + SCAN_LEN)) search.ignore_case search.query.patterns
+    HoldsInClasses (λ texts width. (rows : ℕ)
+    × IsRowsLength (reversed (unshadowed search.query.kind texts)) width rows
+    × (needed ≡ LENGTHS_AT + length search.query.patterns + rows + CLASSES_LEN + SCAN_LEN))
+    search.ignore_case search.query.patterns
 
 -- the search is written into the first places of an array
 abbrev pub WritesPrepared : SearchValue → List ℕ → List ℕ → ℕ → Type 0

@@ -6,15 +6,13 @@ use Rattle.literal_search.specs.Inside.Classes.{AreClasses, Tells, symbols_in}
 use Rattle.literal_search.specs.Inside.Lists.{AreLists}
 use Rattle.literal_search.specs.Overlapping.{OverlappingValue}
 use Rattle.literal_search.specs.OverlappingMatchesValue.{OverlappingMatchesValue}
-use Rattle.literal_search.specs.Prepared.{HasParts, WritesNumbers, check_of, classes_end}
-use Rattle.literal_search.specs.Prepared.{ArePrints, classes_in, lengths_in, longest_in, rows_in}
-use Rattle.literal_search.specs.Prepared.{width_in}
+use Rattle.literal_search.specs.Prepared.{HasParts, WritesNumbers, check_of, classes_end, ArePrints, classes_in}
+use Rattle.literal_search.specs.Prepared.{lengths_in, longest_in, rows_in, width_in}
 use Rattle.literal_search.specs.States.{IsRowsLength}
 use Rattle.literal_search.specs.Table.{Recognises}
 use Rattle.literal_search.specs.declared.classes.TheConstants.{CLASSES_LEN}
 use Rattle.literal_search.specs.declared.prepared.ArrayTooShort.{ArrayTooShort}
-use Rattle.literal_search.specs.declared.prepared.TheConstants.{SCAN_LEN, LENGTHS_AT}
-use Rattle.literal_search.specs.declared.prepared.TheConstants.{OVERLAPPING_VERSION}
+use Rattle.literal_search.specs.declared.prepared.TheConstants.{SCAN_LEN, LENGTHS_AT, OVERLAPPING_VERSION}
 
 -- what a search for everything that occurs of patterns reads: classes of bytes, rows, and lists of the patterns that
 -- are a suffix of each, one behind another, and where each begins

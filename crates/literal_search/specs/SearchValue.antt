@@ -1,14 +1,16 @@
 -- A search as contracts see it, what it is built from, and what it scans.
 use Rattle.std.specs.Prelude.{◌==◌, [], ◌∷◌, max, min, ◌≡◌, ◌+◌, ◌-◌, ◌*◌, ◌<◌, ◌≤◌, ◌⊎◌, ℕ, Bool, List}
-use Rattle.std.specs.Prelude.{length, Option, Some, map, ◌/◌, None, reverse}
+use Rattle.std.specs.Prelude.{length, Option, Some, map, nat_eq, ◌/◌, None, reverse}
 use Rattle.std.specs.Borrow.{Bor}
 use Rattle.std.specs.Iterator.{Drains, Yields}
-use Rattle.std.specs.List.{count_by, list_any, range_with_len}
+use Rattle.std.specs.List.{count_by, find, list_any, range_with_len, starts_with}
+use Rattle.std.specs.Option.{unwrap_or}
 use Rattle.literal_base.specs.Counts.{Counts}
 use Rattle.literal_base.specs.MatchValue.{MatchValue}
 use Rattle.literal_base.specs.Occurs.{NoneIsEmpty, NothingOccurs, between}
 use Rattle.literal_base.specs.Query.{Query}
 use Rattle.literal_base.specs.declared.packed.MatchKind.{MatchKind}
+use Rattle.literal_base.specs.declared.packed.MatchKind.TheVariants.{LeftmostFirst, LeftmostLongest}
 use Rattle.literal_base.specs.declared.search.Span.{Span}
 use Rattle.literal_search.specs.Inside.Classes.{AreClasses, Tells, folded, symbols_in}
 use Rattle.literal_search.specs.States.{HasTooManyStates}
@@ -123,6 +125,16 @@ looked_by longest span known = min (known + min (known - span.start) (longest - 
 -- the same for some patterns
 abbrev pub looked_upto : List (List ℕ) → Span → ℕ → ℕ
 looked_upto patterns = looked_by (longest_of patterns)
+
+-- the first of some texts that is a prefix of a text
+abbrev pub first_prefix : List (List ℕ) → List ℕ → List ℕ
+first_prefix texts text = unwrap_or (find (λ prefix. starts_with nat_eq text prefix) texts) text
+
+-- what a search goes by in the place of each text. If the first one in the list is preferred, a text never matches that
+-- has an earlier one as a prefix: the first of these takes its place
+abbrev pub unshadowed : MatchKind → List (List ℕ) → List (List ℕ)
+unshadowed LeftmostFirst texts = map (first_prefix texts) texts
+unshadowed LeftmostLongest texts = texts
 
 -- each read from its end
 abbrev pub reversed : List (List ℕ) → List (List ℕ)

@@ -15,7 +15,7 @@ ghost use Rattle.literal_search.specs.Inside.Leftmost.{AreLanes, AreMarksBehind,
 ghost use Rattle.literal_search.specs.Inside.Leftmost.{IsLimit, IsPart};
 ghost use Rattle.literal_search.specs.declared.backward.TheConstants.{MARKED};
 
-use crate::leftmost::{Block, LEAST_PART, Lanes, OVERLAP, PRICE, Passed};
+use crate::leftmost::{Block, Lanes, OVERLAP, Passed};
 use crate::prepared::{Damaged, scan_in};
 use crate::walk::{ENDS, Table};
 use literal_base::count::Tally;
@@ -31,6 +31,13 @@ pub(crate) const MARKED: usize = LEAST / 4;
 /// The length from which parts begin to double, where the block before is far. At the end of a span they are shorter.
 const FIRST_MARKED: usize = 16;
 
+/// In a list, one walk looks at a candidate alone, if a scan passed over this many bytes before it, and as many as the
+/// longest pattern has.
+const FAR: usize = 24;
+
+/// How long each of the four parts of a marked block is at least.
+const LEAST_MARKED: usize = 6;
+
 /// How many marks are read at once.
 const LANES: usize = 16;
 
@@ -39,8 +46,6 @@ const LANES: usize = 16;
 pub struct Backward<'t> {
     /// The numbers of an automaton for all that occurs of the reversed patterns.
     pub table: Table<'t>,
-    /// For each pattern the best of those that are prefixes of it.
-    pub best: &'t [u32],
     /// How long each pattern is.
     pub lens: &'t [u32],
     /// The numbers of the scan for candidates by which a search passes over places, if there is one.
@@ -231,7 +236,7 @@ impl<'t> Backward<'t> {
         if at == span.end {
             return Ok(at);
         }
-        *marks = if at - from >= PRICE.max(self.table.longest) {
+        *marks = if at - from >= self.table.longest.saturating_add(FAR) {
             self.mark_place(haystack, span, at, numbers, tally)?
         } else {
             self.mark_block(haystack, span, at, part, numbers, tally)?
@@ -574,7 +579,7 @@ impl<'t> Backward<'t> {
         ensures short { IfSome result (λ part. 4 * part ≤ LEAST) }
     {
         let part = (left.saturating_sub(self.table.longest) / 4).min(most);
-        if part < LEAST_PART || part < self.table.longest.saturating_add(4) {
+        if part < LEAST_MARKED || part < self.table.longest.saturating_add(4) {
             return None;
         }
         Some(part)
@@ -629,8 +634,7 @@ impl<'t> Backward<'t> {
         ensures here { IfOk result (λ found. found.start ≡ at) }
     {
         prove!(span.end <= haystack.len());
-        let longest = self.table.ending_at((code - ENDS) as usize)?;
-        let pattern = *self.best.get(longest as usize).ok_or(Damaged)? as usize;
+        let pattern = self.table.ending_at((code - ENDS) as usize)? as usize;
         let len = *self.lens.get(pattern).ok_or(Damaged)? as usize;
         if len == 0 || len > self.table.longest || len > span.end - at {
             return Err(Damaged);

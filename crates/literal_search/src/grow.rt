@@ -6,7 +6,7 @@ ghost use Rattle.std.specs.List.{filter, find, range_with_len};
 ghost use Rattle.std.specs.Option.{unwrap_or};
 ghost use Rattle.literal_base.specs.Occurs.{pattern_at};
 ghost use Rattle.literal_search.specs.Table.{LeadsTo, Recognises, code_of, nothing, stride_of};
-ghost use Rattle.literal_search.specs.Words.{ending, first_equal, live_suffix};
+ghost use Rattle.literal_search.specs.Words.{ending, first_equal, live_suffix, word_of};
 ghost use Rattle.literal_search.specs.Inside.Classes.{AreClasses, symbols_in};
 ghost use Rattle.literal_search.specs.Inside.Grown.{AreWords, IsLonger, failure_of, goes_on, list_for};
 ghost use Rattle.literal_search.specs.States.{AreStates, HasTooManyStates, IsRowsLength};
@@ -65,6 +65,61 @@ impl<'p> Texts<'p> {
         ensures { result ≡ (length (pattern_at (texts_of self.now) pattern) == depth + 1) }
     {
         self.patterns[pattern as usize].len() == depth as usize + 1
+    }
+
+    /// Adds a pattern to lists if it goes on with a class, and answers whether it ends there.
+    fn push_if_longer(
+        &self,
+        lists: &mut Vec<u32>,
+        depth: u32,
+        class: u8,
+        pattern: u32,
+    ) -> Result<bool, AllocError>
+        requires texts { AreTexts self.now }
+        requires is_pattern { pattern < length self.now.patterns.now }
+        ensures lists { IfOk result (λ _. lists.new.items ≡ lists.old.items
+            ++ (if goes_on (pattern_at (texts_of self.now) pattern) depth class then pattern ∷ [] else [])) }
+        ensures whole { IfOk result (λ whole. whole ≡ (goes_on (pattern_at (texts_of self.now) pattern) depth class
+            && length (pattern_at (texts_of self.now) pattern) == depth + 1)) }
+    {
+        if !self.goes_on(pattern, depth, class) {
+            return Ok(false);
+        }
+        lists.push(pattern)?;
+        Ok(self.ends_behind(pattern, depth))
+    }
+
+    /// Adds to lists the patterns of a state's list that go on with a class, and answers the first of them that ends
+    /// there.
+    fn push_longer(
+        &self,
+        lists: &mut Vec<u32>,
+        here: State,
+        class: u8,
+    ) -> Result<Option<u32>, AllocError>
+        requires texts { AreTexts self.now }
+        requires ordered { here.start ≤ here.end }
+        requires inside { here.end ≤ length lists.old.items }
+        requires numbers { (k d : ℕ) → k < length lists.old.items
+            → slice_index_or lists.old.items k d < length self.now.patterns.now }
+        ensures lists { IfOk result (λ _. lists.new.items ≡ lists.old.items
+            ++ filter (λ i. goes_on (pattern_at (texts_of self.now) i) here.depth class)
+            (list_in lists.old.items here)) }
+        ensures whole { IfOk result (λ whole. whole
+            ≡ find (λ i. length (pattern_at (texts_of self.now) i) == here.depth + 1)
+            (filter (λ i. goes_on (pattern_at (texts_of self.now) i) here.depth class)
+            (list_in lists.old.items here))) }
+        ensures numbers { IfOk result (λ _. (k d : ℕ) → k < length lists.new.items
+            → slice_index_or lists.new.items k d < length self.now.patterns.now) }
+    {
+        let mut whole = None;
+        for place in here.start..here.end {
+            let pattern = lists[place];
+            if self.push_if_longer(lists, here.depth, class, pattern)? {
+                whole = whole.or(Some(pattern));
+            }
+        }
+        Ok(whole)
     }
 
     /// Whether the rows of the prefixes of a pattern are too long.
@@ -141,56 +196,8 @@ impl<'p> Growing<'p> {
         marks
     }
 
-    /// Adds a pattern to the lists if it goes on with a class, and answers whether it ends there.
-    fn push_if_longer(&mut self, depth: u32, class: u8, pattern: u32) -> Result<bool, AllocError>
-        requires texts { AreTexts self.old.texts }
-        requires is_pattern { pattern < length self.old.texts.patterns.now }
-        ensures lists { IfOk result (λ _. self.new.lists.items ≡ self.old.lists.items
-            ++ (if goes_on (pattern_at (texts_of self.old.texts) pattern) depth class then pattern ∷ [] else [])) }
-        ensures whole { IfOk result (λ whole. whole
-            ≡ (goes_on (pattern_at (texts_of self.old.texts) pattern) depth class
-            && length (pattern_at (texts_of self.old.texts) pattern) == depth + 1)) }
-        ensures same { (self.new.texts ≡ self.old.texts) × (self.new.states ≡ self.old.states)
-            × (self.new.rows ≡ self.old.rows) }
-    {
-        if !self.texts.goes_on(pattern, depth, class) {
-            return Ok(false);
-        }
-        self.lists.push(pattern)?;
-        Ok(self.texts.ends_behind(pattern, depth))
-    }
-
-    /// Adds to the lists the patterns of a state's list that go on with a class, and answers the first
-    /// of them that ends there.
-    fn push_longer(&mut self, here: State, class: u8) -> Result<Option<u32>, AllocError>
-        requires texts { AreTexts self.old.texts }
-        requires ordered { here.start ≤ here.end }
-        requires inside { here.end ≤ length self.old.lists.items }
-        requires numbers { (k d : ℕ) → k < length self.old.lists.items
-            → slice_index_or self.old.lists.items k d < length self.old.texts.patterns.now }
-        ensures lists { IfOk result (λ _. self.new.lists.items ≡ self.old.lists.items
-            ++ filter (λ i. goes_on (pattern_at (texts_of self.old.texts) i) here.depth class)
-            (list_in self.old.lists.items here)) }
-        ensures whole { IfOk result (λ whole. whole
-            ≡ find (λ i. length (pattern_at (texts_of self.old.texts) i) == here.depth + 1)
-            (filter (λ i. goes_on (pattern_at (texts_of self.old.texts) i) here.depth class)
-            (list_in self.old.lists.items here))) }
-        ensures numbers { IfOk result (λ _. (k d : ℕ) → k < length self.new.lists.items
-            → slice_index_or self.new.lists.items k d < length self.old.texts.patterns.now) }
-        ensures same { IfOk result (λ _. (self.new.texts ≡ self.old.texts) × (self.new.states ≡ self.old.states)
-            × (self.new.rows ≡ self.old.rows)) }
-    {
-        let mut whole = None;
-        for place in here.start..here.end {
-            let pattern = self.lists[place];
-            if self.push_if_longer(here.depth, class, pattern)? {
-                whole = whole.or(Some(pattern));
-            }
-        }
-        Ok(whole)
-    }
-
-    /// The same, for a state by its number.
+    /// Adds to the lists the patterns of a state's list that go on with a class, and answers the first of them that
+    /// ends there.
     fn push_list(&mut self, state: usize, class: u8) -> Result<Option<u32>, AllocError>
         requires grows { Grows self.old }
         requires is_state { state < length self.old.states.items }
@@ -203,7 +210,7 @@ impl<'p> Growing<'p> {
             × (self.new.rows ≡ self.old.rows)) }
     {
         let here = self.states[state];
-        let whole = self.push_longer(here, class)?;
+        let whole = self.texts.push_longer(&mut self.lists, here, class)?;
         Ok(whole)
     }
 
@@ -337,34 +344,22 @@ impl<'p> Growing<'p> {
         Ok(code)
     }
 
-    /// Adds to the rows the number for a state and a class.
-    fn push_next(&mut self, state: usize, class: u8, next: u32) -> Result<(), AllocError>
+    /// Adds to the rows the number of a state for a class, or, behind those for all classes, for what ends there.
+    fn push_number(&mut self, state: usize, class: usize, number: u32) -> Result<(), AllocError>
         requires grows { Grows self.old }
         requires is_state { state < length self.old.states.items }
-        requires is_class { class < self.old.texts.width }
+        requires is_class { class ≤ self.old.texts.width }
         requires filled { length self.old.rows.items ≡ state * stride_of self.old.texts.width + class }
-        requires leads { LeadsIn self.old next
+        requires leads { class < self.old.texts.width → LeadsIn self.old number
             (live_suffix (texts_of self.old.texts) (word_behind self.old state class)) }
+        requires ends { class ≡ self.old.texts.width → number
+            ≡ unwrap_or (ending (texts_of self.old.texts) (word_of (words_of self.old) state)) nothing }
         ensures grows { IfOk result (λ _. Grows self.new) }
         ensures filled { IfOk result (λ _. length self.new.rows.items ≡ length self.old.rows.items + 1) }
         ensures same { IfOk result (λ _. (self.new.texts ≡ self.old.texts) × (self.new.states ≡ self.old.states)) }
     {
         let _ = (state, class); // (its contract names them)
-        self.rows.push(next)?;
-        Ok(())
-    }
-
-    /// Adds to the rows the ending of a state, behind its numbers for all classes.
-    fn push_ending(&mut self, state: usize) -> Result<(), AllocError>
-        requires grows { Grows self.old }
-        requires is_state { state < length self.old.states.items }
-        requires filled { length self.old.rows.items ≡ state * stride_of self.old.texts.width + self.old.texts.width }
-        ensures grows { IfOk result (λ _. Grows self.new) }
-        ensures filled { IfOk result (λ _. length self.new.rows.items ≡ length self.old.rows.items + 1) }
-        ensures same { IfOk result (λ _. (self.new.texts ≡ self.old.texts) × (self.new.states ≡ self.old.states)) }
-    {
-        let ending = self.states[state].ending;
-        self.rows.push(ending)?;
+        self.rows.push(number)?;
         Ok(())
     }
 
@@ -386,7 +381,7 @@ impl<'p> Growing<'p> {
         ensures same { IfOk result (λ _. self.new.texts ≡ self.old.texts) }
     {
         let next = self.next(state, class, is_marked)?;
-        self.push_next(state, class, next)?;
+        self.push_number(state, class as usize, next)?;
         Ok(())
     }
 
@@ -408,7 +403,8 @@ impl<'p> Growing<'p> {
         for class in 0..self.texts.width {
             self.add_place(state, class as u8, marks[class])?;
         }
-        self.push_ending(state)?;
+        let ending = self.states[state].ending;
+        self.push_number(state, self.texts.width, ending)?;
         Ok(())
     }
 }

@@ -30,12 +30,13 @@ const FIRST: usize = 16;
 /// Parts double from block to block until they have at least this length.
 const LAST: usize = 1024;
 
-/// Four walks go through the last block if its parts have at least this length.
-pub(crate) const LEAST_PART: usize = 6;
+/// Four walks go through the last block if its parts have at least this length. One walk is faster through less, as
+/// each of the four first reads a lead.
+const LEAST_PART: usize = 12;
 
 /// Before one walk looks at a candidate, a scan passed over this many bytes, or as many as the longest pattern has,
 /// whichever is more.
-pub(crate) const PRICE: usize = 48;
+const PRICE: usize = 48;
 
 /// The largest number of bytes that count as passed over.
 const MOST_CREDIT: usize = 2048;

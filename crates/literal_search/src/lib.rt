@@ -2,14 +2,12 @@
 //! match, or all of them, by both kinds of match, and [`Overlapping`] everything that occurs.
 #![tactic(auto)]
 
-ghost use Rattle.std.specs.Prelude.{◌≡◌, ◌+◌, ◌-◌, ◌^◌, ◌<◌, ◌++◌, ◌∷◌, [], length, map, sum_by};
-ghost use Rattle.std.specs.Prelude.{IfErr, IfOk};
+ghost use Rattle.std.specs.Prelude.{◌≡◌, ◌+◌, ◌-◌, ◌^◌, ◌<◌, ◌++◌, ◌∷◌, [], length, map, sum_by, IfErr, IfOk};
 ghost use Rattle.literal_base.specs.Given.{CanBeTaken};
 ghost use Rattle.literal_search.specs.SearchValue.{GivesAll, RefusesSearch, longest_of};
 ghost use Rattle.literal_search.specs.Inside.Search.{IsShortestOf};
 
 mod backward;
-mod best;
 mod builder;
 mod classes;
 mod ends;
@@ -27,6 +25,7 @@ mod replace;
 mod replace_stream;
 mod scan;
 mod search;
+mod shadowed;
 mod standing;
 mod stream;
 mod suffixes;

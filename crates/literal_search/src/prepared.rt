@@ -23,7 +23,7 @@ use std::fmt;
 use std::marker::Model;
 
 /// What the first number of a prepared search for leftmost matches is.
-pub const PREPARED_VERSION: u32 = 0x4C50_0008;
+pub const PREPARED_VERSION: u32 = 0x4C50_0009;
 
 /// What that of one for everything that occurs is.
 pub const OVERLAPPING_VERSION: u32 = 0x4C4F_0007;
@@ -43,7 +43,7 @@ const PAIR_AT: usize = 1 + BYTES / 4;
 /// two places, and no longest pattern; then the row of its one state, of which its one class leads to itself, and with
 /// which nothing ends, this class for each byte, and no scan for candidates.
 pub const NO_PATTERN: [u32; 299] = [
-    0x4C500008, 0x46D0998E, 1, 0, 2, 0, 0, NOTHING, 0, 0, 0, 0, 0, 0, 0, 0, 0, 0, 0, 0, 0, 0, 0, 0,
+    0x4C500009, 0x46D0998E, 1, 0, 2, 0, 0, NOTHING, 0, 0, 0, 0, 0, 0, 0, 0, 0, 0, 0, 0, 0, 0, 0, 0,
     0, 0, 0, 0, 0, 0, 0, 0, 0, 0, 0, 0, 0, 0, 0, 0, 0, 0, 0, 0, 0, 0, 0, 0, 0, 0, 0, 0, 0, 0, 0, 0,
     0, 0, 0, 0, 0, 0, 0, 0, 0, 0, 0, 0, 0, 0, 0, 0, 0, 0, 0, 0, 0, 0, 0, 0, 0, 0, 0, 0, 0, 0, 0, 0,
     0, 0, 0, 0, 0, 0, 0, 0, 0, 0, 0, 0, 0, 0, 0, 0, 0, 0, 0, 0, 0, 0, 0, 0, 0, 0, 0, 0, 0, 0, 0, 0,

@@ -58,11 +58,10 @@ impl<'p> Prepared<'p> {
     {
         let Backward {
             table,
-            best,
             lens,
             prints,
         } = &self.backward;
-        let end = LENGTHS_AT + lens.len() + table.rows.len() + best.len() + prints.len();
+        let end = LENGTHS_AT + lens.len() + table.rows.len() + prints.len();
         is_checked(self.numbers, end)
     }
 
@@ -154,8 +153,7 @@ pub(crate) fn backward_in(numbers: &[u32]) -> Result<Backward<'_>, Damaged>
     ensures { MatchResult result (IsBackIn numbers.now) (λ _. ¬ HasAllParts numbers.now) }
 {
     let header = split(numbers, PREPARED_VERSION)?;
-    let best_at = LENGTHS_AT + header.lengths.len() + header.rows.len();
-    let prints_at = best_at + header.lengths.len();
+    let prints_at = LENGTHS_AT + header.lengths.len() + header.rows.len();
     let is_short = numbers.len() < prints_at + SCAN_LEN;
     if is_short || header.rows.len() == CLASSES_LEN {
         return Err(Damaged);
@@ -168,7 +166,6 @@ pub(crate) fn backward_in(numbers: &[u32]) -> Result<Backward<'_>, Damaged>
     };
     Ok(Backward {
         table,
-        best: &numbers[best_at..prints_at],
         lens: header.lengths,
         prints: &numbers[prints_at..prints_at + SCAN_LEN],
     })

@@ -21,11 +21,11 @@ ghost use Rattle.literal_search.specs.declared.backward.TheConstants.{LEAST};
 
 use crate::backward::{Backward, LEAST, Marks, no_marks, place_after};
 use crate::classes::classes_for;
-use crate::grow::{GrowError, grow};
+use crate::grow::GrowError;
 use crate::numbers::{Numbers, prints_for};
 use crate::prepared::{ArrayTooShort, PREPARED_VERSION};
 use crate::prepared_search::backward_in;
-use crate::suffixes::Recognised;
+use crate::shadowed::backward_rows;
 use crate::{BuildError, copies, push_copy, shortest_len, total_bytes};
 use literal_base::count::Tally;
 use literal_base::packed::MatchKind;
@@ -44,7 +44,8 @@ use std::marker::Model;
 ///
 /// A search walks through a block of the haystack from its end, by an automaton of the reversed patterns: its state at
 /// an offset says which patterns begin there. The automaton has a state for each different suffix of a pattern, and a
-/// row of numbers for each state: one for each different byte of the patterns, and two more (one, if all 256 occur).
+/// row of numbers for each state: one for each different byte of the patterns, and two more (one, if all 256 occur). By
+/// [`MatchKind::LeftmostFirst`] a pattern that has an earlier one as a prefix never matches: it takes no states.
 ///
 /// ```rust
 /// let words = [b"password".as_slice(), b"secret"];
@@ -451,28 +452,10 @@ fn numbers_of(
         return Ok(Numbers::for_none(alloc, false));
     }
     let classes = classes_for(ignore_case, patterns);
-    let copies = backward_copies(alloc, patterns)?;
-    let backward = copies.as_slice();
-    let rows = grow(alloc, &classes.table, classes.width, backward)?;
-    let recognised = Recognised {
-        classes: &classes.table,
-        width: classes.width,
-        rows: &rows,
-        patterns: backward,
-    };
-    let best = recognised.best_suffixes(alloc, kind)?;
+    let rows = backward_rows(alloc, kind, &classes, patterns)?;
     let prints = prints_for(ignore_case, patterns);
     let version = PREPARED_VERSION;
-    let numbers = Numbers::written(
-        alloc,
-        version,
-        &classes,
-        patterns,
-        &rows,
-        &[],
-        &best,
-        &prints,
-    )?;
+    let numbers = Numbers::written(alloc, version, &classes, patterns, &rows, &[], &[], &prints)?;
     Ok(numbers)
 }
 
@@ -486,29 +469,6 @@ fn copy_of_lists(alloc: Global, lists: &[Vec<u8>]) -> Result<Vec<Vec<u8>>, Alloc
     for bytes in lists {
         push_copy(alloc, &mut copy, bytes)?;
     }
-    Ok(copy)
-}
-
-/// Copies of the patterns, each reversed.
-fn backward_copies(alloc: Global, patterns: &[Vec<u8>]) -> Result<Vec<Vec<u8>>, AllocError>
-    ensures copies { IfOk result (λ all. map (λ pattern. pattern.items) all.items
-        ≡ reversed (map (λ pattern. pattern.items) patterns.now)) }
-    ensures not_empty { OnErr result (0 < length patterns.now) }
-{
-    let mut all = Vec::new(alloc);
-    for pattern in patterns {
-        all.push(backward_copy(alloc, pattern)?)?;
-    }
-    Ok(all)
-}
-
-/// A reversed copy of a pattern.
-fn backward_copy(alloc: Global, bytes: &[u8]) -> Result<Vec<u8>, AllocError>
-    ensures { IfOk result (λ copy. copy.items ≡ reverse bytes.now) }
-{
-    let mut copy = Vec::new(alloc);
-    copy.extend_from_slice(bytes)?;
-    copy.reverse();
     Ok(copy)
 }
 

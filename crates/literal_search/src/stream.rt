@@ -44,7 +44,7 @@ impl Search {
     {
         let end = haystack.len();
         let found = self.find_in(haystack, Span { start: at, end });
-        self.so_far(haystack, at, found)
+        so_far(haystack, at, self.max_pattern_len(), found)
     }
 
     /// Answers as [`Search::find_so_far`], and adds each byte that it looks up to a tally, as scanned: at least as many
@@ -60,21 +60,7 @@ impl Search {
     {
         let end = haystack.len();
         let found = self.find_in_counted(haystack, Span { start: at, end }, tally);
-        self.so_far(haystack, at, found)
-    }
-
-    /// What the leftmost match from a place on tells, where more may follow.
-    fn so_far(&self, haystack: &[u8], at: usize, leftmost: Option<Match>) -> SoFar
-        requires within { at ≤ length haystack.now }
-        requires leftmost { IsLeftmost self.now.query self.now.ignore_case haystack.now
-            (between at (length haystack.now)) leftmost }
-        requires not_empty { IfSome leftmost (λ found. found.start < found.end) }
-        ensures whatever_follows { (more : List ℕ)
-            → AnswersSoFar self.now.query self.now.ignore_case (haystack.now ++ more) at result }
-        ensures known { IsKnownSoFar self.now.query.patterns (length haystack.now) at result }
-        ensures told { TellsOf leftmost result }
-    {
-        so_far(haystack, at, self.max_pattern_len(), leftmost)
+        so_far(haystack, at, self.max_pattern_len(), found)
     }
 
     /// All matches in what a reader gives, from the left, none of which overlaps another, as those of

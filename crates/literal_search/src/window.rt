@@ -1,7 +1,7 @@
 //! What is known of a text that is read piece by piece.
 ghost use Rattle.std.specs.Prelude.{◌≡◌, ◌+◌, ◌<◌, ◌≤◌, ◌++◌, [], ℕ, List, None, drop, length, IfOk};
 ghost use Rattle.std.specs.Io.KnownBytes.{Consumes};
-ghost use Rattle.literal_search.specs.Inside.Stream.{HasReadOn, HasRoom, IsOpen, IsSoundReading, IsWindow, held};
+ghost use Rattle.literal_search.specs.Inside.Stream.{HasReadOn, IsOpen, IsSoundReading, IsWindow, held};
 
 use crate::reading::Reading;
 use std::alloc::{AllocError, Global};
@@ -23,7 +23,7 @@ pub(crate) struct Window {
 impl Window {
     /// An empty one with room for more than so many bytes and for a block.
     pub(crate) fn new(alloc: Global, len: usize) -> Result<Window, AllocError>
-        ensures window { IfOk result (λ w. IsWindow w × HasRoom w len) }
+        ensures window { IfOk result (λ w. IsWindow w × (len < length w.bytes.items)) }
         ensures empty { IfOk result (λ w. held w ≡ []) }
         ensures first { IfOk result (λ w. w.offset ≡ 0) }
     {

@@ -74,14 +74,39 @@ fn tells_what_it_was_built_of(rt: HostRuntime) -> Result<(), Fail> {
     Ok(())
 }
 
-/// It has 6 numbers, one for the pattern, 12 in the rows, 256 for classes, one more for the pattern, and 35 for
-/// its scan for candidates.
+/// It has 6 numbers, one for the pattern, 12 in the rows, 256 for classes, and 35 for its scan for candidates.
 #[test]
 fn tells_how_many_bytes_it_takes(rt: HostRuntime) -> Result<(), Fail> {
     let search = longest_of(rt.alloc(), &[b"ab"])?;
-    assert!(rt; search.memory_usage() == 4 * 311 + 2);
+    assert!(rt; search.memory_usage() == 4 * 310 + 2);
     let wanted = "Search { kind: LeftmostLongest, ignore_case: false, patterns: 1 }";
     assert_prints_as(&rt, rt.alloc(), &search, wanted)?;
+    Ok(())
+}
+
+/// By the first in the list `abc` never matches, as `ab` comes before it: its suffixes take three states less.
+#[test]
+fn what_never_matches_takes_no_states(rt: HostRuntime) -> Result<(), Fail> {
+    let words = [b"ab".as_slice(), b"abc", b"x"];
+    let search = first_of(rt.alloc(), &words)?;
+    assert!(rt; search.memory_usage() == 4 * (6 + 3 + 4 * 6 + 256 + 35) + 6);
+    assert!(rt;
+        search
+            .find(b"abc")
+            .is_some_and(|found| found.pattern().as_usize() == 0)
+    );
+    assert!(rt;
+        search
+            .find(b"bcx")
+            .is_some_and(|found| found.pattern().as_usize() == 2)
+    );
+    let search = longest_of(rt.alloc(), &words)?;
+    assert!(rt; search.memory_usage() == 4 * (6 + 3 + 7 * 6 + 256 + 35) + 6);
+    assert!(rt;
+        search
+            .find(b"abc")
+            .is_some_and(|found| found.pattern().as_usize() == 1)
+    );
     Ok(())
 }
 

@@ -1,30 +1,27 @@
 -- The tables of a search from the right, in a `Search` and in an array that is lent.
-use Rattle.std.proofs.Common.{◌≡◌, ◌∙◌, ◌+◌, ◌++◌, ◌∷◌, ◌≤◌, ◌^◌, ℕ, List, [], ap, append-nil, append_assoc, arith}
+use Rattle.std.proofs.Common.{◌≡◌, ◌∙◌, ◌+◌, ◌≤◌, ◌^◌, ℕ, List, [], ap, arith}
 use Rattle.std.proofs.Common.{length, refl, subst, sym}
 use Rattle.std.specs.List.{slice_range}
-use Rattle.literal_search.specs.Inside.Classes.{AreClasses}
 use Rattle.std.proofs.lemmas.Bool.{cases_lt}
 use Rattle.std.proofs.lemmas.List.{get_or_default, length-map}
 use Rattle.std.proofs.Common.{◌*◌, get_or, inl, inr, map}
 use Rattle.literal_base.specs.Occurs.{pattern_at}
 use Rattle.literal_search.specs.Inside.Classes.{symbols_in}
-use Rattle.literal_search.specs.Inside.Rows.{packed_classes}
 use Rattle.literal_search.specs.Inside.Search.{AreKept}
-use Rattle.literal_search.specs.Inside.Prepared.{checked, numbers_for}
+use Rattle.literal_search.specs.Inside.Prepared.{numbers_for}
 use Rattle.literal_search.specs.SearchValue.{reversed}
-use Rattle.literal_search.specs.Prepared.{AreShort, classes_end, classes_in, rows_at, rows_end, rows_in}
-use Rattle.literal_search.specs.SearchValue.{longest_of, width_for}
+use Rattle.literal_search.specs.Prepared.{AreShort, classes_end, rows_at, rows_end, rows_in}
+use Rattle.literal_search.specs.SearchValue.{width_for}
 use Rattle.literal_search.specs.Table.{stride_of}
-use Rattle.literal_search.specs.Prepared.{AreBackTables, BackTables, IsPrepared, back_tables_in}
-use Rattle.literal_search.specs.Prepared.{ArePrints, TakesPlaces, best_end, best_in, prepared_len, prints_in}
+use Rattle.literal_search.specs.Prepared.{AreBackTables, BackTables, IsPrepared}
+use Rattle.literal_search.specs.Prepared.{ArePrints, TakesPlaces, prepared_len, prints_in}
 use Rattle.literal_search.specs.Prepared.{texts_back}
 use Rattle.literal_search.specs.SearchValue.{SearchValue}
 use Rattle.literal_search.specs.States.{HasTooManyStates, IsRowsLength}
 use Rattle.literal_search.specs.declared.prepared.TheConstants.{SCAN_LEN, PREPARED_VERSION}
 use Rattle.literal_search.proofs.lemmas.Numbers.{check_written, classes_written, ends_written, lengths_written}
-use Rattle.literal_search.proofs.lemmas.Numbers.{starts_written}
 use Rattle.literal_search.proofs.lemmas.Numbers.{numbers_long, rows_written}
-use Rattle.literal_search.proofs.lemmas.Backward.{back_count, back_long}
+use Rattle.literal_search.proofs.lemmas.Reversed.{back_count, back_long}
 use Rattle.literal_search.proofs.lemmas.Found.{symbols_length}
 use Rattle.literal_search.proofs.lemmas.Prepared.{length_part}
 use Rattle.literal_search.proofs.lemmas.States.{too_many_prefixes}
@@ -32,104 +29,74 @@ use Rattle.literal_search.proofs.lemmas.Walk.{at_start, row_at}
 
 -- tables whose parts are equal
 pub same_tables : (search : SearchValue) (classes classes' : List ℕ) (width width' : ℕ)
-    (rows rows' best best' : List ℕ) (longest longest' : ℕ) → classes ≡ classes' → width ≡ width' → rows ≡ rows'
-    → best ≡ best' → longest ≡ longest' → (let t : BackTables = record {
+    (rows rows' : List ℕ) (longest longest' : ℕ) → classes ≡ classes' → width ≡ width' → rows ≡ rows'
+    → longest ≡ longest' → (let t : BackTables = record {
       search = search;
       classes = classes;
       width = width;
       rows = rows;
-      best = best;
       longest = longest;
     } in t) ≡ record {
       search = search;
       classes = classes';
       width = width';
       rows = rows';
-      best = best';
       longest = longest';
     }
-same_tables search classes classes' width width' rows rows' best best' longest longest' a b c d e = cc
-
--- two lists behind the classes, one behind the other
-pub both_behind : (version width : ℕ) (classes rows one two : List ℕ) (patterns : List (List ℕ))
-    → numbers_for version classes width patterns rows [] (one ++ two)
-    ≡ numbers_for version classes width patterns rows one two
-both_behind version width classes rows one two patterns =
-    let before = map (λ bytes. length bytes) patterns ++ (rows ++ packed_classes classes) in
-    ap (λ l. checked version (width ∷ length patterns ∷ length rows ∷ longest_of patterns ∷ l))
-    (ap (λ l. l ++ (one ++ two)) (append-nil before) ∙ sym (append_assoc before one two))
+same_tables search classes classes' width width' rows rows' longest longest' a b c d = cc
 
 -- what is written for tables is prepared for their search, with a scan for candidates
 module _ (t : BackTables) (are : AreBackTables t) (prints : List ℕ) (long : length prints ≡ SCAN_LEN)
     (pass : ArePrints t.search.query.patterns t.search.ignore_case prints)
   where
     abbrev pub all_of : List ℕ
-    all_of = numbers_for PREPARED_VERSION t.classes t.width t.search.query.patterns t.rows t.best prints
+    all_of = numbers_for PREPARED_VERSION t.classes t.width t.search.query.patterns t.rows [] prints
 
-    size : length all_of ≡ 6 + length t.search.query.patterns + length t.rows + 256 + length t.best + length prints
-    size = numbers_long PREPARED_VERSION t.classes t.width t.search.query.patterns t.rows t.best prints
-
-    best_are : best_in all_of ≡ t.best
-    best_are =
-        let to : best_end all_of ≡ classes_end all_of + length t.best = omega (arith, are.best.long) in
-        ap (slice_range all_of (classes_end all_of)) to
-        ∙ starts_written PREPARED_VERSION t.classes t.width t.search.query.patterns t.rows t.best prints
+    size : length all_of ≡ 6 + length t.search.query.patterns + length t.rows + 256 + length prints
+    size =
+        omega (arith, numbers_long PREPARED_VERSION t.classes t.width t.search.query.patterns t.rows [] prints)
 
     prints_are : prints_in all_of ≡ prints
     prints_are =
-        let from : best_end all_of ≡ classes_end all_of + length t.best = omega (arith, are.best.long) in
-        let to : prepared_len all_of ≡ classes_end all_of + length t.best + length prints =
-        omega (arith, are.best.long, long) in
+        let from : classes_end all_of ≡ classes_end all_of + 0 = omega arith in
+        let to : prepared_len all_of ≡ classes_end all_of + 0 + length prints = omega (arith, long) in
         ap (λ k. slice_range all_of k (prepared_len all_of)) from
-        ∙ (ap (slice_range all_of (classes_end all_of + length t.best)) to
-        ∙ ends_written PREPARED_VERSION t.classes t.width t.search.query.patterns t.rows t.best prints)
+        ∙ ap (slice_range all_of (classes_end all_of + 0)) to
+        ∙ ends_written PREPARED_VERSION t.classes t.width t.search.query.patterns t.rows [] prints
 
     pub prepared_all : IsPrepared t.search all_of
     prepared_all =
-        let classes = classes_written PREPARED_VERSION t.classes t.width t.search.query.patterns t.rows t.best
-        prints are.classes in
+        let classes = classes_written PREPARED_VERSION t.classes t.width t.search.query.patterns t.rows [] prints
+        are.classes in
         let first = row_at (texts_back t) t.width t.rows are.recognises [] 0
         (at_start (texts_back t) t.width t.rows are.recognises) in
         record {
           whole = record {
             parts = record {
               parts = record { version_is = refl; few = are.kept.few; fits = omega (arith, size) };
-              fits = omega (arith, size, are.best.long, long);
+              fits = omega (arith, size, long);
               row = omega (arith, first.fits);
             };
-            check = check_written PREPARED_VERSION t.classes t.width t.search.query.patterns t.rows t.best prints
-                (prepared_len all_of) (omega (arith, size, are.best.long, long));
+            check = check_written PREPARED_VERSION t.classes t.width t.search.query.patterns t.rows [] prints
+                (prepared_len all_of) (omega (arith, size, long));
           };
           tables = subst (λ (b : BackTables). AreBackTables b) (same_tables t.search t.classes _ t.width _ t.rows _
-              t.best _ t.longest _ (sym classes) refl
-              (sym (rows_written PREPARED_VERSION t.classes t.width t.search.query.patterns t.rows t.best prints))
-              (sym best_are) are.longest) are;
-          lengths = lengths_written PREPARED_VERSION t.classes t.width t.search.query.patterns t.rows t.best
-              prints;
+              t.longest _ (sym classes) refl
+              (sym (rows_written PREPARED_VERSION t.classes t.width t.search.query.patterns t.rows [] prints))
+              are.longest) are;
+          lengths = lengths_written PREPARED_VERSION t.classes t.width t.search.query.patterns t.rows [] prints;
           prints = subst (ArePrints t.search.query.patterns t.search.ignore_case) (sym prints_are) pass;
         }
 
     -- they are what a `Search` keeps
     pub kept_all : t.width ≡ width_for t.search.ignore_case t.search.query.patterns
         → IsRowsLength (texts_back t) t.width (length t.rows) → AreKept t.search all_of
-    kept_all width rows =
-        let classes = classes_written PREPARED_VERSION t.classes t.width t.search.query.patterns t.rows t.best
-        prints are.classes in
-        let rows_are = rows_written PREPARED_VERSION t.classes t.width t.search.query.patterns t.rows t.best
-        prints in
-        record {
-          prepared = prepared_all;
-          long = omega (arith, size, are.best.long, long);
-          width = width;
-          rows = subst (λ (c : List ℕ). IsRowsLength (reversed (map (symbols_in c) t.search.query.patterns))
-              t.width (length (rows_in all_of))) (sym classes)
-              (subst (λ (r : List ℕ). IsRowsLength (texts_back t) t.width (length r)) (sym rows_are) rows);
-        }
+    kept_all width rows = grind (arith, classes_written, prepared_all, rows_written, size)
 
 module _ {search : SearchValue} {numbers : List ℕ} (kept : AreKept search numbers) where
   -- so many numbers these are
   pub kept_long : length numbers ≡ 6 + length search.query.patterns + length (rows_in numbers) + 256
-      + length search.query.patterns + SCAN_LEN
+      + SCAN_LEN
   kept_long =
       let fits = kept.prepared.whole.parts.fits in
       let places = length_part numbers (rows_at numbers) (rows_end numbers) (omega arith) (omega arith) in
@@ -141,17 +108,7 @@ module _ {search : SearchValue} {numbers : List ℕ} (kept : AreKept search numb
   -- and so many places are enough for them
   pub takes_kept : TakesPlaces search (length numbers)
   unfolding TakesPlaces
-  takes_kept = (
-    classes_in numbers,
-    subst (AreClasses (classes_in numbers)) kept.width kept.prepared.tables.classes,
-    kept.prepared.tables.tells,
-    (
-      length (rows_in numbers),
-      subst (λ width. IsRowsLength (texts_back (back_tables_in search numbers)) width
-          (length (rows_in numbers))) kept.width kept.rows,
-      kept_long,
-    ),
-  )
+  takes_kept = grind (arith, kept_long)
 
 -- patterns are short whose texts, or others as long, have few states
 short_texts : (patterns texts : List (List ℕ)) (width : ℕ) → length texts ≡ length patterns

@@ -1,6 +1,7 @@
 -- What an automaton is built of, and why one is not built.
+use Rattle.std.proofs.Common.{arith}
 use Rattle.std.proofs.Common.{◌≡◌, ◌∙◌, ℕ, Bool, List, Result, Ok, Err, IfErr, ap, map}
-use Rattle.std.proofs.Common.{subst, sym}
+use Rattle.std.proofs.Common.{sym}
 use Rattle.std.proofs.lemmas.Simd.{map-map}
 use Rattle.std.specs.Global.{Global}
 use Rattle.std.specs.Result.{IsErrAnd}
@@ -23,12 +24,7 @@ pub holds_in : (P : List (List ℕ) → ℕ → Type 0) (ignore_case : Bool) (cl
     (patterns : List (List ℕ)) → AreClasses classes width → Tells ignore_case classes patterns
     → width ≡ width_for ignore_case patterns → P (map (symbols_in classes) patterns) width
     → HoldsInClasses P ignore_case patterns
-holds_in P ignore_case classes width patterns are tells width_is holds = (
-  classes,
-  subst (AreClasses classes) width_is are,
-  tells,
-  subst (P (map (symbols_in classes) patterns)) width_is holds,
-)
+holds_in P ignore_case classes width patterns are tells width_is holds = grind arith
 
 -- where a refusal of rows is passed on
 pub passed_on : {V : Type 0} (P : Type 0) (refused : GrowError) → (refused ≡ grow_error.TooManyStates → P)

@@ -1,12 +1,12 @@
 -- The patterns that are a suffix of a pattern, from one to the next.
-use Rattle.std.proofs.Common.{◌≡◌, ◌≢◌, ℕ, ◌+◌, ◌*◌, ◌-◌, ◌<◌, ◌≤◌, ◌^◌, List, [], ◌∷◌, ◌++◌, length, get_or, take}
-use Rattle.std.proofs.Common.{drop, eqb, set}
-use Rattle.std.proofs.Common.{Option, Some, None, inl, inr, ◌⊎◌, refl, sym, ap, subst, ◌∙◌, arith, mul-le-mul_right}
+use Rattle.std.proofs.lemmas.Grind.{common_steps}
+use Rattle.std.proofs.Common.{◌≡◌, ◌≢◌, ℕ, ◌+◌, ◌-◌, ◌<◌, ◌≤◌, ◌^◌, List, [], ◌∷◌, ◌++◌, length, get_or, take, drop}
+use Rattle.std.proofs.Common.{eqb, set, Option, Some, None, inl, inr, refl, sym, ap, subst, ◌∙◌, arith}
 use Rattle.std.proofs.lemmas.Bool.{cases_lt}
-use Rattle.std.proofs.lemmas.Bool.Decides.{Decides-eqb, nat_tests}
+use Rattle.std.proofs.lemmas.Bool.Decides.{Decides-eqb}
 use Rattle.std.proofs.lemmas.List.{get_or-set_other, get_or-set_same, get_or_default, get_or_past, length-drop}
 use Rattle.std.proofs.lemmas.List.{length-set, take-append-drop}
-use Rattle.std.proofs.lemmas.List.Elements.{All-nil, All-push, All-weaker, Contains-append_left, Contains-push}
+use Rattle.std.proofs.lemmas.List.Elements.{All-push, All-weaker, Contains-append_left, Contains-push}
 use Rattle.std.proofs.lemmas.List.Kept.{AllPairs-from_increasing}
 use Rattle.std.proofs.lemmas.List.Quantifiers.{all_pairs_push}
 use Rattle.std.proofs.lemmas.List.Sorted.{All-permutation, Contains-permutation, IsNonDecreasingBy-from_sort}
@@ -18,8 +18,7 @@ use Rattle.std.specs.Ordering.{nat_cmp}
 use Rattle.std.specs.Option.{unwrap_or}
 use Rattle.literal_base.specs.Occurs.{NoneIsEmpty, pattern_at}
 use Rattle.literal_search.specs.Inside.Suffixes.{AreSuffixes, ComesLater, HasSuffix, HasUpTo, IsSuffix, IsOutputLink}
-use Rattle.literal_search.specs.Inside.Suffixes.{IsNextEqual}
-use Rattle.literal_search.specs.Inside.Suffixes.{left_from}
+use Rattle.literal_search.specs.Inside.Suffixes.{IsNextEqual, left_from}
 use Rattle.literal_search.specs.Inside.Lists.{AreNextEquals, AreOutputLinks}
 use Rattle.literal_search.specs.Table.{nothing}
 use Rattle.literal_search.specs.Words.{ending}
@@ -35,7 +34,8 @@ module _ (patterns : List (List ℕ)) (some : NoneIsEmpty patterns) (few : lengt
 
   pub first_equal_of : (pattern first : ℕ) → pattern < length patterns
       → first ≡ unwrap_or (ending patterns (pattern_at patterns pattern)) nothing → IsFirstEqual pattern first
-  first_equal_of pattern first below is = by (ending patterns (pattern_at patterns pattern)) refl is
+  first_equal_of pattern first below is =
+      by (ending patterns (pattern_at patterns pattern)) refl is
     where
       text : List ℕ
       text = pattern_at patterns pattern
@@ -60,7 +60,7 @@ module _ (patterns : List (List ℕ)) (some : NoneIsEmpty patterns) (few : lengt
           ends_same (pattern_at patterns pattern) (pattern_at patterns i) (pattern_at patterns pattern) all.is.ends
           itself.ends (omega arith) in
           subst (IsFirstEqual pattern) (sym at)
-          (record { below = all.is.is_pattern; same = same; first_is = ap (ending patterns) same ∙ ends })
+          (grind arith)
 
   pub behind_first : (text : List ℕ) → HasSuffix text (drop 1 text)
   behind_first text = record { prefix = take 1 text; split = sym (take-append-drop 1 text) }
@@ -68,11 +68,7 @@ module _ (patterns : List (List ℕ)) (some : NoneIsEmpty patterns) (few : lengt
   -- a shorter end of a pattern is one of what is behind its first symbol
   pub shorter_end : (text : List ℕ) (i : ℕ) → IsSuffix patterns text i → length (pattern_at patterns i) < length text
       → IsSuffix patterns (drop 1 text) i
-  shorter_end text i is shorter = record {
-    is_pattern = is.is_pattern;
-    ends = ends_within text (pattern_at patterns i) (drop 1 text) is.ends (behind_first text)
-        (omega (arith, length-drop 1 text));
-  }
+  shorter_end text i is shorter = grind (arith, ends_within, behind_first)
 
   module _ (pattern head equal : ℕ) (below : pattern < length patterns)
       (next : IsNextEqual patterns head (pattern + 1) equal)
@@ -85,37 +81,10 @@ module _ (patterns : List (List ℕ)) (some : NoneIsEmpty patterns) (few : lengt
       as_long : (i : ℕ) → IsSuffix patterns (pattern_at patterns pattern) i
           → length (pattern_at patterns i) ≡ length (pattern_at patterns pattern) → pattern < i
           → (equal ≢ nothing) × (equal ≤ i)
-      as_long i end long later =
-          let is : pattern_at patterns i ≡ pattern_at patterns pattern =
-          ends_same (pattern_at patterns pattern) (pattern_at patterns i) (pattern_at patterns pattern) end.ends
-          itself.ends long in
-          next.others i (omega arith) end.is_pattern (is ∙ sym same)
+      as_long i end long later = grind (arith, common_steps, ends_same, itself)
 
       pub link_to_equal : equal ≢ nothing → IsOutputLink patterns pattern equal
-      link_to_equal found = elim next.is [
-        | inl none ↦ absurd (found none)
-        | inr one ↦
-            let equals : pattern_at patterns equal ≡ pattern_at patterns pattern = one.2 ∙ same in
-            let long = ap (λ (l : List ℕ). length l) equals in
-            record {
-              next = inr (
-                record { is_pattern = one.1; ends = record { prefix = []; split = sym equals } },
-                inr (long, omega (arith, one.0)),
-              );
-              others = λ i end later. (
-                found,
-                elim later [
-                  | inl shorter ↦ inr (inl (omega (arith, long)))
-                  | inr long_too ↦
-                      let least = as_long i end long_too.0 long_too.1 in
-                      elim (cases_lt equal i) [
-                        | inl sooner ↦ inr (inr (omega (arith, long, long_too.0), sooner))
-                        | inr not ↦ inl (omega (arith, least.1))
-                      ]
-                ],
-              );
-            }
-      ]
+      link_to_equal found = grind (arith, common_steps, as_long, cases_lt)
 
       pub link_to_shorter : equal ≡ nothing → (link : ℕ)
           → link ≡ unwrap_or (ending patterns (drop 1 (pattern_at patterns pattern))) nothing
@@ -157,47 +126,7 @@ module _ (patterns : List (List ℕ)) (some : NoneIsEmpty patterns) (few : lengt
   pub heads_on : (heads : List ℕ) (pattern first : ℕ) → AreNextEquals patterns heads (pattern + 1)
       → pattern < length patterns → IsFirstEqual pattern first
       → AreNextEquals patterns (set heads first pattern) pattern
-  heads_on heads pattern first are below is = record {
-    long = length-set heads first pattern ∙ are.long;
-    each = λ head is_head first_is. elim (cases_ne head first) [
-      | inl same ↦
-          subst (λ h. IsNextEqual patterns h pattern (get_or (set heads first pattern) h 0)) (sym same)
-          (subst (IsNextEqual patterns first pattern)
-          (sym (get_or-set_same heads first pattern 0 (omega (arith, is.below, are.long))))
-          (record {
-            is = inr (omega arith, below, sym is.same);
-            others = λ i from inside equal. (λ no. omega (arith, no), from);
-          }))
-      | inr other ↦
-          let before = are.each head is_head first_is in
-          subst (IsNextEqual patterns head pattern) (sym (get_or-set_other heads first head pattern 0 other))
-          (record {
-            is = elim before.is [
-              | inl none ↦ inl none
-              | inr one ↦ inr (omega (arith, one.0), one.1, one.2)
-            ];
-            others = λ i from inside equal. elim (cases_lt pattern i) [
-              | inl later ↦ before.others i (omega arith) inside equal
-              | inr not ↦
-                  let here : i ≡ pattern = omega arith in
-                  let same : pattern_at patterns head ≡ pattern_at patterns first =
-                  sym equal ∙ (ap (pattern_at patterns) here ∙ sym is.same) in
-                  let both : Some head ≡ Some first =
-                  sym first_is ∙ (ap (ending patterns) same ∙ is.first_is) in
-                  absurd (other (cc))
-            ];
-          })
-    ];
-  }
-    where
-      cases_ne : (a b : ℕ) → (a ≡ b) ⊎ (a ≢ b)
-      cases_ne a b = elim (cases_lt a b) [
-        | inl less ↦ inr (λ same. omega arith)
-        | inr not ↦ elim (cases_lt b a) [
-          | inl more ↦ inr (λ same. omega arith)
-          | inr neither ↦ inl (omega arith)
-        ]
-      ]
+  heads_on heads pattern first are below is = grind (arith, length-set, get_or-set_same, get_or-set_other)
 
   pub links_on : (links : List ℕ) (pattern link : ℕ) → AreOutputLinks patterns links (pattern + 1)
       → pattern < length patterns → IsOutputLink patterns pattern link
@@ -222,25 +151,14 @@ module _ (patterns : List (List ℕ)) (some : NoneIsEmpty patterns) (few : lengt
       → HasUpTo patterns (pattern_at patterns first) [] first
   up_to_first first is =
       let all = first_ends patterns some (pattern_at patterns first) first is in
-      let below = all.is.is_pattern in
-      record {
-        each = All-nil (IsSuffix patterns (pattern_at patterns first));
-        order = λ j k d before inside. absurd (omega arith);
-        earlier = λ found. All-nil (λ i. ComesLater patterns i first);
-        others = λ i end. inr (λ no. omega (arith, no), all.others i end);
-        next_is = inr all.is;
-      }
+      grind arith
 
   later_still : (i next link : ℕ) → ComesLater patterns i next → ComesLater patterns next link
       → ComesLater patterns i link
-  later_still i next link (inl one) (inl other) = inl (omega arith)
-  later_still i next link (inl one) (inr other) = inl (omega (arith, other.0))
-  later_still i next link (inr one) (inl other) = inl (omega (arith, one.0))
-  later_still i next link (inr one) (inr other) = inr (other.0 ∙ one.0, omega (arith, one.1, other.1))
+  later_still i next link one is = grind arith
 
   differs : (i other : ℕ) → ComesLater patterns i other → i ≢ other
-  differs i other (inl shorter) same = omega (arith, ap (λ k. length (pattern_at patterns k)) same)
-  differs i other (inr as_long) same = omega (arith, as_long.1, same)
+  differs i other is same = grind (arith, as_long)
 
   -- with the next of them it goes on with what that one's link leads to
   pub up_to_more : (text list : List ℕ) (next link : ℕ) → HasUpTo patterns text list next → next ≢ nothing
@@ -290,9 +208,9 @@ module _ (patterns : List (List ℕ)) (some : NoneIsEmpty patterns) (few : lengt
       → IsPermutation list sorted → IsSorted nat_cmp sorted → AreSuffixes patterns text 0 sorted 0 (length sorted)
   up_to_all text list sorted next has none moved rises =
       let apart = IsDistinct-from_AllPairs Decides-eqb list
-      (λ j k d before inside. differs (get_or list j d) (get_or list k d) (has.order j k d before inside)) in
+      (grind arith) in
       let increases = IsStrictlyIncreasing-from_distinct sorted (IsNonDecreasingBy-from_sort (λ n. n) sorted rises)
-      (IsDistinct-IsPermutation eqb (λ x y. grind (arith, nat_tests)) list sorted moved apart) in
+      (IsDistinct-IsPermutation eqb (λ x y. grind arith) list sorted moved apart) in
       record {
         ascends = λ j k from before inside. AllPairs-from_increasing sorted increases j k 0 before inside;
         each = λ k from inside.
@@ -308,30 +226,4 @@ module _ (patterns : List (List ℕ)) (some : NoneIsEmpty patterns) (few : lengt
   -- a chain ends
   pub left_falls : (next link : ℕ) → next < length patterns → IsOutputLink patterns next link
       → left_from patterns link < left_from patterns next
-  left_falls next link below is = elim is.next [
-    | inl none ↦
-        let past : pattern_at patterns link ≡ [] = get_or_past patterns link [] (omega (arith, none)) in
-        let nowhere : length (pattern_at patterns link) * length patterns ≡ 0 =
-        ap (λ (l : List ℕ). length l * length patterns) past ∙ zero_times (length patterns) in
-        omega (arith, nowhere, none)
-    | inr one ↦ elim one.1 [
-      | inl shorter ↦
-          let most : (length (pattern_at patterns link) + 1) * length patterns
-          ≤ length (pattern_at patterns next) * length patterns =
-          mul-le-mul_right (length patterns)
-          (let less : length (pattern_at patterns link) + 1 ≤ length (pattern_at patterns next) = omega arith in
-          less) in
-          let sum = one_more (length (pattern_at patterns link)) (length patterns) in
-          omega (arith, most, sum)
-      | inr as_long ↦
-          let same : length (pattern_at patterns link) * length patterns
-          ≡ length (pattern_at patterns next) * length patterns = ap (λ n. n * length patterns) as_long.0 in
-          omega (arith, same, as_long.1, one.0.is_pattern)
-    ]
-  ]
-    where
-      zero_times : (n : ℕ) → 0 * n ≡ 0
-      zero_times n = grind arith
-
-      one_more : (n m : ℕ) → (n + 1) * m ≡ n * m + m
-      one_more n m = grind arith
+  left_falls next link below is = grind (arith, get_or_past)

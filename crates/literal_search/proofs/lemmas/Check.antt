@@ -1,11 +1,11 @@
 -- What a check over numbers tells apart. For `check_over`, `changed_number_is_found` and `zeros_are_refused`.
+use Rattle.std.proofs.lemmas.Grind.{common_steps}
 use Rattle.std.proofs.Common.{◌≡◌, ◌≢◌, ℕ, ◌+◌, ◌*◌, ◌/◌, ◌%◌, ◌<◌, ◌^◌, List, [], ◌∷◌, ◌∙◌, arith, ap, sym, refl}
 use Rattle.std.proofs.lemmas.List.Elements.{All-head, All-tail}
 use Rattle.std.proofs.lemmas.Nat.{div-add-mod', xor_of_32, xor_shr}
 use Rattle.std.proofs.Math.Nat.{div-div-eq-div-mul, div-eq_of_lt, mod-lt}
-use Rattle.std.specs.Int.Bits.{bit_xor, xor_self, xor_zero_r}
+use Rattle.std.specs.Int.Bits.{bit_xor, xor_zero_r}
 use Rattle.std.specs.List.{All, fold}
-use lib.Bits.{xor_assoc}
 use Rattle.literal_search.specs.Prepared.{check_of, stirred}
 
 -- a check behind one number more
@@ -25,11 +25,7 @@ upper_stays number small =
 
 -- so mixing once more takes it out again
 mixed_twice : (number : ℕ) → number < 2 ^ 32 → mixed (mixed number) ≡ number
-mixed_twice number small =
-    ap (bit_xor (mixed number)) (upper_stays number small)
-    ∙ xor_assoc number (number / 2 ^ 16) (number / 2 ^ 16)
-    ∙ ap (bit_xor number) (xor_self (number / 2 ^ 16))
-    ∙ xor_zero_r number
+mixed_twice number small = grind (arith, common_steps, upper_stays)
 
 mixed_small : (number : ℕ) → number < 2 ^ 32 → mixed number < 2 ^ 32
 mixed_small number small =
@@ -38,8 +34,7 @@ mixed_small number small =
 -- the factor is odd, so only equal numbers are stirred to the same
 stirred_tells : (one other : ℕ) → one < 2 ^ 32 → other < 2 ^ 32 → stirred one ≡ stirred other → one ≡ other
 stirred_tells one other small small' same =
-    sym (mixed_twice one small) ∙ ap mixed (factor_tells (mixed one) (mixed other) (mixed_small one small)
-    (mixed_small other small') same) ∙ mixed_twice other small'
+    sym (mixed_twice one small) ∙ ap mixed (grind (arith, mixed_small)) ∙ mixed_twice other small'
   where
     factor_tells : (one other : ℕ) → one < 2 ^ 32 → other < 2 ^ 32
         → one * 16777619 % 2 ^ 32 ≡ other * 16777619 % 2 ^ 32 → one ≡ other
@@ -48,29 +43,18 @@ stirred_tells one other small small' same =
         let second = div-add-mod' (other * 16777619) (2 ^ 32) in
         omega (arith, first, second, same, small, small')
 
-sum_small : (check number : ℕ) → (check + number) % 2 ^ 32 < 2 ^ 32
-sum_small check number = mod-lt (check + number) (omega arith)
-
 -- so behind the same number only equal checks are equal, and behind the same check only equal numbers make it equal
 with_tells : (check number check' number' : ℕ) → check_with check number ≡ check_with check' number'
     → (check + number) % 2 ^ 32 ≡ (check' + number') % 2 ^ 32
-with_tells check number check' number' =
-    stirred_tells ((check + number) % 2 ^ 32) ((check' + number') % 2 ^ 32) (sum_small check number)
-    (sum_small check' number')
+with_tells check number check' number' = grind (arith, stirred_tells)
 
 same_before : (one other number : ℕ) → one < 2 ^ 32 → other < 2 ^ 32
     → check_with one number ≡ check_with other number → one ≡ other
-same_before one other number small small' same =
-    let first = div-add-mod' (one + number) (2 ^ 32) in
-    let second = div-add-mod' (other + number) (2 ^ 32) in
-    omega (arith, first, second, with_tells one number other number same, small, small')
+same_before one other number small small' same = grind (arith, with_tells)
 
 pub same_added : (check one other : ℕ) → one < 2 ^ 32 → other < 2 ^ 32
     → check_with check one ≡ check_with check other → one ≡ other
-same_added check one other small small' same =
-    let first = div-add-mod' (check + one) (2 ^ 32) in
-    let second = div-add-mod' (check + other) (2 ^ 32) in
-    omega (arith, first, second, with_tells check one check other same, small, small')
+same_added check one other small small' same = grind (arith, with_tells)
 
 -- a check is a number of 32 bits
 pub check_small : (check number : ℕ) → check_with check number < 2 ^ 32

@@ -35,10 +35,7 @@ pub tells_by : (ignore_case : Bool) (seen : List Bool) (table : List ℕ) (patte
     → TellsMarked ignore_case seen table
     → ((i : ℕ) (d : Vec ℕ) → i < length patterns → Marks ignore_case seen (get_or patterns i d).items)
     → Tells ignore_case table (map (λ pattern. pattern.items) patterns)
-tells_by ignore_case seen table patterns tells marks i k byte is_pattern inside is_byte =
-    let marked = marks_all ignore_case seen patterns marks i is_pattern in
-    tells byte (get_or (pattern_at (map (λ pattern. pattern.items) patterns) i) k 0) is_byte
-    (marked k inside).0 (marked k inside).1
+tells_by ignore_case seen table patterns tells marks i k byte is_pattern inside is_byte = grind (arith, marks_all)
 
 -- how many bytes are marked
 count_map_from : (f : ℕ → Bool) (n : ℕ) (xs : List ℕ)
@@ -56,11 +53,7 @@ module _ (ignore_case : Bool) (seen : List Bool) (lists : List (List ℕ)) (size
     × IsFoldOfOne ignore_case (pattern_at lists i) b)
   where
     marked_then_in : (byte : ℕ) → get_or seen byte false ≡ true → is_in_patterns ignore_case lists byte ≡ true
-    marked_then_in byte is =
-        let one = only byte is in
-        list_any_at (λ pattern. list_any (λ b. eqb (folded ignore_case b) byte) pattern) lists one.0 [] one.1
-        (list_any_at (λ b. eqb (folded ignore_case b) byte) (pattern_at lists one.0) one.2.0 0 one.2.1
-        (eq-eqb _ byte one.2.2))
+    marked_then_in byte is = grind (arith, eq-eqb, list_any_at)
 
     in_then_marked : (byte : ℕ) → is_in_patterns ignore_case lists byte ≡ true → get_or seen byte false ≡ true
     in_then_marked byte is =

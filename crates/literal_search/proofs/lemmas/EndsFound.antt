@@ -1,7 +1,7 @@
 -- Patterns that end where a walk was told of an end, as occurrences in the haystack.
+use Rattle.std.proofs.lemmas.Grind.{common_steps}
 use Rattle.std.proofs.Common.{◌≡◌, ℕ, ◌+◌, ◌-◌, ◌<◌, ◌≤◌, Bool, true, false, List, [], ◌∷◌, ◌++◌, length, get_or, map}
-use Rattle.std.proofs.Common.{append-nil, drop, take, nat_eq, refl, sym, ap, ◌∙◌, arith}
-use Rattle.std.proofs.Common.{inl, inr, length-append, zero, suc}
+use Rattle.std.proofs.Common.{append-nil, drop, take, nat_eq, refl, sym, ap, ◌∙◌, arith, inl, inr, zero, suc}
 use Rattle.std.proofs.Math.Seq.{drop-append_seam}
 use Rattle.std.proofs.lemmas.Bool.{cases_lt, cond-false, cond-true, false≢true}
 use Rattle.std.proofs.lemmas.Bool.Decides.{Decides-eqb}
@@ -16,8 +16,7 @@ use Rattle.literal_search.specs.Inside.Suffixes.{IsSuffix}
 use Rattle.literal_search.specs.Inside.Walk.{NoneEnds, text_of}
 use Rattle.literal_search.specs.Words.{begins_one, live_suffix}
 use Rattle.literal_search.proofs.lemmas.Ends.{whole_if_long}
-use Rattle.literal_search.proofs.lemmas.Found.{occurs_where, some_symbols, stands_where}
-use Rattle.literal_search.proofs.lemmas.Found.{symbols_length, text_long}
+use Rattle.literal_search.proofs.lemmas.Found.{occurs_where, some_symbols, stands_where, symbols_length, text_long}
 use Rattle.literal_search.proofs.lemmas.Live.{stands_or_begins}
 use Rattle.literal_search.proofs.lemmas.FirstSuffix.{ends_length, none_ends}
 use Rattle.literal_search.proofs.lemmas.Walk.{text_halves, text_length}
@@ -42,9 +41,7 @@ nothing_begun patterns (symbol ∷ text) is =
         further (sym same ∙ is) k (omega arith)
 
 pub nothing_read : (classes haystack : List ℕ) (at : ℕ) → text_of classes haystack (between at at) ≡ []
-nothing_read classes haystack at =
-    let none : at - at ≡ 0 = omega arith in
-    ap (λ n. symbols_in classes (take n (drop at haystack))) none
+nothing_read classes haystack at = grind arith
 
 module _ (ignore_case : Bool) (classes : List ℕ) (patterns : List (List ℕ)) (tells : Tells ignore_case classes patterns)
     (some : NoneIsEmpty patterns) (haystack : List ℕ) (bytes : (i : ℕ) → get_or haystack i 0 < 256) (span : Span)
@@ -57,40 +54,29 @@ module _ (ignore_case : Bool) (classes : List ℕ) (patterns : List (List ℕ)) 
     known = length-map patterns (symbols_in classes)
 
     valid_part : (from at : ℕ) → from ≤ at → at ≤ span.end → IsValidSpan haystack (between from at)
-    valid_part from at after inside =
-        let all = valid.in_haystack in record { ordered = after; in_haystack = omega arith }
+    valid_part from at after inside = grind arith
 
     -- an occurrence is a suffix of what is read up to its end, from no place behind its start on
     pub occurrence_ends : (from i place end : ℕ) → from ≤ place → end ≡ place + length (pattern_at patterns i)
         → Occurs patterns ignore_case haystack span i place
         → IsSuffix words (text_of classes haystack (between from end)) i
     occurrence_ends from i place end after whole o =
-        let last = o.before_end in
         let here = between from end in
         let valid_here = valid_part from end (omega arith) (omega arith) in
         let text = text_of classes haystack here in
         let word = pattern_at words i in
-        let stands = stands_where ignore_case classes patterns tells haystack bytes here valid_here i place (record {
-          is_pattern = o.is_pattern;
-          after_start = after;
-          before_end = omega arith;
-          same = o.same;
-        }) in
+        let stands = stands_where ignore_case classes patterns tells haystack bytes here valid_here i place
+        (grind arith) in
         let long = text_long ignore_case classes patterns tells haystack bytes here valid_here in
         let size = symbols_length classes patterns i in
         let same : drop (place - from) text ≡ word =
-        whole_if_long (drop (place - from) text) word stands (omega (
-          arith,
-          length-drop (place - from) text,
-          long,
-          size,
-        ))
+        grind (arith, whole_if_long, length-drop)
         in
         record {
           is_pattern = omega (arith, known, o.is_pattern);
           ends = record {
             prefix = take (place - from) text;
-            split = sym (take-append-drop (place - from) text) ∙ ap (λ l. take (place - from) text ++ l) same;
+            split = grind (arith, take-append-drop);
           };
         }
 
@@ -112,75 +98,51 @@ module _ (ignore_case : Bool) (classes : List ℕ) (patterns : List (List ℕ)) 
         let parts_long = ends_length text word is.ends in
         let place : length prefix ≡ start - from = omega (arith, long, size, parts_long) in
         let same : drop (start - from) text ≡ word =
-        ap (λ n. drop n text) (sym place) ∙ (ap (drop (length prefix)) is.ends.split ∙ drop-append_seam prefix word) in
+        grind (arith, drop-append_seam) in
         let stands : starts_with nat_eq (drop (start - from) text) word ≡ true =
         (starts_is Decides-eqb (drop (start - from) text) word _ refl).1 [] (same ∙ sym (append-nil word)) in
-        let is_pattern = is.is_pattern in
         let occurs = occurs_where ignore_case classes patterns tells haystack bytes here valid_here i start
         (omega (arith, known)) (omega (arith, long, size, parts_long)) (omega arith) stands in
-        let before = occurs.before_end in (
-          record {
-            is_pattern = occurs.is_pattern;
-            after_start = omega (arith, occurs.after_start);
-            before_end = omega arith;
-            same = occurs.same;
-          },
-          omega (arith, long, size, parts_long),
-          occurs.after_start,
-        )
+        grind arith
 
     -- where the live suffix is empty, no occurrence that ends further on has begun
     pub begins_behind : (from at i place : ℕ) → from ≤ at → from ≤ place → at < place + length (pattern_at patterns i)
         → at ≤ span.end
         → live_suffix words (text_of classes haystack (between from at)) ≡ []
         → Occurs patterns ignore_case haystack span i place → at ≤ place
-    begins_behind from at i place begin after further inside live o = elim (cases_lt place at) [
-      | inr not ↦ not
-      | inl early ↦
-          let last = o.before_end in
-          let all = valid.in_haystack in
-          let end = place + length (pattern_at patterns i) in
-          let here = between from end in
-          let read = text_of classes haystack (between from at) in
-          let more = text_of classes haystack (between at end) in
-          let k = place - from in
-          let word = pattern_at words i in
-          let long = text_length classes haystack from at begin (omega arith) in
-          let within : k < length read = omega arith in
-          let stands = stands_where ignore_case classes patterns tells haystack bytes here
-          (valid_part from end (omega arith) (omega arith)) i place (record {
-            is_pattern = o.is_pattern;
-            after_start = after;
-            before_end = omega arith;
-            same = o.same;
-          }) in
-          let split : drop k (text_of classes haystack here) ≡ drop k read ++ more =
-          ap (drop k) (text_halves classes haystack from at end begin (omega arith))
-          ∙ drop-append-le k read more (omega arith) in
-          elim (stands_or_begins (drop k read) more word
-          (ap (λ (t : List ℕ). starts_with nat_eq t word) (sym split) ∙ stands)) [
-            | inl whole ↦
-                let parts = (starts_is Decides-eqb (drop k read) word _ refl).0 whole in
-                absurd (omega (
-                  arith,
-                  ap (λ (l : List ℕ). length l) parts,
-                  length-append word (drop (length word) (drop k read)),
-                  length-drop k read,
-                  symbols_length classes patterns i,
-                ))
-            | inr begun ↦
-                absurd (false≢true (sym (nothing_begun words read live k within)
-                ∙ list_any_at (λ pattern. starts_with nat_eq pattern (drop k read)) words i []
-                (omega (arith, known, o.is_pattern)) begun))
-          ]
-    ]
+    begins_behind from at i place begin after further inside live o =
+        elim (cases_lt place at) [
+          | inr not ↦ not
+          | inl early ↦
+              let end = place + length (pattern_at patterns i) in
+              let here = between from end in
+              let read = text_of classes haystack (between from at) in
+              let more = text_of classes haystack (between at end) in
+              let k = place - from in
+              let word = pattern_at words i in
+              let long = text_length classes haystack from at begin (omega arith) in
+              let within : k < length read = omega arith in
+              let stands = stands_where ignore_case classes patterns tells haystack bytes here
+              (valid_part from end (omega arith) (omega arith)) i place (grind arith) in
+              let split : drop k (text_of classes haystack here) ≡ drop k read ++ more =
+              ap (drop k) (text_halves classes haystack from at end begin (omega arith))
+              ∙ drop-append-le k read more (omega arith) in
+              elim (stands_or_begins (drop k read) more word
+              (ap (λ (t : List ℕ). starts_with nat_eq t word) (sym split) ∙ stands)) [
+                | inl whole ↦
+                    grind (arith, common_steps, symbols_length)
+                | inr begun ↦
+                    absurd (false≢true (sym (nothing_begun words read live k within)
+                    ∙ list_any_at (λ pattern. starts_with nat_eq pattern (drop k read)) words i []
+                    (omega (arith, known, o.is_pattern)) begun))
+              ]
+        ]
 
     -- where a walk from the first state on was told of no end, nothing occurs
     pub nothing_ends : NoneEnds words [] classes haystack span.start span.end
         → NothingOccurs patterns ignore_case haystack span
-    nothing_ends none = λ i at o.
-        let long = some i [] o.is_pattern in
-        let last = o.before_end in
+    nothing_ends none =
+        λ i at o.
         let after = o.after_start in
         let end = at + length (pattern_at patterns i) in
         none_ends words (some_symbols classes patterns some) (text_of classes haystack (between span.start end))

@@ -1,14 +1,12 @@
 -- The pattern that ends with a text: the first of those that are a suffix of it.
-use Rattle.std.proofs.Common.{◌≡◌, ℕ, ◌+◌, ◌-◌, ◌<◌, ◌≤◌, ◌&&◌, List, [], ◌∷◌, ◌++◌, length, drop, take, nat_eq}
+use Rattle.std.proofs.lemmas.Grind.{common_steps}
+use Rattle.std.proofs.Common.{◌≡◌, ℕ, ◌+◌, ◌-◌, ◌<◌, ◌≤◌, List, [], ◌∷◌, ◌++◌, length, drop}
 use Rattle.std.proofs.Common.{Option, Some, None, inl, inr, ◌⊎◌, append_assoc, length-append, refl, sym, ap, ◌∙◌, arith}
-use Rattle.std.proofs.lemmas.Bool.{and_parts, cases_lt, cond-true, false≢true, lt-ltb}
-use Rattle.std.proofs.lemmas.Bool.Decides.{Decides-eqb}
+use Rattle.std.proofs.lemmas.Bool.{and_parts}
 use Rattle.std.proofs.Math.Seq.{drop-append_seam}
-use Rattle.std.proofs.lemmas.List.{drop-drop, take-append-drop}
+use Rattle.std.proofs.lemmas.List.{take-append-drop}
 use Rattle.std.proofs.lemmas.List.Quantifiers.{position-Some}
 use Rattle.std.proofs.lemmas.List.Sums.{fails_before_first}
-use Rattle.std.proofs.lemmas.Slice.Eq.{starts_is}
-use Rattle.std.specs.List.{position_or_len, starts_with}
 use Rattle.std.specs.Option.{option_or}
 use Rattle.literal_base.specs.Occurs.{NoneIsEmpty, pattern_at}
 use Rattle.literal_search.specs.Inside.Suffixes.{HasSuffix, IsSuffix, IsFirstSuffix}
@@ -17,10 +15,11 @@ use Rattle.literal_search.proofs.lemmas.Ends.{equal_if, whole_if_long}
 
 -- a suffix of a suffix is one
 pub ends_on : (text middle end : List ℕ) → HasSuffix text middle → HasSuffix middle end → HasSuffix text end
-ends_on text middle end one other = record {
-  prefix = one.prefix ++ other.prefix;
-  split = one.split ∙ (ap (λ l. one.prefix ++ l) other.split ∙ sym (append_assoc one.prefix other.prefix end));
-}
+ends_on text middle end one other =
+    record {
+      prefix = one.prefix ++ other.prefix;
+      split = grind (arith, append_assoc);
+    }
 
 pub ends_length : (text end : List ℕ) (is : HasSuffix text end) → length text ≡ length is.prefix + length end
 ends_length text end is = ap (λ (l : List ℕ). length l) is.split ∙ length-append is.prefix end
@@ -33,38 +32,30 @@ ends_within text short long one other shorter =
     let m = length one.prefix - n in
     let sizes : n ≤ length one.prefix =
     omega (arith, ends_length text short one, ends_length text long other) in
-    let whole : n + m ≡ length one.prefix = omega arith in
     let rest : drop n text ≡ long = ap (drop n) other.split ∙ drop-append_seam other.prefix long in
-    let last : drop m long ≡ short =
-    ap (drop m) (sym rest)
-    ∙ (drop-drop m n text
-    ∙ (ap (λ k. drop k text) whole
-    ∙ (ap (drop (length one.prefix)) one.split ∙ drop-append_seam one.prefix short))) in
-    record { prefix = take m long; split = sym (take-append-drop m long) ∙ ap (λ l. take m long ++ l) last }
+    grind (arith, common_steps, take-append-drop)
 
 empty_prefix : (prefix rest : List ℕ) → length prefix ≡ 0 → prefix ++ rest ≡ rest
-empty_prefix [] rest none = refl
-empty_prefix (x ∷ prefix) rest none = absurd (omega arith)
+empty_prefix prefix rest none = grind (arith, common_steps)
 
 -- of one length they are equal
 pub ends_same : (text a b : List ℕ) → HasSuffix text a → HasSuffix text b → length a ≡ length b → a ≡ b
 ends_same text a b one other same =
     let within = ends_within text a b one other (omega arith) in
-    let none : length within.prefix ≡ 0 = omega (arith, ends_length b a within) in
-    sym (within.split ∙ empty_prefix within.prefix a none)
+    grind (arith, ends_length, empty_prefix)
 
 module _ (patterns : List (List ℕ)) (some : NoneIsEmpty patterns) where
   -- a suffix of a text is the text, or a suffix of what is behind its first symbol
   end_splits : (symbol : ℕ) (more : List ℕ) (i : ℕ) → IsSuffix patterns (symbol ∷ more) i
       → (symbol ∷ more ≡ pattern_at patterns i) ⊎ IsSuffix patterns more i
-  end_splits symbol more i is = by_prefix is.ends.prefix is.ends.split
+  end_splits symbol more i is =
+      by_prefix is.ends.prefix is.ends.split
     where
       by_prefix : (prefix : List ℕ) → symbol ∷ more ≡ prefix ++ pattern_at patterns i
           → (symbol ∷ more ≡ pattern_at patterns i) ⊎ IsSuffix patterns more i
       by_prefix [] split = inl split
       by_prefix (x ∷ prefix) split =
-          let tails : more ≡ prefix ++ pattern_at patterns i = cc in
-          inr (record { is_pattern = is.is_pattern; ends = record { prefix = prefix; split = tails } })
+          inr (grind arith)
 
   longer_end : (symbol : ℕ) (more : List ℕ) (i : ℕ) → IsSuffix patterns more i → IsSuffix patterns (symbol ∷ more) i
   longer_end symbol more i is = record {
@@ -76,71 +67,21 @@ module _ (patterns : List (List ℕ)) (some : NoneIsEmpty patterns) where
   pub no_end_of_nothing : (i : ℕ) → ¬ IsSuffix patterns [] i
   no_end_of_nothing i is =
       let long = some i [] is.is_pattern in
-      omega (arith, long, ends_length [] (pattern_at patterns i) is.ends)
+      omega (arith, ends_length [] (pattern_at patterns i) is.ends)
 
   not_equal : (text : List ℕ) (i : ℕ) → first_equal patterns text ≡ None → i < length patterns
       → ¬ (text ≡ pattern_at patterns i)
-  not_equal text i none below same =
-      let test = λ (pattern : List ℕ). starts_with nat_eq pattern text && starts_with nat_eq text pattern in
-      elim (cases_lt (position_or_len test patterns) (length patterns)) [
-        | inl early ↦
-            let found : first_equal patterns text ≡ Some (position_or_len test patterns) =
-            cond-true _ _ None (lt-ltb _ _ early) in cc
-        | inr late ↦ false≢true (sym (fails_before_first test patterns i [] (omega arith))
-            ∙ equal_if text (pattern_at patterns i) same)
-      ]
+  not_equal text i none below same = grind (arith, fails_before_first, equal_if)
 
   -- the first that is a text
   equal_is_first : (text : List ℕ) (first : ℕ) → first_equal patterns text ≡ Some first
       → IsFirstSuffix patterns text first
-  equal_is_first text first is =
-      let test = λ (pattern : List ℕ). starts_with nat_eq pattern text && starts_with nat_eq text pattern in
-      let one = position-Some test patterns first [] is in
-      let stands = and_parts (starts_with nat_eq (pattern_at patterns first) text) _ one.1 in
-      let begun = (starts_is Decides-eqb (pattern_at patterns first) text _ refl).0 stands.0 in
-      let same : text ≡ pattern_at patterns first =
-      whole_if_long text (pattern_at patterns first) stands.1
-      (omega (
-        arith,
-        ap (λ (l : List ℕ). length l) begun,
-        length-append text (drop (length text) (pattern_at patterns first)),
-      )) in
-      let long = ap (λ (l : List ℕ). length l) same in
-      record {
-        is = record { is_pattern = one.0; ends = record { prefix = []; split = same } };
-        others = λ i end.
-            let size = ends_length text (pattern_at patterns i) end.ends in
-            elim (cases_lt (length (pattern_at patterns i)) (length (pattern_at patterns first))) [
-              | inl shorter ↦ inr (inl shorter)
-              | inr whole ↦
-                  let equal : text ≡ pattern_at patterns i =
-                  ends_same text text (pattern_at patterns i) (record { prefix = []; split = refl }) end.ends
-                  (omega arith) in
-                  elim (cases_lt first i) [
-                    | inl later ↦ inr (inr (omega (arith, ap (λ (l : List ℕ). length l) equal, long), later))
-                    | inr early ↦ elim (cases_lt i first) [
-                      | inl before ↦ absurd (false≢true (sym (one.2 i before)
-                          ∙ equal_if text (pattern_at patterns i) equal))
-                      | inr not ↦ inl (omega arith)
-                    ]
-                  ]
-            ];
-      }
+  equal_is_first text first is = grind (arith, common_steps, position-Some, and_parts, whole_if_long)
 
   -- where no pattern ends none is a suffix of the text
   pub none_ends : (text : List ℕ) → ending patterns text ≡ None → (i : ℕ) → ¬ IsSuffix patterns text i
   none_ends [] none i is = no_end_of_nothing i is
-  none_ends (symbol ∷ more) none i is =
-      by_first (first_equal patterns (symbol ∷ more)) refl none (none_ends more)
-    where
-      by_first : (o : Option ℕ) → first_equal patterns (symbol ∷ more) ≡ o
-          → option_or o (ending patterns more) ≡ None
-          → (ending patterns more ≡ None → (i : ℕ) → ¬ IsSuffix patterns more i) → ⊥
-      by_first (Some first) equal none further = cc
-      by_first None equal none further = elim (end_splits symbol more i is) [
-        | inl same ↦ not_equal (symbol ∷ more) i equal is.is_pattern same
-        | inr end ↦ further none i end
-      ]
+  none_ends (symbol ∷ more) none i is = grind (arith, end_splits, not_equal, none_ends more)
 
   -- and where one does it comes first of all that are
   pub first_ends : (text : List ℕ) (first : ℕ) → ending patterns text ≡ Some first
@@ -205,14 +146,4 @@ module _ (patterns : List (List ℕ)) (some : NoneIsEmpty patterns) where
   -- the ends of a text are those of the first of them
   pub ends_of_first : (text : List ℕ) (first : ℕ) → IsFirstSuffix patterns text first → (i : ℕ)
       → IsSuffix patterns text i → IsSuffix patterns (pattern_at patterns first) i
-  ends_of_first text first is i end = record {
-    is_pattern = end.is_pattern;
-    ends = ends_within text (pattern_at patterns i) (pattern_at patterns first) end.ends is.is.ends
-        (elim (is.others i end) [
-          | inl same ↦ omega (arith, ap (λ k. length (pattern_at patterns k)) same)
-          | inr later ↦ elim later [
-            | inl shorter ↦ omega arith
-            | inr as_long ↦ omega (arith, as_long.0)
-          ]
-        ]);
-  }
+  ends_of_first text first is i end = grind (arith, ends_within)

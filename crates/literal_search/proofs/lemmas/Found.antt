@@ -1,13 +1,12 @@
 -- The best match in the classes of a span's bytes is the leftmost match in the span.
-use Rattle.std.proofs.Common.{◌≡◌, ℕ, ◌+◌, ◌-◌, ◌<◌, ◌≤◌, Bool, true, false, List, [], ◌++◌, length, get_or}
-use Rattle.std.proofs.Common.{drop, take, map, refl, sym, ap, ◌∙◌, arith, inl, inr, nat_eq}
+use Rattle.std.proofs.Common.{rules}
+use Rattle.std.proofs.Common.{◌≡◌, ℕ, ◌+◌, ◌-◌, ◌<◌, ◌≤◌, Bool, true, false, List, [], length, get_or}
+use Rattle.std.proofs.Common.{drop, take, map, refl, sym, ap, ◌∙◌, arith, nat_eq}
 use Rattle.std.proofs.Common.{length-append}
 use Rattle.std.proofs.lemmas.Bool.{cases_lt}
 use Rattle.std.proofs.lemmas.Bool.Decides.{Decides-eqb}
 use Rattle.std.proofs.lemmas.List.{drop-drop, drop-map, drop-take, ext_get_or, get_or-drop, get_or-map, get_or-take}
-use Rattle.std.proofs.lemmas.List.{get_or_past}
-use Rattle.std.proofs.lemmas.List.{length-drop, length-map, length-take, map-id, take-append-drop, take-map, take-take}
-use Rattle.std.proofs.lemmas.Grind.{common_steps}
+use Rattle.std.proofs.lemmas.List.{get_or_past, length-drop, length-map, length-take, map-id, take-map, take-take}
 use Rattle.std.proofs.lemmas.Slice.Eq.{starts_is}
 use Rattle.std.specs.List.{slice_range, starts_with}
 use Rattle.literal_base.specs.declared.search.Span.{Span}
@@ -41,51 +40,22 @@ folded_is false bytes = sym (map-id bytes)
 -- a pattern has as many symbols as bytes
 pub symbols_length : (classes : List ℕ) (patterns : List (List ℕ)) (i : ℕ)
     → length (pattern_at (map (symbols_in classes) patterns) i) ≡ length (pattern_at patterns i)
-symbols_length classes patterns i = elim (cases_lt i (length patterns)) [
-  | inl below ↦
-      ap (λ (w : List ℕ). length w) (get_or-map (symbols_in classes) patterns i [] [] below)
-      ∙ length-map (pattern_at patterns i) (λ b. get_or classes b 0)
-  | inr past ↦
-      ap (λ (w : List ℕ). length w)
-      (get_or_past (map (symbols_in classes) patterns) i [] (omega (arith, length-map patterns (symbols_in classes)))
-      ∙ sym (get_or_past patterns i [] past))
-]
+symbols_length classes patterns i = grind (arith, get_or-map, length-map, get_or_past)
 
 -- a part of a span's text is that of the haystack
 part_is : (classes haystack : List ℕ) (span : Span) (at n : ℕ) → span.start ≤ at → at + n ≤ span.end
     → take n (drop (at - span.start) (text_of classes haystack span))
     ≡ symbols_in classes (slice_range haystack at (at + n))
 part_is classes haystack span at n after before =
-    let f : ℕ → ℕ = λ byte. get_or classes byte 0 in
-    let all = slice_range haystack span.start span.end in
-    let rest = drop span.start haystack in
-    let place : span.start + (at - span.start) ≡ at = omega arith in
     let size : span.end - span.start ≡ (at - span.start) + (span.end - at) = omega arith in
-    let least : n ≤ span.end - at = omega arith in
-    let long : (at + n) - at ≡ n = omega arith in
-    ap (take n) (drop-map f (at - span.start) all)
-    ∙ (take-map f n (drop (at - span.start) all)
-    ∙ ap (map f)
-    (ap (λ m. take n (drop (at - span.start) (take m rest))) size
-    ∙ (ap (take n) (drop-take (at - span.start) (span.end - at) rest)
-    ∙ (take-take n (span.end - at) (drop (at - span.start) rest) least
-    ∙ (ap (take n) (drop-drop (at - span.start) span.start haystack)
-    ∙ (ap (λ k. take n (drop k haystack)) place ∙ ap (λ m. take m (drop at haystack)) (sym long)))))))
+    grind (arith, drop-map, take-map, drop-take, take-take, drop-drop)
 
 -- what is a prefix of a text is its prefix of that length
 stands_prefix : (text pattern : List ℕ) → starts_with nat_eq text pattern ≡ true → take (length pattern) text ≡ pattern
-stands_prefix text pattern is =
-    let split = (starts_is Decides-eqb text pattern _ refl).0 is in
-    let rest = drop (length pattern) text in
-    ap (take (length pattern)) split ∙ prefix pattern rest
-  where
-    prefix : (a b : List ℕ) → take (length a) (a ++ b) ≡ a
-    prefix a b = grind (arith, common_steps)
+stands_prefix text pattern is = search rules
 
 prefix_stands : (text pattern : List ℕ) → take (length pattern) text ≡ pattern → starts_with nat_eq text pattern ≡ true
-prefix_stands text pattern is =
-    (starts_is Decides-eqb text pattern _ refl).1 (drop (length pattern) text)
-    (sym (take-append-drop (length pattern) text) ∙ ap (λ l. l ++ drop (length pattern) text) is)
+prefix_stands text pattern is = search rules
 
 module _ (ignore_case : Bool) (classes : List ℕ) (patterns : List (List ℕ)) (tells : Tells ignore_case classes patterns)
     (haystack : List ℕ) (bytes : (i : ℕ) → get_or haystack i 0 < 256) (span : Span) (valid : IsValidSpan haystack span)
@@ -98,42 +68,16 @@ module _ (ignore_case : Bool) (classes : List ℕ) (patterns : List (List ℕ)) 
     same_length i = symbols_length classes patterns i
 
     part_byte : (from to k : ℕ) → get_or (slice_range haystack from to) k 0 < 256
-    part_byte from to k = elim (cases_lt k (to - from)) [
-      | inl inside ↦
-          let is = get_or-take (to - from) (drop from haystack) k 0 inside ∙ get_or-drop from haystack k 0 in
-          omega (arith, is, bytes (from + k))
-      | inr past ↦
-          let none = get_or_past (slice_range haystack from to) k 0
-          (omega (arith, length-take (to - from) (drop from haystack))) in
-          omega (arith, none)
-    ]
+    part_byte from to k = grind (arith, cases_lt, get_or-drop, get_or-take, get_or_past, length-take)
 
     pub text_long : span.start + length (text_of classes haystack span) ≡ span.end
-    text_long =
-        let ordered = valid.ordered in
-        let inside = valid.in_haystack in
-        omega (
-          arith,
-          length-map (slice_range haystack span.start span.end) (λ b. get_or classes b 0),
-          length-take (span.end - span.start) (drop span.start haystack),
-          length-drop span.start haystack,
-        )
+    text_long = grind (arith, length-drop, length-map, length-take)
 
     -- a pattern that occurs stands there by its classes
     pub stands_where : (i at : ℕ) → Occurs patterns ignore_case haystack span i at
         → starts_with nat_eq (drop (at - span.start) (text_of classes haystack span))
         (pattern_at (map (symbols_in classes) patterns) i) ≡ true
-    stands_where i at o =
-        let p = pattern_at patterns i in
-        let a = slice_range haystack at (at + length p) in
-        let text = drop (at - span.start) (text_of classes haystack span) in
-        let same = map_same (folded ignore_case) (λ b. get_or classes b 0) a p
-        (λ k in_a in_p. (tells i k (get_or a k 0) o.is_pattern in_p (part_byte at (at + length p) k)).1)
-        (sym (folded_is ignore_case a) ∙ (o.same ∙ folded_is ignore_case p)) in
-        prefix_stands text (pattern_at (map (symbols_in classes) patterns) i)
-        (ap (λ n. take n text) (same_length i)
-        ∙ (part_is classes haystack span at (length p) o.after_start o.before_end
-        ∙ (same ∙ sym (word_at i o.is_pattern))))
+    stands_where i at o = grind (arith, folded_is, map_same, part_byte, part_is, prefix_stands, same_length, word_at)
 
     -- and one that stands there occurs
     pub occurs_where : (i at : ℕ) → i < length patterns → span.start ≤ at → at ≤ span.end
@@ -171,6 +115,4 @@ pub some_symbols : (classes : List ℕ) (patterns : List (List ℕ)) → NoneIsE
 some_symbols classes patterns some i d below =
     let inside : i < length patterns = omega (arith, length-map patterns (symbols_in classes)) in
     let read = get_or-map (symbols_in classes) patterns i [] d inside in
-    let size = length-map (get_or patterns i []) (λ b. get_or classes b 0) in
-    let long = some i [] inside in
-    omega (arith, ap (λ (l : List ℕ). length l) read, size, long)
+    grind (arith, length-map)

@@ -1,23 +1,20 @@
 -- The list of all matches of a span, taken from the left.
-use Rattle.std.proofs.Common.{ℕ, ◌≤◌, List, [], ◌∷◌, ◌++◌, append-nil, append_assoc, arith}
-use Rattle.std.proofs.Common.{Bool, length, subst}
-use Rattle.std.proofs.Common.{Err, IfOk, Ok, OnErr, Result}
+use Rattle.std.proofs.Common.{ℕ, ◌≤◌, List, [], ◌∷◌, ◌++◌, append-nil, append_assoc, arith, Bool, length, subst, IfOk}
+use Rattle.std.proofs.Common.{OnErr, Result}
 use Rattle.std.specs.Global.{Vec}
 use Rattle.std.specs.declared.alloc.AllocError.{AllocError}
 use Rattle.literal_base.specs.declared.search.Span.{Span}
-use Rattle.literal_base.specs.Greedy.{IsGreedy}
+use Rattle.literal_base.specs.Greedy.{IsGreedy, IsGreedyIn}
 use Rattle.literal_base.specs.Leftmost.{IsLeftmostMatch}
 use Rattle.literal_base.specs.MatchValue.{MatchValue}
 use Rattle.literal_base.specs.Occurs.{NothingOccurs, between}
 use Rattle.literal_base.specs.Query.{Query}
 use Rattle.literal_search.specs.Inside.Search.{IsGreedyUpTo}
-use Rattle.literal_base.specs.Greedy.{IsGreedyIn}
 use Rattle.literal_search.specs.SearchValue.{SearchValue}
 
 -- what holds, holds at an Err
 pub on_err : {T E : Type 0} (r : Result T E) (Q : Type 0) → Q → OnErr r Q
-on_err (Ok v) Q holds = tt
-on_err (Err e) Q holds = holds
+on_err r Q holds = grind arith
 
 -- so the list of the whole haystack is that of its span
 pub greedy_whole : (query : Query) (ignore_case : Bool) (haystack : List ℕ)
@@ -40,25 +37,9 @@ module _ (search : SearchValue) (haystack : List ℕ) where
     pub up_to_next : (done : List MatchValue) (at : ℕ) (found : MatchValue) → IsGreedyUpTo search haystack span done at
         → IsLeftmostMatch search.query search.ignore_case haystack (between at span.end) found
         → IsGreedyUpTo search haystack span (done ++ found ∷ []) found.end
-    up_to_next done at found so_far leftmost =
-        let begins = leftmost.occurs.after_start in
-        let whole = leftmost.whole in
-        let inside = leftmost.occurs.before_end in
-        let first = so_far.after in
-        record {
-          after = omega (arith, first, begins, whole);
-          inside = omega (arith, inside, whole);
-          goes_on = λ more greedy. rw append_assoc (so_far.goes_on (found ∷ more) (leftmost, greedy));
-        }
+    up_to_next done at found so_far leftmost = grind (arith, append_assoc)
 
     pub leftmost_occurs : (at : ℕ) (found : MatchValue) → span.start ≤ at
         → IsLeftmostMatch search.query search.ignore_case haystack (between at span.end) found
         → ¬ NothingOccurs search.query.patterns search.ignore_case haystack span
-    leftmost_occurs at found after leftmost nothing =
-        let begins = leftmost.occurs.after_start in
-        nothing found.pattern found.start (record {
-          is_pattern = leftmost.occurs.is_pattern;
-          after_start = omega arith;
-          before_end = leftmost.occurs.before_end;
-          same = leftmost.occurs.same;
-        })
+    leftmost_occurs at found after leftmost nothing = grind arith

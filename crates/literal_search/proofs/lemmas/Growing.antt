@@ -1,60 +1,43 @@
 -- States, lists and rows, as they grow.
-use Rattle.std.proofs.Common.{◌≡◌, ℕ, ◌+◌, ◌*◌, ◌-◌, ◌<◌, ◌≤◌, ◌^◌, List, [], ◌∷◌, ◌++◌, length, get_or}
-use Rattle.std.proofs.Common.{take, drop, inl, inr, refl, sym, ap, ◌∙◌, arith}
-use Rattle.std.proofs.Common.{subst}
+use Rattle.std.proofs.lemmas.Grind.{common_steps}
+use Rattle.std.proofs.Common.{◌≡◌, ℕ, ◌+◌, ◌*◌, ◌-◌, ◌<◌, ◌≤◌, ◌^◌, List, [], ◌∷◌, ◌++◌, length, get_or, inl, inr, refl}
+use Rattle.std.proofs.Common.{sym, ap, ◌∙◌, arith, subst, ◌/◌, Option, None, Some}
 use Rattle.std.proofs.lemmas.Bool.{cases_eq, cases_lt}
-use Rattle.std.proofs.lemmas.List.{drop-append-le, get_or-map, get_or_append_left, get_or_push, length-drop}
-use Rattle.std.proofs.lemmas.List.{length-map, length_push}
-use Rattle.std.proofs.lemmas.List.{length-append, map_push, take-append-le, take_all}
+use Rattle.std.proofs.lemmas.List.{drop-append-le, get_or-map, get_or_append_left, get_or_push, length-drop, length-map}
+use Rattle.std.proofs.lemmas.List.{length_push, length-append, take-append-le, take_all}
 use Rattle.std.proofs.lemmas.List.FromFn.{get_or-range_with_len, length-range_with_len}
-use Rattle.std.proofs.lemmas.Nat.{mul-add-lt, same_from_place}
-use Rattle.std.proofs.Math.Nat.{mul-le-mul_right}
+use Rattle.std.proofs.lemmas.Nat.{mul-add-lt, same_from_place, div-mul-add}
 use Rattle.std.specs.Global.{Vec}
 use Rattle.std.specs.List.{range_with_len}
-use Rattle.std.specs.Option.{unwrap_or}
-use Rattle.literal_base.specs.Occurs.{pattern_at}
-use Rattle.literal_search.specs.Table.{LeadsTo, Recognises, nothing, stride_of}
-use Rattle.literal_search.specs.Words.{ending, live_suffix, word_of}
-use Rattle.literal_search.specs.Inside.Grown.{AreRows, AreWords, IsLonger, list_for}
+use Rattle.std.specs.Option.{unwrap_or, IfSome, option_or}
+use Rattle.literal_search.specs.Table.{LeadsTo, Recognises, nothing, stride_of, code_of}
+use Rattle.literal_search.specs.Words.{ending, live_suffix, word_of, first_equal}
+use Rattle.literal_search.specs.Inside.Grown.{AreRows, AreWords, IsLonger, failure_of, list_for}
 use Rattle.literal_search.specs.Inside.Growing.{AreTexts, IsGrowing, IsStateAt, list_in, texts_of, word_in, words_in}
-use Rattle.literal_search.specs.Inside.Growing.{words_of}
+use Rattle.literal_search.specs.Inside.Growing.{words_of, HasFailure}
 use Rattle.literal_search.specs.declared.grow.Growing.{Growing}
 use Rattle.literal_search.specs.declared.grow.State.{State}
 use Rattle.literal_search.specs.declared.grow.Texts.{Texts}
 use Rattle.literal_search.proofs.lemmas.Grown.{list_of_empty}
+use Rattle.std.proofs.lemmas.Option.{IfSome_then}
+use Rattle.literal_base.specs.Occurs.{pattern_at}
+use Rattle.literal_search.proofs.lemmas.Behind.{ending_is_pattern, ending_next, failure_push}
 
 -- an element with one more behind the last
 old_at : {A : Type 0} (xs : List A) (x d : A) (k : ℕ) → k < length xs → get_or (xs ++ x ∷ []) k d ≡ get_or xs k d
 old_at xs x d k below = get_or_append_left xs (x ∷ []) d k below
-
--- the state of a place
-state_of_place : (state symbol states width : ℕ) → state * width + symbol < states * width → state < states
-state_of_place state symbol states width below = elim (cases_lt state states) [
-  | inl is ↦ is
-  | inr late ↦
-      let more = mul-le-mul_right {m = states} {n = state} width late in
-      absurd (omega (arith, more, below))
-]
 
 -- words that get longer
 pub longer_same : (words : List (List ℕ)) → IsLonger words words
 longer_same words = record { more = omega arith; same = λ state is_state. refl }
 
 pub longer_push : (words : List (List ℕ)) (word : List ℕ) → IsLonger words (words ++ word ∷ [])
-longer_push words word = record {
-  more = omega (arith, length_push words word);
-  same = λ state is_state. old_at words word [] state is_state;
-}
+longer_push words word = grind (arith, length_push, old_at)
 
 module _ (patterns words longer : List (List ℕ)) (width : ℕ) (more : IsLonger words longer) where
   to_longer : (code : ℕ) (word : List ℕ) → LeadsTo patterns words width code word
       → LeadsTo patterns longer width code word
-  to_longer code word to = record {
-    state = to.state;
-    is_state = omega (arith, to.is_state, more.more);
-    word_is = more.same to.state to.is_state ∙ to.word_is;
-    code_is = to.code_is;
-  }
+  to_longer code word to = grind arith
 
   state_longer : (n : ℕ) (s : State) (lists lists' : List ℕ)
       → (s.end ≤ length lists → (s.end ≤ length lists') × (list_in lists' s ≡ list_in lists s))
@@ -74,24 +57,16 @@ module _ (patterns words longer : List (List ℕ)) (width : ℕ) (more : IsLonge
 
   rows_longer : (rows : List ℕ) → length rows ≤ length words * stride_of width
       → AreRows patterns words width rows → AreRows patterns longer width rows
-  rows_longer rows filled are = record {
-    leads = λ state symbol below inside.
-        let is_state = state_of_place state symbol (length words) (stride_of width) (omega (arith, filled, inside)) in
-        subst (λ (w : List ℕ). LeadsTo patterns longer width (get_or rows (state * stride_of width + symbol) 0)
-        (live_suffix patterns (w ++ symbol ∷ []))) (sym (more.same state is_state))
-        (to_longer (get_or rows (state * stride_of width + symbol) 0) _ (are.leads state symbol below inside));
-    ends = λ state inside.
-        let is_state = state_of_place state width (length words) (stride_of width) (omega (arith, filled, inside)) in
-        are.ends state inside
-        ∙ ap (λ w. unwrap_or (ending patterns w) nothing) (sym (more.same state is_state));
-  }
+  rows_longer rows filled are =
+      record {
+        leads = grind (arith, common_steps, to_longer);
+        ends = grind (arith, common_steps);
+      }
 
 -- a list in longer lists
 list_kept : (lists more : List ℕ) (s : State) → s.start ≤ s.end → s.end ≤ length lists
     → list_in (lists ++ more) s ≡ list_in lists s
-list_kept lists more s ordered inside =
-    ap (take (s.end - s.start)) (drop-append-le s.start lists more (omega arith))
-    ∙ take-append-le (s.end - s.start) (drop s.start lists) more (omega (arith, length-drop s.start lists))
+list_kept lists more s ordered inside = grind (arith, drop-append-le, take-append-le, length-drop)
 
 module _ (t : Texts) where
   -- the word of a state
@@ -101,10 +76,6 @@ module _ (t : Texts) where
 
   pub words_length : (states : List State) → length (words_in t states) ≡ length states
   words_length states = length-map states (word_in (texts_of t))
-
-  pub words_push : (states : List State) (s : State)
-      → words_in t (states ++ s ∷ []) ≡ words_in t states ++ word_in (texts_of t) s ∷ []
-  words_push states s = map_push (word_in (texts_of t)) states s
 
   -- more lists
   pub grown_lists : (states : List State) (lists rows more : List ℕ) → IsGrowing t states lists rows
@@ -133,20 +104,16 @@ module _ (t : Texts) where
       → (length states + 1) * stride_of t.width ≤ 2 ^ 31 - 1 → IsGrowing t (states ++ s ∷ []) lists rows
   grown_state states lists rows s g is few =
       let longer : IsLonger (words_in t states) (words_in t (states ++ s ∷ [])) =
-      subst (IsLonger (words_in t states)) (sym (words_push states s))
-      (longer_push (words_in t states) (word_in (texts_of t) s)) in
+      grind (arith, common_steps, longer_push) in
       let more = length_push states s in
       let known = words_length states in
-      let known' = words_length (states ++ s ∷ []) in
       record {
         texts = g.texts;
         some = omega (arith, more);
         root = longer.same 0 (omega (arith, known, g.some)) ∙ g.root;
         few = subst (λ (n : ℕ). n * stride_of t.width ≤ 2 ^ 31 - 1) (sym more) few;
         filled =
-            let before = mul-le-mul_right {m = length states} {n = length (states ++ s ∷ [])} (stride_of t.width)
-            (omega (arith, more)) in
-            omega (arith, g.filled, before);
+            grind arith;
         numbers = g.numbers;
         each = λ n d below. elim (cases_lt n (length states)) [
           | inl old ↦
@@ -162,8 +129,7 @@ module _ (t : Texts) where
               (state_longer (texts_of t) (words_in t states) (words_in t (states ++ s ∷ [])) t.width longer
               (length states) s lists lists (λ inside. (inside, refl)) is))
         ];
-        led = rows_longer (texts_of t) (words_in t states) (words_in t (states ++ s ∷ [])) t.width longer rows
-            (subst (λ (n : ℕ). length rows ≤ n * stride_of t.width) (sym known) g.filled) g.led;
+        led = grind (arith, rows_longer);
       }
 
   -- a number leads on from a state with a symbol
@@ -225,39 +191,7 @@ module _ (t : Texts) where
       → s.ending ≡ nothing
       → IsGrowing t (s ∷ []) (range_with_len 0 (length t.patterns.now)) []
   grown_start s texts depth start end none =
-      let root : word_in (texts_of t) s ≡ [] =
-      ap (λ (n : ℕ). take n (pattern_at (texts_of t) s.pattern)) depth in
-      let long = length-range_with_len 0 (length t.patterns.now) in
-      record {
-        texts = texts;
-        some = omega arith;
-        root = root;
-        few = omega (arith, texts.classes.few);
-        filled = omega arith;
-        numbers = λ k d below.
-            rw (get_or-range_with_len 0 (length t.patterns.now) k d (omega (arith, long))) (omega (arith, long));
-        each = λ n d below.
-            let first : 0 ≡ n = omega arith in
-            subst (λ (m : ℕ). IsStateAt (texts_of t) (words_in t (s ∷ [])) t.width
-            (range_with_len 0 (length t.patterns.now)) m (get_or (s ∷ []) m d)) first record {
-              shallow = omega (arith, depth);
-              prefix = omega (arith, depth);
-              ordered = omega (arith, start);
-              inside = omega (arith, end, long);
-              listed =
-                  ap (λ (n : ℕ). take (s.end - n) (drop n (range_with_len 0 (length t.patterns.now)))) start
-                  ∙ (take_all (s.end - 0) (range_with_len 0 (length t.patterns.now)) (omega (arith, end, long))
-                  ∙ (ap (range_with_len 0) (sym (length-map t.patterns.now _))
-                  ∙ (sym (list_of_empty (texts_of t))
-                  ∙ ap (list_for (texts_of t)) (sym root))));
-              ended = none ∙ sym (ap (λ w. unwrap_or (ending (texts_of t) w) nothing) root);
-              failure_is = λ later. absurd (omega arith);
-            };
-        led = record {
-          leads = λ n c below inside. absurd (omega arith);
-          ends = λ n inside. absurd (omega arith);
-        };
-      }
+      grind (arith, length-range_with_len, get_or-range_with_len, take_all, length-map, list_of_empty)
 
   -- where each state has its row, the rows recognise the patterns
   unfoldable pub recognises : (states : List State) (lists rows : List ℕ) → IsGrowing t states lists rows
@@ -290,6 +224,115 @@ words_same g g' texts states =
 pub words_kept : (g g' : Growing) (upto : ℕ) → g'.texts ≡ g.texts → g'.states ≡ g.states
     → AreWords (texts_of g.texts) (words_of g) g.texts.width upto
     → AreWords (texts_of g'.texts) (words_of g') g'.texts.width upto
-words_kept g g' upto texts states are =
-    subst (λ (t : Texts). AreWords (texts_of t) (words_of g') t.width upto) (sym texts)
-    (subst (λ words. AreWords (texts_of g.texts) words g.texts.width upto) (sym (words_same g g' texts states)) are)
+words_kept g g' upto texts states are = grind arith
+
+-- a row lies whole in rows that are not too long
+row_inside : (state states width : ℕ) → state < states → states * stride_of width ≤ 2 ^ 31 - 1
+    → state * stride_of width + stride_of width ≤ 2 ^ 31 - 1
+row_inside state states width is_state few = grind arith
+
+module _ (t : Texts) (states : List State) (lists rows : List ℕ) (g : IsGrowing t states lists rows) where
+  -- a number that leads to a state: its row
+  pub row_of : (code : ℕ) (word : List ℕ) (to : LeadsTo (texts_of t) (words_in t states) t.width code word)
+      → (to.state < length states) × (to.state * stride_of t.width < 2 ^ 31)
+  row_of code word to = grind (arith, common_steps)
+
+  -- the failure link of a symbol
+  pub link_of_root : (symbol : ℕ) → LeadsTo (texts_of t) (words_in t states) t.width 0
+      (failure_of (texts_of t) (word_of (words_in t states) 0 ++ symbol ∷ []))
+  link_of_root symbol = grind (arith, common_steps)
+
+  failure_is : (n : ℕ) (d : State) → 0 < n → n < length states
+      → HasFailure (texts_of t) (words_in t states) t.width n (get_or states n d)
+  failure_is n d later below = (g.each n d below).failure_is later
+
+  pub long_word : (n : ℕ) (d : State) → n < length states
+      → length (word_of (words_in t states) n) ≡ (get_or states n d).depth
+  long_word n d below = grind (arith, common_steps)
+
+  -- and of the word of a later state with one symbol more
+  pub link_of_next : (n symbol : ℕ) (d : State) → 0 < n → n < length states → symbol < t.width
+      → n * stride_of t.width ≤ length rows
+      → (place : ℕ) × (pattern : Option ℕ) × ((get_or states n d).failure ≡ code_of place pattern) × (place < 2 ^ 31)
+      × (place + symbol < length rows)
+      × LeadsTo (texts_of t) (words_in t states) t.width (get_or rows (place + symbol) 0)
+      (failure_of (texts_of t) (word_of (words_in t states) n ++ symbol ∷ []))
+  link_of_next n symbol d later below is_symbol filled =
+      let link = failure_is n d later below in
+      let word = word_of (words_in t states) n in
+      let row = row_of (get_or states n d).failure _ link.to in
+      let fits = mul-add-lt link.to.state (stride_of t.width) symbol n link.earlier (omega arith) in
+      let inside : link.to.state * stride_of t.width + symbol < length rows = omega (arith, fits, filled) in
+      let same : word_of (words_in t states) link.to.state ≡ failure_of (texts_of t) word =
+      grind (arith, common_steps) in (
+        link.to.state * stride_of t.width,
+        ending (texts_of t) (failure_of (texts_of t) (word_in (texts_of t) (get_or states n d))),
+        link.to.code_is,
+        row.1,
+        inside,
+        grind (arith, failure_push, long_word),
+      )
+
+  -- the ending of the state to which a number leads
+  pub ending_at : (code : ℕ) (word : List ℕ) (to : LeadsTo (texts_of t) (words_in t states) t.width code word)
+      → (d : State) → (get_or states to.state d).ending ≡ unwrap_or (ending (texts_of t) word) nothing
+  ending_at code word to d = grind (arith, common_steps)
+
+  -- the ending of the state at which a number's row begins
+  pub ending_by_place : (code place : ℕ) (s : State)
+      → ((p : ℕ) (pattern : Option ℕ) → p < 2 ^ 31 → code ≡ code_of p pattern → place ≡ p)
+      → s ≡ get_or states (place / stride_of t.width) s → (word : List ℕ)
+      → LeadsTo (texts_of t) (words_in t states) t.width code word
+      → s.ending ≡ unwrap_or (ending (texts_of t) word) nothing
+  ending_by_place code place s place_of read word to =
+      let at : place ≡ to.state * stride_of t.width + 0 =
+      grind (arith, common_steps) in
+      grind (arith, common_steps, div-mul-add)
+
+  -- the list of a state
+  pub list_at : (n : ℕ) (d : State) → n < length states
+      → list_in lists (get_or states n d) ≡ list_for (texts_of t) (word_of (words_in t states) n)
+  list_at n d below =
+      (g.each n d below).listed ∙ ap (list_for (texts_of t)) (sym (word_at t states n d below))
+
+-- what ends with a word with one symbol more
+pub ending_push : (patterns : List (List ℕ)) (word : List ℕ) (symbol : ℕ)
+    → let text = word ++ symbol ∷ [] in
+    unwrap_or (first_equal patterns text) (unwrap_or (ending patterns (failure_of patterns text)) nothing)
+    ≡ unwrap_or (ending patterns text) nothing
+ending_push patterns word symbol =
+    let text = word ++ symbol ∷ [] in
+    by_first (first_equal patterns text)
+    ∙ sym (grind (arith, ending_next, length-append))
+  where
+    by_first : (o : Option ℕ)
+        → unwrap_or o (unwrap_or (ending patterns (failure_of patterns (word ++ symbol ∷ []))) nothing)
+        ≡ unwrap_or (option_or o (ending patterns (failure_of patterns (word ++ symbol ∷ [])))) nothing
+    by_first None = refl
+    by_first (Some i) = refl
+
+-- a state with a word
+pub new_state : (patterns words : List (List ℕ)) (width : ℕ) (lists : List ℕ) (n : ℕ) (s : State)
+    (word : List ℕ) → length words ≡ n → word_in patterns s ≡ word → 0 < s.depth → s.depth ≤ n
+    → s.depth ≤ length (pattern_at patterns s.pattern) → s.start ≤ s.end → s.end ≤ length lists
+    → list_in lists s ≡ list_for patterns word → s.ending ≡ unwrap_or (ending patterns word) nothing
+    → LeadsTo patterns words width s.failure (failure_of patterns word) → IsStateAt patterns words width lists n s
+new_state patterns words width lists n s word known is some shallow prefix ordered inside listed ended leads =
+    record {
+      shallow = shallow;
+      prefix = prefix;
+      ordered = ordered;
+      inside = inside;
+      listed = listed ∙ ap (list_for patterns) (sym is);
+      ended = ended ∙ ap (λ w. unwrap_or (ending patterns w) nothing) (sym is);
+      failure_is = λ later.
+          let to = subst (λ w. LeadsTo patterns words width s.failure (failure_of patterns w)) (sym is) leads in
+          record { some = some; to = to; earlier = omega (arith, to.is_state, known) };
+    }
+
+-- what ends with a text is no `nothing`
+pub ending_is_small : (t : Texts) (states : List State) (lists rows : List ℕ) → IsGrowing t states lists rows
+    → (text : List ℕ) → IfSome (ending (texts_of t) text) (λ i. i < nothing)
+ending_is_small t states lists rows g text =
+    IfSome_then (ending (texts_of t) text) (ending_is_pattern (texts_of t) text)
+    (grind (arith, length-map))

@@ -1,33 +1,107 @@
 -- Words of states, as they grow by a symbol.
 use Rattle.std.proofs.Common.{◌≡◌, ℕ, ◌+◌, ◌<◌, ◌≤◌, Bool, true, false, List, [], ◌∷◌, ◌++◌, length, get_or, Option}
-use Rattle.std.proofs.Common.{None, Some}
-use Rattle.std.proofs.Common.{take, drop, map, nat_eq, ◌&&◌, ltb, eqb, cond, if◌then◌else◌, eq-eqb}
-use Rattle.std.proofs.Common.{append-nil, append_assoc, refl, sym, ap, ◌∙◌, arith}
-use Rattle.std.proofs.lemmas.Bool.{and_from, and_parts, cond-false, cond-true, eqb-true}
-use Rattle.std.proofs.lemmas.Bool.{lt-ltb, ltb-true}
+use Rattle.std.proofs.Common.{None, Some, take, drop, map, nat_eq, ◌&&◌, ltb, eqb, cond, if◌then◌else◌, eq-eqb}
+use Rattle.std.proofs.Common.{append-nil, append_assoc, refl, sym, ap, ◌∙◌, arith, ◌||◌, not}
+use Rattle.std.proofs.lemmas.Bool.{and_from, and_parts, cond-false, cond-true, eqb-true, lt-ltb, ltb-true, ltb-false}
 use Rattle.std.proofs.lemmas.Bool.Decides.{Decides-eqb}
 use Rattle.std.proofs.lemmas.List.{drop_all, drop_more, get_or_at, length-append, length-map, take_at}
-use Rattle.std.proofs.lemmas.List.FromFn.{fill_by_all}
+use Rattle.std.proofs.lemmas.List.{get_or_append_left}
+use Rattle.std.proofs.lemmas.List.FromFn.{fill_by_all, get_or-range_with_len, length-range_with_len}
 use Rattle.std.proofs.lemmas.List.Elements.{filter_passes}
 use Rattle.std.proofs.lemmas.Slice.Eq.{starts_is}
 use Rattle.std.specs.List.{filter, find, list_any, position, position_or_len, range_with_len, slice_range, starts_with}
+use Rattle.std.specs.List.{All, slice_get}
 use Rattle.std.specs.Option.{option_or}
 use Rattle.literal_base.specs.Occurs.{pattern_at}
 use Rattle.literal_search.specs.Inside.Grown.{goes_on, list_for}
 use Rattle.literal_search.specs.Words.{begins_one, first_equal}
-use Rattle.literal_search.proofs.lemmas.Lists.{any_of_none, any_of_one, filter_all, filter_filter, find_filter}
-use Rattle.literal_search.proofs.lemmas.Lists.{find_range, list_any-map, position_or_len-map, range_more}
+use Rattle.std.proofs.lemmas.Grind.{common_steps}
+use Rattle.std.proofs.lemmas.Option.{slice_get-get_or, slice_get_past}
+use Rattle.std.proofs.lemmas.List.Folds.{find_at}
+
+pub list_any-map : {X Y : Type 0} (p : Y → Bool) (f : X → Y) (xs : List X)
+    → list_any p (map f xs) ≡ list_any (λ x. p (f x)) xs
+list_any-map p f [] = refl
+list_any-map p f (x ∷ xs) = ap (λ t. p (f x) || t) (list_any-map p f xs)
+
+pub position_or_len-map : {X Y : Type 0} (p : Y → Bool) (f : X → Y) (xs : List X)
+    → position_or_len p (map f xs) ≡ position_or_len (λ x. p (f x)) xs
+position_or_len-map p f [] = refl
+position_or_len-map p f (x ∷ xs) = ap (λ n. cond (not (p (f x))) (1 + n) 0) (position_or_len-map p f xs)
+
+-- a list filtered twice
+pub filter_filter : {X : Type 0} (p q r : X → Bool) → ((x : X) → r x ≡ (p x && q x)) → (xs : List X)
+    → filter q (filter p xs) ≡ filter r xs
+filter_filter p q r both [] = refl
+filter_filter {X} p q r both (x ∷ xs) = grind (arith, filter_filter p q r both xs)
+
+-- what is found in a list and where
+pub find_filter : {X : Type 0} (p q r : X → Bool) → ((x : X) → (p x && r x) ≡ (p x && q x)) → (xs : List X)
+    → find (λ x. p x && r x) xs ≡ find q (filter p xs)
+find_filter p q r both [] = refl
+find_filter {X} p q r both (x ∷ xs) = grind (arith, find_filter p q r both xs)
+
+-- whether a filter keeps anything
+pub any_of_none : {X : Type 0} (p : X → Bool) (xs : List X) → filter p xs ≡ [] → list_any p xs ≡ false
+any_of_none p [] none = refl
+any_of_none {X} p (x ∷ xs) none = grind (arith, any_of_none p xs)
+
+pub any_of_one : {X : Type 0} (p : X → Bool) (xs : List X) (first : X) (more : List X) → filter p xs ≡ first ∷ more
+    → list_any p xs ≡ true
+any_of_one p [] first more is = cc
+any_of_one {X} p (x ∷ xs) first more is = grind (arith, any_of_one p xs first more)
+
+-- what is found in a list of numbers is where it is found
+pub find_range : (p : ℕ → Bool) (n : ℕ) → find p (range_with_len 0 n) ≡ position p (range_with_len 0 n)
+find_range p n =
+    let xs = range_with_len 0 n in
+    find_at p xs ∙ by_place (ltb (position_or_len p xs) (length xs)) refl
+  where
+    by_place : (t : Bool) → ltb (position_or_len p (range_with_len 0 n)) (length (range_with_len 0 n)) ≡ t
+        → slice_get (range_with_len 0 n) (position_or_len p (range_with_len 0 n))
+        ≡ cond (ltb (position_or_len p (range_with_len 0 n)) (length (range_with_len 0 n)))
+        (Some (position_or_len p (range_with_len 0 n))) None
+    by_place true is =
+        let xs = range_with_len 0 n in
+        let k = position_or_len p xs in
+        let inside = ltb-true _ _ is in
+        let at : get_or xs k 0 ≡ k =
+        get_or-range_with_len 0 n k 0 (omega (arith, length-range_with_len 0 n, inside)) ∙ omega arith in
+        slice_get-get_or xs k 0 inside ∙ (ap Some at ∙ sym (cond-true _ _ _ is))
+    by_place false is =
+        slice_get_past (range_with_len 0 n) _ (ltb-false _ _ is) ∙ sym (cond-false _ _ _ is)
+
+-- where each passes, all are kept
+pub filter_all : {X : Type 0} (p : X → Bool) (xs : List X) → ((x : X) → p x ≡ true) → filter p xs ≡ xs
+filter_all p [] is = refl
+filter_all {X} p (x ∷ xs) is = grind (arith, filter_all p xs is)
+
+-- a part of a list, from its first element on
+pub range_more : (xs : List ℕ) (i e d : ℕ) → i < e → e ≤ length xs
+    → slice_range xs i e ≡ get_or xs i d ∷ slice_range xs (i + 1) e
+range_more xs i e d before inside = grind (arith, drop_more)
+
+-- a list and maybe more behind it
+module _ {X : Type 0} (lists longer more : List X) (is : longer ≡ lists ++ more) where
+  pub longer_long : length lists ≤ length longer
+  longer_long = omega (arith, length-append lists more, ap (λ (l : List X). length l) is)
+
+  pub longer_kept : (k : ℕ) (d : X) → k < length lists → get_or longer k d ≡ get_or lists k d
+  longer_kept k d below = ap (λ l. get_or l k d) is ∙ get_or_append_left lists more d k below
+
+pub numbers_more : (n : ℕ) (lists longer : List ℕ) (b : Bool) (x : ℕ) → x < n
+    → longer ≡ lists ++ (if b then x ∷ [] else []) → All (λ i. i < n) lists → All (λ i. i < n) longer
+numbers_more n lists longer b x below is all = grind (arith, common_steps)
 
 -- two tests of which each is true where the other is
 pub same_test : (x y : Bool) → (x ≡ true → y ≡ true) → (y ≡ true → x ≡ true) → x ≡ y
-same_test true y f g = sym (f refl)
-same_test false true f g = g refl
-same_test false false f g = refl
+same_test x y f g = grind arith
 
 -- a text begins with a word and a symbol if it begins with the word and goes on with the symbol
 starts_longer : (t word : List ℕ) (symbol : ℕ)
     → starts_with nat_eq t (word ++ symbol ∷ []) ≡ (starts_with nat_eq t word && goes_on t (length word) symbol)
-starts_longer t word symbol = same_test _ _ there back
+starts_longer t word symbol =
+    same_test _ _ there back
   where
     there : starts_with nat_eq t (word ++ symbol ∷ []) ≡ true
         → (starts_with nat_eq t word && goes_on t (length word) symbol) ≡ true
@@ -53,12 +127,13 @@ starts_longer t word symbol = same_test _ _ there back
         let more : drop (length word) t ≡ symbol ∷ rest =
         drop_more t (length word) 0 inside ∙ ap (λ s. s ∷ rest) at in
         (starts_is Decides-eqb t (word ++ symbol ∷ []) _ refl).1 rest
-        (split ∙ (ap (λ l. word ++ l) more ∙ sym (append_assoc word (symbol ∷ []) rest)))
+        (grind (arith, append_assoc))
 
 -- where a text begins with a word, the word begins with the text if that is no longer
 whole_by_length : (t word : List ℕ) (long : ℕ) → length word ≡ long
     → (starts_with nat_eq t word && starts_with nat_eq word t) ≡ (starts_with nat_eq t word && eqb (length t) long)
-whole_by_length t word long is_long = same_test _ _ there back
+whole_by_length t word long is_long =
+    same_test _ _ there back
   where
     there : (starts_with nat_eq t word && starts_with nat_eq word t) ≡ true
         → (starts_with nat_eq t word && eqb (length t) long) ≡ true
@@ -79,14 +154,13 @@ whole_by_length t word long is_long = same_test _ _ there back
         let whole : t ≡ word ++ [] =
         (starts_is Decides-eqb t word _ refl).0 parts.0 ∙ ap (λ l. word ++ l) rest in
         and_from _ _ parts.0
-        ((starts_is Decides-eqb word t _ refl).1 [] (sym (append-nil word) ∙ (sym whole ∙ sym (append-nil t))))
+        (grind (arith, append-nil))
 
 -- the list for a word and a symbol
 pub list_longer : (patterns : List (List ℕ)) (word : List ℕ) (symbol : ℕ)
     → filter (λ i. goes_on (pattern_at patterns i) (length word) symbol) (list_for patterns word)
     ≡ list_for patterns (word ++ symbol ∷ [])
-list_longer patterns word symbol =
-    filter_filter _ _ _ (λ i. starts_longer (pattern_at patterns i) word symbol) (range_with_len 0 (length patterns))
+list_longer patterns word symbol = grind (arith, filter_filter, starts_longer)
 
 module _ (patterns : List (List ℕ)) (word : List ℕ) where
   numbers : List ℕ
@@ -98,9 +172,7 @@ module _ (patterns : List (List ℕ)) (word : List ℕ) where
 
   begins_by_number : begins_one patterns word
       ≡ list_any (λ i. starts_with nat_eq (pattern_at patterns i) word) numbers
-  begins_by_number =
-      ap (list_any (λ pattern. starts_with nat_eq pattern word)) by_number
-      ∙ list_any-map (λ pattern. starts_with nat_eq pattern word) (pattern_at patterns) numbers
+  begins_by_number = grind (arith, by_number, list_any-map)
 
   -- a pattern begins with a word where its list has one
   pub unbegun_by_list : list_for patterns word ≡ [] → begins_one patterns word ≡ false
@@ -142,8 +214,7 @@ module _ (patterns : List (List ℕ)) (word : List ℕ) where
 
 -- the list of the empty word has all patterns
 pub list_of_empty : (patterns : List (List ℕ)) → list_for patterns [] ≡ range_with_len 0 (length patterns)
-list_of_empty patterns =
-    filter_all _ _ (λ i. (starts_is Decides-eqb (pattern_at patterns i) [] _ refl).1 (pattern_at patterns i) refl)
+list_of_empty patterns = grind (arith, filter_all, starts_is)
 
 -- a list that is filtered from a place in lists on: what is added and found so far, and what is left
 module _ (goes : ℕ → Bool) (old : List ℕ) (start end place x : ℕ) (before : place < end)
@@ -153,40 +224,25 @@ module _ (goes : ℕ → Bool) (old : List ℕ) (start end place x : ℕ) (befor
 
   rest_is : slice_range old place end ≡ x ∷ rest
   unfolding rest
-  rest_is = range_more old place end x before inside ∙ ap (λ y. y ∷ slice_range old (place + 1) end) (sym read)
+  rest_is = grind (arith, range_more)
 
   filter_step : filter goes (slice_range old place end) ≡ (if goes x then x ∷ [] else []) ++ filter goes rest
-  filter_step = ap (filter goes) rest_is ∙ by_test (goes x)
-    where
-      by_test : (g : Bool) → cond g (x ∷ filter goes rest) (filter goes rest)
-          ≡ (if g then x ∷ [] else []) ++ filter goes rest
-      by_test true = refl
-      by_test false = refl
+  filter_step = grind (arith, rest_is)
 
   pub added_more : (lists longer : List ℕ) → longer ≡ lists ++ (if goes x then x ∷ [] else [])
       → lists ++ filter goes (slice_range old place end) ≡ old ++ filter goes (slice_range old start end)
       → longer ++ filter goes (slice_range old (place + 1) end) ≡ old ++ filter goes (slice_range old start end)
   unfolding rest
-  added_more lists longer is so_far =
-      ap (λ l. l ++ filter goes rest) is
-      ∙ (append_assoc lists (if goes x then x ∷ [] else []) (filter goes rest)
-      ∙ (ap (λ l. lists ++ l) (sym filter_step) ∙ so_far))
+  added_more lists longer is so_far = grind (arith, append_assoc, filter_step)
 
   module _ (whole : ℕ → Bool) where
     found_is : find whole (filter goes (slice_range old place end))
         ≡ (if goes x && whole x then Some x else find whole (filter goes rest))
-    found_is = ap (λ l. find whole (filter goes l)) rest_is ∙ by_test (goes x)
-      where
-        by_test : (g : Bool)
-            → find whole (cond g (x ∷ filter goes rest) (filter goes rest))
-            ≡ (if g && whole x then Some x else find whole (filter goes rest))
-        by_test true = refl
-        by_test false = refl
+    found_is = grind (arith, rest_is, rest)
 
     found_or : (found : Option ℕ) (later : Option ℕ)
         → option_or (option_or found (Some x)) later ≡ option_or found (Some x)
-    found_or None later = refl
-    found_or (Some y) later = refl
+    found_or found later = grind arith
 
     pub found_yet : (found found' : Option ℕ) → found' ≡ option_or found (Some x) → (goes x && whole x) ≡ true
         → option_or found (find whole (filter goes (slice_range old place end)))
@@ -194,10 +250,7 @@ module _ (goes : ℕ → Bool) (old : List ℕ) (start end place x : ℕ) (befor
         → option_or found' (find whole (filter goes (slice_range old (place + 1) end)))
         ≡ find whole (filter goes (slice_range old start end))
     unfolding rest
-    found_yet found found' is both so_far =
-        ap (λ o. option_or o (find whole (filter goes rest))) is
-        ∙ (found_or found (find whole (filter goes rest))
-        ∙ (ap (option_or found) (sym (found_is ∙ cond-true _ _ _ both)) ∙ so_far))
+    found_yet found found' is both so_far = grind (arith, rest, found_or, found_is, cond-true)
 
     pub found_none : (found found' : Option ℕ) → found' ≡ found → (goes x && whole x) ≡ false
         → option_or found (find whole (filter goes (slice_range old place end)))
@@ -205,19 +258,14 @@ module _ (goes : ℕ → Bool) (old : List ℕ) (start end place x : ℕ) (befor
         → option_or found' (find whole (filter goes (slice_range old (place + 1) end)))
         ≡ find whole (filter goes (slice_range old start end))
     unfolding rest
-    found_none found found' is none so_far =
-        ap (λ o. option_or o (find whole (filter goes rest))) is
-        ∙ (ap (option_or found) (sym (found_is ∙ cond-false _ _ _ none)) ∙ so_far)
+    found_none found found' is none so_far = grind (arith, rest, found_is, cond-false)
 
 -- the list for a word and a symbol, and the first pattern that is both, from the word's list
 module _ (patterns : List (List ℕ)) (word : List ℕ) (symbol depth : ℕ) (list : List ℕ) (long : length word ≡ depth)
     (listed : list ≡ list_for patterns word) where
   pub list_by_list : filter (λ i. goes_on (pattern_at patterns i) depth symbol) list
       ≡ list_for patterns (word ++ symbol ∷ [])
-  list_by_list =
-      ap (filter (λ i. goes_on (pattern_at patterns i) depth symbol)) listed
-      ∙ (ap (λ n. filter (λ i. goes_on (pattern_at patterns i) n symbol) (list_for patterns word)) (sym long)
-      ∙ list_longer patterns word symbol)
+  list_by_list = grind (arith, list_longer)
 
   pub whole_by_list : find (λ i. eqb (length (pattern_at patterns i)) (depth + 1))
       (filter (λ i. goes_on (pattern_at patterns i) depth symbol) list)
@@ -237,8 +285,4 @@ prefix_by_list patterns word first more is =
     ∙ filter_passes (λ i. starts_with nat_eq (pattern_at patterns i) word) _ 0 first
     (omega (arith, ap (λ (l : List ℕ). length l) is)) in
     let split = (starts_is Decides-eqb (pattern_at patterns first) word _ refl).0 begins in
-    let long = ap (λ (l : List ℕ). length l) split
-    ∙ length-append word (drop (length word) (pattern_at patterns first)) in (
-      omega (arith, long),
-      ap (take (length word)) split ∙ take_at word (drop (length word) (pattern_at patterns first)) (length word) refl,
-    )
+    grind (arith, length-append, take_at)

@@ -1,5 +1,5 @@
 -- Searches for all matches, one after another.
-use Rattle.std.proofs.Common.{◌≡◌, ◌+◌, ◌-◌, ◌*◌, ◌<◌, ◌≤◌, ℕ, List, [], ◌∷◌, None, ap, ◌∙◌, arith, inl, inr, length}
+use Rattle.std.proofs.Common.{◌≡◌, ◌+◌, ◌-◌, ◌*◌, ◌<◌, ◌≤◌, ℕ, List, [], ◌∷◌, None, ap, arith, inl, inr, length}
 use Rattle.std.proofs.Common.{sym, subst}
 use Rattle.std.proofs.lemmas.Bool.{cases_lt}
 use Rattle.std.specs.Iterator.{Yields}
@@ -7,62 +7,37 @@ use Rattle.literal_base.specs.Counts.{Counts}
 use Rattle.literal_base.specs.MatchValue.{MatchValue}
 use Rattle.literal_base.specs.Occurs.{between}
 use Rattle.literal_search.specs.MatchesValue.{GivesCounted, GivesMatch, MatchesValue}
-use Rattle.literal_search.specs.SearchValue.{ScansListAtMost, ScansThrice, first_part, longest_of, looked_upto}
+use Rattle.literal_search.specs.SearchValue.{ScansListAtMost, ScansThrice, longest_of, looked_upto}
 use Rattle.literal_search.specs.declared.backward.TheConstants.{LEAST}
 
 -- only one count changes
 pub scanned_on : (old now new : Counts) → now ≡ record old { scanned = now.scanned }
     → new ≡ record now { scanned = new.scanned } → new ≡ record old { scanned = new.scanned }
-scanned_on old now new before is =
-    is ∙ ap (λ (t : Counts). let t' : Counts = record t { scanned = new.scanned } in t') before
+scanned_on old now new before is = grind arith
 
 -- by patterns that are no longer than a block at most three times what it had not looked at, up to its end
 pub scans_thrice_from_yields : (m : MatchesValue × Counts) (all : List MatchValue)
     (n o : MatchesValue × Counts) → longest_of m.0.search.query.patterns ≤ LEAST
     → Yields GivesCounted m all n → GivesCounted n None o
     → ScansThrice (between m.0.known m.0.span.end) m.1 o.1
-scans_thrice_from_yields m [] n o short stays last =
-    let short_here = subst (λ (it : MatchesValue × Counts). longest_of it.0.search.query.patterns ≤ LEAST) stays
-    short in
-    subst (λ (it : MatchesValue × Counts). ScansThrice (between it.0.known it.0.span.end) it.1 o.1) (sym stays)
-    (record {
-      others = last.scans.others;
-      most = omega (arith, last.scans.marked short_here, last.gives.looks.further, last.gives.looks.inside);
-    })
+scans_thrice_from_yields m [] n o short stays last = grind arith
 scans_thrice_from_yields m (found ∷ more) n o short run last =
     let step = run.1 in
     let short_then = subst (λ (it : MatchesValue). longest_of it.search.query.patterns ≤ LEAST)
     (sym step.gives.goes_on) short in
-    let rest : ScansThrice (between run.0.0.known m.0.span.end) run.0.1 o.1 =
-    subst (λ (it : MatchesValue). ScansThrice (between run.0.0.known it.span.end) run.0.1 o.1) step.gives.goes_on
-    (scans_thrice_from_yields run.0 more n o short_then run.2 last) in
-    record {
-      others = scanned_on m.1 run.0.1 o.1 step.scans.others rest.others;
-      most = omega (arith, step.scans.marked short, rest.most, step.gives.looks.further, step.gives.looks.inside);
-    }
+    grind (arith, scans_thrice_from_yields run.0 more n o short_then run.2 last)
 
 -- and at least each byte that it had not looked up
 pub scans_each_from_yields : (m : MatchesValue × Counts) (all : List MatchValue)
     (n o : MatchesValue × Counts) → longest_of m.0.search.query.patterns ≤ LEAST
     → Yields GivesCounted m all n → GivesCounted n None o
     → m.1.scanned + m.0.span.end ≤ o.1.scanned + looked_upto m.0.search.query.patterns m.0.span m.0.known
-scans_each_from_yields m [] n o short stays last =
-    let short_here = subst (λ (it : MatchesValue × Counts). longest_of it.0.search.query.patterns ≤ LEAST) stays
-    short in
-    subst (λ (it : MatchesValue × Counts). it.1.scanned + it.0.span.end
-    ≤ o.1.scanned + looked_upto it.0.search.query.patterns it.0.span it.0.known) (sym stays) (
-    omega (arith, last.scans.least short_here, last.gives.looks.looked)
-    )
+scans_each_from_yields m [] n o short stays last = grind arith
 scans_each_from_yields m (found ∷ more) n o short run last =
     let step = run.1 in
     let short_then = subst (λ (it : MatchesValue). longest_of it.search.query.patterns ≤ LEAST)
     (sym step.gives.goes_on) short in
-    let rest : run.0.1.scanned + m.0.span.end
-    ≤ o.1.scanned + looked_upto m.0.search.query.patterns m.0.span run.0.0.known =
-    subst (λ (it : MatchesValue). run.0.1.scanned + it.span.end
-    ≤ o.1.scanned + looked_upto it.search.query.patterns it.span run.0.0.known) step.gives.goes_on
-    (scans_each_from_yields run.0 more n o short_then run.2 last) in
-    omega (arith, step.scans.least short, rest)
+    grind (arith, scans_each_from_yields run.0 more n o short_then run.2 last)
 
 one_more : (n part : ℕ) → (n + 1) * part ≡ n * part + part
 one_more n part = grind arith
@@ -72,67 +47,27 @@ scans_list_from_yields : (m : MatchesValue × Counts) (all : List MatchValue) (n
     → LEAST < longest_of m.0.search.query.patterns → Yields GivesCounted m all n → GivesCounted n None o
     → (m.1.scanned + (m.0.span.end - m.0.at) ≤ o.1.scanned)
     × ScansListAtMost m.0.search.query.patterns (m.0.span.end - m.0.at) (length all) m.1 o.1
-scans_list_from_yields m [] n o long stays last =
-    let long_here = subst (λ (it : MatchesValue × Counts). LEAST < longest_of it.0.search.query.patterns) stays long in
-    let scans = last.scans.found long_here in
-    subst (λ (it : MatchesValue × Counts). (it.1.scanned + (it.0.span.end - it.0.at) ≤ o.1.scanned)
-    × ScansListAtMost it.0.search.query.patterns (it.0.span.end - it.0.at) 0 it.1 o.1) (sym stays) (
-      scans.1,
-      record {
-        others = last.scans.others;
-        short = λ short. omega (arith, short, long_here);
-        long = omega (arith, scans.0);
-      },
-    )
+scans_list_from_yields m [] n o long stays last = grind arith
 scans_list_from_yields m (found ∷ more) n o long run last =
     let step = run.1 in
     let long_then = subst (λ (it : MatchesValue). LEAST < longest_of it.search.query.patterns) (sym step.gives.goes_on)
     long in
-    let rest : (run.0.1.scanned + (m.0.span.end - found.end) ≤ o.1.scanned)
-    × ScansListAtMost m.0.search.query.patterns (m.0.span.end - found.end) (length more) run.0.1 o.1 =
-    subst (λ (it : MatchesValue). (run.0.1.scanned + (it.span.end - it.at) ≤ o.1.scanned)
-    × ScansListAtMost it.search.query.patterns (it.span.end - it.at) (length more) run.0.1 o.1) step.gives.goes_on
-    (scans_list_from_yields run.0 more n o long_then run.2 last) in
-    let scans = (step.scans.found long).1 in
-    let occurs = step.gives.leftmost.occurs in
-    let part = 36 * first_part (longest_of m.0.search.query.patterns) in
-    let inside : found.end ≤ m.0.span.end = omega (arith, step.gives.leftmost.whole, occurs.before_end) in (
-      omega (arith, scans.0, rest.0, occurs.after_start, inside),
-      record {
-        others = scanned_on m.1 run.0.1 o.1 step.scans.others rest.1.others;
-        short = λ short. omega (arith, short, long);
-        long = omega (
-          arith,
-          scans.1,
-          rest.1.long,
-          step.gives.not_empty,
-          occurs.after_start,
-          inside,
-          one_more (length more) part,
-        );
-      },
-    )
+    grind (arith, scans_list_from_yields run.0 more n o long_then run.2 last)
 
 -- and by any patterns, where it has just begun
 pub scans_whole_from_yields : (m : MatchesValue × Counts) (all : List MatchValue) (n o : MatchesValue × Counts)
     → m.0.at ≡ m.0.span.start → m.0.known ≡ m.0.span.start → Yields GivesCounted m all n → GivesCounted n None o
     → (m.1.scanned + (m.0.span.end - m.0.span.start) ≤ o.1.scanned)
     × ScansListAtMost m.0.search.query.patterns (m.0.span.end - m.0.span.start) (length all) m.1 o.1
-scans_whole_from_yields m all n o at known run last = elim (cases_lt LEAST (longest_of m.0.search.query.patterns)) [
-  | inl long ↦ subst (λ place. (m.1.scanned + (m.0.span.end - place) ≤ o.1.scanned)
-      × ScansListAtMost m.0.search.query.patterns (m.0.span.end - place) (length all) m.1 o.1) at
-      (scans_list_from_yields m all n o long run last)
-  | inr short ↦
-      let most = scans_thrice_from_yields m all n o short run last in
-      let each = scans_each_from_yields m all n o short run last in (
-        omega (arith, each, known),
-        record {
-          others = most.others;
-          short = λ short. omega (arith, most.most, known);
-          long = omega (arith, most.most, known);
-        },
-      )
-]
+scans_whole_from_yields m all n o at known run last =
+    elim (cases_lt LEAST (longest_of m.0.search.query.patterns)) [
+      | inl long ↦ subst (λ place. (m.1.scanned + (m.0.span.end - place) ≤ o.1.scanned)
+          × ScansListAtMost m.0.search.query.patterns (m.0.span.end - place) (length all) m.1 o.1) at
+          (scans_list_from_yields m all n o long run last)
+      | inr short ↦
+          let most = scans_thrice_from_yields m all n o short run last in
+          let each = scans_each_from_yields m all n o short run last in grind arith
+    ]
 
 -- without its counts it is an iteration over matches
 pub gives_from_counted : (m : MatchesValue × Counts) (all : List MatchValue) (n : MatchesValue × Counts)

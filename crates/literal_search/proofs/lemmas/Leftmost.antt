@@ -1,6 +1,6 @@
 -- What walks through parts of a span tell of the places of the parts.
-use Rattle.std.proofs.Common.{◌≡◌, ℕ, ◌+◌, ◌-◌, ◌*◌, ◌<◌, ◌≤◌, ◌⊎◌, ◌^◌, ◌%◌, List, Option, Some, None, arith}
-use Rattle.std.proofs.Common.{◌∙◌, ◌≢◌, IfSome, Err, Ok, Result, ap, false, is_some, get_or, inl, inr, length, set}
+use Rattle.std.proofs.Common.{◌≡◌, ℕ, ◌+◌, ◌*◌, ◌<◌, ◌≤◌, ◌⊎◌, ◌^◌, ◌%◌, List, Option, Some, None, arith}
+use Rattle.std.proofs.Common.{◌∙◌, IfSome, Err, Ok, Result, ap, false, is_some, get_or, inl, inr, length, set}
 use Rattle.std.proofs.Common.{subst, sym, true}
 use Rattle.std.proofs.lemmas.Bool.{cases_lt, false≢true}
 use Rattle.std.proofs.lemmas.List.{get_or-set_other, get_or-set_same, length-set}
@@ -11,7 +11,7 @@ use Rattle.literal_base.specs.MatchValue.{MatchValue}
 use Rattle.literal_base.specs.Occurs.{between}
 use Rattle.literal_base.specs.declared.search.Span.{Span}
 use Rattle.literal_search.specs.Inside.Backward.{AreBackFor, AreMarks, IsMark, NoneBeginsAt, NoneFrom, StandsDown}
-use Rattle.literal_search.specs.Inside.Backward.{back_tables_by, best_by}
+use Rattle.literal_search.specs.Inside.Backward.{back_tables_by}
 use Rattle.literal_search.specs.Inside.Leftmost.{AreLanes, AreMarksBehind, AreSteps, HaveRows, IsFirstBegun, IsLane}
 use Rattle.literal_search.specs.Inside.Leftmost.{IsLimit}
 use Rattle.literal_search.specs.Inside.Leftmost.{IsStep, NoneBehind}
@@ -28,13 +28,7 @@ use Rattle.literal_search.proofs.lemmas.Backward.{mark_in, read_one, stands_nowh
 pub lane_begins : (p : BackTables) → AreBackTables p → (haystack : List ℕ) → ((i : ℕ) → get_or haystack i 0 < 256)
     → (span : Span) (end from at : ℕ) → at ≡ from → from ≤ span.end → (from ≡ span.end) ⊎ (end + p.longest ≤ from + 1)
     → IsLane p haystack span end at 0
-lane_begins p are haystack bytes span end from at same inside far = record {
-  from = from;
-  after = omega (arith, same);
-  inside = inside;
-  far = far;
-  stands = subst (λ n. StandsDown p haystack from n 0) (sym same) (stands_nowhere p are haystack bytes from);
-}
+lane_begins p are haystack bytes span end from at same inside far = grind (arith, stands_nowhere)
 
 -- a walk reads one byte more
 pub lane_step : (p : BackTables) → AreBackTables p → (haystack : List ℕ) → ((i : ℕ) → get_or haystack i 0 < 256)
@@ -70,16 +64,7 @@ lane_there p haystack span end at to place same lane = subst (λ n. IsLane p hay
 -- what tells all that begins before an end tells all that begins before a nearer one
 pub lane_nearer : (p : BackTables) (haystack : List ℕ) (span : Span) (end nearer at place : ℕ) → nearer ≤ end
     → IsLane p haystack span end at place → IsLane p haystack span nearer at place
-lane_nearer p haystack span end nearer at place below lane = record {
-  from = lane.from;
-  after = lane.after;
-  inside = lane.inside;
-  far = elim lane.far [
-    | inl all ↦ inl all
-    | inr far ↦ inr (omega (arith, far, below))
-  ];
-  stands = lane.stands;
-}
+lane_nearer p haystack span end nearer at place below lane = grind arith
 
 -- a number below 2^31 leads to itself
 pub lane_small : (p : BackTables) (haystack : List ℕ) (span : Span) (end at code : ℕ) → code < 2 ^ 31
@@ -94,14 +79,7 @@ below_if_none : (b : Backward) (search : SearchValue) → AreBackFor search b �
     → IsStep (back_tables_by search b) haystack span end at code
     → NoneBeginsAt (back_tables_by search b) haystack span.end at → code < limit
 below_if_none b search is haystack span end at code limit limit_is before step none =
-    elim (cases_lt code (2 ^ 31)) [
-      | inl small ↦
-          let row = (lane_small (back_tables_by search b) haystack span end at code small step).stands.row in
-          omega (arith, row, limit_is.is, small)
-      | inr large ↦
-          let best = (step.mark before).best large in
-          absurd (none (best_by (back_tables_by search b) code) best.occurs)
-    ]
+    grind (arith, cases_lt, lane_small)
 
 module _ (p : BackTables) (haystack : List ℕ) (span : Span) (end at code : ℕ) (before : at < end)
     (step : IsStep p haystack span end at code)
@@ -109,12 +87,8 @@ module _ (p : BackTables) (haystack : List ℕ) (span : Span) (end at code : ℕ
     -- none does
     pub none_more : (upto next : ℕ) → next ≡ at + 1 → code < 2 ^ 31 → NoneFrom p haystack span.end next upto
         → NoneFrom p haystack span.end at upto
-    none_more upto next next_is small none = λ k after less. elim (cases_lt at k) [
-      | inl later ↦ none k (omega (arith, later, next_is)) less
-      | inr not ↦
-          let same : at ≡ k = omega (arith, after, not) in
-          subst (NoneBeginsAt p haystack span.end) same ((step.mark before).none small)
-    ]
+    none_more upto next next_is small none = λ k after less.
+        grind (arith, cases_lt)
 
     none_here : (upto next : ℕ) → next ≡ at + 1 → code < 2 ^ 31 → (first : Option Begun)
         → IsFirstBegun p haystack span.end (between next upto) first
@@ -128,14 +102,7 @@ module _ (p : BackTables) (haystack : List ℕ) (span : Span) (end at code : ℕ
         → (2 ^ 31 ≤ code → result ≡ Some (record { at = at; code = code })) → (code < 2 ^ 31 → result ≡ first)
         → IsFirstBegun p haystack span.end (between next upto) first
         → IsFirstBegun p haystack span.end (between at upto) result
-    first_on upto next next_is first result begins none behind = elim (cases_lt code (2 ^ 31)) [
-      | inl small ↦
-          subst (IsFirstBegun p haystack span.end (between at upto)) (sym (none small))
-          (none_here upto next next_is small first behind)
-      | inr large ↦
-          subst (IsFirstBegun p haystack span.end (between at upto)) (sym (begins large))
-          (step.mark before, λ k after less. absurd (omega (arith, after, less)))
-    ]
+    first_on upto next next_is first result begins none behind = grind (arith, cases_lt, none_here)
 
 -- four walks read a number each at once
 pub steps_in_four : (p : BackTables) → AreBackTables p → (haystack : List ℕ)
@@ -170,17 +137,7 @@ pub rows_of_steps : (b : Backward) (search : SearchValue) (haystack : List ℕ) 
       third = codes.third % 2 ^ 31;
       fourth = codes.fourth % 2 ^ 31;
     })
-rows_of_steps b search haystack span at part left limit codes limit_is steps =
-    let below : (end to code : ℕ) → IsStep (back_tables_by search b) haystack span end to code → code % 2 ^ 31 < limit =
-    λ end to code step.
-    let row = step.lane.stands.row in
-    omega (arith, row, limit_is.is) in
-    record {
-      first = below (at + part) (at + left) codes.first steps.first;
-      second = below (at + 2 * part) (at + part + left) codes.second steps.second;
-      third = below (at + 3 * part) (at + 2 * part + left) codes.third steps.third;
-      fourth = below (at + 4 * part) (at + 3 * part + left) codes.fourth steps.fourth;
-    }
+rows_of_steps b search haystack span at part left limit codes limit_is steps = grind arith
 
 -- where nothing begins in the parts, the numbers lead on
 pub rows_if_none : (b : Backward) (search : SearchValue) → AreBackFor search b → (haystack : List ℕ) (span : Span)
@@ -188,17 +145,7 @@ pub rows_if_none : (b : Backward) (search : SearchValue) → AreBackFor search b
     → AreSteps (back_tables_by search b) haystack span at part left codes
     → NoneFrom (back_tables_by search b) haystack span.end at (at + 4 * part) → HaveRows limit codes
 rows_if_none b search is haystack span at part left limit codes limit_is before steps none =
-    let below = below_if_none b search is haystack span in
-    record {
-      first = below (at + part) (at + left) codes.first limit limit_is (omega (arith, before)) steps.first
-          (none (at + left) (omega arith) (omega (arith, before)));
-      second = below (at + 2 * part) (at + part + left) codes.second limit limit_is (omega (arith, before)) steps.second
-          (none (at + part + left) (omega arith) (omega (arith, before)));
-      third = below (at + 3 * part) (at + 2 * part + left) codes.third limit limit_is (omega (arith, before))
-          steps.third (none (at + 2 * part + left) (omega arith) (omega (arith, before)));
-      fourth = below (at + 4 * part) (at + 3 * part + left) codes.fourth limit limit_is (omega (arith, before))
-          steps.fourth (none (at + 3 * part + left) (omega arith) (omega (arith, before)));
-    }
+    grind (arith, below_if_none)
 
 module _ (p : BackTables) (haystack : List ℕ) (span : Span) (at part left limit : ℕ) (codes : Lanes)
     (small : limit ≤ 2 ^ 31) (rows : HaveRows limit codes) (steps : AreSteps p haystack span at part left codes)
@@ -217,55 +164,19 @@ module _ (p : BackTables) (haystack : List ℕ) (span : Span) (at part left limi
 
     -- where they do, the walks go on
     pub lanes_on : AreLanes p haystack span at part left codes
-    lanes_on = record {
-      first = lane_small p haystack span (at + part) (at + left) codes.first first_row steps.first;
-      second = lane_small p haystack span (at + 2 * part) (at + part + left) codes.second second_row steps.second;
-      third = lane_small p haystack span (at + 3 * part) (at + 2 * part + left) codes.third third_row steps.third;
-      fourth = lane_small p haystack span (at + 4 * part) (at + 3 * part + left) codes.fourth fourth_row steps.fourth;
-    }
+    lanes_on = grind (arith, first_row, fourth_row, lane_small, second_row, third_row)
 
     -- and nothing begins there
     pub none_on_four : (next : ℕ) → next ≡ left + 1 → left < part → NoneBehind p haystack span.end at part next
         → NoneBehind p haystack span.end at part left
-    none_on_four next next_is before none = record {
-      first = none_more p haystack span (at + part) (at + left) codes.first (omega (arith, before)) steps.first
-          (at + part) (at + next) (omega (arith, next_is)) first_row none.first;
-      second = none_more p haystack span (at + 2 * part) (at + part + left) codes.second (omega (arith, before))
-          steps.second (at + 2 * part) (at + part + next) (omega (arith, next_is)) second_row none.second;
-      third = none_more p haystack span (at + 3 * part) (at + 2 * part + left) codes.third (omega (arith, before))
-          steps.third (at + 3 * part) (at + 2 * part + next) (omega (arith, next_is)) third_row none.third;
-      fourth = none_more p haystack span (at + 4 * part) (at + 3 * part + left) codes.fourth (omega (arith, before))
-          steps.fourth (at + 4 * part) (at + 3 * part + next) (omega (arith, next_is)) fourth_row none.fourth;
-    }
+    none_on_four next next_is before none = grind (arith, first_row, fourth_row, none_more, second_row, third_row)
 
 -- where nothing begins before a place, the match that begins there is the leftmost
 pub leftmost_from : (p : BackTables) (haystack : List ℕ) (span : Span) (at : ℕ) (found : MatchValue)
     → span.start ≤ at → NoneFrom p haystack span.end span.start at → found.start ≡ at
     → IsLeftmostMatch p.search.query p.search.ignore_case haystack (between at span.end) found
     → IsLeftmostMatch p.search.query p.search.ignore_case haystack span found
-leftmost_from p haystack span at found after none here leftmost = record {
-  occurs = record {
-    is_pattern = leftmost.occurs.is_pattern;
-    after_start = omega (arith, here, after);
-    before_end = leftmost.occurs.before_end;
-    same = leftmost.occurs.same;
-  };
-  whole = leftmost.whole;
-  earliest = λ i place before occurs.
-      let begins = occurs.after_start in
-      none place begins (omega (arith, here, before)) i (record {
-        is_pattern = occurs.is_pattern;
-        after_start = omega arith;
-        before_end = occurs.before_end;
-        same = occurs.same;
-      });
-  best = λ i better occurs. leftmost.best i better (record {
-    is_pattern = occurs.is_pattern;
-    after_start = omega (arith, here);
-    before_end = occurs.before_end;
-    same = occurs.same;
-  });
-}
+leftmost_from p haystack span at found after none here leftmost = grind arith
 
 -- and what is known of two parts, one behind the other, is known of both
 pub none_on : (p : BackTables) (haystack : List ℕ) (end from at upto : ℕ) → NoneFrom p haystack end from at
@@ -332,30 +243,14 @@ pub marks_kept : (p : BackTables) (haystack : List ℕ) (end : ℕ) (marks : Lis
     → (at + slot < from) ⊎ (upto ≤ at + slot) → AreMarks p haystack end marks at from upto
     → AreMarks p haystack end (set marks slot code) at from upto
 marks_kept p haystack end marks at from upto slot code after apart are k behind before =
-    let other : k - at ≢ slot = λ same. elim apart [
-      | inl less ↦ omega (arith, same, less, behind, after)
-      | inr more ↦ omega (arith, same, more, before, behind, after)
-    ] in
-    let read = get_or-set_other marks slot (k - at) code 0 other in
-    subst (IsMark p haystack end k) (sym read) (are k behind before)
+    grind (arith, get_or-set_other)
 
 -- and one more is written
 pub marks_on : (p : BackTables) (haystack : List ℕ) (end : ℕ) (marks : List ℕ) (at to next upto slot code : ℕ)
     → at ≤ to → next ≡ to + 1 → at + slot ≡ to → slot < length marks → IsMark p haystack end to code
     → AreMarks p haystack end marks at next upto → AreMarks p haystack end (set marks slot code) at to upto
 marks_on p haystack end marks at to next upto slot code after next_is slot_is inside mark are k behind before =
-    elim (cases_lt to k) [
-      | inl later ↦
-          let read = get_or-set_other marks slot (k - at) code 0 (λ same. omega (arith, same, later, slot_is, after)) in
-          subst (IsMark p haystack end k) (sym read) (are k (omega (arith, later, next_is)) before)
-      | inr not ↦
-          let same : to ≡ k = omega (arith, behind, not) in
-          let slot_there : slot ≡ k - at = omega (arith, slot_is, same) in
-          let read = get_or-set_same marks slot code 0 inside in
-          subst (λ n. IsMark p haystack end n (get_or (set marks slot code) (n - at) 0)) same
-          (subst (λ n. IsMark p haystack end to (get_or (set marks slot code) n 0))
-          (slot_there ∙ ap (λ n. n - at) (sym same)) (subst (IsMark p haystack end to) (sym read) mark))
-    ]
+    grind (arith, cases_lt, get_or-set_other, get_or-set_same)
 
 -- four marks are written, one in each of four neighbouring parts
 abbrev pub set_four : List ℕ → ℕ → ℕ → Lanes → List ℕ
@@ -423,34 +318,9 @@ marks_in_four p haystack span at part step next marks codes next_is before room 
 pub cleared_marks : (p : BackTables) (haystack : List ℕ) (end : ℕ) (marks : List ℕ) (at part left : ℕ)
     → ((k : ℕ) → k < 4 * part → get_or marks k 0 ≡ 0) → NoneBehind p haystack end at part left
     → AreMarksBehind p haystack end marks at part left
-cleared_marks p haystack end marks at part left cleared none =
-    let mark : (k : ℕ) → at ≤ k → k < at + 4 * part → NoneBeginsAt p haystack end k
-    → IsMark p haystack end k (get_or marks (k - at) 0) = λ k after before none.
-    subst (IsMark p haystack end k) (sym (cleared (k - at) (omega (arith, after, before)))) (record {
-      none = λ _. none;
-      row = λ large. absurd (omega (arith, large));
-      named = λ large. absurd (omega (arith, large));
-      best = λ large. absurd (omega (arith, large));
-    }) in
-    record {
-      first = λ k after before. mark k (omega (arith, after)) (omega (arith, before)) (none.first k after before);
-      second = λ k after before. mark k (omega (arith, after)) (omega (arith, before)) (none.second k after before);
-      third = λ k after before. mark k (omega (arith, after)) (omega (arith, before)) (none.third k after before);
-      fourth = λ k after before. mark k (omega (arith, after)) (omega (arith, before)) (none.fourth k after before);
-    }
+cleared_marks p haystack end marks at part left cleared none = grind arith
 
 -- and marks of all places of each part are those of a block
 pub marks_of_four : (p : BackTables) (haystack : List ℕ) (end : ℕ) (marks : List ℕ) (at part : ℕ)
     → AreMarksBehind p haystack end marks at part 0 → AreMarks p haystack end marks at at (at + 4 * part)
-marks_of_four p haystack end marks at part are k after before = elim (cases_lt k (at + part)) [
-  | inl one ↦ are.first k (omega (arith, after)) one
-  | inr second ↦
-      elim (cases_lt k (at + 2 * part)) [
-        | inl two ↦ are.second k (omega (arith, second)) two
-        | inr third ↦
-            elim (cases_lt k (at + 3 * part)) [
-              | inl three ↦ are.third k (omega (arith, third)) three
-              | inr fourth ↦ are.fourth k (omega (arith, fourth)) before
-            ]
-      ]
-]
+marks_of_four p haystack end marks at part are k after before = grind (arith, cases_lt)

@@ -10,7 +10,6 @@ use Rattle.literal_base.specs.MatchValue.{MatchValue}
 use Rattle.literal_base.specs.Occurs.{IsValidSpan, between, pattern_at}
 use Rattle.literal_base.specs.declared.search.Span.{Span}
 use Rattle.literal_fingerprints.specs.CandidateScans.{StopsAtEach}
-use Rattle.literal_search.specs.Inside.Classes.{AreClasses}
 use Rattle.literal_search.specs.Inside.Overlapping.{AreListed}
 use Rattle.literal_search.specs.Inside.Packed.{unpacked}
 use Rattle.literal_search.specs.Inside.LentTables.{AreFor, AreLent, IsNextBy, IsNextEnd, tables_by}
@@ -24,9 +23,8 @@ use Rattle.literal_search.specs.Overlapping.{OverlappingValue}
 use Rattle.literal_search.specs.PreparedOverlapping.{AreSized, AreTables}
 use Rattle.literal_search.specs.PreparedOverlapping.{IsPreparedOverlapping, Tables, tables_in}
 use Rattle.literal_search.specs.PreparedOverlapping.{TakesListedPlaces, ends_at, ends_in}
-use Rattle.literal_search.specs.PreparedOverlapping.{listed_len, overlapping_len, prints_behind, starts_in, texts_in}
-use Rattle.literal_search.specs.Prepared.{ArePrints, classes_end, scan_by, rows_at, rows_end, shortest_by}
-use Rattle.literal_search.specs.States.{IsRowsLength}
+use Rattle.literal_search.specs.PreparedOverlapping.{listed_len, overlapping_len, prints_behind, starts_in}
+use Rattle.literal_search.specs.Prepared.{ArePrints, classes_end, scan_by, rows_at, shortest_by}
 use Rattle.literal_search.specs.declared.prepared.Header.{Header}
 use Rattle.literal_search.specs.declared.prepared.Damaged.{Damaged}
 use Rattle.literal_search.specs.declared.prepared.TheConstants.{SCAN_LEN, OVERLAPPING_VERSION}
@@ -80,13 +78,7 @@ are_for p lent search prepared = record {
 -- so they are those by which a walk goes for it
 pub lent_table : (p : LentTables) (search : OverlappingValue) → AreFor search p
     → IsTableFor (header_table p.header) search.patterns search.ignore_case
-lent_table p search are = record {
-  classes = are.tables.classes;
-  tells = are.tables.tells;
-  recognises = are.tables.recognises;
-  some = are.tables.kept.some;
-  longest = are.longest;
-}
+lent_table p search are = grind arith
 
 -- where the classes end, and how many lengths there are, by the parts of an array
 pub parts_end : {version : ℕ} (f : Header) (numbers : List ℕ) → f.numbers.now ≡ numbers → IsHeader version f
@@ -236,11 +228,7 @@ module _ (t : Tables) (tables : AreTables t) (prints : List ℕ) (prints_long : 
 
     -- the last of the numbers that say where lists begin is how many numbers are in these
     last_is : get_or all_of (classes_end all_of + get_or all_of 3 0) 0 ≡ length t.ends
-    last_is =
-        sym (get_or-drop (classes_end all_of) all_of (length t.patterns) 0)
-        ∙ (sym (get_or-take (ends_at all_of - classes_end all_of) (drop (classes_end all_of) all_of)
-        (length t.patterns) 0 (omega arith))
-        ∙ (ap (λ (l : List ℕ). get_or l (length t.patterns) 0) starts_are ∙ tables.lists.last))
+    last_is = grind (arith, get_or-drop, get_or-take, starts_are)
 
     listed_is : listed_len all_of ≡ classes_end all_of + length t.starts + length t.ends
     listed_is = ap (λ n. ends_at all_of + n) last_is ∙ ap (λ n. n + length t.ends) ends_at_is
@@ -281,11 +269,7 @@ module _ (t : Tables) (tables : AreTables t) (prints : List ℕ) (prints_long : 
         ap (λ n. n + 35) listed_is ∙ size
 
     tables_are : t ≡ tables_in (overlapping_value t) all_of
-    tables_are = same_tables (overlapping_value t) t.classes _ t.width _ t.rows _ t.ends _ t.starts _
-        (sym (classes_written OVERLAPPING_VERSION t.classes t.width t.patterns t.rows t.starts (t.ends ++ prints)
-        tables.classes)) refl
-        (sym (rows_written OVERLAPPING_VERSION t.classes t.width t.patterns t.rows t.starts (t.ends ++ prints)))
-        (sym ends_are) (sym starts_are)
+    tables_are = grind (arith, classes_written, ends_are, rows_written, same_tables, starts_are)
 
     -- they are what an `Overlapping` keeps
     pub listed_all : AreSized t → AreListed (overlapping_value t) all_of
@@ -320,30 +304,9 @@ module _ {search : OverlappingValue} {numbers : List ℕ} (listed : AreListed se
   -- so many numbers these are
   listed_long : length numbers ≡ 6 + length search.patterns + length inside.rows + 256 + length inside.starts
       + length inside.ends + SCAN_LEN
-  listed_long =
-      let fits = listed.prepared.whole.lists.fits in
-      let lengths = length_part numbers 6 (rows_at numbers) (omega arith) (omega arith) in
-      let rows = length_part numbers (rows_at numbers) (rows_end numbers) (omega arith) (omega arith) in
-      let starts = length_part numbers (classes_end numbers) (ends_at numbers) (omega arith) (omega arith) in
-      let ends = length_part numbers (ends_at numbers) (listed_len numbers) (omega arith) (omega arith) in
-      let many = ap (λ (l : List ℕ). length l) listed.prepared.lengths
-      ∙ length-map search.patterns (λ (bytes : List ℕ). length bytes) in
-      omega (arith, listed.long, lengths, rows, starts, ends, many)
+  listed_long = grind (arith, length-map, length_part, long, whole)
 
   -- and so many places are enough for them
   pub takes_listed : TakesListedPlaces search (length numbers)
   unfolding TakesListedPlaces
-  takes_listed = (
-    inside.classes,
-    subst (AreClasses inside.classes) listed.sized.width listed.prepared.tables.classes,
-    listed.prepared.tables.tells,
-    (
-      length inside.rows,
-      subst (λ width. IsRowsLength (texts_in inside) width (length inside.rows)) listed.sized.width
-          listed.sized.rows,
-      inside.ends,
-      inside.starts,
-      listed.prepared.tables.lists,
-      listed_long,
-    ),
-  )
+  takes_listed = grind (arith, listed_long)

@@ -1,6 +1,6 @@
 -- The longest suffix of a text that is a prefix of a pattern, as the text grows.
-use Rattle.std.proofs.Common.{◌≡◌, ℕ, ◌<◌, Bool, true, false, List, [], ◌∷◌, ◌++◌, length, drop}
-use Rattle.std.proofs.Common.{inl, inr, ◌⊎◌, nat_eq, append_assoc, refl, sym, ap, ◌∙◌}
+use Rattle.std.proofs.Common.{arith, ◌≡◌, ℕ, ◌<◌, Bool, true, false, List, [], ◌∷◌, ◌++◌, length, drop, inl, inr, ◌⊎◌}
+use Rattle.std.proofs.Common.{nat_eq, append_assoc, refl, sym, ap, ◌∙◌}
 use Rattle.std.proofs.lemmas.Bool.{cond-false, cond-true, false_from_ne_true, false≢true}
 use Rattle.std.proofs.lemmas.Bool.Decides.{Decides-eqb}
 use Rattle.std.proofs.lemmas.List.{get_or_default}
@@ -15,20 +15,14 @@ begins_shorter : (pattern text more : List ℕ) → starts_with nat_eq pattern (
     → starts_with nat_eq pattern text ≡ true
 begins_shorter pattern text more is =
     (starts_is Decides-eqb pattern text _ refl).1 (more ++ drop (length (text ++ more)) pattern)
-    ((starts_is Decides-eqb pattern (text ++ more) _ refl).0 is
-    ∙ append_assoc text more (drop (length (text ++ more)) pattern))
+    (grind (arith, starts_is, append_assoc))
 
 -- of two prefixes of one list one is a prefix of the other
 prefixes : (a b more rest : List ℕ) → a ++ more ≡ b ++ rest
     → ((r : List ℕ) × (a ≡ b ++ r)) ⊎ ((r : List ℕ) × (b ≡ a ++ r))
 prefixes [] b more rest same = inr (b, refl)
 prefixes (x ∷ a) [] more rest same = inl (x ∷ a, refl)
-prefixes (x ∷ a) (y ∷ b) more rest same =
-    let heads : x ≡ y = cc in
-    elim (prefixes a b more rest (cc)) [
-      | inl one ↦ inl (one.0, cc (heads, one.1))
-      | inr one ↦ inr (one.0, cc (heads, one.1))
-    ]
+prefixes (x ∷ a) (y ∷ b) more rest same = grind (arith, prefixes a b more rest (cc))
 
 -- what is a prefix of a longer text is one of the text, or begins with it
 pub stands_or_begins : (text more pattern : List ℕ) → starts_with nat_eq (text ++ more) pattern ≡ true
@@ -45,15 +39,12 @@ pub one_begins : (patterns : List (List ℕ)) (text : List ℕ) → begins_one p
 one_begins patterns text is =
     let test = λ (e : List ℕ). starts_with nat_eq e text in
     let one = Any-from_list_any test patterns is in
-    (one.0, one.2, ap test (get_or_default patterns one.0 [] one.1 one.2 ∙ one.3) ∙ one.4)
+    grind (arith, get_or_default)
 
 -- where a pattern begins with a text, one begins with its prefixes
 pub begins_prefix : (patterns : List (List ℕ)) (text more : List ℕ) → begins_one patterns (text ++ more) ≡ true
     → begins_one patterns text ≡ true
-begins_prefix patterns text more is =
-    let one = one_begins patterns (text ++ more) is in
-    list_any_at (λ e. starts_with nat_eq e text) patterns one.0 [] one.1
-    (begins_shorter (pattern_at patterns one.0) text more one.2)
+begins_prefix patterns text more is = grind (arith, one_begins, list_any_at, begins_shorter)
 
 -- more of a text: the live suffix depends on the live suffix of the text before it alone
 pub live_push : (patterns : List (List ℕ)) (text more : List ℕ)

@@ -1,6 +1,6 @@
 -- A walk from one end of patterns to the next.
-use Rattle.std.proofs.Common.{◌≡◌, ℕ, ◌+◌, ◌-◌, ◌*◌, ◌<◌, ◌≤◌, Bool, List, [], Some, get_or, length, map}
-use Rattle.std.proofs.Common.{ap, arith, inl, inr, refl, subst, suc, sym, zero, ◌∙◌}
+use Rattle.std.proofs.Common.{◌≡◌, ℕ, ◌+◌, ◌-◌, ◌<◌, ◌≤◌, Bool, List, [], Some, get_or, length, map}
+use Rattle.std.proofs.Common.{ap, arith, inl, inr, refl, subst, sym, ◌∙◌}
 use Rattle.std.proofs.Common.{◌^◌, IfOk, IfSome, IsSome, MatchOption, None, Ok, Option, Result}
 use Rattle.std.specs.Result.{IsOkAnd}
 use Rattle.std.specs.Option.{option_map}
@@ -16,8 +16,8 @@ use Rattle.literal_search.specs.Inside.NextEnd.{FindsNext, HasComeTo, IsNextStop
 use Rattle.literal_search.specs.Inside.Scan.{IsTableFor, NoneBefore}
 use Rattle.literal_search.specs.Inside.Walk.{HasReached, IsAt, IsFirstEnd, NoneEnds, ReachesWithin, classes_by}
 use Rattle.literal_search.specs.Inside.Walk.{read_to, rows_by, text_of}
-use Rattle.literal_search.specs.Table.{Recognises, stride_of}
-use Rattle.literal_search.specs.Words.{ending, live_suffix, word_of}
+use Rattle.literal_search.specs.Table.{Recognises}
+use Rattle.literal_search.specs.Words.{ending, live_suffix}
 use Rattle.literal_search.specs.declared.prepared.Damaged.{Damaged}
 use Rattle.literal_search.specs.declared.walk.Reached.{Reached}
 use Rattle.literal_search.specs.declared.walk.Reached.TheVariants.{Back, Ends, Nowhere}
@@ -32,26 +32,13 @@ use Rattle.literal_search.proofs.lemmas.Walk.{at_start, text_halves}
 -- at the first row the live suffix is empty
 at_root : (patterns : List (List ℕ)) (width : ℕ) (rows : List ℕ) (recognises : Recognises patterns width rows)
     (text : List ℕ) → IsAt patterns width rows recognises text 0 → live_suffix patterns text ≡ []
-at_root patterns width rows recognises text at =
-    at.live_suffix ∙ (ap (word_of recognises.words) (first at.state at.place_is) ∙ recognises.root)
-  where
-    first : (state : ℕ) → 0 ≡ state * stride_of width → state ≡ 0
-    first zero is = refl
-    first (suc state) is = grind arith
+at_root patterns width rows recognises text at = grind arith
 
 -- a walk stands at the first row where it has read nothing
 pub stands_first : (patterns : List (List ℕ)) (ignore_case : Bool) (classes : List ℕ) (width : ℕ)
     (rows haystack : List ℕ) (span : Span)
     → Stands patterns ignore_case classes width rows haystack span span.start (record { place = 0; end = span.start })
-stands_first patterns ignore_case classes width rows haystack span = record {
-  from = span.start;
-  after = omega arith;
-  before = omega arith;
-  at = λ recognises. subst (λ text. IsAt (map (symbols_in classes) patterns) width rows recognises text 0)
-      (sym (nothing_read classes haystack span.start))
-      (at_start (map (symbols_in classes) patterns) width rows recognises);
-  begins = λ i place o further. o.after_start;
-}
+stands_first patterns ignore_case classes width rows haystack span = grind arith
 
 module _ (t : Table) (patterns : List (List ℕ)) (ignore_case : Bool) (is : IsTableFor t patterns ignore_case)
     (haystack : List ℕ) (bytes : (i : ℕ) → get_or haystack i 0 < 256) (span : Span) (valid : IsValidSpan haystack span)
@@ -112,12 +99,13 @@ module _ (t : Table) (patterns : List (List ℕ)) (ignore_case : Bool) (is : IsT
     -- where nothing does
     next_nowhere : NoneEnds texts read (classes_by t) haystack s.end span.end → (i place : ℕ)
         → Occurs patterns ignore_case haystack span i place → place + length (pattern_at patterns i) ≤ behind
-    next_nowhere none i place o = elim (cases_lt behind (place + length (pattern_at patterns i))) [
-      | inl to_come ↦
-          let past = none_upto span.end none i place o (later i place o to_come) in
-          let last = o.before_end in absurd (omega arith)
-      | inr not ↦ not
-    ]
+    next_nowhere none i place o =
+        elim (cases_lt behind (place + length (pattern_at patterns i))) [
+          | inl to_come ↦
+              let past = none_upto span.end none i place o (later i place o to_come) in
+              absurd (omega arith)
+          | inr not ↦ not
+        ]
 
     -- where the walk is back in the first state, and then nothing begins before another place
     module _ (at new : ℕ) (after : s.end ≤ at) (on : at ≤ new) (within : new ≤ span.end)
@@ -129,7 +117,6 @@ module _ (t : Table) (patterns : List (List ℕ)) (ignore_case : Bool) (is : IsT
         begins_new : (i place : ℕ) → Occurs patterns ignore_case haystack span i place
             → s.end < place + length (pattern_at patterns i) → new ≤ place
         begins_new i place o further =
-            let before = stands.before in
             let live = at_root texts t.width (rows_by t) is.recognises _ (back is.recognises).0 in
             let behind_at = begins_behind ignore_case (classes_by t) patterns is.tells is.some haystack bytes span valid
             stands.from at i place (omega arith) (stands.begins i place o further)
@@ -145,7 +132,6 @@ module _ (t : Table) (patterns : List (List ℕ)) (ignore_case : Bool) (is : IsT
         stands_new : Stands patterns ignore_case (classes_by t) t.width (rows_by t) haystack span new
             (record { place = 0; end = new })
         stands_new =
-            let after_start = stands.after in
             let before = stands.before in
             record {
               from = new;
@@ -161,7 +147,6 @@ module _ (t : Table) (patterns : List (List ℕ)) (ignore_case : Bool) (is : IsT
             → behind < place + length (pattern_at patterns i) → new < place + length (pattern_at patterns i)
         later_new i place o to_come =
             let begins = begins_new i place o (later i place o to_come) in
-            let long = is.some i [] o.is_pattern in
             omega arith
 
 -- what a walk finds that goes on from where another has come to: where something ends next, or nothing; or it comes to
@@ -183,8 +168,6 @@ module _ (t : Table) (prints haystack : List ℕ) (bytes : (i : ℕ) → get_or 
         → Stands patterns ignore_case (classes_by t) t.width (rows_by t) haystack (between start span.end) span.start
         (record { place = from; end = span.start }) → IsValidSpan haystack (between start span.end)
     valid_whole patterns ignore_case start begun =
-        let after = begun.after in
-        let before = begun.before in
         let ordered = valid.ordered in
         record { ordered = omega arith; in_haystack = valid.in_haystack }
 
@@ -226,9 +209,8 @@ module _ (patterns : List (List ℕ)) (ignore_case : Bool) (classes : List ℕ) 
         → IsNextStop patterns ignore_case classes width rows haystack span span.start answer
         → IfSome answer (λ stop. (span.start < stop.end) × (stop.end ≤ span.end) × (stop.place < 2 ^ 32))
         → IsEarliestEnd patterns ignore_case haystack span (option_map (λ stop. stop.end) answer)
-    earliest_is None none inside = λ i place o.
-        let long = some i [] o.is_pattern in
-        let after = o.after_start in
+    earliest_is None none inside =
+        λ i place o.
         let end = none i place o in omega arith
     earliest_is (Some stop) next inside =
         let texts = map (symbols_in classes) patterns in
@@ -240,8 +222,6 @@ module _ (patterns : List (List ℕ)) (ignore_case : Bool) (classes : List ℕ) 
         record {
           occurs = (one.0, stop.end - length (pattern_at patterns one.0), occurs.0, sym occurs.1);
           first = λ i place o.
-              let long = some i [] o.is_pattern in
-              let after = o.after_start in
               next.first i place o (omega arith);
         }
       where
@@ -267,6 +247,4 @@ finds_earliest t patterns ignore_case prints is pass haystack bytes span valid r
 pub kept_pass : (patterns : List (List ℕ)) (ignore_case : Bool) (prints : List ℕ) (kept : Option CandidateScan)
     → MatchOption kept (shortest_by prints ≡ 0) (λ f. (0 < shortest_by prints) × (f ≡ scan_by prints))
     → ArePrints patterns ignore_case prints → IfSome kept (λ f. StopsAtEach f ignore_case patterns)
-kept_pass patterns ignore_case prints None are pass = tt
-kept_pass patterns ignore_case prints (Some f) are pass =
-    subst (λ f. StopsAtEach f ignore_case patterns) (sym are.1) (pass are.0)
+kept_pass patterns ignore_case prints kept are pass = grind arith

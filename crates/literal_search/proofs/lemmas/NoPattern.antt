@@ -2,15 +2,16 @@
 use Rattle.std.proofs.Common.{◌≡◌, ◌≤◌, ℕ, Bool, [], ◌∷◌, arith, get_or, refl, subst, suc, sym, zero}
 use Rattle.std.specs.List.{repeat}
 use Rattle.literal_base.specs.declared.packed.MatchKind.{MatchKind}
+use Rattle.literal_base.specs.declared.packed.MatchKind.TheVariants.{LeftmostFirst, LeftmostLongest}
 use Rattle.literal_search.specs.Inside.Classes.{AreClasses}
 use Rattle.literal_search.specs.Inside.Overlapping.{AreListed}
 use Rattle.literal_search.specs.Inside.Prepared.{numbers_for}
 use Rattle.literal_search.specs.Inside.Rows.{packed_classes}
 use Rattle.literal_search.specs.Inside.Search.{AreKept}
 use Rattle.literal_search.specs.Inside.Standing.{overlapping_value}
-use Rattle.literal_search.specs.Prepared.{AreBackTables, BackTables, check_of}
+use Rattle.literal_search.specs.Prepared.{check_of}
 use Rattle.literal_search.specs.PreparedOverlapping.{AreTables, Tables}
-use Rattle.literal_search.specs.SearchValue.{CanBeKept, NeedFewStates, search_by}
+use Rattle.literal_search.specs.SearchValue.{CanBeKept, NeedFewStates, search_by, unshadowed}
 use Rattle.literal_search.specs.States.{HasTooManyStates}
 use Rattle.literal_search.specs.Table.{nothing}
 use Rattle.literal_search.specs.declared.prepared.TheConstants.{SCAN_LEN, NO_LISTED, NO_PATTERN}
@@ -33,27 +34,16 @@ listed_written = refl
 none_kept : CanBeKept []
 none_kept = record { some = λ i d below. absurd (omega (arith, below)); few = omega arith }
 
+-- by either kind nothing takes the place of no text
+none_unshadowed : (kind : MatchKind) → unshadowed kind [] ≡ []
+none_unshadowed LeftmostFirst = refl
+none_unshadowed LeftmostLongest = refl
+
 -- and are kept
 pub none_are_kept : (kind : MatchKind) (ignore_case : Bool) → AreKept (search_by kind ignore_case []) NO_PATTERN
 none_are_kept kind ignore_case =
-    let t : BackTables = record {
-      search = search_by kind ignore_case [];
-      classes = repeat 256 (0 ∷ []);
-      width = 1;
-      rows = 0 ∷ nothing ∷ [];
-      best = [];
-      longest = 0;
-    } in
-    let are : AreBackTables t = record {
-      classes = zeros_classes;
-      tells = λ i k byte below. absurd (omega (arith, below));
-      recognises = none_recognised;
-      best = record { long = refl; each = λ i below. absurd (omega (arith, below)) };
-      longest = refl;
-      kept = none_kept;
-    } in
-    subst (AreKept t.search) (sym pattern_written) (kept_all t are (repeat SCAN_LEN (0 ∷ [])) refl
-    (λ some. absurd (omega (arith, some))) (sym (one_class ignore_case)) none_long)
+    grind (arith, kept_all, none_kept, none_long, none_recognised, none_unshadowed, one_class, pattern_written,
+    zeros_classes)
 
 pub none_are_listed : (ignore_case : Bool) → AreListed (record { patterns = []; ignore_case = ignore_case }) NO_LISTED
 none_are_listed ignore_case =

@@ -1,8 +1,7 @@
 -- Searches by an array that is lent.
-use Rattle.std.proofs.Common.{◌≡◌, ℕ, ◌+◌, ◌-◌, ◌<◌, ◌≤◌, List, drop, length}
+use Rattle.std.proofs.Common.{◌≡◌, ℕ, ◌-◌, ◌<◌, ◌≤◌, List, drop, length}
 use Rattle.std.proofs.Common.{IfSome, None, Option, Some}
-use Rattle.std.proofs.Common.{take}
-use Rattle.std.proofs.Common.{ap, ◌∙◌, arith}
+use Rattle.std.proofs.Common.{arith}
 use Rattle.std.proofs.lemmas.List.{length-drop, length-take, take-take}
 use Rattle.std.specs.List.{slice_range}
 use Rattle.literal_base.specs.declared.search.Span.{Span}
@@ -11,8 +10,7 @@ use Rattle.literal_search.specs.Inside.Prepared.{IsSplit}
 use Rattle.literal_search.specs.Inside.Backward.{IsMatchBy}
 use Rattle.literal_search.specs.declared.backward.Backward.{Backward}
 use Rattle.literal_base.specs.MatchValue.{MatchValue}
-use Rattle.literal_search.specs.Prepared.{classes_end, rows_at}
-use Rattle.literal_search.specs.Prepared.{rows_end, rows_in}
+use Rattle.literal_search.specs.Prepared.{rows_in}
 
 -- the length of a part of a list
 pub length_part : (numbers : List ℕ) (from to : ℕ) → from ≤ to → to ≤ length numbers
@@ -23,23 +21,12 @@ length_part numbers from to ordered inside =
 -- the rows without the classes behind them
 pub rows_are : {version : ℕ} {numbers classes : List ℕ} {width : ℕ} {lengths rows : List ℕ} {longest : ℕ}
     → IsSplit version numbers classes width lengths rows longest → rows_of rows ≡ rows_in numbers
-rows_are {version} {numbers} split =
-    let fits = split.parts.fits in
-    let from = rows_at numbers in
-    let size = length_part numbers from (classes_end numbers) (omega arith) (omega arith) in
-    let places : length (slice_range numbers from (classes_end numbers)) - 256 ≡ rows_end numbers - from =
-    omega (arith, size) in
-    ap rows_of split.rows_are
-    ∙ (ap (λ n. take n (slice_range numbers from (classes_end numbers))) places
-    ∙ take-take (rows_end numbers - from) (classes_end numbers - from) (drop from numbers) (omega arith))
+rows_are {version} {numbers} split = grind (arith, length_part, take-take)
 
 -- there are numbers for the class of each byte
 pub classes_long : {version : ℕ} {numbers classes : List ℕ} {width : ℕ} {lengths rows : List ℕ} {longest : ℕ}
     → IsSplit version numbers classes width lengths rows longest → length classes ≡ 64
-classes_long {version} {numbers} split =
-    let fits = split.parts.fits in
-    let size = length_part numbers (rows_end numbers) (rows_end numbers + 64) (omega arith) (omega arith) in
-    omega (arith, size, ap (λ (l : List ℕ). length l) split.classes_are)
+classes_long {version} {numbers} split = grind (arith, length_part)
 
 -- a match that is found is not empty
 pub some_by : (b : Backward) (span : Span) (at : ℕ) (answer : Option MatchValue) → IfSome answer (IsMatchBy b span at)

@@ -1,6 +1,6 @@
 -- Walks over the bytes of patterns, by their rows.
-use Rattle.std.proofs.Common.{◌≡◌, ℕ, ◌+◌, ◌-◌, ◌<◌, ◌≤◌, ◌^◌, List, [], ◌∷◌, ◌++◌, length, get_or, take, drop}
-use Rattle.std.proofs.Common.{inl, inr, ◌⊎◌, sym, ap, subst, ◌∙◌, arith}
+use Rattle.std.proofs.Common.{◌≡◌, ℕ, ◌+◌, ◌-◌, ◌<◌, ◌≤◌, ◌^◌, List, [], ◌∷◌, ◌++◌, length, get_or, take, drop, inl}
+use Rattle.std.proofs.Common.{inr, ◌⊎◌, sym, subst, arith}
 use Rattle.std.proofs.lemmas.List.{get_or-map, length-map}
 use Rattle.std.specs.Global.{Vec}
 use Rattle.std.specs.Option.{unwrap_or}
@@ -11,12 +11,11 @@ use Rattle.literal_search.specs.Inside.Walk.{IsAt}
 use Rattle.literal_search.specs.Table.{Recognises, nothing}
 use Rattle.literal_search.specs.Words.{ending}
 use Rattle.literal_search.specs.declared.suffixes.Recognised.{Recognised}
-use Rattle.literal_search.proofs.lemmas.Walk.{at_with_end, at_without_end, ends_at}
-use Rattle.literal_search.proofs.lemmas.Walk.{row_at, slice_push}
+use Rattle.literal_search.proofs.lemmas.Walk.{at_with_end, at_without_end, ends_at, row_at, slice_push}
 
 -- there are the symbols of each pattern, and so few
 pub symbols_count : (r : Recognised) → length (symbols_of r) ≡ length r.patterns.now
-symbols_count r = length-map r.patterns.now (λ (p : Vec ℕ). symbols_in r.classes.now p.items)
+symbols_count r = grind (arith, length-map)
 
 pub symbols_few : (r : Recognised) → Recognise r → length (symbols_of r) ≤ 2 ^ 31 - 1
 symbols_few r recognise = omega (arith, symbols_count r, recognise.few)
@@ -26,9 +25,7 @@ module _ (r : Recognised) (recognise : Recognise r) where
   pub symbols_are : (pattern : ℕ) (read : Vec ℕ) → pattern < length r.patterns.now
       → read ≡ get_or r.patterns.now pattern read
       → pattern_at (symbols_of r) pattern ≡ symbols_in r.classes.now read.items
-  symbols_are pattern read below is =
-      get_or-map (λ (p : Vec ℕ). symbols_in r.classes.now p.items) r.patterns.now pattern read [] below
-      ∙ ap (λ (p : Vec ℕ). symbols_in r.classes.now p.items) (sym is)
+  symbols_are pattern read below is = grind (arith, get_or-map)
 
   -- one symbol more
   module _ (text : List ℕ) (place symbol code : ℕ) (behind : StandsBehind r place text) (below : symbol < r.width)
@@ -67,12 +64,4 @@ module _ (r : Recognised) (recognise : Recognise r) where
       → take (at + 1 - from) (drop from (pattern_at (symbols_of r) pattern))
       ≡ take (at - from) (drop from (pattern_at (symbols_of r) pattern))
       ++ get_or r.classes.now (get_or read.items at 0) 0 ∷ []
-  pattern_push pattern from at read below is after inside =
-      let text = pattern_at (symbols_of r) pattern in
-      let same = symbols_are pattern read below is in
-      let f : ℕ → ℕ = λ byte. get_or r.classes.now byte 0 in
-      let size = length-map read.items f in
-      let long : at < length text = omega (arith, size, ap (λ (l : List ℕ). length l) same) in
-      slice_push text from at after long
-      ∙ ap (λ s. take (at - from) (drop from text) ++ s ∷ [])
-      (ap (λ l. get_or l at 0) same ∙ get_or-map f read.items at 0 0 inside)
+  pattern_push pattern from at read below is after inside = grind (arith, length-map, slice_push, get_or-map)

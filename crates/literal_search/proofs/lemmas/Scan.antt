@@ -1,16 +1,13 @@
 -- What walks by the numbers of an automaton find, as occurrences in the haystack.
-use Rattle.std.proofs.Common.{◌≡◌, ℕ, ◌+◌, ◌*◌, ◌<◌, ◌≤◌, ◌∙◌, Bool, List, ap, arith}
-use Rattle.std.proofs.Common.{mul-le-mul_right}
-use Rattle.std.proofs.Common.{Err, IfOk, Ok, Option, Result, None, get_or, inl, inr, length, map, subst}
-use Rattle.std.proofs.Common.{sym}
+use Rattle.std.proofs.Common.{◌≡◌, ℕ, ◌+◌, ◌*◌, ◌<◌, ◌≤◌, Bool, List, arith, Err, IfOk, Ok, Option, Result, None}
+use Rattle.std.proofs.Common.{get_or, inl, inr, length, map, subst, sym}
 use Rattle.std.proofs.lemmas.Bool.{cases_lt}
 use Rattle.std.specs.Result.{IsOkAnd, result_unwrap_or}
 use Rattle.literal_base.specs.Counts.{Counts}
 use Rattle.literal_base.specs.Occurs.{IsValidSpan, Occurs, between}
 use Rattle.literal_search.specs.Inside.Classes.{symbols_in}
 use Rattle.literal_search.specs.Inside.Scan.{IsTableFor, NoneBefore}
-use Rattle.literal_search.specs.Inside.Walk.{classes_by}
-use Rattle.literal_search.specs.Inside.Walk.{NoneInFour}
+use Rattle.literal_search.specs.Inside.Walk.{classes_by, NoneInFour}
 use Rattle.literal_search.specs.declared.walk.Table.{Table}
 use Rattle.literal_search.proofs.lemmas.EndsFound.{nothing_ends}
 use Rattle.literal_search.proofs.lemmas.Longest.{longest_is}
@@ -32,9 +29,7 @@ pub others_on : (old now next last : Counts)
     → next ≡ (let t : Counts = record now { scanned = next.scanned } in t)
     → last ≡ (let t : Counts = record next { scanned = last.scanned } in t)
     → last ≡ (let t : Counts = record old { scanned = last.scanned } in t)
-others_on old now next last first second third =
-    let to : Counts → Counts = λ t. record t { scanned = last.scanned } in
-    third ∙ (ap to second ∙ ap to first)
+others_on old now next last first second third = grind arith
 
 -- where four walks find nothing, nothing begins in the blocks from which they begin
 module _ (t : Table) (patterns : List (List ℕ)) (ignore_case : Bool) (is : IsTableFor t patterns ignore_case) where
@@ -47,25 +42,16 @@ module _ (t : Table) (patterns : List (List ℕ)) (ignore_case : Bool) (is : IsT
           → at + k * block ≤ place → place < at + k * block + block → ⊥
       none_in k below i place o after before =
           let start = at + k * block in
-          let most : k * block + block ≤ 4 * block = (let up : (k + 1) * block ≤ 4 * block =
-          mul-le-mul_right block (let next : k + 1 ≤ 4 = omega arith in next) in
-          let split : (k + 1) * block ≡ k * block + block = grind arith in omega (arith, up, split)) in
+          let most : k * block + block ≤ 4 * block = grind arith in
           let short = longest_is patterns i in
-          let same = is.longest in
           let valid : IsValidSpan haystack (between start (start + (block + t.longest))) =
           record { ordered = omega arith; in_haystack = omega arith } in
           nothing_ends ignore_case (classes_by t) patterns is.tells is.some haystack bytes
           (between start (start + (block + t.longest))) valid
-          (none k below (map (symbols_in (classes_by t)) patterns) is.recognises) i place (record {
-            is_pattern = o.is_pattern;
-            after_start = after;
-            before_end = omega arith;
-            same = o.same;
-          })
+          (none k below (map (symbols_in (classes_by t)) patterns) is.recognises) i place (grind arith)
 
       pub none_in_blocks : NoneBefore patterns ignore_case haystack (between at (length haystack)) (at + 4 * block)
       none_in_blocks i place o =
-          let after = o.after_start in
           elim (cases_lt place (at + 4 * block)) [
             | inr far ↦ far
             | inl near ↦ elim (cases_lt place (at + block)) [

@@ -1,5 +1,5 @@
 -- A scan for candidates as numbers.
-use Rattle.std.proofs.Common.{◌≡◌, ◌++◌, ◌∷◌, ◌∙◌, List, Option, ap, drop, length, subst, take, ℕ}
+use Rattle.std.proofs.Common.{arith, ◌≡◌, ◌++◌, ◌∷◌, List, Option, drop, length, subst, take, ℕ}
 use Rattle.std.proofs.Math.Seq.{drop-append_seam, take-append_seam}
 use Rattle.literal_fingerprints.specs.FingerprintsValue.{FingerprintsValue, fingerprints_in}
 use Rattle.literal_fingerprints.specs.declared.candidates.CandidateScan.{CandidateScan}
@@ -10,9 +10,7 @@ use Rattle.literal_search.specs.Prepared.{pair_of, scan_by}
 -- scans with the same parts
 pub same_scan : (f g : FingerprintsValue) (p q : Option RarePair) → f ≡ g → p ≡ q
     → (let s : CandidateScan = record { fingerprints = f; pair = p } in s) ≡ record { fingerprints = g; pair = q }
-same_scan f g p q fingerprints pair =
-    ap (λ x. let s : CandidateScan = record { fingerprints = x; pair = p } in s) fingerprints
-    ∙ ap (λ x. let s : CandidateScan = record { fingerprints = g; pair = x } in s) pair
+same_scan f g p q fingerprints pair = grind arith
 
 -- the numbers of fingerprints, and behind them those of a pair
 pub scan_of : (shortest : ℕ) (numbers behind : List ℕ) (f : FingerprintsValue) (p : Option RarePair)
@@ -24,5 +22,4 @@ scan_of shortest numbers behind f p long fingerprints pair =
     subst (λ n. take n (numbers ++ behind) ≡ numbers) long (take-append_seam numbers behind) in
     let after : drop 32 (numbers ++ behind) ≡ behind =
     subst (λ n. drop n (numbers ++ behind) ≡ behind) long (drop-append_seam numbers behind) in
-    same_scan _ f _ p (ap (λ n. fingerprints_in (unpacked n)) before ∙ fingerprints)
-    (ap (λ n. pair_of (unpacked n)) after ∙ pair)
+    grind (arith, same_scan)

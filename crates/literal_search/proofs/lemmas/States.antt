@@ -1,12 +1,11 @@
 -- How many states there are.
+use Rattle.std.proofs.lemmas.Grind.{common_steps}
 use Rattle.std.proofs.Common.{◌≡◌, ◌≢◌, ℕ, ◌+◌, ◌*◌, ◌-◌, ◌<◌, ◌≤◌, ◌^◌, ◌⊎◌, true, List, [], ◌∷◌, ◌++◌, suc, zero}
-use Rattle.std.proofs.Common.{length, get_or}
-use Rattle.std.proofs.Common.{map, take, drop, eqb, nat_eq, inl, inr, refl, sym, ap, ◌∙◌, arith, subst}
-use Rattle.std.proofs.lemmas.Bool.{cases_lt, cases_order, eqb-true, ne_eqb}
+use Rattle.std.proofs.Common.{length, get_or, map, take, drop, eqb, nat_eq, inl, inr, refl, sym, ap, ◌∙◌, arith, subst}
+use Rattle.std.proofs.lemmas.Bool.{cases_lt, eqb-true, ne_eqb}
 use Rattle.std.proofs.lemmas.Bool.Decides.{Decides-eqb}
-use Rattle.std.proofs.lemmas.List.{get_or-map, get_or_append_left, get_or_default, get_or_past, get_or_push}
-use Rattle.std.proofs.lemmas.List.{length-append, length-map, length-take-le}
-use Rattle.std.proofs.lemmas.List.{length_push, same_from_push, take-append-drop, take_all, take_more}
+use Rattle.std.proofs.lemmas.List.{get_or-map, get_or_append_left, get_or_default, get_or_past, get_or_push, length-map}
+use Rattle.std.proofs.lemmas.List.{length-take-le, length_push, same_from_push, take-append-drop, take_all, take_more}
 use Rattle.std.proofs.lemmas.List.Elements.{All-head, All-tail}
 use Rattle.std.proofs.lemmas.List.Folds.{Any-from_list_any, list_any_at}
 use Rattle.std.proofs.lemmas.List.FromFn.{get_or-map-range_with_len, length-map-range_with_len}
@@ -19,9 +18,8 @@ use Rattle.literal_base.specs.Occurs.{pattern_at}
 use Rattle.literal_search.specs.Inside.Classes.{AreClasses, symbols_in}
 use Rattle.literal_search.specs.Inside.Grown.{AreWords}
 use Rattle.literal_search.specs.States.{AreStates, HasTooManyStates}
-use Rattle.literal_search.specs.Table.{LeadsTo, Recognises, stride_of}
-use Rattle.literal_search.specs.Words.{begins_one, live_suffix, word_of}
-use Rattle.literal_search.proofs.lemmas.Behind.{live_begun}
+use Rattle.literal_search.specs.Table.{Recognises, stride_of}
+use Rattle.literal_search.specs.Words.{begins_one, word_of}
 use Rattle.literal_search.proofs.lemmas.Live.{begins_prefix, one_begins}
 
 module _ (patterns : List (List ℕ)) (width : ℕ)
@@ -38,20 +36,13 @@ module _ (patterns : List (List ℕ)) (width : ℕ)
       let pattern = pattern_at patterns one.0 in
       let split = (starts_is Decides-eqb pattern text _ refl).0 one.2 in
       let read : get_or pattern k 0 ≡ symbol =
-      ap (λ l. get_or l k 0) split ∙ get_or_append_left text (drop (length text) pattern) 0 k (omega arith) in
-      let is_symbol : symbol < width = subst (λ s. s < width) read (below one.0 k) in
+      grind (arith, get_or_append_left) in
       let next : suc k ≡ k + 1 = omega arith in
       let more : take (suc k) text ≡ take k text ++ symbol ∷ [] =
       ap (λ n. take n text) next ∙ take_more text k 0 (omega arith) in
       let prefix_begun = begins_prefix patterns (take (suc k) text) (drop (suc k) text)
-      (subst (λ t. begins_one patterns t ≡ true) (sym (take-append-drop (suc k) text)) begun) in
-      let leads = subst
-      (λ t. LeadsTo patterns r.words width (get_or rows (before.0 * stride_of width + symbol) 0) t)
-      (ap (λ w. live_suffix patterns (w ++ symbol ∷ [])) before.2
-      ∙ (ap (live_suffix patterns) (sym more)
-      ∙ live_begun patterns (take (suc k) text) prefix_begun))
-      (r.leads before.0 symbol before.1 is_symbol) in
-      (leads.state, leads.is_state, leads.word_is)
+      (grind (arith, common_steps)) in
+      grind arith
 
   state_of : (text : List ℕ) → (text ≡ []) ⊎ (begins_one patterns text ≡ true)
       → (n : ℕ) × (n < length r.words) × (word_of r.words n ≡ text)
@@ -101,51 +92,25 @@ module _ (patterns : List (List ℕ)) (width : ℕ)
 module _ (patterns words : List (List ℕ)) (width upto : ℕ)
     (are : AreWords patterns words width upto) where
   pub made_more : (later : ℕ) → upto ≤ later → AreWords patterns words width later
-  made_more later more = record {
-    root = are.root;
-    apart = are.apart;
-    begun = are.begun;
-    made = λ n some below.
-        let by = are.made n some below in
-        let early = by.early in
-        record {
-          state = by.state;
-          symbol = by.symbol;
-          is_state = by.is_state;
-          is_symbol = by.is_symbol;
-          early = omega (arith, early, more);
-          word_is = by.word_is;
-        };
-  }
-
-  same_state : (i j : ℕ) → i < length words → j < length words → word_of words i ≡ word_of words j → i ≡ j
-  same_state i j is_i is_j same = elim (cases_order i j) [
-    | inl equal ↦ equal
-    | inr other ↦ elim other [
-      | inl less ↦ absurd (are.apart i j less is_j same)
-      | inr more ↦ absurd (are.apart j i more is_i (sym same))
-    ]
-  ]
+  made_more later more =
+      record {
+        root = are.root;
+        apart = are.apart;
+        begun = are.begun;
+        made = grind arith;
+      }
 
   -- the word of the next place is new
   is_new : (state symbol : ℕ) → state < length words → upto ≡ state * stride_of width + symbol → (n : ℕ)
       → n < length words → word_of words n ≢ word_of words state ++ symbol ∷ []
-  is_new state symbol is_state at n below same = elim (cases_lt 0 n) [
-    | inl some ↦
-        let by = are.made n some below in
-        let both = same_from_push (word_of words by.state) (word_of words state) by.symbol symbol
-        (sym by.word_is ∙ same) in
-        let states = same_state by.state state by.is_state is_state both.0 in
-        let early : state * stride_of width + symbol < upto =
-        subst (λ s. s * stride_of width + symbol < upto) states
-        (subst (λ c. by.state * stride_of width + c < upto) both.1 by.early) in
-        omega (arith, early, at)
-    | inr none ↦
-        let first : n ≡ 0 = omega arith in
-        let long = ap (λ (w : List ℕ). length w) (sym (ap (word_of words) first ∙ are.root) ∙ same)
-        ∙ length-append (word_of words state) (symbol ∷ []) in
-        omega (arith, long)
-  ]
+  is_new state symbol is_state at n below same =
+      elim (cases_lt 0 n) [
+        | inl some ↦
+            let by = are.made n some below in
+            grind (arith, same_from_push)
+        | inr none ↦
+            grind (arith, common_steps)
+      ]
 
   pub made_next : (state symbol : ℕ) → state < length words → symbol < width
       → upto ≡ state * stride_of width + symbol
@@ -201,26 +166,19 @@ module _ (patterns words : List (List ℕ)) (width upto : ℕ)
 -- made words are different states
 pub states_made : (patterns words : List (List ℕ)) (width upto : ℕ)
     → AreWords patterns words width upto → AreStates patterns words
-states_made patterns words width upto are = record {
-  apart = λ i j d before inside same.
-      are.apart i j before inside
-      (get_or_default words i [] d (omega (arith, before, inside))
-      ∙ (same ∙ get_or_default words j d [] inside));
-  begun = λ k d inside.
-      subst (λ (w : List ℕ). (w ≡ []) ⊎ (begins_one patterns w ≡ true)) (get_or_default words k [] d inside)
-      (are.begun k inside);
-}
+states_made patterns words width upto are = grind (arith, get_or_default)
 
 -- the symbols of all patterns are below the width
 pub symbols_below : (classes : List ℕ) (width : ℕ) → AreClasses classes width → (patterns : List (Vec ℕ))
     → (i k : ℕ) → get_or (pattern_at (map (λ pattern. symbols_in classes pattern.items) patterns) i) k 0 < width
-symbols_below classes width are patterns i k = elim (cases_lt i (length patterns)) [
-  | inl inside ↦ at patterns i inside
-  | inr past ↦
-      let none = get_or_past (map (λ (p : Vec ℕ). symbols_in classes p.items) patterns) i []
-      (omega (arith, past, length-map patterns (λ (p : Vec ℕ). symbols_in classes p.items))) in
-      subst (λ (l : List ℕ). get_or l k 0 < width) (sym none) are.some
-]
+symbols_below classes width are patterns i k =
+    elim (cases_lt i (length patterns)) [
+      | inl inside ↦ at patterns i inside
+      | inr past ↦
+          let none = get_or_past (map (λ (p : Vec ℕ). symbols_in classes p.items) patterns) i []
+          (omega (arith, length-map patterns (λ (p : Vec ℕ). symbols_in classes p.items))) in
+          subst (λ (l : List ℕ). get_or l k 0 < width) (sym none) are.some
+    ]
   where
     class_below : (byte : ℕ) → get_or classes byte 0 < width
     class_below byte = elim (cases_lt byte 256) [
@@ -235,7 +193,7 @@ symbols_below classes width are patterns i k = elim (cases_lt i (length patterns
           (class_below (get_or bytes k 0))
       | inr past ↦
           subst (λ n. n < width) (sym (get_or_past (symbols_in classes bytes) k 0
-          (omega (arith, past, length-map bytes (λ byte. get_or classes byte 0))))) are.some
+          (omega (arith, length-map bytes (λ byte. get_or classes byte 0))))) are.some
     ]
 
     at : (ps : List (Vec ℕ)) (j : ℕ) → j < length ps
@@ -265,14 +223,10 @@ module _ (patterns : List (List ℕ)) (i : ℕ) (below : i < length patterns) wh
     record {
       apart = λ j k d before inside same. omega (
         arith,
-        before,
-        inside,
-        many,
         length-take-le j (pattern_at patterns i) (omega (arith, before, inside, many)),
         length-take-le k (pattern_at patterns i) (omega (arith, inside, many)),
         ap (λ (l : List ℕ). length l) (sym (at j d (omega (arith, before, inside, many))) ∙ (same ∙ at k d (omega (
           arith,
-          inside,
           many,
         )))),
       );

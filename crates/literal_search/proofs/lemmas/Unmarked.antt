@@ -1,7 +1,6 @@
 -- Sixteen marks, of which a mask tells where one says that a pattern begins.
-use Rattle.std.proofs.Common.{◌≡◌, ℕ, ◌+◌, ◌-◌, ◌%◌, ◌^◌, ◌<◌, ◌≤◌, ◌∙◌, List, [], ◌∷◌, not}
-use Rattle.std.proofs.Common.{ap, arith, bit_or, cond, drop, get_or, leb, length, map, refl, replicate, suc, sym}
-use Rattle.std.proofs.Common.{take, w32, zero}
+use Rattle.std.proofs.Common.{◌≡◌, ℕ, ◌+◌, ◌-◌, ◌%◌, ◌^◌, ◌<◌, ◌≤◌, ◌∙◌, List, [], ◌∷◌, not, ap, arith, bit_or, cond}
+use Rattle.std.proofs.Common.{drop, get_or, leb, length, map, replicate, suc, sym, take, w32, zero}
 use Rattle.std.proofs.lemmas.Bool.{leb-false, not-true}
 use Rattle.std.proofs.lemmas.Nat.{le_or_l, le_or_r}
 use Rattle.std.proofs.lemmas.List.Sums.{prefix_len-le-length, prefix_len_passes}
@@ -9,13 +8,6 @@ use Rattle.std.proofs.lemmas.Simd.{bitmask_splat, get_or-chunk, leading_from_mas
 use Rattle.std.specs.List.{prefix_len}
 use Rattle.std.specs.Simd.Lanes.{fold_l, mask_l, top, zip2}
 use lib.Count.{count_trailing_zeros}
-
--- an operator of which the two vectors are exchanged
-zip2_exchanged : {C : Type 0} (f : ℕ → ℕ → C) (xs ys : List ℕ) → zip2 f xs ys ≡ zip2 (λ y x. f x y) ys xs
-zip2_exchanged f [] [] = refl
-zip2_exchanged f [] (y ∷ ys) = refl
-zip2_exchanged f (x ∷ xs) [] = refl
-zip2_exchanged f (x ∷ xs) (y ∷ ys) = ap (λ zs. f x y ∷ zs) (zip2_exchanged f xs ys)
 
 -- the bits of the marks from 2^31 on
 abbrev pub begun_mask : List ℕ → ℕ
@@ -45,7 +37,7 @@ module _ (numbers : List ℕ) (at : ℕ) (inside : at + 16 ≤ length numbers) w
   mask_is : begun_mask marks ≡ mask_l (map (leb (2 ^ 31)) marks)
   mask_is =
       ap (λ lanes. mask_l (map (top 31) lanes) % 2 ^ 64)
-      (zip2_exchanged (λ least mark. cond (leb least mark) (2 ^ 32 - 1) 0) (replicate 16 (2 ^ 31)) marks)
+      (grind (arith, replicate))
       ∙ bitmask_splat w32 (λ mark least. leb least mark) marks 16 (2 ^ 31) (length-chunk at 16 numbers inside)
       (omega arith)
 
@@ -75,23 +67,14 @@ module _ (numbers : List ℕ) (at : ℕ) (inside : at + 16 ≤ length numbers) w
 
   first_is : 0 < begun_mask marks
       → count_trailing_zeros 64 (begun_mask marks) ≡ prefix_len (λ mark. not (leb (2 ^ 31) mark)) marks
-  first_is some =
-      ap (count_trailing_zeros 64) mask_is
-      ∙ trailing_mask_l (leb (2 ^ 31)) 64 marks (omega (arith, length-chunk at 16 numbers inside))
-      (omega (arith, mask_is))
+  first_is some = grind (arith, mask_is, trailing_mask_l)
 
   pub first_few : 0 < begun_mask marks → count_trailing_zeros 64 (begun_mask marks) ≤ 16
-  first_few some =
-      omega (
-        arith,
-        first_is some,
-        prefix_len-le-length (λ mark. not (leb (2 ^ 31) mark)) marks,
-        length-chunk at 16 numbers inside,
-      )
+  first_few some = grind (arith, first_is)
 
   pub none_before : 0 < begun_mask marks → (i : ℕ) → at ≤ i
       → i < at + count_trailing_zeros 64 (begun_mask marks) → get_or numbers i 0 < 2 ^ 31
-  none_before some = small (count_trailing_zeros 64 (begun_mask marks)) (omega (arith, first_is some))
+  none_before some = grind (arith, small, first_is)
 
   -- none of them says so, if all their bits together do not
   pub none_together : fold_l bit_or 0 marks < 2 ^ 31 → (i : ℕ) → at ≤ i → i < at + 16 → get_or numbers i 0 < 2 ^ 31

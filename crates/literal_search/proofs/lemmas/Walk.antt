@@ -1,7 +1,7 @@
 -- A walk through rows that recognise patterns.
 use Rattle.std.proofs.Common.{◌≡◌, ℕ, ◌+◌, ◌*◌, ◌-◌, ◌<◌, ◌≤◌, ◌^◌, List, [], ◌∷◌, ◌++◌, length, get_or}
 use Rattle.std.proofs.Common.{Option, Some, None, IsSome, inl, inr, ◌⊎◌, take, drop, append-nil}
-use Rattle.std.proofs.Common.{append_assoc, mul-le-mul_right, refl, sym, ap, subst, ◌∙◌, arith}
+use Rattle.std.proofs.Common.{append_assoc, refl, sym, ap, subst, ◌∙◌, arith}
 use Rattle.std.proofs.lemmas.Bool.{cases_lt}
 use Rattle.std.proofs.lemmas.List.{drop-drop, drop-take, get_or-drop, length-drop, length-map, length-take, map-append}
 use Rattle.std.proofs.lemmas.List.{take-append-drop, take-take, take_more}
@@ -13,29 +13,21 @@ use Rattle.literal_base.specs.Occurs.{between}
 use Rattle.literal_search.specs.Inside.Classes.{symbols_in}
 use Rattle.literal_search.specs.Inside.Walk.{IsAt, IsFirstEnd, IsRow, NoneEnds, WalksOn, read_to, text_of}
 use Rattle.literal_search.specs.Table.{LeadsTo, Recognises, code_of, nothing, stride_of}
-use Rattle.literal_search.specs.Words.{ending, live_suffix, word_of}
+use Rattle.literal_search.specs.Words.{ending, live_suffix}
 use Rattle.literal_search.proofs.lemmas.Behind.{ending_by_live}
 use Rattle.literal_search.proofs.lemmas.Live.{live_push}
 
 -- each row lies in the rows
 pub row_fits : (patterns : List (List ℕ)) (width : ℕ) (rows : List ℕ) (recognises : Recognises patterns width rows)
     (state : ℕ) → state < length recognises.words → state * stride_of width + stride_of width ≤ length rows
-row_fits patterns width rows recognises state below =
-    let most : (state + 1) * stride_of width ≤ length recognises.words * stride_of width =
-    mul-le-mul_right (stride_of width) (let next : state + 1 ≤ length recognises.words = omega arith in next) in
-    let next : (state + 1) * stride_of width ≡ state * stride_of width + stride_of width = grind arith in
-    omega (arith, most, next, recognises.full)
+row_fits patterns width rows recognises state below = grind arith
 
 -- what ends where a walk stands
 pub ends_at : (patterns : List (List ℕ)) (width : ℕ) (rows : List ℕ) (recognises : Recognises patterns width rows)
     (text : List ℕ) (place : ℕ)
     → IsAt patterns width rows recognises text place
     → get_or rows (place + width) 0 ≡ unwrap_or (ending patterns text) nothing
-ends_at patterns width rows recognises text place at =
-    ap (λ p. get_or rows (p + width) 0) at.place_is
-    ∙ (recognises.ends at.state at.is_state
-    ∙ ap (λ o. unwrap_or o nothing)
-    (sym (ending_by_live patterns text ∙ ap (ending patterns) at.live_suffix)))
+ends_at patterns width rows recognises text place at = grind (arith, ending_by_live)
 
 -- where the number behind a place and a symbol leads, for a walk that stands there
 module _ (patterns : List (List ℕ)) (width : ℕ) (rows : List ℕ) (recognises : Recognises patterns width rows)
@@ -43,13 +35,7 @@ module _ (patterns : List (List ℕ)) (width : ℕ) (rows : List ℕ) (recognise
     (below : symbol < width) (code : ℕ) (code_is : code ≡ get_or rows (place + symbol) 0)
   where
     to : LeadsTo patterns recognises.words width code (live_suffix patterns (text ++ symbol ∷ []))
-    to =
-        subst (LeadsTo patterns recognises.words width code)
-        (sym (ap (λ w. live_suffix patterns (w ++ symbol ∷ [])) at.live_suffix) ∙ live_push patterns text (symbol ∷ []))
-        (subst (λ n. LeadsTo patterns recognises.words width n
-        (live_suffix patterns (word_of recognises.words at.state ++ symbol ∷ [])))
-        (sym (code_is ∙ ap (λ p. get_or rows (p + symbol) 0) at.place_is))
-        (recognises.leads at.state symbol at.is_state below))
+    to = grind (arith, live_push)
 
     leads_by : (ends : Option ℕ) → ending patterns (text ++ symbol ∷ []) ≡ ends
         → code ≡ code_of (to.state * stride_of width) ends
@@ -164,21 +150,11 @@ at_start patterns width rows recognises = record {
 pub row_at : (patterns : List (List ℕ)) (width : ℕ) (rows : List ℕ)
     (recognises : Recognises patterns width rows) (text : List ℕ) (place : ℕ)
     → IsAt patterns width rows recognises text place → IsRow width rows place
-row_at patterns width rows recognises text place at = record {
-  state = at.state;
-  place_is = at.place_is;
-  fits = omega (arith, at.place_is, row_fits patterns width rows recognises at.state at.is_state);
-}
+row_at patterns width rows recognises text place at = grind (arith, row_fits)
 
 pub text_length : (classes haystack : List ℕ) (start at : ℕ) → start ≤ at → at ≤ length haystack
     → start + length (text_of classes haystack (between start at)) ≡ at
-text_length classes haystack start at after inside =
-    omega (
-      arith,
-      length-map (slice_range haystack start at) (λ byte. get_or classes byte 0),
-      length-take (at - start) (drop start haystack),
-      length-drop start haystack,
-    )
+text_length classes haystack start at after inside = grind (arith, length-drop, length-map, length-take)
 
 -- what `get` answers, if it answers, is the number there
 pub got_is : (numbers : List ℕ) (i : ℕ) (answer : Option (Bor ℕ)) (item : Bor ℕ) → IsItemAt numbers i answer
@@ -205,18 +181,10 @@ module _ (width : ℕ) (rows : List ℕ) (from : ℕ) (classes haystack : List �
       → NoneEnds patterns text classes haystack start at
       → ending patterns (read_to text classes haystack start (at + 1)) ≡ None
       → NoneEnds patterns text classes haystack start (at + 1)
-  none_push patterns text at none here end after upto = elim (cases_lt at end) [
-    | inl last ↦
-        let is : at + 1 ≡ end = omega arith in
-        subst (λ e. ending patterns (read_to text classes haystack start e) ≡ None) is here
-    | inr before ↦ none end after before
-  ]
+  none_push patterns text at none here end after upto = grind (arith, cases_lt)
 
   pub walks_start : WalksOn width rows from classes haystack start start from
-  walks_start patterns recognises text at = (
-    subst (λ t. IsAt patterns width rows recognises t from) (sym (read_nothing text)) at,
-    λ end after upto. absurd (omega arith),
-  )
+  walks_start patterns recognises text at = grind (arith, read_nothing)
 
   module _ (at place : ℕ) (walks : WalksOn width rows from classes haystack start at place) (after : start ≤ at)
       (inside : at < length haystack) (below : get_or classes (get_or haystack at 0) 0 < width) (code : ℕ)

@@ -33,7 +33,6 @@ back_tables_by search b = record {
   classes = classes_by b.table;
   width = b.table.width;
   rows = rows_by b.table;
-  best = b.best.now;
   longest = b.table.longest;
 }
 
@@ -69,16 +68,11 @@ pub record BeginsBest (p : BackTables) (haystack : List ℕ) (end at i : ℕ) : 
 abbrev pub named_by : BackTables → ℕ → ℕ
 named_by p code = slice_index p.rows (code - 2 ^ 31 + p.width)
 
--- and the best of its suffixes
-abbrev pub best_by : BackTables → ℕ → ℕ
-best_by p code = slice_index p.best (named_by p code)
-
 -- what a number of a row tells of the place at which it was read: from 2^31 on, that a pattern begins there, and which
 pub record IsMark (p : BackTables) (haystack : List ℕ) (end at code : ℕ) : Type 0 where
   pub none : code < 2 ^ 31 → NoneBeginsAt p haystack end at
   pub row : 2 ^ 31 ≤ code → code - 2 ^ 31 + p.width < length p.rows
-  pub named : 2 ^ 31 ≤ code → named_by p code < length p.best
-  pub best : 2 ^ 31 ≤ code → BeginsBest p haystack end at (best_by p code)
+  pub best : 2 ^ 31 ≤ code → BeginsBest p haystack end at (named_by p code)
 
 -- a part of the span, as long as the longest pattern if more is behind it
 pub record IsBlock (longest : ℕ) (span block : Span) : Type 0 where

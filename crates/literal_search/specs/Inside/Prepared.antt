@@ -71,7 +71,7 @@ pub record IsBackIn (numbers : List ℕ) (b : Backward) : Type 0 where
   pub tables : (search : SearchValue) → back_tables_by search b ≡ back_tables_in search numbers
   pub longest : b.table.longest ≡ longest_in numbers
   pub patterns : length b.lens.now ≡ slice_index numbers 3
-  pub end : LENGTHS_AT + length b.lens.now + length b.table.rows.now + length b.best.now + length b.prints.now
+  pub end : LENGTHS_AT + length b.lens.now + length b.table.rows.now + length b.prints.now
       ≡ prepared_len numbers
 
 -- where the list goes on there are marks, for whatever the array is prepared for, if no pattern is longer than a block

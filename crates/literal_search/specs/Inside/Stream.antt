@@ -5,7 +5,6 @@ use Rattle.std.specs.Io.KnownBytes.{IsAtEnd}
 use Rattle.std.specs.IoError.{error_kind}
 use Rattle.std.specs.List.{slice_range}
 use Rattle.std.specs.Option.{option_map}
-use Rattle.std.specs.declared.io.Error.{Error}
 use Rattle.literal_base.specs.MatchValue.{MatchValue}
 use Rattle.literal_search.specs.SearchValue.{SearchValue, longest_of}
 use Rattle.literal_search.specs.Stream.{PassesOver, ReadsPiece, StreamValue}
@@ -29,10 +28,6 @@ pub record IsWindow (w : Window) : Type 0 where
   pub inside : w.end ≤ length w.bytes.items
   pub fits : w.offset + (w.end - w.start) < 2 ^ 64
 
--- there is room for more than so many bytes
-abbrev pub HasRoom : Window → ℕ → Type 0
-HasRoom w len = len < length w.bytes.items
-
 -- more may be read: neither was all read, nor has reading failed
 abbrev pub IsOpen : Reading → Type 0
 IsOpen r = (r.is_whole ≡ false) × (r.error ≡ None)
@@ -40,12 +35,6 @@ IsOpen r = (r.is_whole ≡ false) × (r.error ≡ None)
 -- a piece is read, and none once all was read or reading failed: then it stays so
 abbrev pub HasReadOn : Reading → List ℕ → Reading → Type 0
 HasReadOn old piece new = ¬ IsOpen old → (piece ≡ []) × (new ≡ old)
-
--- and so it may be read once more than there are bytes
-abbrev pub turns_left : Bool → Option Error → ℕ
-turns_left true error = 0
-turns_left false None = 1
-turns_left false (Some error) = 0
 
 -- all was read only where nothing is left and reading did not fail; and the error of a failure is there to be given
 pub record IsSoundReading (r : Reading) (unread : Option (List ℕ)) : Type 0 where
@@ -56,7 +45,7 @@ pub record IsSoundReading (r : Reading) (unread : Option (List ℕ)) : Type 0 wh
 -- and a search through a window, which goes on while what it holds is fewer than twice the longest pattern
 pub record IsSoundStream (longest : ℕ) (w : Window) (r : Reading) (unread : Option (List ℕ)) : Type 0 where
   pub window : IsWindow w
-  pub room : HasRoom w (2 * longest)
+  pub room : 2 * longest < length w.bytes.items
   pub reading : IsSoundReading r unread
 
 -- how many bytes may still matter behind what is known not to begin a match: none where the text is over

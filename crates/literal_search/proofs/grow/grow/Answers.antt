@@ -1,3 +1,4 @@
+use Rattle.std.proofs.lemmas.Grind.{common_steps}
 use Rattle.std.proofs.Common.{◌≡◌, ◌*◌, ◌∙◌, ap, arith, length, refl, subst}
 use Rattle.std.proofs.Math.Nat.{mul-le-mul_right}
 use Rattle.literal_search.specs.Inside.Growing.{texts_of, words_of}
@@ -48,6 +49,4 @@ pub returns-clause-few : goal.returns-clause-few
 unfolding IsRowsLength
 returns-clause-few c many =
     let rows = returns-clause-states c in
-    let fits = mul-le-mul_right (stride_of c.args.width) (rows.1.most many.0 many.1) in
-    let few = (returns-clause-recognises c).few in
-    omega (arith, fits, few, rows.2, many.2)
+    grind (arith, common_steps, mul-le-mul_right)

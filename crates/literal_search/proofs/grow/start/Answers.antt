@@ -1,4 +1,4 @@
-use Rattle.std.proofs.Common.{◌≡◌, ◌∙◌, ◌++◌, ◌∷◌, [], ap, length, List, ℕ, refl, sym, subst}
+use Rattle.std.proofs.Common.{arith, ◌≡◌, ◌∙◌, ◌∷◌, [], ap, length, List, ℕ, sym, subst}
 use Rattle.std.proofs.lemmas.List.FromFn.{length-range_with_len}
 use Rattle.std.specs.List.{range_with_len}
 use Rattle.literal_search.specs.Inside.Growing.{AreTexts, IsGrowing}
@@ -19,16 +19,4 @@ started t s states lists rows texts depth start end none s_is l_is r_is =
     (end ∙ (ap (λ (l : List ℕ). length l) l_is ∙ length-range_with_len 0 (length t.patterns.now))) none)))
 
 pub returns-clause-grows : goal.returns-clause-grows
-returns-clause-grows c =
-    let first : State = record {
-      pattern = 0;
-      depth = 0;
-      start = 0;
-      end = c.len.result;
-      failure = 0;
-      ending = 4294967295;
-    } in
-    started c.args.texts first c.push.new.self.items c.in_ok-lists.lists.items c.new.result.items c.requires refl refl
-    (c.len.ensures ∙ c.in_ok-lists.lists.ok.0) refl
-    (c.in_ok-push.ensures.items ∙ ap (λ (l : List State). l ++ first ∷ []) c.new-states.ensures.items)
-    c.in_ok-lists.ensures c.new.ensures.items
+returns-clause-grows c = grind (arith, started)

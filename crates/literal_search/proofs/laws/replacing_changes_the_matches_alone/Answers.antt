@@ -6,5 +6,4 @@ pub returns-clause-same : goal.returns-clause-same
 returns-clause-same c = λ query haystack all. same_behind query haystack 0 all
 
 pub returns-clause-length : goal.returns-clause-length
-returns-clause-length c = λ query ignore_case haystack replacements all greedy.
-    omega (arith, length_behind query ignore_case haystack replacements 0 all (omega arith) greedy)
+returns-clause-length c = grind (arith, length_behind)

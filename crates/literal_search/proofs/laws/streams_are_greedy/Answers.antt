@@ -1,30 +1,20 @@
-use Rattle.std.proofs.Common.{[], List, Some, ℕ, refl}
+use Rattle.std.proofs.Common.{arith, List, Some, ℕ}
 use Rattle.literal_search.specs.SearchValue.{SearchValue}
 use Rattle.literal_search.specs.Stream.{stream_of}
 use Rattle.literal_search.specs.Inside.Stream.{GoesThrough}
-use Rattle.literal_search.proofs.lemmas.Streams.{streamed_all, streamed_failed, streamed_first}
-use Rattle.literal_search.proofs.lemmas.Streams.{streamed_len, streamed_to}
+use Rattle.literal_search.proofs.lemmas.Streams.{streamed_all, streamed_failed, streamed_first, streamed_len}
+use Rattle.literal_search.proofs.lemmas.Streams.{streamed_to}
 use Rattle.literal_search.proofs.laws.streams_are_greedy.Goals as goal
 
 -- at first it is a prefix of the text
 at_the_start : (search : SearchValue) (bytes : List ℕ) → GoesThrough search bytes (stream_of search (Some bytes))
-at_the_start search bytes = record {
-  before = [];
-  rest = bytes;
-  search_is = refl;
-  unread = refl;
-  offset = refl;
-  whole = refl;
-  not_over = refl;
-}
+at_the_start search bytes = grind arith
 
 pub returns-clause-so_far : goal.returns-clause-so_far
-returns-clause-so_far c = λ search bytes last all more run greedy.
-    streamed_first search bytes (stream_of search (Some bytes)) all last more (at_the_start search bytes) run greedy
+returns-clause-so_far c = grind (arith, streamed_first, at_the_start)
 
 pub returns-clause-whole : goal.returns-clause-whole
-returns-clause-whole c = λ search bytes last ended all run ends.
-    streamed_all search bytes (stream_of search (Some bytes)) all last ended (at_the_start search bytes) run ends
+returns-clause-whole c = grind (arith, streamed_all, at_the_start)
 
 pub returns-clause-read : goal.returns-clause-read
 returns-clause-read c = λ search bytes last ended all run ends.

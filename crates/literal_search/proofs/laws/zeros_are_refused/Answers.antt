@@ -1,8 +1,7 @@
-use Rattle.std.proofs.Common.{◌≡◌, ◌-◌, ◌∙◌, ℕ, List, [], ◌∷◌, drop, get_or, refl, sym, take}
+use Rattle.std.proofs.Common.{arith, ◌≡◌, ◌∙◌, ℕ, List, [], ◌∷◌, drop, get_or, refl, sym, take}
 use Rattle.std.proofs.lemmas.List.Elements.{All-drop, All-head, All-take}
 use Rattle.std.specs.List.{All}
-use Rattle.literal_search.specs.Prepared.{check_of, prepared_len}
-use Rattle.literal_search.specs.PreparedOverlapping.{overlapping_len}
+use Rattle.literal_search.specs.Prepared.{check_of}
 use Rattle.literal_search.proofs.lemmas.Check.{zeros_are_told}
 use Rattle.literal_search.proofs.laws.zeros_are_refused.Goals as goal
 
@@ -19,7 +18,4 @@ check_is_wrong zeros len are is =
     (sym is ∙ first_is_zero zeros are)
 
 pub returns : goal.returns
-returns c = record {
-  prepared = λ version zeros are whole. check_is_wrong zeros (prepared_len (version ∷ zeros) - 2) are whole.check;
-  overlapping = λ version zeros are whole. check_is_wrong zeros (overlapping_len (version ∷ zeros) - 2) are whole.check;
-}
+returns c = grind (arith, check_is_wrong)

@@ -1,17 +1,12 @@
-use Rattle.std.proofs.Common.{◌++◌, ◌∙◌, ℕ, List, [], ap, arith, length, map, refl, subst, sym}
+use Rattle.std.proofs.Common.{◌∙◌, ℕ, List, [], arith, map, refl, subst, sym}
 use Rattle.std.proofs.lemmas.Bool.{eqb-true}
 use Rattle.std.proofs.lemmas.List.{length-map, nil_from_length}
 use Rattle.std.specs.Global.{Vec}
-use Rattle.literal_base.specs.Occurs.{NoneIsEmpty}
-use Rattle.literal_search.specs.Inside.Lists.{AreLists}
 use Rattle.literal_search.specs.Inside.Overlapping.{AreListed}
-use Rattle.literal_search.specs.Inside.Prepared.{numbers_for}
 use Rattle.literal_search.specs.Inside.Standing.{overlapping_value}
 use Rattle.literal_search.specs.PreparedOverlapping.{AreTables, Tables}
 use Rattle.literal_search.specs.SearchValue.{NeedFewStates, NeedTooManyStates}
-use Rattle.literal_search.specs.States.{HasTooManyStates, IsRowsLength}
-use Rattle.literal_search.specs.Table.{Recognises}
-use Rattle.literal_search.specs.declared.prepared.TheConstants.{OVERLAPPING_VERSION}
+use Rattle.literal_search.specs.States.{HasTooManyStates}
 use Rattle.literal_search.proofs.lemmas.BackTables.{short_forward}
 use Rattle.literal_search.proofs.lemmas.Built.{holds_in, passed_on, same_texts}
 use Rattle.literal_search.proofs.lemmas.Found.{some_symbols}
@@ -54,13 +49,7 @@ lists-requires c =
     let classes = c.classes_for-classes.result in
     let patterns = c.args.patterns.now in
     let texts = same_texts classes.table patterns patterns refl in
-    record {
-      classes = c.classes_for-classes.ensures.classes;
-      recognises = subst (Recognises _ classes.width) (sym c.deref.ensures.value) c.in_ok-rows.ensures.recognises;
-      some = subst (λ (t : List (List ℕ)). NoneIsEmpty t) (sym texts)
-          (some_symbols classes.table (bytes_of patterns) c.requires.some);
-      few = omega (arith, c.requires.few, length-map patterns (λ (pattern : Vec ℕ). pattern.items));
-    }
+    grind (arith, some_symbols, length-map)
 
 pub written-requires-clause-short : goal.written-requires-clause-short
 written-requires-clause-short c =
@@ -87,29 +76,12 @@ returns-clause-kept c =
       ends = ends;
       starts = starts;
     } in
-    let are : AreTables t = record {
-      classes = c.classes_for-classes.ensures.classes;
-      tells = c.classes_for-classes.ensures.tells;
-      recognises = subst (λ (texts : List (List ℕ)). Recognises texts classes.width rows) texts
-          c.in_ok-rows.ensures.recognises;
-      lists = subst (AreLists _ ends starts) (sym (length-map patterns (λ (pattern : Vec ℕ). pattern.items)))
-          (subst (λ (texts : List (List ℕ)). AreLists texts ends starts (length patterns)) texts
-          c.in_ok-lists.ensures);
-      kept = c.requires;
-    } in
+    let are : AreTables t = grind (arith, length-map) in
     let prints = c.prints_for-prints.result in
-    let All = λ (r s e : List ℕ). numbers_for OVERLAPPING_VERSION classes.table classes.width (bytes_of patterns) r s
-    (e ++ prints) in
     let is = c.in_ok-numbers.ensures
-    ∙ (ap (λ r. All r c.as_slice-starts.result.now c.as_slice-ends.result.now) c.deref-2.ensures.value
-    ∙ (ap (λ s. All rows s c.as_slice-ends.result.now) c.as_slice-starts.ensures.value
-    ∙ ap (All rows starts) c.as_slice-ends.ensures.value)) in
+    ∙ (grind arith) in
     subst (AreListed (overlapping_value t)) (sym is) (listed_all t are prints (omega arith) c.prints_for-prints.ensures
-    (record {
-      width = c.classes_for-classes.ensures.width;
-      rows = subst (λ (texts : List (List ℕ)). IsRowsLength texts classes.width (length rows)) texts
-          c.in_ok-rows.ensures.states;
-    }))
+    (grind arith))
 
 pub returns-clause-few : goal.returns-clause-few
 returns-clause-few c =

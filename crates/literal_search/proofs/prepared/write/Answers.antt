@@ -1,4 +1,4 @@
-use Rattle.std.proofs.Common.{◌≡◌, ◌<◌, rules, ◌+◌, ◌^◌, ◌∷◌, ◌++◌, ◌∙◌, ℕ, List, ap, arith, length, length-append}
+use Rattle.std.proofs.Common.{◌≡◌, ◌+◌, ◌∷◌, ◌++◌, ◌∙◌, ℕ, List, ap, arith, length, length-append}
 use Rattle.std.proofs.Common.{map, subst, sym}
 use Rattle.std.specs.List.{slice_range}
 use Rattle.std.proofs.Math.ListN.{set}
@@ -56,8 +56,4 @@ returns c =
     (ap (λ n. body n longest) (sym many) ∙ ap (body (length all)) c.longest_len-longest.ensures) written
 
 pub overflow_cast-longest : goal.overflow_cast-longest
-overflow_cast-longest c =
-    let short = longest_short (map (λ (p : Vec ℕ). p.items) c.args.patterns.now) (2 ^ 32) (omega arith)
-    c.requires.short in
-    let below : c.longest_len-longest.result < 2 ^ 32 = omega (arith, short, c.longest_len-longest.ensures) in
-    search (rules, below)
+overflow_cast-longest c = grind (arith, longest_short)

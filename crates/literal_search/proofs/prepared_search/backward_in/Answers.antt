@@ -1,11 +1,11 @@
-use Rattle.std.proofs.Common.{◌≡◌, ◌+◌, ◌<◌, ◌≤◌, ◌≢◌, ◌∙◌, ℕ, List, ap, arith, get_or, length, refl, subst, sym}
+use Rattle.std.proofs.Common.{◌≡◌, ◌+◌, ◌<◌, ◌≤◌, ◌≢◌, ◌∙◌, ℕ, List, ap, arith, get_or, length, subst, sym}
 use Rattle.std.specs.List.{slice_range}
 use Rattle.literal_search.specs.Inside.Packed.{unpacked}
 use Rattle.literal_search.specs.Inside.Prepared.{IsHeader}
 use Rattle.literal_search.specs.Prepared.{HasParts, classes_end, classes_in, lengths_in, longest_in, rows_in, width_in}
 use Rattle.literal_search.specs.SearchValue.{SearchValue}
-use Rattle.literal_search.specs.Prepared.{AreBackTables, ArePrints, BackTables, HasAllParts, best_end, best_in}
-use Rattle.literal_search.specs.Prepared.{prepared_len, prints_in}
+use Rattle.literal_search.specs.Prepared.{AreBackTables, ArePrints, BackTables, HasAllParts}
+use Rattle.literal_search.specs.Prepared.{prints_in}
 use Rattle.literal_search.specs.declared.prepared.Header.{Header}
 use Rattle.literal_search.specs.declared.prepared.TheConstants.{PREPARED_VERSION}
 use Rattle.literal_search.proofs.lemmas.BackTables.{same_tables}
@@ -21,33 +21,15 @@ module _ (f : Header) (numbers : List ℕ) (same : f.numbers.now ≡ numbers) (h
   known : (end f ≡ classes_end numbers) × (length f.lengths.now ≡ get_or numbers 3 0)
   known = parts_end f numbers same header
 
-  has_parts : HasParts PREPARED_VERSION numbers → end f + length f.lengths.now + 35 ≤ length numbers
+  has_parts : HasParts PREPARED_VERSION numbers → end f + 35 ≤ length numbers
       → length f.rows.now ≢ 256 → HasAllParts f.numbers.now
-  has_parts parts long some =
-      let own = parts_end f f.numbers.now refl header in
-      let fits = parts.fits in
-      record {
-        parts = subst (λ (n : List ℕ). HasParts PREPARED_VERSION n) (sym same) parts;
-        fits = omega (arith, long, fits, own.0, own.1, known.0, ap (λ (l : List ℕ). length l) same);
-        row = omega (arith, some, own.0, own.1);
-      }
+  has_parts parts long some = grind (arith, known, parts_end)
 
-  best_are : slice_range numbers (end f) (end f + length f.lengths.now) ≡ best_in f.numbers.now
-  best_are =
-      let to : end f + length f.lengths.now ≡ best_end numbers = omega (arith, known.0, known.1) in
-      ap (λ from. slice_range numbers from (end f + length f.lengths.now)) known.0
-      ∙ (ap (slice_range numbers (classes_end numbers)) to ∙ ap best_in (sym same))
-
-  prints_are : slice_range numbers (end f + length f.lengths.now) (end f + length f.lengths.now + 35)
-      ≡ prints_in numbers
-  prints_are =
-      let from : end f + length f.lengths.now ≡ best_end numbers = omega (arith, known.0, known.1) in
-      let to : end f + length f.lengths.now + 35 ≡ prepared_len numbers = omega (arith, known.0, known.1) in
-      ap (λ k. slice_range numbers k (end f + length f.lengths.now + 35)) from
-      ∙ ap (slice_range numbers (best_end numbers)) to
+  prints_are : slice_range numbers (end f) (end f + 35) ≡ prints_in numbers
+  prints_are = ap (λ k. slice_range numbers k (k + 35)) known.0
 
   -- why there are none
-  short : length numbers < end f + length f.lengths.now + 35 → ¬ HasAllParts numbers
+  short : length numbers < end f + 35 → ¬ HasAllParts numbers
   short few parts = let fits = parts.fits in omega (arith, few, fits, known.0, known.1)
 
 pub returns : goal.returns
@@ -59,20 +41,18 @@ returns c =
     let known = parts_end f numbers told.0 header in
     let parts = subst HasAllParts told.0
     (has_parts f numbers told.0 header told.1 c.if-is_short.false c.if-header-eq-CLASSES_LEN.false) in
-    let best = best_are f numbers told.0 header in
-    let best_is = best ∙ ap best_in told.0 in
     let prints_is = prints_are f numbers told.0 header in
     let tables = λ (search : SearchValue). same_tables search _ (classes_in numbers) _ (width_in numbers) _
-    (rows_in numbers) _ (best_in numbers) _ (longest_in numbers)
+    (rows_in numbers) _ (longest_in numbers)
     (ap unpacked header.classes_are ∙ ap classes_in told.0) (header.width_is ∙ ap width_in told.0)
-    (rows_are header ∙ ap rows_in told.0) best_is (header.longest_is ∙ ap longest_in told.0) in
+    (rows_are header ∙ ap rows_in told.0) (header.longest_is ∙ ap longest_in told.0) in
     record {
       parts = parts;
       safe = record {
         each = classes_long header;
         row = omega (arith, parts.row, known.0, known.1);
         few = omega (arith, told.1.few, known.1);
-        prints = length_part numbers (end f + length f.lengths.now) (end f + length f.lengths.now + 35) (omega arith)
+        prints = length_part numbers (end f) (end f + 35) (omega arith)
             (omega (arith, c.if-is_short.false)) ∙ omega arith;
       };
       is_for = λ search is. record {
@@ -83,11 +63,5 @@ returns c =
       tables = tables;
       longest = header.longest_is ∙ ap longest_in told.0;
       patterns = known.1;
-      end = omega (
-        arith,
-        known.0,
-        known.1,
-        length_part numbers (end f) (end f + length f.lengths.now) (omega arith)
-            (omega (arith, c.if-is_short.false, parts.fits, known.0, known.1)),
-      );
+      end = omega (arith, known.0, known.1);
     }

@@ -1,4 +1,4 @@
-use Rattle.std.proofs.Common.{◌≡◌, ◌+◌, ◌-◌, ◌≤◌, ◌∙◌, [], List, ℕ, None, Some, ap, arith, drop, false, length, refl}
+use Rattle.std.proofs.Common.{◌≡◌, ◌-◌, ◌≤◌, ◌∙◌, [], List, ℕ, None, Some, ap, arith, drop, false, length, refl}
 use Rattle.std.proofs.Common.{sym, true}
 use Rattle.std.proofs.Math.Seq.{drop-length}
 use Rattle.std.specs.IoError.{error_kind}
@@ -10,11 +10,7 @@ use Rattle.literal_search.proofs.lemmas.Streams.{held_fits, known_end, nothing_l
 use Rattle.literal_search.proofs.stream.next_match.Goals as goal
 
 pub loop-found-init : goal.loop-found-init
-loop-found-init g c = record {
-  sound = c.requires;
-  gone = gone_nowhere (stream_value c.args.search.now c.args.window.now c.args.reading.now
-      (g.R.Read.remaining c.args.reader.now) false);
-}
+loop-found-init g c = grind (arith, gone_nowhere)
 
 pub returns-in-Found-clause-gives : goal.returns-in-Found-clause-gives
 returns-in-Found-clause-gives g c =
@@ -25,8 +21,6 @@ returns-in-Found-clause-gives g c =
     let s = c.next_known.new.reading in
     let left = g.R.Read.remaining c.next_known.new.reader in
     let one = c.in-Found.ensures in
-    let behind = c.take.ensures.held in
-    let offset = c.take.ensures.offset in
     goes_behind old (stream_value search v s left false) (stream_value search c.take.new.window s left false)
     c.in-Found.found c.take.result
     (one.answers (known left) (λ is. known_end left (one.sound.reading.whole is)))
@@ -44,14 +38,8 @@ loop-found-preserved g c =
     let left = g.R.Read.remaining c.next_known.new.reader in
     let one = c.in-NoneBefore.ensures in
     let in_part = (c.if-is_open.ensures.0 refl).0 in
-    let behind = c.pass.ensures.held in
-    let offset = c.pass.ensures.offset in
     record {
-      sound = record {
-        window = c.pass.ensures.window;
-        room = omega (arith, c.pass.ensures.room, one.sound.room);
-        reading = one.sound.reading;
-      };
+      sound = grind arith;
       gone = gone_past old (stream_value search v s left false)
           (stream_value search c.pass.new.self s left false) c.in-NoneBefore.place
           (omega (arith, one.known)) (λ more. one.answers more (λ is. absurd (cc))) (cc)
@@ -74,8 +62,6 @@ returns-in-Some-clause-gives g c =
     one.sound.reading.apart failed in
     let behind : held c.pass-in-NoneBefore-2.new.self ≡ [] = c.pass-in-NoneBefore-2.ensures.held
     ∙ (ap (λ (l : List ℕ). drop (length l) (held v)) c.held.ensures ∙ drop-length (held v)) in
-    let offset : c.pass-in-NoneBefore-2.new.self.offset ≡ v.offset + length (held v) =
-    c.pass-in-NoneBefore-2.ensures.offset ∙ ap (λ (l : List ℕ). v.offset + length l) c.held.ensures in
     let far : length (held v) - (longest_of search.query.patterns - 1) ≤ c.in-NoneBefore-2.field-0 =
     omega (arith, one.known, ap (kept_back search.query.patterns) in_part) in
     ends_failed old (stream_value search v s left false)
@@ -99,8 +85,6 @@ returns-in-None-clause-gives g c =
     (λ more. let is : false ≡ true = c.if-is_open.ensures.1 more in (cc)) none in
     let behind : held c.pass-in-NoneBefore-2.new.self ≡ [] = c.pass-in-NoneBefore-2.ensures.held
     ∙ (ap (λ (l : List ℕ). drop (length l) (held v)) c.held.ensures ∙ drop-length (held v)) in
-    let offset : c.pass-in-NoneBefore-2.new.self.offset ≡ v.offset + length (held v) =
-    c.pass-in-NoneBefore-2.ensures.offset ∙ ap (λ (l : List ℕ). v.offset + length l) c.held.ensures in
     let far : length (held v) ≤ c.in-NoneBefore-2.field-0 =
     omega (arith, one.known, ap (kept_back search.query.patterns) whole) in
     ends_whole old (stream_value search v s left false)

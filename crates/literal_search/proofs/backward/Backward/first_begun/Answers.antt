@@ -67,13 +67,7 @@ returns-then-front-span-clause-counted c =
 
 pub returns-then-is_some-clause-first : goal.returns-then-is_some-clause-first
 returns-then-is_some-clause-first c = λ search is.
-    let tables = back_tables_by search c.args.self.now in
-    let end = c.args.span.end in
-    let at = c.loop-block.front.at in
-    let looked = c.in_ok-looked.looked in
-    part_on tables c.args.haystack.now end c.args.span.start at end (c.loop-block.invariant.none search is) looked.first
-    (some_first tables c.args.haystack.now end at looked.front.at end looked.first
-    (sym c.is_some.ensures ∙ c.if-is_some.true) (c.in_ok-looked.ensures.first search is))
+    grind (arith, part_on, some_first)
 
 pub returns-in_err-looked-clause-most : goal.returns-in_err-looked-clause-most
 returns-in_err-looked-clause-most c =

@@ -1,6 +1,5 @@
-use Rattle.std.proofs.Common.{ℕ, Option, Some, ap, arith, refl, sym}
+use Rattle.std.proofs.Common.{arith}
 use Rattle.literal_search.specs.Inside.Backward.{back_tables_by}
-use Rattle.literal_search.specs.declared.backward.Begun.{Begun}
 use Rattle.literal_search.proofs.lemmas.Leftmost.{first_on, lane_small}
 use Rattle.literal_search.proofs.backward.Backward.go_on.Goals as goal
 
@@ -11,11 +10,7 @@ returns-then-code-limit-clause-lane c = λ search is haystack span end to to_is 
 
 pub returns-then-code-limit-clause-first : goal.returns-then-code-limit-clause-first
 returns-then-code-limit-clause-first c = λ search is haystack span end next to upto next_is to_is before step first.
-    let small = c.requires.limit.is in
-    first_on (back_tables_by search c.args.self.now) haystack span end to c.args.code (omega (arith, to_is, before))
-    step
-    upto next (omega (arith, next_is, to_is)) c.args.begun.now c.args.begun.now
-    (λ large. absurd (omega (arith, small, large, c.if-code-limit.true))) (λ _. refl) first
+    grind (arith, first_on)
 
 pub returns-then-on-limit-clause-lane : goal.returns-then-on-limit-clause-lane
 returns-then-on-limit-clause-lane c = λ search is haystack span end to to_is step.
@@ -32,9 +27,4 @@ returns-clause-lane c = λ search is haystack span end to to_is step. step.lane
 
 pub returns-clause-first : goal.returns-clause-first
 returns-clause-first c = λ search is haystack span end next to upto next_is to_is before step first.
-    let limit = c.requires.limit.is in
-    first_on (back_tables_by search c.args.self.now) haystack span end to c.args.code (omega (arith, to_is, before))
-    step
-    upto next (omega (arith, next_is, to_is)) c.args.begun.now (Some (record { at = c.args.at; code = c.args.code }))
-    (λ _. ap (λ (n : ℕ). let o : Option Begun = Some (record { at = n; code = c.args.code }) in o) (sym to_is))
-    (λ small. absurd (omega (arith, small, limit, c.if-code-limit.false, c.if-on-limit.false))) first
+    grind (arith, first_on)

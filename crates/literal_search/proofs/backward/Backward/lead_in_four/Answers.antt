@@ -1,48 +1,10 @@
-use Rattle.std.proofs.Common.{◌≡◌, ◌+◌, ◌-◌, ◌*◌, ◌≤◌, ◌∙◌, ℕ, ap, arith, inl, inr, refl, subst}
+use Rattle.std.proofs.Common.{◌≡◌, ◌+◌, ◌-◌, ◌*◌, ◌∙◌, ℕ, ap, arith, refl}
 use Rattle.literal_base.specs.Counts.{Counts}
-use Rattle.literal_search.specs.Inside.Backward.{AreBackFor, back_tables_by}
-use Rattle.literal_base.specs.Occurs.{between}
-use Rattle.literal_search.specs.Inside.Leftmost.{IsFirstBegun, IsLane}
-use Rattle.literal_search.specs.SearchValue.{SearchValue}
 use Rattle.literal_search.proofs.lemmas.Leftmost.{lane_begins, lane_there, one_more}
 use Rattle.literal_search.proofs.backward.Backward.lead_in_four.Goals as goal
 
 pub loop-step-init : goal.loop-step-init
-loop-step-init c =
-    let at = c.args.at in
-    let part = c.args.block.part in
-    let lead = c.args.block.lead in
-    let parts = c.requires.parts in
-    let inside = parts.inside in
-    let far = parts.far in
-    let row = c.requires.limit.some in
-    let tables = λ (search : SearchValue). back_tables_by search c.args.self.now in
-    let begins : (search : SearchValue) → AreBackFor search c.args.self.now → (end from at : ℕ) → at ≡ from
-    → from ≤ c.args.span.end → end + c.args.self.now.table.longest ≤ from + 1
-    → IsLane (tables search) c.args.haystack.now c.args.span end at 0 =
-    λ search is end from at same inside far. lane_begins (tables search) is.tables c.args.haystack.now
-    (λ i. omega (arith, c.type_inv.haystack i)) c.args.span end from at same inside (inr far) in
-    let none : c.args.tally.now.scanned ≡ c.args.tally.now.scanned + 4 * (lead - lead) = omega arith in
-    record {
-      before = omega arith;
-      rows = record { first = row; second = row; third = row; fourth = row };
-      lanes = λ search is. record {
-        first = begins search is (at + part) (at + part + lead) (at + (part + lead)) (omega arith)
-            (omega (arith, inside)) (omega (arith, far));
-        second = begins search is (at + 2 * part) (at + 2 * part + lead) (at + part + (part + lead)) (omega arith)
-            (omega (arith, inside)) (omega (arith, far));
-        third = begins search is (at + 3 * part) (at + 3 * part + lead) (at + 2 * part + (part + lead)) (omega arith)
-            (omega (arith, inside)) (omega (arith, far));
-        fourth = begins search is (at + 4 * part) (at + 4 * part + lead) (at + 3 * part + (part + lead)) (omega arith)
-            (omega (arith, inside)) (omega (arith, far));
-      };
-      last = λ search is whole.
-          lane_begins (tables search) is.tables c.args.haystack.now (λ i. omega (arith, c.type_inv.haystack i))
-          c.args.span c.args.span.end c.args.span.end (at + 4 * part + lead) whole (omega arith) (inl refl);
-      behind = λ search is whole k after before. absurd (omega (arith, whole, after, before));
-      lies = tt;
-      counted = ap (λ (n : ℕ). let t : Counts = record c.args.tally.now { scanned = n } in t) none;
-    }
+loop-step-init c = grind (arith, lane_begins)
 
 pub returns-in_err-first-clause-led : goal.returns-in_err-first-clause-led
 returns-in_err-first-clause-led c = λ search is.
@@ -127,22 +89,4 @@ loop-step-preserved c =
 
 pub returns-clause-led : goal.returns-clause-led
 returns-clause-led c = λ search is.
-    let tables = back_tables_by search c.args.self.now in
-    let haystack = c.args.haystack.now in
-    let span = c.args.span in
-    let at = c.args.at in
-    let part = c.args.block.part in
-    let none = c.loop-step-test.false in
-    let lanes = c.loop-step.invariant.lanes search is in
-    record {
-      lanes = record {
-        first = lane_there tables haystack span (at + part) _ _ _ (omega (arith, none)) lanes.first;
-        second = lane_there tables haystack span (at + 2 * part) _ _ _ (omega (arith, none)) lanes.second;
-        third = lane_there tables haystack span (at + 3 * part) _ _ _ (omega (arith, none)) lanes.third;
-        fourth = lane_there tables haystack span (at + 4 * part) _ _ _ (omega (arith, none)) lanes.fourth;
-      };
-      behind = λ whole.
-          let same : at + 4 * part + c.loop-step.step ≡ at + 4 * part = omega (arith, none) in
-          subst (λ n. IsFirstBegun tables haystack span.end (between n span.end) c.loop-step.behind) same
-          (c.loop-step.invariant.behind search is whole);
-    }
+    grind (arith, lane_there)

@@ -9,16 +9,7 @@ use Rattle.literal_search.proofs.lemmas.Leftmost.{marks_on}
 use Rattle.literal_search.proofs.backward.Backward.mark_alone.Goals as goal
 
 pub loop-at-init : goal.loop-at-init
-loop-at-init c = record {
-  after = c.requires.block.ordered;
-  inside = omega arith;
-  row = c.in_ok-place.ensures.row;
-  long = refl;
-  lane = c.in_ok-place.ensures.lane;
-  marks = λ search is k after before. absurd (omega (arith, after, before));
-  others = c.in_ok-place.ensures.others;
-  scanned = c.in_ok-place.ensures.all;
-}
+loop-at-init c = grind arith
 
 pub returns-in_err-code-clause-marks : goal.returns-in_err-code-clause-marks
 returns-in_err-code-clause-marks c = λ search is.

@@ -1,9 +1,9 @@
-use Rattle.std.proofs.Common.{◌≡◌, ◌+◌, ◌-◌, ◌*◌, ◌≤◌, ◌∙◌, ℕ, ap, arith, length, set, subst, sym}
+use Rattle.std.proofs.Common.{◌≡◌, ◌+◌, ◌-◌, ◌*◌, ◌≤◌, ◌∙◌, ℕ, ap, arith, length, set, sym}
 use Rattle.std.proofs.lemmas.Bool.{false≢true}
 use Rattle.std.proofs.lemmas.List.{length-set}
 use Rattle.literal_base.specs.Counts.{Counts}
 use Rattle.literal_search.specs.Inside.Backward.{AreBackFor, back_tables_by}
-use Rattle.literal_search.specs.Inside.Leftmost.{AreLanes, AreMarksBehind, AreSteps}
+use Rattle.literal_search.specs.Inside.Leftmost.{AreLanes, AreSteps}
 use Rattle.literal_search.specs.SearchValue.{SearchValue}
 use Rattle.literal_search.specs.declared.leftmost.Lanes.{Lanes}
 use Rattle.literal_search.proofs.lemmas.Leftmost.{marks_in_four, marks_of_four, one_more, rows_of_steps, steps_in_four}
@@ -92,8 +92,4 @@ loop-step-preserved c =
 
 pub returns-clause-marks : goal.returns-clause-marks
 returns-clause-marks c = λ search is lanes marked.
-    let none : c.loop-step.step ≡ 0 = omega (arith, c.loop-step-test.false) in
-    let tables = back_tables_by search c.args.self.now in
-    marks_of_four tables c.args.haystack.now c.args.span.end c.loop-step.marks c.args.at c.args.part
-    (subst (AreMarksBehind tables c.args.haystack.now c.args.span.end c.loop-step.marks c.args.at c.args.part) none
-    (c.loop-step.invariant.marks search is lanes marked))
+    grind (arith, marks_of_four)

@@ -1,7 +1,7 @@
 use Rattle.std.proofs.Common.{◌≤◌, ℕ, IfSome, List, None, Option, Some, arith}
 use Rattle.literal_base.specs.MatchValue.{MatchValue}
 use Rattle.literal_base.specs.declared.search.Span.{Span}
-use Rattle.literal_search.specs.Inside.Backward.{AreMarked, IsMatchBy, back_tables_by}
+use Rattle.literal_search.specs.Inside.Backward.{AreMarked, IsMatchBy}
 use Rattle.literal_search.specs.MatchesValue.{place_behind}
 use Rattle.literal_search.specs.Prepared.{BackTables}
 use Rattle.literal_search.specs.declared.backward.Backward.{Backward}
@@ -26,8 +26,4 @@ marked_behind tables haystack span from numbers m before marked b (Some found) l
 
 pub returns-then-is_some-clause-marked : goal.returns-then-is_some-clause-marked
 returns-then-is_some-clause-marked c = λ search is marked.
-    marked_behind (back_tables_by search c.args.self.now) c.args.haystack.now c.args.span c.in_ok-at.at
-    c.mark_from.new.numbers c.mark_from.new.marks
-    (omega (arith, c.in_ok-at.ensures.later, c.in_ok-at.ensures.placed.known_inside))
-    (c.in_ok-at.ensures.marked search is (c.loop-from.invariant.marked search is marked)) c.args.self.now
-    c.in_ok-found.found c.in_ok-found.ensures.lies
+    grind (arith, marked_behind)

@@ -3,8 +3,7 @@ use Rattle.std.proofs.lemmas.List.{get_or_push, length_push}
 use Rattle.literal_search.specs.Inside.Growing.{texts_of, word_in, words_of}
 use Rattle.literal_search.specs.Table.{code_of, stride_of}
 use Rattle.literal_search.specs.Words.{ending, word_of}
-use Rattle.literal_search.proofs.lemmas.Growing.{words_length}
-use Rattle.literal_search.proofs.lemmas.Failures.{ending_is_small}
+use Rattle.literal_search.proofs.lemmas.Growing.{words_length, ending_is_small}
 use Rattle.literal_search.proofs.grow.Growing.add_state.Goals as goal
 
 pub returns-clause-code : goal.returns-clause-code

@@ -1,4 +1,4 @@
-use Rattle.literal_search.proofs.lemmas.Failures.{ending_by_place}
+use Rattle.literal_search.proofs.lemmas.Growing.{ending_by_place}
 use Rattle.literal_search.proofs.grow.Growing.ending_of.Goals as goal
 
 pub returns : goal.returns

@@ -1,10 +1,10 @@
-use Rattle.std.proofs.Common.{◌≡◌, ◌+◌, ◌*◌, ◌<◌, ◌∙◌, ◌++◌, ◌∷◌, [], ap, arith, length, List, ℕ, sym, subst, true}
+use Rattle.std.proofs.Common.{◌≡◌, ◌+◌, ◌*◌, ◌<◌, ◌∙◌, ◌++◌, ◌∷◌, [], arith, length, List, ℕ, sym, subst, true}
 use Rattle.std.proofs.lemmas.List.{length-append, nil_from_length}
 use Rattle.literal_search.specs.Inside.Grown.{AreWords, list_for}
 use Rattle.literal_search.specs.Inside.Growing.{AreWordsIn, IsGrowing, texts_of, word_behind, word_in, words_of}
 use Rattle.literal_search.specs.States.{AreStates}
 use Rattle.literal_search.specs.Table.{LeadsTo, stride_of}
-use Rattle.literal_search.specs.Words.{begins_one, live_suffix, word_of}
+use Rattle.literal_search.specs.Words.{begins_one}
 use Rattle.literal_search.specs.declared.grow.Growing.{Growing}
 use Rattle.literal_search.specs.declared.grow.State.{State}
 use Rattle.literal_search.specs.declared.grow.Texts.{Texts}
@@ -18,10 +18,7 @@ use Rattle.literal_search.proofs.grow.Growing.next.Goals as goal
 begun_by : (g : Growing) (text longer : List ℕ) (len start : ℕ)
     → longer ≡ g.lists.items ++ list_for (texts_of g.texts) text → len ≡ length longer → start ≡ length g.lists.items
     → (len ≡ start → ⊥) → begins_one (texts_of g.texts) text ≡ true
-begun_by g text longer len start lists now was isnt =
-    let list = list_for (texts_of g.texts) text in
-    let long = ap (λ (l : List ℕ). length l) lists ∙ length-append g.lists.items list in
-    begun_by_length (texts_of g.texts) text (omega (arith, isnt, now, was, long))
+begun_by g text longer len start lists now was isnt = grind (arith, length-append, begun_by_length)
 
 -- the state of a place makes a word
 made : (g : Growing) (state class : ℕ) → IsGrowing g.texts g.states.items g.lists.items g.rows.items → AreWordsIn g
@@ -38,10 +35,7 @@ made g state class grows words is_state is_class filled begun =
 words_with : (g g' : Growing) (next : State) (state class : ℕ) → g'.texts ≡ g.texts → g'.states ≡ g.states
     → word_in (texts_of g'.texts) next ≡ word_behind g' state class
     → words_of g' ++ word_in (texts_of g'.texts) next ∷ [] ≡ words_of g ++ word_behind g state class ∷ []
-words_with g g' next state class texts states is =
-    let same = words_same g g' texts states in
-    ap (λ words. words ++ word_in (texts_of g'.texts) next ∷ []) same
-    ∙ ap (λ w. words_of g ++ w ∷ []) (is ∙ ap (λ words. word_of words state ++ class ∷ []) same)
+words_with g g' next state class texts states is = grind (arith, words_same)
 
 states_same : (t t' : Texts) (words words' : List (List ℕ)) → t' ≡ t → words' ≡ words
     → AreStates (texts_of t) words → AreStates (texts_of t') words'
@@ -92,49 +86,16 @@ returns-then-len-start-clause-words c =
     (length g.rows.items + 1) (omega arith))
 
 pub returns-then-not-is_marked-clause-leads : goal.returns-then-not-is_marked-clause-leads
-returns-then-not-is_marked-clause-leads c =
-    let g = c.args.self.now in
-    let text = word_behind g c.args.state c.args.class in
-    let unbegun = unbegun_by_list (texts_of g.texts) text (c.requires.unmarked c.if-not-is_marked.true) in
-    subst (LeadsTo (texts_of g.texts) (words_of g) g.texts.width c.behind_failure-failure.result)
-    (sym (live_unbegun (texts_of g.texts) text unbegun)) c.behind_failure-failure.ensures
+returns-then-not-is_marked-clause-leads c = grind (arith, unbegun_by_list, live_unbegun)
 
 pub returns-then-len-start-clause-leads : goal.returns-then-len-start-clause-leads
 returns-then-len-start-clause-leads c =
-    let g = c.args.self.now in
-    let g' = c.push_list.new.self in
-    let said = c.in_ok-whole.ensures in
-    let text = word_behind g c.args.state c.args.class in
-    let list = list_for (texts_of g.texts) text in
-    let same : c.len.result ≡ c.len-start.result = c.if-len-start.true in
-    let now = c.len.ensures ∙ g'.lists.ok.0 in
-    let was = c.len-start.ensures ∙ g.lists.ok.0 in
-    let long = ap (λ (l : List ℕ). length l) said.lists ∙ length-append g.lists.items list in
-    let none = nil_from_length list (omega (arith, same, now, was, long)) in
-    let unbegun = unbegun_by_list (texts_of g.texts) text none in
-    subst (λ words. LeadsTo (texts_of g.texts) words g.texts.width c.behind_failure-failure.result
-    (live_suffix (texts_of g.texts) text)) (sym (words_same g g' said.same.0 said.same.1))
-    (subst (LeadsTo (texts_of g.texts) (words_of g) g.texts.width c.behind_failure-failure.result)
-    (sym (live_unbegun (texts_of g.texts) text unbegun)) c.behind_failure-failure.ensures)
+    grind (arith, length-append, nil_from_length, unbegun_by_list, words_same, live_unbegun)
 
 -- a number leads to a word, of texts that stay the same
 leads_same : (t t' : Texts) (words : List (List ℕ)) (code : ℕ) (word word' : List ℕ) → t' ≡ t → word' ≡ word
     → LeadsTo (texts_of t') words t'.width code word' → LeadsTo (texts_of t) words t.width code word
-leads_same t t' words code word word' texts same leads =
-    subst (LeadsTo (texts_of t) words t.width code) same
-    (subst (λ u. LeadsTo (texts_of u) words u.width code word') texts leads)
+leads_same t t' words code word word' texts same leads = grind arith
 
 pub returns-clause-leads : goal.returns-clause-leads
-returns-clause-leads c =
-    let g = c.args.self.now in
-    let g' = c.push_list.new.self in
-    let said = c.in_ok-whole.ensures in
-    let text = word_behind g c.args.state c.args.class in
-    let begun = begun_by g text g'.lists.items c.len.result c.len-start.result said.lists
-    (c.len.ensures ∙ g'.lists.ok.0) (c.len-start.ensures ∙ g.lists.ok.0) c.if-len-start.false in
-    subst (LeadsTo (texts_of g.texts) (words_of c.add_state.new.self) g.texts.width c.in_ok-code.code)
-    (sym (live_begun (texts_of g.texts) text begun))
-    (leads_same g.texts g'.texts (words_of c.add_state.new.self) c.in_ok-code.code text _ said.same.0
-    (c.state_behind-next.ensures.word
-    ∙ ap (λ words. word_of words c.args.state ++ c.args.class ∷ []) (words_same g g' said.same.0 said.same.1))
-    c.in_ok-code.ensures.code)
+returns-clause-leads c = grind (arith, begun_by, live_begun, leads_same, words_same)

@@ -1,24 +1,17 @@
-use Rattle.std.proofs.Common.{◌≡◌, ◌+◌, ◌≤◌, ◌∙◌, ◌++◌, ◌∷◌, [], ap, arith, length, List, ℕ}
-use Rattle.std.proofs.Common.{sym, subst, take}
+use Rattle.std.proofs.lemmas.Grind.{common_steps}
+use Rattle.std.proofs.Common.{◌≡◌, ◌+◌, ◌≤◌, ◌∙◌, ◌++◌, ◌∷◌, [], ap, arith, length, sym, subst, take}
 use Rattle.std.proofs.lemmas.List.{length-append}
 use Rattle.std.specs.List.{slice_range}
-use Rattle.std.specs.Option.{unwrap_or}
 use Rattle.literal_base.specs.Occurs.{pattern_at}
 use Rattle.literal_search.specs.Inside.Growing.{texts_of, words_of}
-use Rattle.literal_search.specs.Words.{first_equal, word_of}
+use Rattle.literal_search.specs.Words.{word_of}
 use Rattle.literal_search.specs.declared.grow.State.{State}
-use Rattle.literal_search.proofs.lemmas.Grown.{prefix_by_list}
-use Rattle.literal_search.proofs.lemmas.Growing.{words_length}
-use Rattle.literal_search.proofs.lemmas.Failures.{ending_push, long_word, new_state}
-use Rattle.literal_search.proofs.lemmas.Lists.{range_more}
+use Rattle.literal_search.proofs.lemmas.Grown.{prefix_by_list, range_more}
+use Rattle.literal_search.proofs.lemmas.Growing.{words_length, ending_push, long_word, new_state}
 use Rattle.literal_search.proofs.grow.Growing.state_behind.Goals as goal
 
 long_is : (c : goal.After-len) → length (word_of (words_of c.args.self.now) c.args.state) ≡ c.index-2.result.now.depth
-long_is c =
-    let g = c.args.self.now in
-    long_word g.texts g.states.items g.lists.items g.rows.items c.requires.grows c.args.state c.index-2.result.now
-    c.requires.is_state
-    ∙ ap (λ (s : State). s.depth) (sym c.index-2.ensures)
+long_is c = grind (arith, common_steps, long_word)
 
 prefix_is : (c : goal.After-len)
     → (c.index-2.result.now.depth + 1 ≤ length (pattern_at (texts_of c.args.self.now.texts) c.index.result.now))
@@ -27,15 +20,8 @@ prefix_is : (c : goal.After-len)
 prefix_is c =
     let g = c.args.self.now in
     let word = word_of (words_of g) c.args.state in
-    let x = c.index.result.now in
     let long = length-append word (c.args.class ∷ []) ∙ ap (λ n. n + 1) (long_is c) in
-    let more : List ℕ = slice_range g.lists.items (c.args.start + 1) (length g.lists.items) in
-    let split : slice_range g.lists.items c.args.start (length g.lists.items) ≡ x ∷ more =
-    range_more g.lists.items c.args.start (length g.lists.items) x c.requires.some (omega arith)
-    ∙ ap (λ y. y ∷ more) (sym c.index.ensures) in
-    let prefix = prefix_by_list (texts_of g.texts) (word ++ c.args.class ∷ []) x more
-    (sym c.requires.listed ∙ split) in
-    (omega (arith, long, prefix.0), ap (λ n. take n (pattern_at (texts_of g.texts) x)) (sym long) ∙ prefix.1)
+    grind (arith, range_more, prefix_by_list)
 
 pub returns-clause-word : goal.returns-clause-word
 returns-clause-word c = (prefix_is c).1
@@ -54,8 +40,5 @@ returns-clause-state c =
     (omega (arith, shallow, c.requires.is_state)) (prefix_is c).0 (omega (arith, all, c.requires.some))
     (omega (arith, all))
     (ap (slice_range g.lists.items c.args.start) all ∙ c.requires.listed)
-    (c.unwrap_or-ending.ensures
-    ∙ (ap (λ o. unwrap_or o c.ending_of.result) c.requires.whole
-    ∙ (ap (unwrap_or (first_equal (texts_of g.texts) (word ++ c.args.class ∷ [])))
-    (c.ending_of.ensures _ c.requires.failure) ∙ ending_push (texts_of g.texts) word c.args.class)))
+    (grind (arith, ending_push))
     c.requires.failure

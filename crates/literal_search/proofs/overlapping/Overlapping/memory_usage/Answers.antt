@@ -1,5 +1,4 @@
-use Rattle.std.proofs.Common.{◌+◌, ◌*◌, List, ℕ, ap, arith, length, map, subst, sum_by}
-use Rattle.std.specs.Global.{Vec}
+use Rattle.std.proofs.Common.{◌+◌, ◌*◌, arith, length, subst, sum_by}
 use Rattle.literal_search.specs.Memory.{TakesListedBytes}
 use Rattle.literal_search.specs.Overlapping.{OverlappingValue}
 use Rattle.literal_search.proofs.lemmas.LentTables.{takes_listed}
@@ -12,10 +11,5 @@ returns c =
     (length c.as_slice-numbers.result.now * 4 + c.total_bytes.result)) c.self.view_is (
       length p.numbers,
       takes_listed c.self.invariant,
-      omega (
-        arith,
-        c.total_bytes.ensures.total,
-        ap (λ (l : List (Vec ℕ)). sum_by length (map (λ pattern. pattern.items) l)) c.deref.ensures.value,
-        ap (λ (l : List ℕ). length l) c.as_slice-numbers.ensures,
-      ),
+      grind (arith, sum_by),
     )

@@ -1,10 +1,10 @@
-use Rattle.std.proofs.Common.{IfSome, MatchOption, Option, Some, arith, ap, subst, ◌∙◌}
+use Rattle.std.proofs.Common.{MatchOption, Option, arith, subst}
 use Rattle.literal_base.specs.MatchValue.{MatchValue}
 use Rattle.literal_base.specs.declared.search.Match.{Match}
-use Rattle.literal_search.specs.Inside.LentTables.{EndsAt, IsNextBy, tables_by}
+use Rattle.literal_search.specs.Inside.LentTables.{IsNextBy, tables_by}
 use Rattle.literal_search.specs.Inside.Overlapping.{overlapping_of}
 use Rattle.literal_search.specs.Inside.Standing.{standing_value}
-use Rattle.literal_search.specs.OverlappingMatchesValue.{IsNextToCome, IsToCome, OverlappingMatchesValue, gone_on}
+use Rattle.literal_search.specs.OverlappingMatchesValue.{IsToCome}
 use Rattle.literal_search.specs.declared.standing.Standing.{Standing}
 use Rattle.literal_search.proofs.overlapping.OverlappingMatches.next_counted.Goals as goal
 
@@ -27,29 +27,7 @@ invariant_of-self-2 c =
     → ¬ IsToCome (standing_value (tables_by search m.lent) m.haystack.now m.span m.standing) found)
     (λ r. IsNextBy (tables_by search m.lent) m.haystack.now m.span m.standing r.0 r.1)) c.in-Some.is
     (c.in-Ok.ensures.prepared search is.1 is.4) in
-    let ends = subst (λ (answer : Option (Match × Standing)). IfSome answer (λ r. EndsAt m.span r.0 r.1)) c.in-Some.is
-    c.in-Ok.ensures.inside in (
-      is.0,
-      is.1,
-      is.2,
-      record {
-        after = omega (arith, ends.lies.start, ends.lies.some, ends.at);
-        inside = omega (arith, ends.lies.end, ends.at);
-        small = ends.small;
-      },
-      next.stands,
-    )
+    grind arith
 
 pub returns-clause-gives : goal.returns-clause-gives
-returns-clause-gives c =
-    let m = c.self.inside in
-    let search = overlapping_of m.parts.now in
-    let next = subst (λ (answer : Option (Match × Standing)). MatchOption answer ((found : MatchValue)
-    → ¬ IsToCome (standing_value (tables_by search m.lent) m.haystack.now m.span m.standing) found)
-    (λ r. IsNextBy (tables_by search m.lent) m.haystack.now m.span m.standing r.0 r.1)) c.in-Some.is
-    (c.in-Ok.ensures.prepared search c.self.invariant.1 c.self.invariant.4) in
-    record {
-      gives = subst (λ (v : OverlappingMatchesValue). IsNextToCome v c.in-Some.next.0) c.self.view_is next.next;
-      goes_on = next.goes_on
-          ∙ ap (λ (v : OverlappingMatchesValue). gone_on v (Some c.in-Some.next.0)) c.self.view_is;
-    }
+returns-clause-gives c = grind arith

@@ -1,4 +1,5 @@
-use Rattle.std.proofs.Common.{◌≡◌, ◌∙◌, Bool, List, None, Option, Some, is_some, sym, ℕ}
+use Rattle.std.proofs.Common.{arith}
+use Rattle.std.proofs.Common.{◌≡◌, Bool, List, None, Option, Some, is_some, sym, ℕ}
 use Rattle.std.proofs.lemmas.Bool.{false_from_ne_true}
 use Rattle.literal_base.proofs.lemmas.Met.{occurs_if, one_occurs_if}
 use Rattle.literal_base.specs.Leftmost.{IsLeftmost}
@@ -18,7 +19,4 @@ has_match query ignore_case haystack (Some found) leftmost =
     sym (one_occurs_if query.patterns ignore_case haystack found.pattern found.start leftmost.occurs)
 
 pub returns-clause-told : goal.returns-clause-told
-returns-clause-told c =
-    c.is_some.ensures
-    ∙ has_match c.args.self.now.query c.args.self.now.ignore_case c.args.haystack.now c.find.result
-    c.find.ensures.leftmost
+returns-clause-told c = grind (arith, has_match)

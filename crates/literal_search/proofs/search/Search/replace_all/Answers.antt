@@ -1,4 +1,4 @@
-use Rattle.std.proofs.Common.{◌∙◌, List, arith, ap, length, rules, ℕ}
+use Rattle.std.proofs.Common.{◌∙◌, arith, ap, rules}
 use Rattle.std.specs.List.{slice_range}
 use Rattle.literal_search.proofs.lemmas.Replaced.{all_written, refused_at, refused_behind, replacement_at, written_on}
 use Rattle.literal_search.proofs.search.Search.replace_all.Goals as goal
@@ -7,27 +7,14 @@ pub returns-in_err-extend_from_slice-clause-error : goal.returns-in_err-extend_f
 returns-in_err-extend_from_slice-clause-error c =
     let refused = refused_at c.loop-found.invariant
     (omega (arith, c.if-replacements-patterns_len.false, c.patterns_len.ensures.len)) (cc) c.loop-found.yielded_by
-    c.patterns_len.ensures.patterns.some c.in-Some.ensures.steps (omega (
-      arith,
-      c.in_err-extend_from_slice.ensures.full,
-      c.loop-found.text.ok,
-      ap (λ e. length (slice_range c.args.haystack.now c.loop-found.at e)) c.start.ensures.start,
-    )) in
+    c.patterns_len.ensures.patterns.some c.in-Some.ensures.steps (grind arith) in
     search (rules, refused)
 
 pub returns-in_err-extend_from_slice-2-clause-error : goal.returns-in_err-extend_from_slice-2-clause-error
 returns-in_err-extend_from_slice-2-clause-error c =
     let refused = refused_at c.loop-found.invariant
     (omega (arith, c.if-replacements-patterns_len.false, c.patterns_len.ensures.len)) (cc) c.loop-found.yielded_by
-    c.patterns_len.ensures.patterns.some c.in-Some.ensures.steps (omega (
-      arith,
-      c.in_err-extend_from_slice-2.ensures.full,
-      c.in_ok-extend_from_slice.ensures.len,
-      c.loop-found.text.ok,
-      ap (λ e. length (slice_range c.args.haystack.now c.loop-found.at e)) c.start.ensures.start,
-      ap (λ (l : List ℕ). length l) (replacement_at c.args.replacements.now _ _
-          (c.as_usize.ensures.value ∙ c.pattern.ensures)),
-    )) in
+    c.patterns_len.ensures.patterns.some c.in-Some.ensures.steps (grind (arith, replacement_at)) in
     search (rules, refused)
 
 pub returns-in_err-extend_from_slice-3-clause-error : goal.returns-in_err-extend_from_slice-3-clause-error

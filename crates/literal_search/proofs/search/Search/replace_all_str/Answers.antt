@@ -1,9 +1,6 @@
-use Rattle.std.proofs.Common.{◌++◌, ◌∙◌, IsCharBoundary, List, ap, arith, length, map, rules, slice_range}
-use Rattle.std.proofs.Common.{string_bytes, subst, sym, ℕ}
+use Rattle.std.proofs.Common.{◌∙◌, IsCharBoundary, ap, arith, rules, slice_range, string_bytes, subst, sym}
 use Rattle.std.proofs.lemmas.List.{take_rest}
 use Rattle.std.proofs.lemmas.Str.{IsCharBoundary-start}
-use Rattle.std.specs.Borrow.{Bor}
-use Rattle.literal_search.specs.Replaced.{replaced}
 use Rattle.literal_search.proofs.lemmas.Replaced.{all_written, refused_at, refused_behind, replacement_at, written_on}
 use Rattle.literal_search.proofs.lemmas.Texts.{found_between}
 use Rattle.literal_search.proofs.search.Search.replace_all_str.Goals as goal
@@ -12,51 +9,28 @@ pub returns-in_err-push_str-clause-error : goal.returns-in_err-push_str-clause-e
 returns-in_err-push_str-clause-error c =
     let refused = refused_at c.loop-found.invariant.written
     (omega (arith, c.if-replacements-patterns_len.false, c.patterns_len.ensures.len)) (cc) c.loop-found.yielded_by
-    c.patterns_len.ensures.patterns.some c.in-Some.ensures.steps (omega (
-      arith,
-      c.in_err-push_str.ensures.full,
-      c.loop-found.text.bytes.ok,
-      ap (λ (l : List ℕ). length l) c.range.ensures.value,
-      ap (λ e. length (slice_range c.args.haystack.now c.loop-found.at e)) c.start.ensures.start,
-    )) in
+    c.patterns_len.ensures.patterns.some c.in-Some.ensures.steps (grind (arith, slice_range)) in
     search (rules, refused)
 
 pub returns-in_err-push_str-2-clause-error : goal.returns-in_err-push_str-2-clause-error
 returns-in_err-push_str-2-clause-error c =
     let refused = refused_at c.loop-found.invariant.written
     (omega (arith, c.if-replacements-patterns_len.false, c.patterns_len.ensures.len)) (cc) c.loop-found.yielded_by
-    c.patterns_len.ensures.patterns.some c.in-Some.ensures.steps (omega (
-      arith,
-      c.in_err-push_str-2.ensures.full,
-      c.in_ok-push_str.ensures.len,
-      c.loop-found.text.bytes.ok,
-      ap (λ (l : List ℕ). length l) c.range.ensures.value,
-      ap (λ e. length (slice_range c.args.haystack.now c.loop-found.at e)) c.start.ensures.start,
-      ap (λ (l : List ℕ). length l) (replacement_at c.args.replacements.now _ _
-          (c.as_usize.ensures.value ∙ c.pattern.ensures)),
-    )) in
+    c.patterns_len.ensures.patterns.some c.in-Some.ensures.steps (grind (arith, slice_range, replacement_at)) in
     search (rules, refused)
 
 pub returns-in_err-push_str-3-clause-error : goal.returns-in_err-push_str-3-clause-error
 returns-in_err-push_str-3-clause-error c =
     let refused = refused_behind c.loop-found.invariant.written
     (omega (arith, c.if-replacements-patterns_len.false, c.patterns_len.ensures.len)) (cc) c.loop-found.yielded_by
-    c.in-None.ensures.steps (omega (
-      arith,
-      c.in_err-push_str-3.ensures.full,
-      c.loop-found.text.bytes.ok,
-      ap (λ (l : List ℕ). length l)
-          (c.range_from.ensures.value ∙ sym (take_rest c.args.haystack.now c.loop-found.at)),
-    )) in
+    c.in-None.ensures.steps (grind (arith, take_rest)) in
     search (rules, refused)
 
 pub returns-clause-ok : goal.returns-clause-ok
 returns-clause-ok c =
     all_written c.loop-found.invariant.written
     (omega (arith, c.if-replacements-patterns_len.false, c.patterns_len.ensures.len)) (cc) c.loop-found.yielded_by
-    c.in-None.ensures.steps _ (c.in_ok-push_str-3.ensures.bytes
-    ∙ ap (λ l. string_bytes c.loop-found.text ++ l)
-    (c.range_from.ensures.value ∙ sym (take_rest c.args.haystack.now c.loop-found.at)))
+    c.in-None.ensures.steps _ (grind (arith, string_bytes, take_rest))
 
 pub range-requires-clause-end_boundary : goal.range-requires-clause-end_boundary
 range-requires-clause-end_boundary c =
@@ -68,16 +42,8 @@ range-requires-clause-end_boundary c =
 
 pub loop-found-init : goal.loop-found-init
 loop-found-init c =
-    let given = map (λ (r : Bor (List ℕ)). r.now) c.args.replacements.now in
     record {
-      written = record {
-        search_is = search rules;
-        haystack_is = search rules;
-        at_is = search rules;
-        to_end = search rules;
-        within = omega arith;
-        goes_on = λ more. ap (λ l. l ++ replaced c.args.haystack.now given 0 more) c.new-text.ensures.bytes;
-      };
+      written = grind arith;
       between = IsCharBoundary-start c.args.haystack.now c.utf8.haystack;
     }
 

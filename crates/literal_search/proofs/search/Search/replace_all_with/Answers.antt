@@ -1,4 +1,4 @@
-use Rattle.std.proofs.Common.{ℕ, List, ap, arith, length, of_calls, refl, rules}
+use Rattle.std.proofs.Common.{arith, of_calls, refl, rules}
 use Rattle.std.proofs.lemmas.Fn.{FoldsTo-push}
 use Rattle.literal_search.proofs.lemmas.Callers.{greedy_from_matches}
 use Rattle.literal_search.proofs.search.Search.replace_all_with.Goals as goal
@@ -32,20 +32,12 @@ pub loop-found-preserved : goal.loop-found-preserved
 loop-found-preserved g c =
     let so_far = c.loop-found.invariant in
     let found = c.in-Some.found in
-    let found_steps = c.in-Some.ensures.steps in
     record {
       search_is = search rules;
       haystack_is = search rules;
       at_is = search rules;
       to_end = search rules;
-      within = omega (
-        arith,
-        c.end-at.ensures.end,
-        found_steps.leftmost.whole,
-        found_steps.leftmost.occurs.before_end,
-        so_far.to_end,
-        ap (λ (l : List ℕ). length l) so_far.haystack_is,
-      );
+      within = grind arith;
       callable = search of_calls;
       first = so_far.first;
       begins = so_far.begins;

@@ -2,8 +2,7 @@ use Rattle.std.proofs.Common.{◌≡◌, ◌+◌, ◌-◌, ◌<◌, ◌∙◌, g
 use Rattle.std.proofs.lemmas.List.{get_or_default}
 use Rattle.literal_search.specs.Inside.Lists.{AreNextEquals, AreOutputLinks, symbols_of}
 use Rattle.literal_search.specs.Inside.Suffixes.{IsOutputLink, IsNextEqual}
-use Rattle.literal_search.proofs.lemmas.Chains.{first_equal_of, heads_on, link_to_equal}
-use Rattle.literal_search.proofs.lemmas.Chains.{link_to_shorter, links_on}
+use Rattle.literal_search.proofs.lemmas.Chains.{first_equal_of, heads_on, link_to_equal, link_to_shorter, links_on}
 use Rattle.literal_search.proofs.lemmas.Recognised.{symbols_count, symbols_few}
 use Rattle.literal_search.proofs.suffixes.Recognised.links.Goals as goal
 use Rattle.literal_search.proofs.suffixes.Recognised.links.Goals.{then-equal, else-equal}
@@ -45,12 +44,7 @@ loop-pattern-preserved c =
     let is = first_equal_of texts some few p c.longest_suffix-first.result below c.longest_suffix-first.ensures in
     let heads = c.loop-pattern.heads.items in
     let equal = c.index-equal.result.now in
-    let read : equal ≡ get_or heads c.longest_suffix-first.result 0 = c.index-equal.ensures
-    ∙ get_or_default heads c.longest_suffix-first.result equal 0 (omega (
-      arith,
-      is.below,
-      c.loop-pattern.invariant.heads.long,
-    )) in
+    let read : equal ≡ get_or heads c.longest_suffix-first.result 0 = grind (arith, get_or_default) in
     let before = subst (AreNextEquals texts heads) next c.loop-pattern.invariant.heads in
     let after = subst (IsNextEqual texts c.longest_suffix-first.result (p + 1)) (sym read)
     (before.each c.longest_suffix-first.result is.below is.first_is) in

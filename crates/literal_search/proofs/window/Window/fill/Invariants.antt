@@ -1,6 +1,6 @@
-use Rattle.std.proofs.Common.{◌≡◌, ◌+◌, ◌-◌, ◌++◌, ◌^◌, List, ℕ, length}
+use Rattle.std.proofs.Common.{cond, is_some, ◌≡◌, ◌+◌, ◌-◌, ◌++◌, ◌^◌, List, ℕ, length}
 use Rattle.std.specs.Io.KnownBytes.{Consumes}
-use Rattle.literal_search.specs.Inside.Stream.{HasReadOn, IsSoundReading, IsWindow, held, turns_left}
+use Rattle.literal_search.specs.Inside.Stream.{HasReadOn, IsSoundReading, IsWindow, held}
 use Rattle.literal_search.proofs.window.Window.fill.Given as goal
 
 abbrev pub invariant-loop-self : goal.invariant-loop-self
@@ -17,4 +17,5 @@ invariant-loop-self g l = record {
 
 abbrev pub decreases-loop-self : goal.decreases-loop-self
 decreases-loop-self g l =
-    (2 ^ 64 - (l.self.offset + (l.self.end - l.self.start))) + turns_left l.reading.is_whole l.reading.error
+    (2 ^ 64 - (l.self.offset + (l.self.end - l.self.start)))
+    + cond l.reading.is_whole 0 (cond (is_some l.reading.error) 0 1)

@@ -1,0 +1,89 @@
+-- Reversed texts: a prefix of one becomes a suffix.
+use Rattle.std.proofs.Common.{◌≡◌, ℕ, ◌<◌, List, [], ◌∷◌, ◌++◌, length, get_or, drop, map}
+use Rattle.std.proofs.Common.{nat_eq, reverse, refl, sym, ap, ◌∙◌, arith, true}
+use Rattle.std.proofs.lemmas.Bool.{cases_lt}
+use Rattle.std.proofs.lemmas.Bool.Decides.{Decides-eqb}
+use Rattle.std.proofs.lemmas.List.{get_or-map, get_or_past, length-map, length-reverse, map-append, reverse-append}
+use Rattle.std.proofs.lemmas.List.{reverse-reverse}
+use Rattle.std.proofs.lemmas.Slice.Eq.{starts_is}
+use Rattle.std.specs.Global.{Global}
+use Rattle.std.specs.List.{starts_with}
+use Rattle.std.specs.declared.vec.Vec.{Vec}
+use Rattle.literal_base.specs.Occurs.{NoneIsEmpty, pattern_at}
+use Rattle.literal_search.specs.Inside.Classes.{symbols_in}
+use Rattle.literal_search.specs.Inside.Suffixes.{IsSuffix}
+use Rattle.literal_search.specs.SearchValue.{reversed}
+use Rattle.literal_search.proofs.lemmas.Built.{same_texts}
+
+-- the text of a reversed pattern is that of the pattern, reversed
+pub reverse_map : (f : ℕ → ℕ) (xs : List ℕ) → map f (reverse xs) ≡ reverse (map f xs)
+reverse_map f [] = refl
+reverse_map f (x ∷ xs) =
+    ap (map f) (reverse-append (x ∷ []) xs)
+    ∙ (map-append f (reverse xs) (x ∷ [])
+    ∙ (ap (λ l. l ++ f x ∷ []) (reverse_map f xs) ∙ sym (reverse-append (f x ∷ []) (map f xs))))
+
+-- a reversed text, of which there are as many
+pub back_at : (texts : List (List ℕ)) (i : ℕ) → pattern_at (reversed texts) i ≡ reverse (pattern_at texts i)
+back_at texts i = grind (arith, cases_lt, get_or-map, get_or_past, length-map)
+
+pub back_count : (texts : List (List ℕ)) → length (reversed texts) ≡ length texts
+back_count texts = length-map texts (λ (text : List ℕ). reverse text)
+
+pub back_long : (texts : List (List ℕ)) (i : ℕ)
+    → length (pattern_at (reversed texts) i) ≡ length (pattern_at texts i)
+back_long texts i = ap (λ (l : List ℕ). length l) (back_at texts i) ∙ length-reverse (pattern_at texts i)
+
+pub some_back : (texts : List (List ℕ)) → NoneIsEmpty texts → NoneIsEmpty (reversed texts)
+some_back texts some i d below =
+    let inside : i < length texts = omega (arith, back_count texts) in
+    let long = some i [] inside in
+    let read = get_or-map (λ (text : List ℕ). reverse text) texts i [] d inside in
+    omega (arith, long, ap (λ (l : List ℕ). length l) read, length-reverse (get_or texts i []))
+
+-- the texts of reversed patterns
+pub map_reversed : (classes : List ℕ) (patterns : List (List ℕ))
+    → map (symbols_in classes) (reversed patterns) ≡ reversed (map (symbols_in classes) patterns)
+map_reversed classes [] = refl
+map_reversed classes (bytes ∷ more) =
+    ap (λ l. l ∷ map (symbols_in classes) (reversed more)) (reverse_map (λ byte. get_or classes byte 0) bytes)
+    ∙ ap (λ l. reverse (symbols_in classes bytes) ∷ l) (map_reversed classes more)
+
+module _ (lent backward patterns : List (Vec ℕ Global)) (same : lent ≡ backward)
+    (copies : map (λ (pattern : Vec ℕ Global). pattern.items) backward
+    ≡ reversed (map (λ (pattern : Vec ℕ Global). pattern.items) patterns))
+  where
+    -- copies that were lent have the texts of the reversed patterns
+    pub texts_lent : (classes : List ℕ) → map (λ (pattern : Vec ℕ Global). symbols_in classes pattern.items) lent
+        ≡ reversed (map (symbols_in classes) (map (λ (pattern : Vec ℕ Global). pattern.items) patterns))
+    texts_lent classes = grind (arith, map_reversed, same_texts)
+
+    pub count_lent : length lent ≡ length (map (λ (pattern : Vec ℕ Global). pattern.items) patterns)
+    count_lent = grind (arith, back_count, length-map)
+
+-- what is a prefix of a text is, reversed, a suffix of the reversed text
+module _ (texts : List (List ℕ)) (text : List ℕ) (i : ℕ) where
+  pub prefix_is_end : i < length texts → starts_with nat_eq text (pattern_at texts i) ≡ true
+      → IsSuffix (reversed texts) (reverse text) i
+  prefix_is_end below stands =
+      let word = pattern_at texts i in
+      let rest = drop (length word) text in
+      let split = (starts_is Decides-eqb text word _ refl).0 stands in
+      record {
+        is_pattern = omega (arith, back_count texts);
+        ends = record {
+          prefix = reverse rest;
+          split = ap (λ (l : List ℕ). reverse l) split
+              ∙ (reverse-append word rest ∙ ap (λ l. reverse rest ++ l) (sym (back_at texts i)));
+        };
+      }
+
+  pub end_is_prefix : IsSuffix (reversed texts) (reverse text) i → starts_with nat_eq text (pattern_at texts i) ≡ true
+  end_is_prefix is =
+      let word = pattern_at texts i in
+      let prefix = is.ends.prefix in
+      let split : text ≡ word ++ reverse prefix =
+      sym (reverse-reverse text)
+      ∙ (ap (λ (l : List ℕ). reverse l) (is.ends.split ∙ ap (λ l. prefix ++ l) (back_at texts i))
+      ∙ (reverse-append prefix (reverse word) ∙ ap (λ l. l ++ reverse prefix) (reverse-reverse word))) in
+      (starts_is Decides-eqb text word _ refl).1 (reverse prefix) split

@@ -1,0 +1,397 @@
+-- Which pattern takes the place of another, and that a search by these finds the best.
+use Rattle.std.proofs.Common.{◌≡◌, ◌≢◌, ◌⊎◌, ℕ, ◌-◌, ◌<◌, ◌≤◌, ◌^◌, ◌∙◌, List, [], ◌∷◌, ◌++◌, Bool, true, false}
+use Rattle.std.proofs.Common.{Some, inl, inr, ap, arith, cond, get_or, length, map, min, nat_eq, refl, reverse, subst}
+use Rattle.std.proofs.Common.{suc, sym, zero}
+use Rattle.std.proofs.lemmas.Bool.{cases_lt, false≢true}
+use Rattle.std.proofs.lemmas.List.{ext_get_or, get_or-map, get_or_default, length-map}
+use Rattle.std.proofs.lemmas.List.Elements.{All-contains, All-nil, All-push, All-weaker}
+use Rattle.std.proofs.lemmas.List.Folds.{Any-from_list_any, list_any_at}
+use Rattle.std.specs.List.{All, find, starts_with}
+use Rattle.std.specs.Option.{unwrap_or}
+use Rattle.literal_base.specs.Leftmost.{IsBetter}
+use Rattle.literal_base.specs.Occurs.{NoneIsEmpty, pattern_at}
+use Rattle.literal_base.specs.declared.packed.MatchKind.{MatchKind}
+use Rattle.literal_base.specs.declared.packed.MatchKind.TheVariants.{LeftmostFirst, LeftmostLongest}
+use Rattle.literal_search.specs.Inside.Classes.{symbols_in}
+use Rattle.literal_search.specs.Inside.Shadowed.{AreFirst, IsFirstOf}
+use Rattle.literal_search.specs.Inside.Suffixes.{HasSuffix, HasUpTo, IsFirstSuffix, IsOutputLink, IsSuffix}
+use Rattle.literal_search.specs.SearchValue.{first_prefix, reversed, unshadowed}
+use Rattle.literal_search.specs.States.{HasTooManyStates}
+use Rattle.literal_search.specs.Table.{nothing}
+use Rattle.literal_search.specs.Words.{begins_one, ending}
+use Rattle.literal_search.proofs.lemmas.Chains.{up_to_first, up_to_more}
+use Rattle.literal_search.proofs.lemmas.FirstSuffix.{ends_length, ends_on, ends_same, ends_within, first_ends}
+use Rattle.literal_search.proofs.lemmas.Reversed.{back_at, back_count, back_long, end_is_prefix, prefix_is_end}
+
+-- the first of some texts that passes a test, up to one
+pub record FindsFirst (test : List ℕ → Bool) (texts : List (List ℕ)) (upto : ℕ) : Type 0 where
+  pub first : ℕ
+  pub early : first ≤ upto
+  pub passes : test (pattern_at texts first) ≡ true
+  pub before : (j : ℕ) → j < first → test (pattern_at texts j) ≡ false
+  pub found : find test texts ≡ Some (pattern_at texts first)
+
+-- where one passes, it is found
+found_in_front : (test : List ℕ → Bool) (text : List ℕ) (more : List (List ℕ)) (upto : ℕ) → test text ≡ true
+    → FindsFirst test (text ∷ more) upto
+found_in_front test text more upto passes = record {
+  first = 0;
+  early = omega arith;
+  passes = passes;
+  before = λ j none. absurd (omega (arith, none));
+  found = ap (λ b. cond b (Some text) (find test more)) passes;
+}
+
+found_behind : (test : List ℕ → Bool) (text : List ℕ) (more : List (List ℕ)) (upto : ℕ) → FindsFirst test more upto
+    → (passes : Bool) → test text ≡ passes → FindsFirst test (text ∷ more) (suc upto)
+found_behind test text more upto behind true passes = found_in_front test text more (suc upto) passes
+found_behind test text more upto behind false fails = record {
+  first = suc behind.first;
+  early = omega (arith, behind.early);
+  passes = behind.passes;
+  before = before;
+  found = ap (λ b. cond b (Some text) (find test more)) fails ∙ behind.found;
+}
+  where
+    before : (j : ℕ) → j < suc behind.first → test (pattern_at (text ∷ more) j) ≡ false
+    before zero first = fails
+    before (suc j) later = behind.before j (omega (arith, later))
+
+found_first : (test : List ℕ → Bool) (texts : List (List ℕ)) (k : ℕ) → k < length texts
+    → test (pattern_at texts k) ≡ true → FindsFirst test texts k
+found_first test [] k below passes = absurd (omega (arith, below))
+found_first test (text ∷ more) zero below passes = found_in_front test text more 0 passes
+found_first test (text ∷ more) (suc k) below passes =
+    found_behind test text more k (found_first test more k (omega (arith, below)) passes) (test text) refl
+
+-- it is no later than any other that passes
+pub no_later : (test : List ℕ → Bool) (texts : List (List ℕ)) (upto j : ℕ) (finds : FindsFirst test texts upto)
+    → test (pattern_at texts j) ≡ true → finds.first ≤ j
+no_later test texts upto j finds passes = elim (cases_lt j finds.first) [
+  | inl before ↦ absurd (false≢true (sym (finds.before j before) ∙ passes))
+  | inr not ↦ omega (arith, not)
+]
+
+-- each pattern is a suffix of itself
+end_of_itself : (patterns : List (List ℕ)) (i : ℕ) → i < length patterns → IsSuffix patterns (pattern_at patterns i) i
+end_of_itself patterns i below = record { is_pattern = below; ends = record { prefix = []; split = refl } }
+
+module _ (words : List (List ℕ)) (i : ℕ) (below : i < length words) where
+  -- the first of the prefixes of a text takes its place
+  pub first_found : FindsFirst (starts_with nat_eq (pattern_at words i)) words i
+  first_found = grind (arith, back_at, back_count, end_is_prefix, end_of_itself, found_first)
+
+  pub found_is : pattern_at (map (first_prefix words) words) i ≡ pattern_at words first_found.first
+  found_is =
+      get_or-map (first_prefix words) words i [] [] below
+      ∙ ap (λ o. unwrap_or o (pattern_at words i)) first_found.found
+
+  -- reversed it is the first of the suffixes
+  pub first_is : (n : ℕ) × IsFirstOf (reversed words) (pattern_at (reversed words) i) n
+      × (n < length words) × (pattern_at (map (first_prefix words) words) i ≡ pattern_at words n)
+  first_is =
+      let text = pattern_at words i in
+      let n = first_found.first in
+      let back = back_at words i in
+      let inside : n < length words = omega (arith, first_found.early, below) in (
+        n,
+        record {
+          is = subst (λ (t : List ℕ). IsSuffix (reversed words) t n) (sym back)
+              (prefix_is_end words text n inside first_found.passes);
+          least = λ j is. no_later (starts_with nat_eq text) words i j first_found
+              (end_is_prefix words text j (subst (λ (t : List ℕ). IsSuffix (reversed words) t j) back is));
+        },
+        inside,
+        found_is,
+      )
+
+-- there is one first
+pub first_is_one : (patterns : List (List ℕ)) (text : List ℕ) (n m : ℕ) → IsFirstOf patterns text n
+    → IsFirstOf patterns text m → n ≡ m
+first_is_one patterns text n m one other = omega (arith, one.least m other.is, other.least n one.is)
+
+-- what takes the place of some texts, none of which is empty, is not empty
+pub some_unshadowed : (kind : MatchKind) (words : List (List ℕ)) → NoneIsEmpty words
+    → NoneIsEmpty (unshadowed kind words)
+some_unshadowed LeftmostLongest words some i d below = some i d below
+some_unshadowed LeftmostFirst words some i d below =
+    let inside : i < length words = omega (arith, below, length-map words (first_prefix words)) in
+    let first = first_is words i inside in
+    let long = some first.0 [] first.2 in
+    omega (
+      arith,
+      long,
+      ap (λ (l : List ℕ). length l) (get_or-map (first_prefix words) words i [] d inside
+          ∙ (sym (get_or-map (first_prefix words) words i [] [] inside) ∙ first.3)),
+    )
+
+-- in reversed texts each of which was replaced by the first of its suffixes
+module _ (patterns others : List (List ℕ)) (count : length others ≡ length patterns)
+    (first : (i : ℕ) → i < length patterns → (n : ℕ) × IsFirstOf patterns (pattern_at patterns i) n
+    × (pattern_at others i ≡ pattern_at patterns n)) (text : List ℕ)
+  where
+    -- what is a suffix of a text has in its place what is one, too
+    pub replaced_ends : (i : ℕ) → IsSuffix patterns text i → IsSuffix others text i
+    replaced_ends i is =
+        let one = first i is.is_pattern in
+        record {
+          is_pattern = omega (arith, is.is_pattern, count);
+          ends = subst (HasSuffix text) (sym one.2)
+              (ends_on text (pattern_at patterns i) (pattern_at patterns one.0) is.ends one.1.is.ends);
+        }
+
+    -- and the longest of these is the first of the suffixes
+    pub longest_is_first : (i : ℕ) → IsFirstSuffix others text i → IsFirstOf patterns text i
+    longest_is_first i longest = record { is = ends; least = least }
+      where
+        inside : i < length patterns
+        inside = omega (arith, longest.is.is_pattern, count)
+
+        one : (n : ℕ) × IsFirstOf patterns (pattern_at patterns i) n
+            × (pattern_at others i ≡ pattern_at patterns n)
+        one = first i inside
+
+        earlier : one.0 ≤ i
+        earlier = one.1.least i (end_of_itself patterns i inside)
+
+        -- the first of its suffixes is the first of its own
+        own : pattern_at others one.0 ≡ pattern_at patterns one.0
+        own =
+            let other = first one.0 one.1.is.is_pattern in
+            let within : IsSuffix patterns (pattern_at patterns i) other.0 = record {
+              is_pattern = other.1.is.is_pattern;
+              ends = ends_on (pattern_at patterns i) (pattern_at patterns one.0) (pattern_at patterns other.0)
+                  one.1.is.ends other.1.is.ends;
+            } in
+            let same : other.0 ≡ one.0 = omega (
+              arith,
+              other.1.least one.0 (end_of_itself patterns one.0 one.1.is.is_pattern),
+              one.1.least other.0 within,
+            ) in
+            other.2 ∙ ap (pattern_at patterns) same
+
+        it_ends : IsSuffix others text one.0
+        it_ends = record {
+          is_pattern = omega (arith, one.1.is.is_pattern, count);
+          ends = subst (HasSuffix text) (one.2 ∙ sym own) longest.is.ends;
+        }
+
+        is_itself : i ≡ one.0
+        is_itself = elim (longest.others one.0 it_ends) [
+          | inl same ↦ same
+          | inr later ↦
+              let long = ap (λ (l : List ℕ). length l) (one.2 ∙ sym own) in
+              elim later [
+                | inl shorter ↦ absurd (omega (arith, shorter, long))
+                | inr as_long ↦ absurd (omega (arith, as_long.1, earlier))
+              ]
+        ]
+
+        same_text : pattern_at others i ≡ pattern_at patterns i
+        same_text = one.2 ∙ ap (pattern_at patterns) (sym is_itself)
+
+        ends : IsSuffix patterns text i
+        ends = record { is_pattern = inside; ends = subst (HasSuffix text) same_text longest.is.ends }
+
+        least : (j : ℕ) → IsSuffix patterns text j → i ≤ j
+        least j is =
+            let other = first j is.is_pattern in
+            let before = other.1.least j (end_of_itself patterns j is.is_pattern) in
+            let end = replaced_ends j is in
+            elim (longest.others j end) [
+              | inl same ↦ omega (arith, same)
+              | inr later ↦ elim later [
+                | inl shorter ↦
+                    let within = ends_within text (pattern_at others j) (pattern_at others i) end.ends
+                    longest.is.ends (omega (arith, shorter)) in
+                    let is_end : IsSuffix patterns (pattern_at patterns i) other.0 = record {
+                      is_pattern = other.1.is.is_pattern;
+                      ends = subst (λ (t : List ℕ). HasSuffix t (pattern_at patterns other.0)) same_text
+                          (subst (HasSuffix (pattern_at others i)) other.2 within);
+                    } in
+                    omega (arith, before, is_itself, one.1.least other.0 is_end)
+                | inr as_long ↦ omega (arith, as_long.1)
+              ]
+            ]
+
+-- reversed texts, and what takes their places
+back_first : (words : List (List ℕ)) (i : ℕ) → i < length (reversed words)
+    → (n : ℕ) × IsFirstOf (reversed words) (pattern_at (reversed words) i) n
+    × (pattern_at (reversed (map (first_prefix words) words)) i ≡ pattern_at (reversed words) n)
+back_first words i below =
+    let one = first_is words i (omega (arith, below, back_count words)) in (
+      one.0,
+      one.1,
+      back_at (map (first_prefix words) words) i ∙ (ap (λ (l : List ℕ). reverse l) one.3
+          ∙ sym (back_at words one.0)),
+    )
+
+back_known : (words : List (List ℕ)) → length (reversed (map (first_prefix words) words)) ≡ length (reversed words)
+back_known words =
+    back_count (map (first_prefix words) words) ∙ (length-map words (first_prefix words) ∙ sym (back_count words))
+
+-- the automaton of these has no more states
+pub few_unshadowed : (words : List (List ℕ)) (width : ℕ)
+    → HasTooManyStates (reversed (unshadowed LeftmostFirst words)) width → HasTooManyStates (reversed words) width
+few_unshadowed words width many =
+    let begins = λ (text pattern : List ℕ). starts_with nat_eq pattern text in (
+      many.0,
+      record {
+        apart = many.1.apart;
+        begun = All-weaker (λ text. (text ≡ []) ⊎ (begins_one (reversed (map (first_prefix words) words)) text ≡ true))
+            (λ text. (text ≡ []) ⊎ (begins_one (reversed words) text ≡ true))
+            (λ text is. elim is [
+              | inl none ↦ inl none
+              | inr begun ↦
+                  let one = Any-from_list_any (begins text) (reversed (map (first_prefix words) words)) begun in
+                  let first = back_first words one.0 (omega (arith, one.2, back_known words)) in
+                  inr (list_any_at (begins text) (reversed words) first.0 [] first.1.is.is_pattern
+                  (subst (λ (pattern : List ℕ). begins text pattern ≡ true)
+                  (sym one.3 ∙ (get_or_default (reversed (map (first_prefix words) words)) one.0 one.1 [] one.2
+                  ∙ first.2)) one.4))
+            ])
+            many.0
+            many.1.begun;
+      },
+      many.2,
+    )
+
+-- by numbers of the first of the suffixes
+module _ (words : List (List ℕ)) (firsts : List ℕ) (are : AreFirst (reversed words) firsts (length (reversed words)))
+  where
+    first_at : (i : ℕ) → i < length (reversed words)
+        → pattern_at (reversed (map (first_prefix words) words)) i ≡ pattern_at (reversed words) (get_or firsts i 0)
+    first_at i below =
+        let first = back_first words i below in
+        first.2 ∙ ap (pattern_at (reversed words))
+        (first_is_one (reversed words) (pattern_at (reversed words) i) first.0 (get_or firsts i 0) first.1
+        (are.each i below))
+
+    -- if none is shorter, these are the texts
+    pub none_shadowed : ((i : ℕ) → i < length words
+        → length (pattern_at words i) ≤ length (pattern_at words (get_or firsts i 0)))
+        → reversed words ≡ reversed (unshadowed LeftmostFirst words)
+    none_shadowed as_long =
+        ext_get_or [] (reversed words) (reversed (map (first_prefix words) words)) (sym (back_known words))
+        (λ i below.
+        let texts = reversed words in
+        let first = are.each i below in
+        let end = first.is.ends in
+        let itself = (end_of_itself texts i below).ends in
+        let longer = as_long i (omega (arith, below, back_count words)) in
+        let sizes = ends_length (pattern_at texts i) (pattern_at texts (get_or firsts i 0)) end in
+        let same = ends_same (pattern_at texts i) (pattern_at texts i) (pattern_at texts (get_or firsts i 0)) itself end
+        (omega (arith, sizes, longer, back_long words i, back_long words (get_or firsts i 0))) in
+        same ∙ sym (first_at i below))
+
+    -- and else those of the numbers
+    pub shadowed_by : reversed (map (pattern_at words) firsts) ≡ reversed (unshadowed LeftmostFirst words)
+    shadowed_by =
+        let chosen = map (pattern_at words) firsts in
+        let count : length (reversed chosen) ≡ length (reversed words) =
+        back_count chosen ∙ (length-map firsts (pattern_at words) ∙ are.long) in
+        ext_get_or [] (reversed chosen) (reversed (map (first_prefix words) words)) (count ∙ sym (back_known words))
+        (λ i below.
+        let inside : i < length firsts =
+        omega (arith, below, back_count chosen, length-map firsts (pattern_at words)) in
+        back_at chosen i
+        ∙ (ap (λ (l : List ℕ). reverse l) (get_or-map (pattern_at words) firsts i 0 [] inside)
+        ∙ (sym (back_at words (get_or firsts i 0))
+        ∙ sym (first_at i (omega (arith, below, count))))))
+
+-- the texts of patterns of some numbers
+text_chosen : (classes : List ℕ) (patterns : List (List ℕ)) (number : ℕ)
+    → symbols_in classes (pattern_at patterns number) ≡ pattern_at (map (symbols_in classes) patterns) number
+text_chosen classes [] number = refl
+text_chosen classes (pattern ∷ more) zero = refl
+text_chosen classes (pattern ∷ more) (suc number) = text_chosen classes more number
+
+pub texts_chosen : (classes : List ℕ) (patterns : List (List ℕ)) (numbers : List ℕ)
+    → map (symbols_in classes) (map (pattern_at patterns) numbers)
+    ≡ map (pattern_at (map (symbols_in classes) patterns)) numbers
+texts_chosen classes patterns [] = refl
+texts_chosen classes patterns (number ∷ more) =
+    ap (λ l. l ∷ map (symbols_in classes) (map (pattern_at patterns) more)) (text_chosen classes patterns number)
+    ∙ ap (λ l. pattern_at (map (symbols_in classes) patterns) number ∷ l) (texts_chosen classes patterns more)
+
+-- where a text ends with a reversed one, it ends with one of those by which a search goes
+pub ends_unshadowed : (kind : MatchKind) (words : List (List ℕ)) (text : List ℕ) (i : ℕ)
+    → IsSuffix (reversed words) text i → IsSuffix (reversed (unshadowed kind words)) text i
+ends_unshadowed LeftmostLongest words text i is = is
+ends_unshadowed LeftmostFirst words text i is =
+    replaced_ends (reversed words) (reversed (map (first_prefix words) words)) (back_known words) (back_first words)
+    text i is
+
+-- the longest of these is the best of all
+pub ending_is_best : (kind : MatchKind) (words : List (List ℕ)) (text : List ℕ) (i : ℕ)
+    → IsFirstSuffix (reversed (unshadowed kind words)) text i
+    → IsSuffix (reversed words) text i
+    × ((j : ℕ) → IsSuffix (reversed words) text j → ¬ IsBetter kind (reversed words) j i)
+ending_is_best LeftmostFirst words text i longest =
+    let first = longest_is_first (reversed words) (reversed (map (first_prefix words) words)) (back_known words)
+    (back_first words) text i longest in
+    (first.is, λ j is better. omega (arith, first.least j is, better))
+ending_is_best LeftmostLongest words text i is = (
+  is.is,
+  λ j end better. elim (is.others j end) [
+    | inl same ↦ elim better [
+      | inl longer ↦ omega (arith, longer, ap (λ k. length (pattern_at (reversed words) k)) same)
+      | inr earlier ↦ omega (arith, earlier.1, same)
+    ]
+    | inr later ↦ elim later [
+      | inl shorter ↦ elim better [
+        | inl longer ↦ omega (arith, shorter, longer)
+        | inr earlier ↦ omega (arith, shorter, earlier.0)
+      ]
+      | inr as_long ↦ elim better [
+        | inl longer ↦ omega (arith, as_long.0, longer)
+        | inr earlier ↦ omega (arith, as_long.1, earlier.1)
+      ]
+    ]
+  ],
+)
+
+-- of the patterns that are a suffix of a text the smallest of a list that has all up to the next
+pub record IsSmallestUpTo (patterns : List (List ℕ)) (text : List ℕ) (smallest next : ℕ) : Type 0 where
+  pub list : List ℕ
+  pub has : HasUpTo patterns text list next
+  pub least : All (λ i. smallest ≤ i) list
+  pub is : IsSuffix patterns text smallest
+
+module _ (patterns : List (List ℕ)) (some : NoneIsEmpty patterns) (few : length patterns ≤ 2 ^ 31 - 1) where
+  -- before a chain goes on, from the first of the patterns that are a suffix of it
+  pub smallest_first : (first : ℕ) → ending patterns (pattern_at patterns first) ≡ Some first
+      → IsSmallestUpTo patterns (pattern_at patterns first) first first
+  smallest_first first ends = record {
+    list = [];
+    has = up_to_first patterns some few first ends;
+    least = All-nil (λ i. first ≤ i);
+    is = (first_ends patterns some (pattern_at patterns first) first ends).is;
+  }
+
+  -- behind the next of them
+  pub smallest_on : (text : List ℕ) (smallest next link : ℕ) → IsSmallestUpTo patterns text smallest next
+      → next ≢ nothing → IsOutputLink patterns next link → IsSmallestUpTo patterns text (min smallest next) link
+  smallest_on text smallest next link so_far more is = record {
+    list = so_far.list ++ next ∷ [];
+    has = up_to_more patterns some few text so_far.list next link so_far.has more is;
+    least = All-push (λ i. min smallest next ≤ i) so_far.list next
+        (All-weaker (λ i. smallest ≤ i) (λ i. min smallest next ≤ i) (λ i less. omega arith) so_far.list so_far.least)
+        (omega arith);
+    is = elim (cases_lt next smallest) [
+      | inl less ↦ subst (IsSuffix patterns text) (let is : next ≡ min smallest next = omega arith in is)
+          (elim so_far.has.next_is [ inl none ↦ absurd (more none) | inr here ↦ here ])
+      | inr not ↦ subst (IsSuffix patterns text) (let is : smallest ≡ min smallest next = omega arith in is) so_far.is
+    ];
+  }
+
+-- at its end it is the first
+pub smallest_is_first : (patterns : List (List ℕ)) (text : List ℕ) (smallest next : ℕ)
+    → IsSmallestUpTo patterns text smallest next → next ≡ nothing → IsFirstOf patterns text smallest
+smallest_is_first patterns text smallest next so_far none = record {
+  is = so_far.is;
+  least = λ j end. elim (so_far.has.others j end) [
+    | inl in_list ↦ All-contains (λ i. smallest ≤ i) so_far.list j so_far.least in_list
+    | inr rest ↦ absurd (rest.0 none)
+  ];
+}
