@@ -1,5 +1,5 @@
 //! The scan that suits a list of patterns.
-ghost use Rattle.std.specs.Prelude.{◌≡◌, ◌+◌, ◌-◌, ◌*◌, ◌<◌, ◌≤◌, IfSome, length, map};
+ghost use Rattle.std.specs.Prelude.{◌≡◌, ◌∷◌, [], ℕ, List, ◌+◌, ◌-◌, ◌*◌, ◌<◌, ◌≤◌, IfSome, IsSome, length, map};
 ghost use Rattle.literal_base.specs.Occurs.{IsValidSpan};
 ghost use Rattle.literal_fingerprints.specs.CandidateScans.{MayStop, NoneBeginsBefore, StopsAtEach, ahead_of};
 ghost use Rattle.literal_fingerprints.specs.RarePairs.{AreOf};
@@ -20,11 +20,13 @@ pub struct CandidateScan {
 
 impl CandidateScan {
     /// The scan for some patterns: by a pair for one, and by fingerprints for several. There is none where there is no
-    /// pattern, or an empty one, and where there are no fingerprints.
+    /// pattern, or an empty one, and where several have no fingerprints.
     pub fn new(ignore_case: bool, patterns: &[Vec<u8>]) -> Option<CandidateScan>
         ensures stops { IfSome result
             (λ scan. StopsAtEach scan ignore_case (map (λ pattern. pattern.items) patterns.now)) }
         ensures some { IfSome result (λ _. (0 < length patterns.now) × (length patterns.now ≤ 64)) }
+        ensures one { (pattern : List ℕ) → map (λ pattern. pattern.items) patterns.now ≡ pattern ∷ []
+            → 0 < length pattern → IsSome result }
     {
         if let Some(pair) = pair_for(ignore_case, patterns) {
             return Some(CandidateScan {
@@ -76,6 +78,8 @@ fn pair_for(ignore_case: bool, patterns: &[Vec<u8>]) -> Option<RarePair>
     ensures stops { IfSome result
         (λ pair. AreOf pair ignore_case (map (λ pattern. pattern.items) patterns.now)) }
     ensures one { IfSome result (λ _. length patterns.now ≡ 1) }
+    ensures some { (pattern : List ℕ) → map (λ pattern. pattern.items) patterns.now ≡ pattern ∷ []
+        → 0 < length pattern → IsSome result }
 {
     if patterns.len() != 1 {
         return None;
