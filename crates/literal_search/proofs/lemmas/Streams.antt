@@ -1,7 +1,7 @@
 -- Texts that are read piece by piece.
 use Rattle.std.proofs.lemmas.Grind.{common_steps}
 use Rattle.std.proofs.Common.{rules, ◌≡◌, ℕ, ◌+◌, ◌-◌, ◌≤◌, ◌<◌, ◌^◌, ◌++◌, [], ◌∷◌, List, Ok, Err, map, Option, None}
-use Rattle.std.proofs.Common.{Some, length, take, drop, ap, subst, sym, ◌∙◌, arith, append_assoc, append-nil}
+use Rattle.std.proofs.Common.{Some, length, take, drop, ap, subst, sym, arith, append_assoc, append-nil}
 use Rattle.std.proofs.Common.{length-append, Bool, IfSome, true, false}
 use Rattle.std.proofs.Math.Seq.{take-append-add, drop-append-add}
 use Rattle.std.proofs.lemmas.Option.{none-some}
@@ -136,38 +136,30 @@ part_len xs start end ordered inside =
     length-take-le (end - start) (drop start xs) (omega (arith, inside, length-drop start xs))
 
 module _ (search : SearchValue) (from now : ℕ) (bytes : List ℕ) (later : from ≤ now)
-    (within : now - from ≤ length bytes) (before : List ℕ) (before_len : length before ≡ from) where
+    (within : now - from ≤ length bytes) (passed : PassesOver search from now bytes) where
   -- the same text, cut where a search stands now
-  cut_here : (before ++ take (now - from) bytes) ++ drop (now - from) bytes ≡ before ++ bytes
-  cut_here = grind (arith, append_assoc, take-append-drop)
+  cut_here : (before : List ℕ) → (before ++ take (now - from) bytes) ++ drop (now - from) bytes ≡ before ++ bytes
+  cut_here before = grind (arith, append_assoc, take-append-drop)
 
-  cut_len : length (before ++ take (now - from) bytes) ≡ now
-  cut_len = grind (arith, length-append, length-take-le)
+  cut_len : (before : List ℕ) → length before ≡ from → length (before ++ take (now - from) bytes) ≡ now
+  cut_len before len = grind (arith, length-append, length-take-le)
 
--- an answer for what is ahead now is one for what was ahead before bytes were passed over
-pub ahead_before : (search : SearchValue) (from now : ℕ) (bytes : List ℕ) (answer : Option MatchValue) → from ≤ now
-    → now - from ≤ length bytes → PassesOver search from now bytes
-    → IsLeftmostAhead search now answer (drop (now - from) bytes) → IsLeftmostAhead search from answer bytes
-ahead_before search from now bytes answer later within passed leftmost = λ before len.
-    leftmost_from search.query search.ignore_case (before ++ bytes) from now answer later (passed before len)
-    (subst (λ (text : List ℕ). IsLeftmost search.query search.ignore_case text (rest_from text now) answer)
-    (cut_here search from now bytes later within before len)
-    (leftmost (before ++ take (now - from) bytes) (cut_len search from now bytes later within before len)))
+  -- an answer for what is ahead now is one for what was ahead before bytes were passed over
+  ahead_before : (answer : Option MatchValue) → IsLeftmostAhead search now answer (drop (now - from) bytes)
+      → IsLeftmostAhead search from answer bytes
+  ahead_before answer leftmost = λ before len.
+      leftmost_from search.query search.ignore_case (before ++ bytes) from now answer later (passed before len)
+      (subst (λ (text : List ℕ). IsLeftmost search.query search.ignore_case text (rest_from text now) answer)
+      (cut_here before) (leftmost (before ++ take (now - from) bytes) (cut_len before len)))
 
--- and bytes that are passed over now are passed over from before
-pub passes_more : (search : SearchValue) (from now to : ℕ) (bytes : List ℕ) → from ≤ now
-    → now - from ≤ length bytes → PassesOver search from now bytes → PassesOver search now to (drop (now - from) bytes)
-    → PassesOver search from to bytes
-passes_more search from now to bytes later within passed more = λ before len i p occurs.
-    let cut = cut_here search from now bytes later within before len in
-    more (before ++ take (now - from) bytes) (cut_len search from now bytes later within before len) i p
-    (subst (λ (text : List ℕ). Occurs search.query.patterns search.ignore_case text (rest_from text now) i p) (sym cut)
-    (record {
-      is_pattern = occurs.is_pattern;
-      after_start = passed before len i p occurs;
-      before_end = occurs.before_end;
-      same = occurs.same;
-    }))
+  -- and bytes that are passed over now are passed over from before
+  passes_more : (to : ℕ) → PassesOver search now to (drop (now - from) bytes) → PassesOver search from to bytes
+  passes_more to more = λ before len i p occurs.
+      let there : Occurs search.query.patterns search.ignore_case (before ++ bytes) (rest_from (before ++ bytes) now)
+      i p = let begun = passed before len i p occurs in grind arith in
+      more (before ++ take (now - from) bytes) (cut_len before len) i p
+      (subst (λ (text : List ℕ). Occurs search.query.patterns search.ignore_case text (rest_from text now) i p)
+      (sym (cut_here before)) there)
 
 -- a place behind what a window holds can be told
 pub held_fits : (w : Window) → IsWindow w → w.offset + length (held w) < 2 ^ 64
@@ -185,57 +177,46 @@ pub read_in_part : (is_whole : Bool) (failure : Option ErrorKind) (error : Optio
     → is_whole ≡ false
 read_in_part is_whole failure error kind is apart failed = grind arith
 
--- what is held, and whatever follows it, is what is ahead now
-rest_and_more : (search : SearchValue) (from now : ℕ) (seen rest : List ℕ) → HasPassed search from now seen rest
-    → (more : List ℕ) → drop (now - from) (seen ++ more) ≡ rest ++ more
-rest_and_more search from now seen rest before more =
-    drop-append-le (now - from) seen more before.within ∙ ap (λ (l : List ℕ). l ++ more) (sym before.rest_is)
+module _ (search : SearchValue) (from now : ℕ) (seen rest : List ℕ) (before : HasPassed search from now seen rest) where
+  -- what is held, and whatever follows it, is what is ahead now
+  rest_and_more : (more : List ℕ) → drop (now - from) (seen ++ more) ≡ rest ++ more
+  rest_and_more more = grind (arith, drop-append-le)
 
--- after more bytes are passed over
-pub passed_more : (search : SearchValue) (from now n : ℕ) (seen rest : List ℕ) → n ≤ length rest
-    → ((more : List ℕ) (i p : ℕ) → Occurs search.query.patterns search.ignore_case (rest ++ more)
-    (rest_from (rest ++ more) 0) i p → n ≤ p)
-    → HasPassed search from now seen rest → HasPassed search from (now + n) seen (drop n rest)
-passed_more search from now n seen rest within none before =
-    let len : length rest ≡ length seen - (now - from) =
-    grind (arith, length-drop) in
-    record {
-      later = omega (arith, before.later);
-      within = omega (arith, within, len, before.within, before.later);
-      rest_is = grind (arith, drop-drop);
-      passed = λ more. passes_more search from now (now + n) (seen ++ more) before.later
-          (omega (arith, before.within, length-append seen more)) (before.passed more)
-          (λ prefix prefix_len i p occurs.
-          let text = subst (λ (l : List ℕ). Occurs search.query.patterns search.ignore_case (prefix ++ l)
-          (rest_from (prefix ++ l) now) i p) (rest_and_more search from now seen rest before more) occurs in
-          let there = none_ahead search.query.patterns search.ignore_case prefix (rest ++ more) n (none more) i p
-          (subst (λ at. Occurs search.query.patterns search.ignore_case (prefix ++ (rest ++ more))
-          (rest_from (prefix ++ (rest ++ more)) at) i p) (sym prefix_len) text) in
-          omega (arith, there, prefix_len));
-    }
+  seen_within : (more : List ℕ) → now - from ≤ length (seen ++ more)
+  seen_within more = omega (arith, before.within, length-append seen more)
 
--- the match of what is held, and of what follows it, is the answer
-pub found_ahead : (search : SearchValue) (from now : ℕ) (seen rest more : List ℕ) (found : MatchValue)
-    → IsLeftmostMatch search.query search.ignore_case (rest ++ more) (rest_from (rest ++ more) 0) found
-    → HasPassed search from now seen rest
-    → IsLeftmostAhead search from (Some (shifted now found)) (seen ++ more)
-found_ahead search from now seen rest more found leftmost before =
-    ahead_before search from now (seen ++ more) (Some (shifted now found)) before.later
-    (omega (arith, before.within, length-append seen more)) (before.passed more)
-    (λ prefix len. subst (λ (l : List ℕ). IsLeftmostMatch search.query search.ignore_case (prefix ++ l)
-    (rest_from (prefix ++ l) now) (shifted now found)) (sym (rest_and_more search from now seen rest before more))
-    (subst (λ at. IsLeftmostMatch search.query search.ignore_case (prefix ++ (rest ++ more))
-    (rest_from (prefix ++ (rest ++ more)) at) (shifted at found)) len
-    (leftmost_behind search.query search.ignore_case prefix (rest ++ more) found leftmost)))
+  -- after more bytes are passed over
+  passed_more : (n : ℕ) → n ≤ length rest
+      → ((more : List ℕ) (i p : ℕ) → Occurs search.query.patterns search.ignore_case (rest ++ more)
+      (rest_from (rest ++ more) 0) i p → n ≤ p) → HasPassed search from (now + n) seen (drop n rest)
+  passed_more n within none = record {
+    later = omega (arith, before.later);
+    within = grind (arith, length-drop);
+    rest_is = grind (arith, drop-drop);
+    passed = λ more. passes_more search from now (seen ++ more) before.later (seen_within more) (before.passed more)
+        (now + n) (λ prefix len i p occurs.
+        let there = none_ahead search.query.patterns search.ignore_case prefix (rest ++ more) n (none more) i p in
+        let here = rest_and_more more in
+        grind arith);
+  }
 
--- where nothing occurs in what is held, and nothing follows, nothing occurs ahead
-pub nothing_left : (search : SearchValue) (from now : ℕ) (seen rest : List ℕ)
-    → NothingOccurs search.query.patterns search.ignore_case rest (rest_from rest 0)
-    → HasPassed search from now seen rest → IsLeftmostAhead search from None seen
-nothing_left search from now seen rest nothing before =
-    ahead_before search from now seen None before.later before.within
-    (subst (PassesOver search from now) (append-nil seen) (before.passed []))
-    (grind (arith, nothing_ahead))
+  -- the match of what is held, and of what follows it, is the answer
+  found_ahead : (more : List ℕ) (found : MatchValue)
+      → IsLeftmostMatch search.query search.ignore_case (rest ++ more) (rest_from (rest ++ more) 0) found
+      → IsLeftmostAhead search from (Some (shifted now found)) (seen ++ more)
+  found_ahead more found leftmost =
+      ahead_before search from now (seen ++ more) before.later (seen_within more) (before.passed more)
+      (Some (shifted now found)) (λ prefix len.
+      let there = leftmost_behind search.query search.ignore_case prefix (rest ++ more) found leftmost in
+      let here = rest_and_more more in
+      grind arith)
+
+  -- where nothing occurs in what is held, and nothing follows, nothing occurs ahead
+  nothing_left : NothingOccurs search.query.patterns search.ignore_case rest (rest_from rest 0)
+      → IsLeftmostAhead search from None seen
+  nothing_left nothing =
+      ahead_before search from now seen before.later before.within
+      (subst (PassesOver search from now) (append-nil seen) (before.passed [])) None (grind (arith, nothing_ahead))
 
 -- where nothing was read, no failure is lost
 nothing_read : (failure : Option ErrorKind) (piece : List ℕ) → piece ≡ []
@@ -259,13 +240,8 @@ pub gone_past : (old now new : StreamValue) (n : ℕ) → n ≤ length now.held
     → new ≡ record now { held = drop n now.held; offset = now.offset + n }
     → HasGoneOn old now → HasGoneOn old new
 gone_past old now new n within none is gone =
-    subst (HasGoneOn old) (sym is) (record {
-      piece = gone.piece;
-      search_is = gone.search_is;
-      is_over = gone.is_over;
-      reads = record { consumed = gone.reads.consumed; failed = gone.reads.failed };
-      passed = search (arith, passed_more);
-    })
+    let passed = passed_more old.search old.offset now.offset (old.held ++ gone.piece) now.held gone.passed n within none in
+    grind arith
 
 -- it reads on
 pub gone_on : (old : StreamValue) (search : SearchValue) (w v : Window) (r s : Reading) (unread left : Option (List ℕ))
@@ -273,18 +249,14 @@ pub gone_on : (old : StreamValue) (search : SearchValue) (w v : Window) (r s : R
     → (piece : List ℕ) × Consumes unread left piece × (held v ≡ held w ++ piece) × HasReadOn r piece s
     → HasGoneOn old (stream_value search w r unread false) → HasGoneOn old (stream_value search v s left false)
 gone_on old search w v r s unread left sound offset read gone =
-    let piece = read.0 in
-    let seen = old.held ++ (gone.piece ++ piece) in
+    let passed : HasPassed old.search old.offset w.offset ((old.held ++ gone.piece) ++ read.0) (held w ++ read.0) =
+    grind (arith, common_steps) in
     record {
-      piece = gone.piece ++ piece;
+      piece = gone.piece ++ read.0;
       search_is = gone.search_is;
       is_over = gone.is_over;
       reads = grind (arith, common_steps, failed_still);
-      passed = subst (HasPassed old.search old.offset v.offset seen) (sym read.2)
-          (subst (λ to. HasPassed old.search old.offset to seen (held w ++ piece)) (sym offset)
-          (subst (λ (l : List ℕ). HasPassed old.search old.offset w.offset l (held w ++ piece))
-          (append_assoc old.held gone.piece piece)
-          (grind (arith, common_steps))));
+      passed = grind (arith, append_assoc);
     }
 
 -- how much is read then
@@ -311,21 +283,10 @@ pub goes_behind : (old now new : StreamValue) (found answer : MatchValue)
     → new ≡ record now { held = drop found.end now.held; offset = now.offset + found.end }
     → HasGoneOn old now → GoesBehind old answer new
 goes_behind old now new found answer leftmost some within fits answer_is is gone =
-    let seen = old.held ++ gone.piece in
-    let k = now.offset - old.offset in
-    let held : drop found.end now.held ≡ drop ((found.end + now.offset) - old.offset) seen =
-    grind (arith, drop-drop) in
-    let offset : now.offset + found.end ≡ found.end + now.offset = omega arith in
-    subst (GoesBehind old answer) (sym is) (subst (λ a. GoesBehind old a
-    (record now { held = drop found.end now.held; offset = now.offset + found.end })) (sym answer_is) (record {
-      piece = gone.piece;
-      reads = record { consumed = gone.reads.consumed; failed = gone.reads.failed };
-      leftmost = search (arith, found_ahead);
-      some = omega (arith, some, gone.passed.later);
-      within = omega (arith, within, gone_len old now gone);
-      fits = omega (arith, within, fits);
-      goes_on = cc;
-    }))
+    let first = found_ahead old.search old.offset now.offset (old.held ++ gone.piece) now.held gone.passed
+    (known now.unread) found leftmost in
+    let len = gone_len old now gone in
+    grind (arith, drop-drop)
 
 -- where it is over
 pub ends_whole : (old now new : StreamValue) → IsAtEnd now.unread → now.failure ≡ None
@@ -333,15 +294,9 @@ pub ends_whole : (old now new : StreamValue) → IsAtEnd now.unread → now.fail
     → new ≡ record now { held = []; offset = now.offset + length now.held; is_over = true }
     → HasGoneOn old now → EndsWhole old new
 ends_whole old now new over sound nothing is gone =
-    let offset = gone_len old now gone in
-    subst (EndsWhole old) (sym is) (record {
-      piece = gone.piece;
-      reads = record { consumed = gone.reads.consumed; failed = gone.reads.failed };
-      end = over;
-      no_failure = sound;
-      nothing = search (arith, nothing_left);
-      over = cc;
-    })
+    let none = nothing_left old.search old.offset now.offset (old.held ++ gone.piece) now.held gone.passed nothing in
+    let len = gone_len old now gone in
+    grind arith
 
 -- and where reading failed
 pub ends_failed : (old now new : StreamValue) (error : Error) → now.failure ≡ Some (error_kind error)
@@ -353,8 +308,8 @@ ends_failed old now new error failed none is gone =
     let seen = old.held ++ gone.piece in
     let longest = longest_of old.search.query.patterns in
     let offset = gone_len old now gone in
-    let far = passed_more old.search old.offset now.offset (length now.held - (longest - 1)) seen now.held
-    (omega arith) none gone.passed in
+    let far = passed_more old.search old.offset now.offset seen now.held gone.passed
+    (length now.held - (longest - 1)) (omega arith) none in
     grind arith
 
 -- what is read of a known text, and what is then known to follow, is all that is ahead
@@ -367,85 +322,72 @@ seen_whole : (held piece rest : List ℕ) (unread : Option (List ℕ)) → IsAtE
     → Consumes (Some rest) unread piece → held ++ piece ≡ held ++ rest
 seen_whole held piece rest unread over taken = grind (arith, append-nil)
 
--- what holds of what is ahead, whatever came before, holds of the text
-told_in : (P : SearchValue → List ℕ → Type 0) (search : SearchValue) (text : List ℕ) (m : StreamValue) (ahead : List ℕ)
-    → (stands : GoesThrough search text m) → ahead ≡ m.held ++ stands.rest
-    → ((before : List ℕ) → length before ≡ m.offset → P m.search (before ++ ahead)) → P search text
-told_in P search text m ahead stands is told = grind arith
+module _ (search : SearchValue) (text : List ℕ) where
+  -- behind a match it stands in the text still
+  stands_behind : (m : StreamValue) (found : MatchValue) (n : StreamValue) → GoesThrough search text m
+      → GivesStreamed m (Some (Ok found)) n → GoesThrough search text n
+  stands_behind m found n stands step =
+      let goes = step.2 in
+      let seen = m.held ++ goes.piece in
+      let k = found.end - m.offset in
+      let taken = subst (λ (u : Option (List ℕ)). Consumes u n.unread goes.piece) stands.unread goes.reads.consumed in
+      let all = seen_all m.held goes.piece stands.rest n.unread taken in
+      let held : n.held ≡ drop k seen = ap (λ (v : StreamValue). v.held) goes.goes_on in
+      record {
+        before = stands.before ++ take k seen;
+        rest = known n.unread;
+        search_is = grind arith;
+        unread = all.0;
+        offset = grind (arith, length-append, length-take-le);
+        whole = rw (
+          held,
+          append_assoc stands.before (take k seen) (drop k seen ++ known n.unread),
+          ← append_assoc (take k seen) (drop k seen) (known n.unread),
+          take-append-drop k seen,
+          all.1,
+        ) stands.whole;
+        not_over = grind arith;
+      }
 
--- behind a match it stands in the text still
-stands_behind : (search : SearchValue) (text : List ℕ) (m : StreamValue) (found : MatchValue) (n : StreamValue)
-    → GoesThrough search text m → GivesStreamed m (Some (Ok found)) n → GoesThrough search text n
-stands_behind search text m found n stands step =
-    let goes = step.2 in
-    let seen = m.held ++ goes.piece in
-    let k = found.end - m.offset in
-    let taken = subst (λ (u : Option (List ℕ)). Consumes u n.unread goes.piece) stands.unread goes.reads.consumed in
-    let all = seen_all m.held goes.piece stands.rest n.unread taken in
-    let offset = ap (λ (v : StreamValue). v.offset) goes.goes_on in
-    let held = ap (λ (v : StreamValue). v.held) goes.goes_on in
-    record {
-      before = stands.before ++ take k seen;
-      rest = known n.unread;
-      search_is = ap (λ (v : StreamValue). v.search) goes.goes_on ∙ stands.search_is;
-      unread = all.0;
-      offset = grind (arith, length-append, length-take-le);
-      whole = append_assoc stands.before (take k seen) (n.held ++ known n.unread)
-          ∙ (ap (λ (l : List ℕ). stands.before ++ l)
-          (ap (λ (l : List ℕ). take k seen ++ (l ++ known n.unread)) held
-          ∙ (sym (append_assoc (take k seen) (drop k seen) (known n.unread))
-          ∙ (grind (arith, take-append-drop))))
-          ∙ stands.whole);
-      not_over = ap (λ (v : StreamValue). v.is_over) goes.goes_on ∙ stands.not_over;
-    }
+  -- what it gives, in front of the list from where it then stands, is the list from where it stood
+  pub streamed_first : (m : StreamValue) (all : List MatchValue) (n : StreamValue) (more : List MatchValue)
+      → GoesThrough search text m → Yields GivesStreamed m (map Ok all) n
+      → IsGreedy search.query search.ignore_case text n.offset more
+      → IsGreedy search.query search.ignore_case text m.offset (all ++ more)
+  streamed_first m [] n more stands stays greedy = grind arith
+  streamed_first m (found ∷ rest) n more stands run greedy =
+      let step = run.1 in
+      let rest_is = streamed_first run.0 rest n more (stands_behind m found run.0 stands step) run.2 greedy in
+      grind (arith, common_steps)
 
--- what it gives, in front of the list from where it then stands, is the list from where it stood
-pub streamed_first : (search : SearchValue) (text : List ℕ) (m : StreamValue) (all : List MatchValue) (n : StreamValue)
-    (more : List MatchValue) → GoesThrough search text m → Yields GivesStreamed m (map Ok all) n
-    → IsGreedy search.query search.ignore_case text n.offset more
-    → IsGreedy search.query search.ignore_case text m.offset (all ++ more)
-streamed_first search text m [] n more stands stays greedy =
-    subst (λ (it : StreamValue). IsGreedy search.query search.ignore_case text it.offset more) (sym stays) greedy
-streamed_first search text m (found ∷ rest) n more stands run greedy =
-    let step = run.1 in
-    grind (
-      arith,
-      common_steps,
-      streamed_first search text run.0 rest n more (stands_behind search text m found run.0 stands step) run.2 greedy,
-    )
+  -- and where it then stands
+  pub streamed_to : (m : StreamValue) (all : List MatchValue) (n : StreamValue) → GoesThrough search text m
+      → Yields GivesStreamed m (map Ok all) n → GoesThrough search text n
+  streamed_to m [] n stands stays = subst (GoesThrough search text) stays stands
+  streamed_to m (found ∷ rest) n stands run = streamed_to run.0 rest n (stands_behind m found run.0 stands run.1) run.2
 
--- and where it then stands
-pub streamed_to : (search : SearchValue) (text : List ℕ) (m : StreamValue) (all : List MatchValue) (n : StreamValue)
-    → GoesThrough search text m → Yields GivesStreamed m (map Ok all) n → GoesThrough search text n
-streamed_to search text m [] n stands stays = subst (GoesThrough search text) stays stands
-streamed_to search text m (found ∷ rest) n stands run =
-    streamed_to search text run.0 rest n (stands_behind search text m found run.0 stands run.1) run.2
+  -- up to its first None it is the whole list
+  pub streamed_all : (m : StreamValue) (all : List MatchValue) (n ended : StreamValue) → GoesThrough search text m
+      → Yields GivesStreamed m (map Ok all) n → GivesStreamed n None ended
+      → IsGreedy search.query search.ignore_case text m.offset all
+  streamed_all m all n ended stands run last =
+      let there = streamed_to m all n stands run in
+      let ends = last.1 there.not_over in
+      subst (IsGreedy search.query search.ignore_case text m.offset) (append-nil all)
+      (grind (arith, streamed_first, seen_whole))
 
--- up to its first None it is the whole list
-pub streamed_all : (search : SearchValue) (text : List ℕ) (m : StreamValue) (all : List MatchValue)
-    (n ended : StreamValue) → GoesThrough search text m → Yields GivesStreamed m (map Ok all) n
-    → GivesStreamed n None ended → IsGreedy search.query search.ignore_case text m.offset all
-streamed_all search text m all n ended stands run last =
-    let there = streamed_to search text m all n stands run in
-    let ends = last.1 there.not_over in
-    subst (IsGreedy search.query search.ignore_case text m.offset) (append-nil all)
-    (grind (arith, streamed_first, seen_whole))
+  -- and then all of the text was read
+  pub streamed_len : (m ended : StreamValue) → GoesThrough search text m → GivesStreamed m None ended
+      → ended.offset ≡ length text
+  streamed_len m ended stands last = grind (arith, length-append)
 
--- and then all of the text was read
-pub streamed_len : (search : SearchValue) (text : List ℕ) (m ended : StreamValue) → GoesThrough search text m
-    → GivesStreamed m None ended → ended.offset ≡ length text
-streamed_len search text m ended stands last = grind (arith, length-append)
-
--- in front of an error nothing is missing but what begins in the last bytes that were read
-pub streamed_failed : (search : SearchValue) (text : List ℕ) (m : StreamValue) (error : Error) (ended : StreamValue)
-    → GoesThrough search text m → GivesStreamed m (Some (Err error)) ended
-    → (i p : ℕ) → Occurs search.query.patterns search.ignore_case text (rest_from text m.offset) i p
-    → ended.offset - (longest_of search.query.patterns - 1) ≤ p
-streamed_failed search text m error ended stands last =
-    let ends = last.2 in
-    let taken = subst (λ (u : Option (List ℕ)). Consumes u ended.unread ends.piece) stands.unread
-    ends.reads.consumed in
-    told_in (λ s t. (i p : ℕ) → Occurs s.query.patterns s.ignore_case t (rest_from t m.offset) i p
-    → ended.offset - (longest_of s.query.patterns - 1) ≤ p) search text m
-    ((m.held ++ ends.piece) ++ known ended.unread) stands
-    (seen_all m.held ends.piece stands.rest ended.unread taken).1 (ends.nothing (known ended.unread))
+  -- in front of an error nothing is missing but what begins in the last bytes that were read
+  pub streamed_failed : (m : StreamValue) (error : Error) (ended : StreamValue) → GoesThrough search text m
+      → GivesStreamed m (Some (Err error)) ended
+      → (i p : ℕ) → Occurs search.query.patterns search.ignore_case text (rest_from text m.offset) i p
+      → ended.offset - (longest_of search.query.patterns - 1) ≤ p
+  streamed_failed m error ended stands last i p occurs =
+      let ends = last.2 in
+      let none = ends.nothing (known ended.unread) stands.before stands.offset i p in
+      let all = seen_all m.held ends.piece stands.rest ended.unread in
+      grind arith
