@@ -18,7 +18,7 @@
 #include <stdlib.h>
 #include <time.h>
 
-enum { LINE = 80, PAGE = 4096, TEXT = 1 << 24, WORDS = 1 << 17, PLACES = 1 << 26, SHORT = 10000000 };
+enum { LINE = 80, PAGE = 4096, TEXT = 1 << 24, WORDS = 1 << 17, PLACES = 1 << 26, SHORT = 10000000, SAMPLE = 1000000 };
 
 static uint8_t text[TEXT], patterns[TEXT];
 static size_t text_len, patterns_len, ends[WORDS], ends_len;
@@ -157,15 +157,22 @@ static void read_patterns(const char *path) {
     }
 }
 
-static void time_task(size_t task, int least_runs) {
+/* Shorter times than a millisecond are of several runs together, since the clock may stand still for a moment. */
+static void time_task(size_t task, int samples) {
     double least = 1e18, all = 0;
-    size_t answer = 0;
-    for (int runs = 0; runs < least_runs || all < SHORT; runs++) {
+    size_t answer = 0, batch = 1;
+    while (samples > 0 || all < SHORT) {
         double start = now();
-        answer = TASKS[task].run ? TASKS[task].run() : lines_with(TASKS[task].has);
+        for (size_t run = 0; run < batch; run++)
+            answer = TASKS[task].run ? TASKS[task].run() : lines_with(TASKS[task].has);
         double took = now() - start;
-        least = took < least ? took : least;
+        if (took < SAMPLE) {
+            batch *= 2;
+            continue;
+        }
+        least = took / (double)batch < least ? took / (double)batch : least;
         all += took;
+        samples--;
     }
     printf("%s %.0f %zu\n", TASKS[task].name, least, answer);
 }

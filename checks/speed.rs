@@ -20,14 +20,19 @@ struct Times(usize, BTreeMap<&'static str, (f64, usize)>);
 
 impl Times {
     fn add(&mut self, task: &'static str, mut run: impl FnMut() -> usize) {
-        let (mut runs, mut all) = (0, 0.0);
-        while runs < self.0 || all < 1e7 {
-            let (start, answer) = (now(), black_box(run()));
+        let (mut samples, mut all, mut batch) = (0, 0.0, 1);
+        while samples < self.0 || all < 1e7 {
+            let start = now();
+            let answer = (0..batch).map(|_| black_box(run())).last().unwrap();
             let took = now() - start;
+            if took < 1e6 {
+                batch *= 2;
+                continue;
+            }
             let best = self.1.entry(task).or_insert((took, answer));
             assert_eq!(best.1, answer, "{task}");
-            best.0 = best.0.min(took);
-            (runs, all) = (runs + 1, all + took);
+            best.0 = best.0.min(took / batch as f64);
+            (samples, all) = (samples + 1, all + took);
         }
     }
 }
