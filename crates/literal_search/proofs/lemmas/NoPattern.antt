@@ -42,8 +42,17 @@ none_unshadowed LeftmostLongest = refl
 -- and are kept
 pub none_are_kept : (kind : MatchKind) (ignore_case : Bool) → AreKept (search_by kind ignore_case []) NO_PATTERN
 none_are_kept kind ignore_case =
-    grind (arith, kept_all, none_kept, none_long, none_recognised, none_unshadowed, one_class, pattern_written,
-    zeros_classes)
+    grind (
+      arith,
+      kept_all,
+      none_kept,
+      none_long,
+      none_recognised,
+      none_unshadowed,
+      one_class,
+      pattern_written,
+      zeros_classes,
+    )
 
 pub none_are_listed : (ignore_case : Bool) → AreListed (record { patterns = []; ignore_case = ignore_case }) NO_LISTED
 none_are_listed ignore_case =
