@@ -240,7 +240,8 @@ pub gone_past : (old now new : StreamValue) (n : ℕ) → n ≤ length now.held
     → new ≡ record now { held = drop n now.held; offset = now.offset + n }
     → HasGoneOn old now → HasGoneOn old new
 gone_past old now new n within none is gone =
-    let passed = passed_more old.search old.offset now.offset (old.held ++ gone.piece) now.held gone.passed n within none in
+    let passed = passed_more old.search old.offset now.offset (old.held ++ gone.piece) now.held gone.passed n within
+    none in
     grind arith
 
 -- it reads on
