@@ -63,33 +63,21 @@ module _ (search : SearchValue) (replacements : List (List ℕ)) (is_whole : Boo
       → IsLeftmostMatch search.query search.ignore_case (ahead ++ more) (rest_from (ahead ++ more) 0) found)
       → WritesOn search replacements is_whole at (at + found.end) ahead
       (take found.start ahead ++ pattern_at replacements found.pattern)
-  writes_match at ahead found within leftmost = record {
-    later = omega arith;
-    within = omega (arith, within);
-    goes_on = λ before more rest len over is.
-        let text = before ++ (ahead ++ more) in
-        let first = leftmost more over in
-        let here : IsLeftmostMatch search.query search.ignore_case text (rest_from text at) (shifted at found) =
-        subst (λ k. IsLeftmostMatch search.query search.ignore_case text (rest_from text k) (shifted k found)) len
-        (leftmost_behind search.query search.ignore_case before (ahead ++ more) found first) in
-        let end : at + found.end ≡ found.end + at = omega arith in
-        let start : found.start + at ≡ at + found.start = omega arith in
-        let replacement = pattern_at replacements found.pattern in
-        let part : slice_range text at (found.start + at) ≡ take found.start ahead =
-        ap (slice_range text at) start
-        ∙ part_ahead before ahead more at found.start len (omega (arith, first.whole, within)) in
-        record {
-          matches = shifted at found ∷ is.matches;
-          are_greedy = (
-            here,
-            subst (λ k. IsGreedy search.query search.ignore_case text k is.matches) end is.are_greedy,
-          );
-          is_replaced = append_assoc (take found.start ahead) replacement rest
-              ∙ (ap (λ l. take found.start ahead ++ (replacement ++ l))
-              (is.is_replaced ∙ ap (λ k. replaced text replacements k is.matches) end)
-              ∙ ap (λ l. l ++ (replacement ++ replaced text replacements (found.end + at) is.matches)) (sym part));
-        };
-  }
+  writes_match at ahead found within leftmost =
+      record {
+        later = omega arith;
+        within = omega (arith, within);
+        goes_on = λ before more rest len over is.
+            let told = leftmost more over in
+            let first = leftmost_behind search.query search.ignore_case before (ahead ++ more) found told in
+            let inside = told.whole in
+            let part = part_ahead before ahead more at found.start len (omega arith) in
+            record {
+              matches = shifted at found ∷ is.matches;
+              are_greedy = grind arith;
+              is_replaced = grind (arith, append_assoc);
+            };
+      }
 
   -- what no match begins in
   writes_place : (at : ℕ) (ahead : List ℕ) (place : ℕ) → place ≤ length ahead
@@ -101,24 +89,13 @@ module _ (search : SearchValue) (replacements : List (List ℕ)) (is_whole : Boo
         later = omega arith;
         within = omega (arith, within);
         goes_on = λ before more rest len over is.
-            let text = before ++ (ahead ++ more) in
-            let long : at + place ≤ length text =
-            omega (arith, length-append before (ahead ++ more), length-append ahead more) in
-            let after : (i p : ℕ) → Occurs search.query.patterns search.ignore_case text (rest_from text at) i p
-            → at + place ≤ p =
-            subst (λ k. (i p : ℕ) → Occurs search.query.patterns search.ignore_case text (rest_from text k) i p
-            → k + place ≤ p) len
-            (none_ahead search.query.patterns search.ignore_case before (ahead ++ more) place (none more over)) in
+            let after = none_ahead search.query.patterns search.ignore_case before (ahead ++ more) place
+            (none more over) in
+            let part = part_ahead before ahead more at place len within in
             record {
               matches = is.matches;
-              are_greedy = greedy_later search.query search.ignore_case text at (at + place) is.matches (omega arith)
-                  after
-                  is.are_greedy;
-              is_replaced = ap (λ l. take place ahead ++ l) is.is_replaced
-                  ∙ (ap (λ l. l ++ replaced text replacements (at + place) is.matches)
-                  (sym (part_ahead before ahead more at place len within))
-                  ∙ sym (replaced_later search.query search.ignore_case text replacements at (at + place) is.matches
-                  (omega arith) long is.are_greedy));
+              are_greedy = grind (arith, greedy_later);
+              is_replaced = grind (arith, replaced_later, length-append);
             };
       }
 
@@ -136,27 +113,23 @@ module _ (search : SearchValue) (replacements : List (List ℕ)) (is_whole : Boo
       → WritesOn search replacements is_whole at to (drop (at - from) ahead) next
       → WritesOn search replacements is_whole from to ahead (out ++ next)
   writes_more from at to ahead out next one other =
-      let split : at - from ≤ length ahead = omega (arith, one.within, one.later) in
       record {
         later = omega (arith, one.later, other.later);
-        within = omega (arith, length-drop (at - from) ahead);
+        within = omega (arith, one.within, one.later, length-drop (at - from) ahead);
         goes_on = λ before more rest len over is.
             let prefix = take (at - from) ahead in
             let same : (before ++ prefix) ++ (drop (at - from) ahead ++ more) ≡ before ++ (ahead ++ more) =
-            append_assoc before prefix (drop (at - from) ahead ++ more)
-            ∙ ap (λ l. before ++ l) (sym (append_assoc prefix (drop (at - from) ahead) more)
-            ∙ ap (λ l. l ++ more) (take-append-drop (at - from) ahead)) in
-            let prefix_len : length (before ++ prefix) ≡ at = omega (
-              arith,
-              length-append before prefix,
-              length-take-le (at - from) ahead split,
-            ) in
-            let then = other.goes_on (before ++ prefix) more rest prefix_len over
-            (subst (λ text. IsReplacedFrom search text replacements to rest) (sym same) is) in
-            subst (IsReplacedFrom search (before ++ (ahead ++ more)) replacements from)
-            (sym (append_assoc out next rest))
-            (one.goes_on before more (next ++ rest) len over
-            (subst (λ text. IsReplacedFrom search text replacements at (next ++ rest)) same then));
+            rw (
+              append_assoc before prefix (drop (at - from) ahead ++ more),
+              ← append_assoc prefix (drop (at - from) ahead) more,
+              take-append-drop (at - from) ahead,
+            ) refl in
+            let long : length (before ++ prefix) ≡ at =
+            grind (arith, one.within, one.later, length-append, length-take-le) in
+            rw (append_assoc out next rest) (one.goes_on before more (next ++ rest) len over
+            (subst (λ text. IsReplacedFrom search text replacements at (next ++ rest)) same
+            (other.goes_on (before ++ prefix) more rest long over
+            (subst (λ text. IsReplacedFrom search text replacements to rest) (sym same) is))));
       }
 
 -- whatever was read meanwhile
