@@ -58,12 +58,8 @@ module _ (p : Tables) (parts : AreTables p) (haystack : List ℕ) (bytes : (i : 
       ends_further : s.end ≤ s.next → (found : MatchValue)
           → IsToCome (standing_value p haystack span s) found → s.at < found.end
       ends_further empty found is =
-          elim is.after [
-            | inl further ↦ further
-            | inr here ↦
-                let end = found_ends found is.occurrence in
-                grind arith
-          ]
+          let end = found_ends found is.occurrence in
+          grind arith
 
       -- at the end of the span nothing is to come
       pub nothing_to_come : s.end ≤ s.next → s.at ≡ span.end → (found : MatchValue)
@@ -89,15 +85,10 @@ module _ (p : Tables) (parts : AreTables p) (haystack : List ℕ) (bytes : (i : 
 
           ends_first : ending (texts_in p) part ≡ Some (longest_at p stop)
           ends_first =
-              by (ending (texts_in p) part) refl next.ends
-              (ends_at (texts_in p) p.width p.rows parts.recognises part stop.place
-              (next.stands.at parts.recognises))
-            where
-              by : (o : Option ℕ) → ending (texts_in p) part ≡ o → IsSome o
-                  → get_or p.rows (stop.place + p.width) 0 ≡ unwrap_or o nothing
-                  → o ≡ Some (get_or p.rows (stop.place + p.width) 0)
-              by None is some read = cc
-              by (Some i) is some read = ap Some (sym read)
+              let read = ends_at (texts_in p) p.width p.rows parts.recognises part stop.place (next.stands.at
+              parts.recognises) in
+              let some = next.ends in
+              grind arith
 
           first_of_part : IsFirstSuffix (texts_in p) part (longest_at p stop)
           first_of_part = first_ends (texts_in p) some_texts part (longest_at p stop) ends_first
@@ -151,14 +142,10 @@ module _ (p : Tables) (parts : AreTables p) (haystack : List ℕ) (bytes : (i : 
                 left = record {
                   ascends = list.ascends;
                   each = λ k from before.
-                      let one = list.each k from before in (
-                        record {
-                          is_pattern = one.0.is_pattern;
-                          ends = ends_on text (pattern_at (texts_in p) (longest_at p stop)) _ is_first.is.ends
-                              one.0.ends;
-                        },
-                        one.1,
-                      );
+                      let one = list.each k from before in
+                      let ends = ends_on text (pattern_at (texts_in p) (longest_at p stop)) _ is_first.is.ends
+                      one.0.ends in
+                      grind arith;
                   every = grind (arith, list, ends_of_first, some_texts, is_first);
                 };
               }
@@ -192,26 +179,11 @@ module _ (p : Tables) (parts : AreTables p) (haystack : List ℕ) (bytes : (i : 
         next_is =
             record {
               to_come = grind (arith, common_steps, end_found);
-              first = λ other is before. elim before [
-                | inl earlier ↦ elim is.after [
-                  | inl further ↦ omega arith
-                  | inr at ↦ omega (arith, at.0)
-                ]
-                | inr less ↦ elim is.after [
-                  | inl further ↦ omega (arith, less.0)
-                  | inr at ↦
-                      let end = found_ends other is.occurrence in
-                      let one = standing.left.every other.pattern
-                      (subst (λ n. IsSuffix (texts_in p) (read_of p haystack span n) other.pattern) less.0 end) at.1 in
-                      elim (cases_lt s.next one.0) [
-                        | inl later ↦
-                            omega (arith, standing.left.ascends s.next one.0 (omega arith) later one.2)
-                        | inr not ↦
-                            let same : one.0 ≡ s.next = omega (arith, one.1) in
-                            omega (arith, ap (λ k. get_or p.ends k 0) same)
-                      ]
-                ]
-              ];
+              first = λ other is before.
+                  let end = found_ends other is.occurrence in
+                  let every = standing.left.every other.pattern in
+                  let later = standing.left.ascends s.next in
+                  grind arith;
             }
 
         pub stands_next : IsStanding p haystack span
@@ -229,12 +201,7 @@ module _ (p : Tables) (parts : AreTables p) (haystack : List ℕ) (bytes : (i : 
                 every = λ i end from.
                     let least = here.1 in
                     let one = standing.left.every i end (omega arith) in
-                    elim (cases_lt s.next one.0) [
-                      | inl later ↦ (one.0, omega arith, one.2, one.3)
-                      | inr not ↦
-                          let same : one.0 ≡ s.next = omega (arith, one.1) in
-                          absurd (omega (arith, one.3, ap (λ k. get_or p.ends k 0) same))
-                    ];
+                    grind arith;
               };
             }
 
