@@ -1,10 +1,8 @@
 -- A walk from one end of patterns to the next.
-use Rattle.std.proofs.Common.{◌≡◌, ℕ, ◌+◌, ◌-◌, ◌<◌, ◌≤◌, Bool, List, [], Some, get_or, length, map}
-use Rattle.std.proofs.Common.{ap, arith, inl, inr, refl, subst, sym, ◌∙◌}
-use Rattle.std.proofs.Common.{◌^◌, IfOk, IfSome, IsSome, MatchOption, None, Ok, Option, Result}
+use Rattle.std.proofs.Common.{◌≡◌, ℕ, ◌+◌, ◌-◌, ◌<◌, ◌≤◌, Bool, List, [], Some, get_or, length, map, ap, arith, refl}
+use Rattle.std.proofs.Common.{sym, ◌∙◌, ◌^◌, IfOk, IfSome, IsSome, MatchOption, None, Ok, Option, Result}
 use Rattle.std.specs.Result.{IsOkAnd}
 use Rattle.std.specs.Option.{option_map}
-use Rattle.std.proofs.lemmas.Bool.{cases_lt}
 use Rattle.literal_base.specs.Occurs.{IsValidSpan, NoneIsEmpty, Occurs, between, pattern_at}
 use Rattle.literal_base.specs.declared.search.Span.{Span}
 use Rattle.literal_fingerprints.specs.CandidateScans.{StopsAtEach}
@@ -14,8 +12,8 @@ use Rattle.literal_search.specs.Earliest.{IsEarliestEnd}
 use Rattle.literal_search.specs.Inside.Classes.{AreClasses, Tells, symbols_in}
 use Rattle.literal_search.specs.Inside.NextEnd.{FindsNext, HasComeTo, IsNextStop, Stands, StandsNext}
 use Rattle.literal_search.specs.Inside.Scan.{IsTableFor, NoneBefore}
-use Rattle.literal_search.specs.Inside.Walk.{HasReached, IsAt, IsFirstEnd, NoneEnds, ReachesWithin, classes_by}
-use Rattle.literal_search.specs.Inside.Walk.{read_to, rows_by, text_of}
+use Rattle.literal_search.specs.Inside.Walk.{HasReached, IsAt, IsFirstEnd, NoneEnds, ReachesWithin, classes_by, read_to}
+use Rattle.literal_search.specs.Inside.Walk.{rows_by, text_of}
 use Rattle.literal_search.specs.Table.{Recognises}
 use Rattle.literal_search.specs.Words.{ending, live_suffix}
 use Rattle.literal_search.specs.declared.prepared.Damaged.{Damaged}
@@ -25,7 +23,6 @@ use Rattle.literal_search.specs.declared.walk.Stop.{Stop}
 use Rattle.literal_search.specs.declared.walk.Table.{Table}
 use Rattle.literal_search.proofs.lemmas.EndsFound.{begins_behind, end_occurs, nothing_read, occurrence_ends}
 use Rattle.literal_search.proofs.lemmas.Found.{some_symbols}
-use Rattle.literal_search.proofs.lemmas.Scan.{also_ok}
 use Rattle.literal_search.proofs.lemmas.FirstSuffix.{first_ends, none_ends}
 use Rattle.literal_search.proofs.lemmas.Walk.{at_start, text_halves}
 
@@ -63,15 +60,15 @@ module _ (t : Table) (patterns : List (List ℕ)) (ignore_case : Bool) (is : IsT
         → upto < place + length (pattern_at patterns i)
     none_upto upto none i place o further =
         let end = place + length (pattern_at patterns i) in
-        elim (cases_lt upto end) [
-          | inl past ↦ past
-          | inr within ↦ absurd (none_ends texts (some_symbols (classes_by t) patterns is.some)
-              (text_of (classes_by t) haystack (between stands.from end))
-              (ap (ending texts) (sym (reads_to end (omega arith))) ∙ none end further within) i
-              (occurrence_ends ignore_case (classes_by t) patterns is.tells is.some haystack bytes span valid
-              stands.from i
-              place end (stands.begins i place o further) refl o))
-        ]
+        let begun = stands.begins i place o further in
+        let ends = occurrence_ends ignore_case (classes_by t) patterns is.tells is.some haystack bytes span valid
+        stands.from
+        i place end begun refl o in
+        let differs = none_ends texts (some_symbols (classes_by t) patterns is.some)
+        (text_of (classes_by t) haystack (between stands.from end)) in
+        let reads = reads_to end in
+        let none_there = none end further in
+        grind arith
 
     -- where something ends next
     next_there : (stop : Stop) → s.end < stop.end
@@ -81,17 +78,15 @@ module _ (t : Table) (patterns : List (List ℕ)) (ignore_case : Bool) (is : IsT
     next_there stop further finds =
         let first = finds is.recognises in
         let same = reads_to stop.end (omega arith) in
-        let before = stands.before in
         record {
           stands = record {
             from = stands.from;
             after = stands.after;
-            before = omega arith;
-            at = λ recognises. subst (λ text. IsAt texts t.width (rows_by t) recognises text stop.place) same
-                (finds recognises).at;
-            begins = λ i place o to_come. stands.begins i place o (later i place o to_come);
+            before = grind arith;
+            at = grind arith;
+            begins = grind arith;
           };
-          ends = subst (λ text. IsSome (ending texts text)) same first.ends;
+          ends = grind arith;
           first = λ i place o to_come.
               let past = none_upto (stop.end - 1) first.none i place o (later i place o to_come) in omega arith;
         }
@@ -100,12 +95,9 @@ module _ (t : Table) (patterns : List (List ℕ)) (ignore_case : Bool) (is : IsT
     next_nowhere : NoneEnds texts read (classes_by t) haystack s.end span.end → (i place : ℕ)
         → Occurs patterns ignore_case haystack span i place → place + length (pattern_at patterns i) ≤ behind
     next_nowhere none i place o =
-        elim (cases_lt behind (place + length (pattern_at patterns i))) [
-          | inl to_come ↦
-              let past = none_upto span.end none i place o (later i place o to_come) in
-              absurd (omega arith)
-          | inr not ↦ not
-        ]
+        let past = none_upto span.end none i place o in
+        let further = later i place o in
+        grind arith
 
     -- where the walk is back in the first state, and then nothing begins before another place
     module _ (at new : ℕ) (after : s.end ≤ at) (on : at ≤ new) (within : new ≤ span.end)
@@ -122,12 +114,7 @@ module _ (t : Table) (patterns : List (List ℕ)) (ignore_case : Bool) (is : IsT
             stands.from at i place (omega arith) (stands.begins i place o further)
             (none_upto at (back is.recognises).1 i place o further) (omega arith)
             (ap (live_suffix texts) (sym (reads_to at after)) ∙ live) o in
-            none i place (record {
-              is_pattern = o.is_pattern;
-              after_start = behind_at;
-              before_end = o.before_end;
-              same = o.same;
-            })
+            none i place (grind arith)
 
         stands_new : Stands patterns ignore_case (classes_by t) t.width (rows_by t) haystack span new
             (record { place = 0; end = new })
@@ -137,17 +124,13 @@ module _ (t : Table) (patterns : List (List ℕ)) (ignore_case : Bool) (is : IsT
               from = new;
               after = omega arith;
               before = omega arith;
-              at = λ recognises. subst (λ text. IsAt texts t.width (rows_by t) recognises text 0)
-                  (sym (nothing_read (classes_by t) haystack new))
-                  (at_start texts t.width (rows_by t) recognises);
-              begins = λ i place o further. begins_new i place o (omega arith);
+              at = grind (arith, nothing_read, at_start);
+              begins = grind (arith, begins_new);
             }
 
         later_new : (i place : ℕ) → Occurs patterns ignore_case haystack span i place
             → behind < place + length (pattern_at patterns i) → new < place + length (pattern_at patterns i)
-        later_new i place o to_come =
-            let begins = begins_new i place o (later i place o to_come) in
-            omega arith
+        later_new i place o to_come = grind (arith, begins_new)
 
 -- what a walk finds that goes on from where another has come to: where something ends next, or nothing; or it comes to
 -- where nothing begins before, behind the place where it is back
@@ -167,9 +150,7 @@ module _ (t : Table) (prints haystack : List ℕ) (bytes : (i : ℕ) → get_or 
     valid_whole : (patterns : List (List ℕ)) (ignore_case : Bool) (start : ℕ)
         → Stands patterns ignore_case (classes_by t) t.width (rows_by t) haystack (between start span.end) span.start
         (record { place = from; end = span.start }) → IsValidSpan haystack (between start span.end)
-    valid_whole patterns ignore_case start begun =
-        let ordered = valid.ordered in
-        record { ordered = omega arith; in_haystack = valid.in_haystack }
+    valid_whole patterns ignore_case start begun = let ordered = valid.ordered in grind arith
 
     pub found_on : (reached : Reached) → (AreClasses (classes_by t) t.width → (words : List (List ℕ))
         (recognises : Recognises words t.width (rows_by t)) (text : List ℕ)
@@ -237,11 +218,12 @@ pub finds_earliest : (t : Table) (patterns : List (List ℕ)) (ignore_case : Boo
     (λ stop. (span.start < stop.end) × (stop.end ≤ span.end) × (stop.place < 2 ^ 32)))
     → IsOkAnd result (λ answer. IsEarliestEnd patterns ignore_case haystack span (option_map (λ stop. stop.end) answer))
 finds_earliest t patterns ignore_case prints is pass haystack bytes span valid result finds inside =
-    also_ok result _ _ _ (λ answer next lies. earliest_is patterns ignore_case (classes_by t) t.width (rows_by t)
-    is.tells
-    is.some haystack bytes span valid answer next lies)
-    (finds patterns ignore_case is pass span.start
-    (stands_first patterns ignore_case (classes_by t) t.width (rows_by t) haystack span)) inside
+    let found = finds patterns ignore_case is pass span.start
+    (stands_first patterns ignore_case (classes_by t) t.width (rows_by t) haystack span) in
+    let earliest = earliest_is patterns ignore_case (classes_by t) t.width (rows_by t) is.tells is.some haystack bytes
+    span
+    valid in
+    grind arith
 
 -- the scan of numbers that stop at each pattern stops there, too
 pub kept_pass : (patterns : List (List ℕ)) (ignore_case : Bool) (prints : List ℕ) (kept : Option CandidateScan)

@@ -1,11 +1,9 @@
 -- Where a search for everything that occurs stands, and what is to come there.
 use Rattle.std.proofs.lemmas.Grind.{common_steps}
-use Rattle.std.proofs.Common.{rules, ◌≡◌, ℕ, ◌+◌, ◌-◌, ◌<◌, ◌≤◌, List, length, get_or, Option, Some, None, IsSome, inl}
-use Rattle.std.proofs.Common.{inr, refl, sym, ap, subst, arith, ◌*◌, mul-le-mul_right}
-use Rattle.std.proofs.lemmas.Bool.{cases_lt}
+use Rattle.std.proofs.Common.{rules, ◌≡◌, ℕ, ◌+◌, ◌-◌, ◌<◌, ◌≤◌, List, length, get_or, Option, Some}
+use Rattle.std.proofs.Common.{arith, ◌*◌, mul-le-mul_right}
 use Rattle.std.proofs.lemmas.List.{length-map}
 use Rattle.std.specs.Iterator.{MakesProgress, size}
-use Rattle.std.specs.Option.{unwrap_or}
 use Rattle.literal_base.specs.declared.search.Span.{Span}
 use Rattle.literal_base.specs.MatchValue.{MatchValue}
 use Rattle.literal_base.specs.Occurs.{IsValidSpan, NoneIsEmpty, Occurs, between, pattern_at}
@@ -19,7 +17,6 @@ use Rattle.literal_search.specs.Overlapping.{IsOccurrence}
 use Rattle.literal_search.specs.OverlappingMatchesValue.{GivesOverlapping, IsNextToCome, IsToCome}
 use Rattle.literal_search.specs.OverlappingMatchesValue.{OverlappingMatchesValue, most_overlapping}
 use Rattle.literal_search.specs.PreparedOverlapping.{AreTables, Tables, texts_in}
-use Rattle.literal_search.specs.Table.{nothing}
 use Rattle.literal_search.specs.Words.{ending}
 use Rattle.literal_search.specs.declared.standing.Standing.{Standing}
 use Rattle.literal_search.specs.declared.walk.Stop.{Stop}
