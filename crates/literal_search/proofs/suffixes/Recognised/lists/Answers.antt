@@ -44,25 +44,21 @@ module _ (patterns : List (List ℕ)) where
   lists_more ends starts list count are here none =
       record {
         long = omega (arith, length-append starts (length (ends ++ list) ∷ []));
-        ordered = λ i below. elim (cases_lt i count) [
-          | inl before ↦ omega (arith, old i (omega arith), old (i + 1) (omega arith), are.ordered i before)
-          | inr past ↦
-              let is : i ≡ count = omega arith in
-              omega (
-                arith,
-                ap (λ n. get_or (started ends starts list) n 0) is,
-                ap (λ n. get_or (started ends starts list) (n + 1) 0) is,
-                old count (omega arith),
-                last,
-                size,
-              )
-        ];
-        inside = λ i below. elim (cases_lt i (count + 1)) [
-          | inl before ↦ omega (arith, old i before, are.inside i (omega arith), size)
-          | inr past ↦
-              let is : i ≡ count + 1 = omega arith in
-              omega (arith, ap (λ n. get_or (started ends starts list) n 0) is, last)
-        ];
+        ordered = λ i below.
+            let split = cases_lt i count in
+            let now = old i in
+            let next = old (i + 1) in
+            let before = are.ordered i in
+            let len = size in
+            let end = last in
+            grind arith;
+        inside = λ i below.
+            let split = cases_lt i (count + 1) in
+            let now = old i in
+            let before = are.inside i in
+            let len = size in
+            let end = last in
+            grind arith;
         last = last;
         each = λ i below first. elim (cases_lt i count) [
           | inl before ↦
@@ -86,16 +82,14 @@ module _ (patterns : List (List ℕ)) where
               (get_or (started ends starts list) (n + 1) 0)) is
               (added (subst (λ n. ending patterns (pattern_at patterns n) ≡ Some n) (sym is) first))
         ];
-        others = λ i below other. elim (cases_lt i count) [
-          | inl before ↦
-              omega (arith, old i (omega arith), old (i + 1) (omega arith), are.others i before other)
-          | inr past ↦
-              let is : count ≡ i = omega arith in
-              let empty = none (λ first. other
-              (subst (λ n. ending patterns (pattern_at patterns n) ≡ Some n) is first)) in
-              subst (λ n. get_or (started ends starts list) n 0 ≡ get_or (started ends starts list) (n + 1) 0) is
-              (omega (arith, old count (omega arith), last, size, ap (λ (l : List ℕ). length l) empty))
-        ];
+        others = λ i below other.
+            let split = cases_lt i count in
+            let now = old i in
+            let next = old (i + 1) in
+            let before = are.others i in
+            let len = size in
+            let end = last in
+            grind arith;
       }
     where
       size : length (ends ++ list) ≡ length ends + length list
