@@ -32,7 +32,7 @@ const LAST: usize = 1024;
 
 /// Four walks go through the last block if its parts have at least this length. One walk is faster through less, as
 /// each of the four first reads a lead.
-const LEAST_PART: usize = 12;
+const LEAST_PART: usize = 11;
 
 /// Before one walk looks at a candidate, a scan passed over this many bytes, or as many as the longest pattern has,
 /// whichever is more.
