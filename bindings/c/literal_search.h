@@ -44,7 +44,8 @@
  * depends on the patterns, not on memory: a pattern of 8.4 million bytes is too large with all 256 different bytes, one
  * of 77 million with 26. A pattern that alone is too large is refused by its length. If only several together are, the
  * rows are made first, and LITERAL_OUT_OF_MEMORY may come instead. A place needs 4 bytes in a prepared array, and two
- * to four times as much besides while that is written.
+ * to four times as much besides while that is written. With LITERAL_LEFTMOST_FIRST a pattern that begins with an
+ * earlier one never matches: it adds no rows to a prepared array, but counts for LITERAL_TOO_LARGE.
  *
  * No call keeps anything after it returns. There is nothing to free, and any thread may call at any time. A call needs
  * less than 16 KiB of stack.

@@ -52,13 +52,22 @@ HasPair pair haystack at = HasBytes pair haystack (at + first_offset pair)
 abbrev pub HasPairOfEarlier : RarePair → List ℕ → ℕ → Type 0
 HasPairOfEarlier pair haystack start = (k : ℕ) × (k < first_offset pair) × HasBytes pair haystack (start + k)
 
+-- where a scan of the span may stop by the second byte alone: at a place behind which it stands as in a pattern, at the
+-- start of the span if it stands there as in a pattern that begins before it, and at the end of the span
+abbrev pub SecondMayStop : RarePair → List ℕ → Span → ℕ → Type 0
+SecondMayStop pair haystack span place =
+    IsRare pair.second (slice_index haystack (place + second_offset pair))
+    ⊎ (((place ≡ span.start)
+    × ((k : ℕ) × (k < second_offset pair) × IsRare pair.second (slice_index haystack (span.start + k))))
+    ⊎ (place ≡ span.end))
+
 -- where a scan of the span may stop: at a pair, at the start of the span if there is a pair of a pattern that begins
--- before it, and where fewer than 16 bytes of the span follow the offset of the second byte
+-- before it, and, where fewer than 16 bytes of the span follow the offset of the second byte, by that byte alone
 abbrev pub PairMayStop : RarePair → List ℕ → Span → ℕ → Type 0
 PairMayStop pair haystack span place =
     HasPair pair haystack place
     ⊎ (((place ≡ span.start) × HasPairOfEarlier pair haystack span.start)
-    ⊎ (span.end < place + second_offset pair + 16))
+    ⊎ ((span.end < place + second_offset pair + 16) × SecondMayStop pair haystack span place))
 
 -- each text that begins with the pattern has the bytes of the pair there
 pub record IsPairOf (pair : RarePair) (ignore_case : Bool) (pattern : List ℕ) : Type 0 where

@@ -4,8 +4,8 @@ ghost use Rattle.std.specs.Prelude.{◌≢◌, length, min, slice_index, true};
 ghost use Rattle.literal_base.specs.Occurs.{IsValidSpan, same_byte};
 ghost use Rattle.literal_fingerprints.specs.Inside.Hits.{AreHits, hit, pair_hit_at};
 ghost use Rattle.literal_fingerprints.specs.Inside.Lanes.{HasLanes};
-ghost use Rattle.literal_fingerprints.specs.RarePairs.{IsPairOf, IsRare, NoPairBegins, PairMayStop, has_between};
-ghost use Rattle.literal_fingerprints.specs.RarePairs.{pair_in};
+ghost use Rattle.literal_fingerprints.specs.RarePairs.{IsPairOf, IsRare, NoPairBegins, PairMayStop, SecondMayStop};
+ghost use Rattle.literal_fingerprints.specs.RarePairs.{has_between, pair_in, second_offset};
 
 use crate::lanes::{LANES, both, byte_at, either, load, shifted, wanted, zeros_before};
 use crate::nibbles::other_case;
@@ -272,10 +272,13 @@ impl RarePair {
         span: Span,
         tally: &mut Tally,
     ) -> usize
+        requires second { second_mask ≡ self.now.second.mask }
+        requires behind { behind ≡ second_offset self.now }
         requires valid { IsValidSpan haystack.now span }
         requires after { span.start ≤ from }
         requires inside { from ≤ span.end }
         ensures inside { (span.start ≤ result) × (result ≤ span.end) }
+        ensures stops { SecondMayStop self.now haystack.now span result }
         ensures none { (place : ℕ) → span.start ≤ place → place < result → from ≤ place + behind
             → place + behind < span.end
             → hit self.now.second.byte second_mask (slice_index haystack.now (place + behind)) ≡ 0 }

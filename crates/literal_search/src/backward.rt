@@ -31,8 +31,8 @@ pub(crate) const MARKED: usize = LEAST / 4;
 /// The length from which parts begin to double, where the block before is far. At the end of a span they are shorter.
 const FIRST_MARKED: usize = 16;
 
-/// In a list, one walk looks at a candidate alone, if a scan passed over this many bytes before it, and as many as the
-/// longest pattern has.
+/// In a list, one walk looks at a candidate alone, if a scan passed over at least this many bytes more before it than
+/// the longest pattern has.
 const FAR: usize = 24;
 
 /// How long each of the four parts of a marked block is at least.

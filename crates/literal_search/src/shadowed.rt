@@ -40,8 +40,8 @@ pub(crate) fn backward_rows(
     }
 }
 
-/// The rows for the reversed patterns, if no pattern has an earlier one as a prefix. Otherwise those of an automaton in
-/// which the first such prefix takes the place of each of these patterns.
+/// The rows for the reversed patterns, if no pattern has an earlier one as a prefix. Otherwise those of another
+/// automaton: in it, each pattern that has such prefixes is replaced by the first of them in the list.
 fn first_rows(
     alloc: Global,
     classes: &Classes,

@@ -1,10 +1,9 @@
 -- Places at which a haystack has no pair of bytes.
 use Rattle.std.proofs.Common.{◌≡◌, ◌≢◌, ℕ, ◌+◌, ◌-◌, ◌<◌, ◌≤◌, ◌∙◌, List, ap, arith, bit_and, bit_or, cond}
-use Rattle.std.proofs.Common.{[], Bool, eqb, false, get_or, inl, inr, min, refl, replicate, subst, sym, true}
+use Rattle.std.proofs.Common.{[], Bool, eqb, false, get_or, inl, inr, min, refl, subst, sym, true}
 use Rattle.std.proofs.lemmas.Bool.{cases_lt, eq-eqb, eqb-true, le-ltb, lt-ltb}
 use Rattle.std.proofs.lemmas.Bool.Decides.{nat_tests}
 use Rattle.std.proofs.lemmas.Nat.{le_or_l, le_or_r}
-use Rattle.std.proofs.lemmas.Simd.{get_or-replicate}
 use Rattle.std.specs.Int.Bits.{and_zero_l, and_zero_r, or_zero_l}
 use Rattle.literal_base.specs.Occurs.{IsValidSpan}
 use Rattle.literal_base.specs.declared.search.Span.{Span}
@@ -49,15 +48,6 @@ is_hit rare mask byte some = eqb-true _ _ (set_by (eqb (bit_or byte mask) rare) 
 -- and the rare one is hit
 hits : (rare mask byte : ℕ) → bit_or byte mask ≡ rare → hit rare mask byte ≡ 255
 hits rare mask byte is = ap lane_of (eq-eqb _ _ is)
-
--- lanes before the first byte that is compared
-pub none_hit_before : (rare mask : ℕ) (haystack : List ℕ) (origin : ℕ)
-    → HasLanes (replicate 16 0) (λ k. hit_at rare mask haystack origin (origin + k))
-none_hit_before rare mask haystack origin = record {
-  long = refl;
-  each = λ k below.
-      get_or-replicate 16 k 0 0 below ∙ sym (hit_before rare mask haystack origin (origin + k) (omega arith));
-}
 
 -- the same lanes, their places counted from the vector before
 pub later_hits : (rare mask : ℕ) (haystack : List ℕ) (origin at : ℕ) (lanes : List ℕ)

@@ -43,10 +43,10 @@ module _ (patterns : List (List ℕ)) (some : NoneIsEmpty patterns) (few : lengt
       by : (o : Option ℕ) → ending patterns (pattern_at patterns pattern) ≡ o → first ≡ unwrap_or o nothing
           → IsFirstEqual pattern first
       by None ends at = absurd (none_ends patterns some (pattern_at patterns pattern) ends pattern
-          (end_of_itself patterns some pattern below))
+          (end_of_itself patterns pattern below))
       by (Some i) ends at =
           let all = first_ends patterns some (pattern_at patterns pattern) i ends in
-          let itself = end_of_itself patterns some pattern below in
+          let itself = end_of_itself patterns pattern below in
           let size = ends_length (pattern_at patterns pattern) (pattern_at patterns i) all.is.ends in
           let long : length (pattern_at patterns pattern) ≤ length (pattern_at patterns i) =
           elim (all.others pattern itself) [
@@ -75,7 +75,7 @@ module _ (patterns : List (List ℕ)) (some : NoneIsEmpty patterns) (few : lengt
       (same : pattern_at patterns head ≡ pattern_at patterns pattern)
     where
       itself : IsSuffix patterns (pattern_at patterns pattern) pattern
-      itself = end_of_itself patterns some pattern below
+      itself = end_of_itself patterns pattern below
 
       -- as long as the pattern, and later: an equal
       as_long : (i : ℕ) → IsSuffix patterns (pattern_at patterns pattern) i

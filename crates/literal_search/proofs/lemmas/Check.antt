@@ -35,13 +35,6 @@ mixed_small number small =
 stirred_tells : (one other : ℕ) → one < 2 ^ 32 → other < 2 ^ 32 → stirred one ≡ stirred other → one ≡ other
 stirred_tells one other small small' same =
     sym (mixed_twice one small) ∙ ap mixed (grind (arith, mixed_small)) ∙ mixed_twice other small'
-  where
-    factor_tells : (one other : ℕ) → one < 2 ^ 32 → other < 2 ^ 32
-        → one * 16777619 % 2 ^ 32 ≡ other * 16777619 % 2 ^ 32 → one ≡ other
-    factor_tells one other small small' same =
-        let first = div-add-mod' (one * 16777619) (2 ^ 32) in
-        let second = div-add-mod' (other * 16777619) (2 ^ 32) in
-        omega (arith, first, second, same, small, small')
 
 -- so behind the same number only equal checks are equal, and behind the same check only equal numbers make it equal
 with_tells : (check number check' number' : ℕ) → check_with check number ≡ check_with check' number'

@@ -44,6 +44,11 @@ ends_same text a b one other same =
     let within = ends_within text a b one other (omega arith) in
     grind (arith, ends_length, empty_prefix)
 
+-- each pattern is a suffix of itself
+pub end_of_itself : (patterns : List (List ℕ)) (i : ℕ) → i < length patterns
+    → IsSuffix patterns (pattern_at patterns i) i
+end_of_itself patterns i below = record { is_pattern = below; ends = record { prefix = []; split = refl } }
+
 module _ (patterns : List (List ℕ)) (some : NoneIsEmpty patterns) where
   -- a suffix of a text is the text, or a suffix of what is behind its first symbol
   end_splits : (symbol : ℕ) (more : List ℕ) (i : ℕ) → IsSuffix patterns (symbol ∷ more) i
@@ -106,17 +111,13 @@ module _ (patterns : List (List ℕ)) (some : NoneIsEmpty patterns) where
             ];
           }
 
-  -- each pattern is a suffix of itself
-  pub end_of_itself : (i : ℕ) → i < length patterns → IsSuffix patterns (pattern_at patterns i) i
-  end_of_itself i below = record { is_pattern = below; ends = record { prefix = []; split = refl } }
-
   -- the first of the ends of a text is the first of its own
   pub first_is_own : (text : List ℕ) (first : ℕ) → IsFirstSuffix patterns text first
       → ending patterns (pattern_at patterns first) ≡ Some first
   first_is_own text first is = by (ending patterns (pattern_at patterns first)) refl
     where
       own : IsSuffix patterns (pattern_at patterns first) first
-      own = end_of_itself first is.is.is_pattern
+      own = end_of_itself patterns first is.is.is_pattern
 
       by : (o : Option ℕ) → ending patterns (pattern_at patterns first) ≡ o → o ≡ Some first
       by None none = absurd (none_ends (pattern_at patterns first) none first own)

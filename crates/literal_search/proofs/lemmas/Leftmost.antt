@@ -61,11 +61,6 @@ pub lane_there : (p : BackTables) (haystack : List ℕ) (span : Span) (end at to
     → IsLane p haystack span end at place → IsLane p haystack span end to place
 lane_there p haystack span end at to place same lane = subst (λ n. IsLane p haystack span end n place) same lane
 
--- what tells all that begins before an end tells all that begins before a nearer one
-pub lane_nearer : (p : BackTables) (haystack : List ℕ) (span : Span) (end nearer at place : ℕ) → nearer ≤ end
-    → IsLane p haystack span end at place → IsLane p haystack span nearer at place
-lane_nearer p haystack span end nearer at place below lane = grind arith
-
 -- a number below 2^31 leads to itself
 pub lane_small : (p : BackTables) (haystack : List ℕ) (span : Span) (end at code : ℕ) → code < 2 ^ 31
     → IsStep p haystack span end at code → IsLane p haystack span end at code
@@ -220,16 +215,6 @@ pub ok_part_on : (p : BackTables) (haystack : List ℕ) (end from start upto : �
     → IsOkAnd result (IsFirstBegun p haystack end (between from upto))
 ok_part_on p haystack end from start upto before (Ok first) is = part_on p haystack end from start upto before first is
 ok_part_on p haystack end from start upto before (Err damaged) is = is
-
--- what is the first place of a part is that of a longer one, where nothing begins behind the part
-pub ok_first_upto : (p : BackTables) (haystack : List ℕ) (end start upto further : ℕ)
-    → NoneFrom p haystack end upto further → (result : Result (Option Begun) Damaged)
-    → IsOkAnd result (IsFirstBegun p haystack end (between start upto))
-    → IsOkAnd result (IsFirstBegun p haystack end (between start further))
-ok_first_upto p haystack end start upto further behind (Ok None) none =
-    none_on p haystack end start upto further none behind
-ok_first_upto p haystack end start upto further behind (Ok (Some begun)) first = first
-ok_first_upto p haystack end start upto further behind (Err damaged) is = is
 
 -- one step more
 pub one_more : (a b : Counts) → a ≡ b

@@ -20,7 +20,8 @@ use Rattle.literal_search.specs.States.{HasTooManyStates}
 use Rattle.literal_search.specs.Table.{nothing}
 use Rattle.literal_search.specs.Words.{begins_one, ending}
 use Rattle.literal_search.proofs.lemmas.Chains.{up_to_first, up_to_more}
-use Rattle.literal_search.proofs.lemmas.FirstSuffix.{ends_length, ends_on, ends_same, ends_within, first_ends}
+use Rattle.literal_search.proofs.lemmas.FirstSuffix.{end_of_itself, ends_length, ends_on, ends_same, ends_within}
+use Rattle.literal_search.proofs.lemmas.FirstSuffix.{first_ends}
 use Rattle.literal_search.proofs.lemmas.Reversed.{back_at, back_count, back_long, end_is_prefix, prefix_is_end}
 
 -- the first of some texts that passes a test, up to one
@@ -71,10 +72,6 @@ no_later test texts upto j finds passes = elim (cases_lt j finds.first) [
   | inl before ↦ absurd (false≢true (sym (finds.before j before) ∙ passes))
   | inr not ↦ omega (arith, not)
 ]
-
--- each pattern is a suffix of itself
-end_of_itself : (patterns : List (List ℕ)) (i : ℕ) → i < length patterns → IsSuffix patterns (pattern_at patterns i) i
-end_of_itself patterns i below = record { is_pattern = below; ends = record { prefix = []; split = refl } }
 
 module _ (words : List (List ℕ)) (i : ℕ) (below : i < length words) where
   -- the first of the prefixes of a text takes its place

@@ -1,4 +1,4 @@
--- The first of the patterns that are a suffix of a text.
+-- The rows for some texts, and the first of the patterns that are a suffix of a text.
 use Rattle.std.specs.Prelude.{◌≡◌, ℕ, ◌<◌, ◌≤◌, List, length, map, slice_index}
 use Rattle.std.specs.Global.{Vec}
 use Rattle.literal_base.specs.Occurs.{pattern_at}
