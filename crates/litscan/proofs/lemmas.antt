@@ -1,6 +1,7 @@
 -- Lemmas that several proofs share, by topic.
 pub mod Asked
 pub mod Lines
+pub mod Passing
 pub mod Printing
 pub mod Reading
 pub mod Refused

@@ -2,6 +2,7 @@ pub mod Asked
 pub mod DeviceValue
 pub mod Fault
 pub mod Files
+pub mod Inside
 pub mod Lines
 pub mod Options
 pub mod Printed

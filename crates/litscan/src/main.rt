@@ -11,6 +11,7 @@ mod input;
 mod laws;
 mod lines;
 mod options;
+mod passed;
 mod request;
 mod scan;
 mod words;

@@ -1,13 +1,14 @@
 //! Which lines count, and what is printed of them.
 ghost use Rattle.std.specs.Prelude.{◌≡◌, ◌<◌, ◌≤◌, ◌+◌, ◌^◌, ◌&&◌, ◌||◌, ℕ, List, ◌∷◌, [], length, min, true};
 ghost use Rattle.std.specs.Prelude.{IfErr, IfOk, MatchOption, MatchResult, OnOk};
-ghost use Rattle.std.specs.List.{count_by};
-ghost use Rattle.std.specs.Io.KnownBytes.{Appends};
+ghost use Rattle.std.specs.List.{count_by, flat_map};
+ghost use Rattle.std.specs.Io.KnownBytes.{Appends, Consumes};
 ghost use Rattle.literal_base.specs.MatchValue.{MatchValue};
 ghost use Rattle.literal_base.specs.declared.packed.MatchKind.TheVariants.{LeftmostLongest};
 ghost use Rattle.litscan.specs.Asked.{AreMatches};
-ghost use Rattle.litscan.specs.Fault.{IsWriteFault};
-ghost use Rattle.litscan.specs.Lines.{last_line, lines_of};
+ghost use Rattle.litscan.specs.Fault.{IsReadFault, IsWriteFault};
+ghost use Rattle.litscan.specs.Lines.{lines_of, with_feed};
+ghost use Rattle.litscan.specs.Inside.Passed.{ArePassed, lines_read};
 ghost use Rattle.litscan.specs.Options.{is_colored, is_silent, limit_of};
 ghost use Rattle.litscan.specs.Printed.{CannotRead, Prints, PrintsUnlessSilent, PrintsWhole, Reads, ReadsTooMany};
 ghost use Rattle.litscan.specs.Printed.{StopsAtEnough, StopsScan, are_enough, counts, marked_from, printed_behind};
@@ -19,9 +20,14 @@ use crate::color::{MATCH, NAME, print_colon, print_colored, print_number};
 use crate::device::Device;
 use crate::fault::Fault;
 use crate::options::{Options, is_enough};
+use crate::passed::Passed;
 use literal_search::Search;
 use std::alloc::Global;
 use std::io::{BufRead, ErrorKind, Write};
+
+/// Behind so many lines in a row that do not count, a scan looks for the next match in all that is read ahead. Where
+/// most lines count, it is faster to search each.
+const IDLE: u64 = 2;
 
 /// What a scan of a text found.
 #[derive(Clone, Copy)]
@@ -137,56 +143,74 @@ fn scan_lines<R: BufRead, W: Write>(
     ensures error { IfErr result (StopsScan reader.new.failure writer.new.failure) }
 {
     let mut line = Vec::new(alloc);
-    let mut count = 0;
-    let mut offset = 0;
-    for number in 1..u64::MAX {
+    let (mut count, mut lines, mut offset) = (0, 0, 0);
+    let mut idle = IDLE;
+    loop {
         if is_enough(options.limit(), count) {
             return Ok(Scanned {
                 count,
                 failure: None,
             });
         }
+        let passed = match pass_lines(search, options, idle, reader) {
+            Ok(passed) => passed,
+            Err(fault) => return failed_behind(count, fault, reader.failure()),
+        };
         let fed = match reader.read_line(&mut line) {
             Ok(fed) => fed,
             Err(fault) => return failed_behind(count, fault, reader.failure()),
         };
-        let Some(next) = offset_behind(offset, line.as_slice()) else {
+        let Some((start, next)) = offsets_behind(offset, passed, line.as_slice()) else {
             return Ok(Scanned {
                 count,
                 failure: Some(ErrorKind::FileTooLarge),
             });
         };
-        if !fed {
-            let last = take_last(
-                search,
-                options,
-                name,
-                number,
-                offset,
-                line.as_slice(),
-                writer,
-            )?;
-            return Ok(Scanned {
-                count: count + last,
-                failure: None,
-            });
-        }
-        let one = take_line(
+        lines += passed.lines as u64 + 1;
+        let taken = take_read(
+            fed,
             search,
             options,
             name,
-            number,
-            offset,
+            lines,
+            start,
             line.as_slice(),
             writer,
         )?;
-        count += one;
+        count += taken;
+        if !fed {
+            return Ok(Scanned {
+                count,
+                failure: None,
+            });
+        }
         offset = next;
+        idle = idle_with(idle, taken);
     }
-    Ok(Scanned {
-        count,
-        failure: Some(ErrorKind::FileTooLarge),
-    })
+}
+
+/// Passes over lines that do not count, of those that the reader has read ahead, if enough lines before them did not.
+fn pass_lines<R: BufRead>(
+    search: &Search,
+    options: Options,
+    idle: u64,
+    reader: &mut Device<R>,
+) -> Result<Passed, Fault>
+    ensures lines { IfOk result (λ passed. (lines : List (List ℕ)) × ArePassed search.now lines
+        × (options.others ≡ true → lines ≡ [])
+        × Consumes (R.remaining reader.old.inner) (R.remaining reader.new.inner) (flat_map with_feed lines)
+        × (passed.lines ≡ length lines) × (passed.bytes ≡ length (flat_map with_feed lines))) }
+    ensures error { IfErr result (IsReadFault reader.new.failure) }
+{
+    if options.others || idle < IDLE {
+        return Ok(Passed { lines: 0, bytes: 0 });
+    }
+    reader.pass_lines(search)
+}
+
+/// How many lines in a row did not count, with one line more, if all these did not.
+fn idle_with(idle: u64, taken: u64) -> u64 {
+    if taken > 0 { 0 } else { idle.saturating_add(1) }
 }
 
 /// What a scan found whose read failed so. Memory that is refused ends all.
@@ -200,40 +224,46 @@ fn failed_behind(count: u64, fault: Fault, failure: Option<ErrorKind>) -> Result
     }
 }
 
-/// The offset in the text behind a line and its line feed, if it is below 2^64.
-fn offset_behind(offset: u64, line: &[u8]) -> Option<u64>
-    ensures { MatchOption result (2 ^ 64 ≤ offset + length line.now + 1)
-        (λ next. next ≡ offset + length line.now + 1) }
+/// The offsets in the text behind lines that were passed over, and behind the next line and its line feed, if these are
+/// below 2^64.
+fn offsets_behind(offset: u64, passed: Passed, line: &[u8]) -> Option<(u64, u64)>
+    ensures { MatchOption result (2 ^ 64 ≤ offset + passed.bytes + length line.now + 1)
+        (λ ends. (ends.0 ≡ offset + passed.bytes) × (ends.1 ≡ offset + passed.bytes + length line.now + 1)
+        × (ends.1 < 2 ^ 64)) }
 {
-    offset
+    let start = offset.checked_add(passed.bytes as u64)?;
+    let next = start
         .checked_add(line.len() as u64)
-        .and_then(|end| end.checked_add(1))
+        .and_then(|end| end.checked_add(1))?;
+    Some((start, next))
 }
 
-/// Takes what stands behind the last line feed, if it is not empty.
-fn take_last<W: Write>(
+/// Takes what was read as a line: behind the last line feed only what is not empty.
+fn take_read<W: Write>(
+    fed: bool,
     search: &Search,
     options: Options,
     name: &[u8],
     number: u64,
     offset: u64,
-    last: &[u8],
+    line: &[u8],
     writer: &mut Device<W>,
 ) -> Result<u64, Fault>
     requires longest { search.now.query.kind ≡ LeftmostLongest }
-    requires inside { offset + length last.now < 2 ^ 64 }
+    requires inside { offset + length line.now < 2 ^ 64 }
     ensures few { IfOk result (λ count. count ≤ 1) }
     ensures counted { IfOk result (λ count.
-        count ≡ count_by (counts search.now options) (last_line last.now)) }
+        count ≡ count_by (counts search.now options) (lines_read fed line.now)) }
     ensures printed { OnOk result ((out : List ℕ)
         × Appends (W.contents writer.old.inner) (W.contents writer.new.inner) out
-        × PrintsUnlessSilent (is_silent options) search.now options name.now number offset (last_line last.now) out) }
+        × PrintsUnlessSilent (is_silent options) search.now options name.now number offset (lines_read fed line.now)
+        out) }
     ensures error { IfErr result (IsWriteFault writer.new.failure) }
 {
-    if last.is_empty() {
+    if !fed && line.is_empty() {
         return Ok(0);
     }
-    take_line(search, options, name, number, offset, last, writer)
+    take_line(search, options, name, number, offset, line, writer)
 }
 
 /// Prints what is asked for of a line if it counts, unless no line is printed. Answers 1 if it counts,

@@ -15,6 +15,7 @@ use Rattle.std.proofs.Math.Seq.{take-append_seam}
 use Rattle.std.proofs.lemmas.List.Elements.{All-head, All-tail}
 use Rattle.litscan.specs.Fault.{IsReadFault}
 use Rattle.litscan.specs.Lines.{HasNoFeed, last_line, with_feed}
+use Rattle.litscan.specs.Inside.Passed.{lines_read}
 use Rattle.litscan.specs.Options.{is_enough}
 use Rattle.litscan.specs.Printed.{BeginsWith, Reads, ReadsAll, ReadsTooMany, StopsAtEnough}
 use Rattle.litscan.specs.declared.fault.Fault.{Fault}
@@ -92,9 +93,13 @@ stops_later limit test seen more few before not_yet n below =
     ]
 
 -- what stands behind the last line feed is one line at most
-pub length-last_line : (last : List ℕ) → length (last_line last) ≤ 1
+length-last_line : (last : List ℕ) → length (last_line last) ≤ 1
 length-last_line [] = omega arith
 length-last_line (byte ∷ more) = omega arith
+
+pub length-lines_read : (fed : Bool) (line : List ℕ) → length (lines_read fed line) ≤ 1
+length-lines_read true line = omega arith
+length-lines_read false line = length-last_line line
 
 -- one line more
 pub read_more : (a b c : Option (List ℕ)) (seen : List (List ℕ)) (line : List ℕ) (fed : Bool) → fed ≡ true

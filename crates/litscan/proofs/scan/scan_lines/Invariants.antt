@@ -1,22 +1,16 @@
-use Rattle.std.proofs.Common.{◌≡◌, ◌+◌, ℕ, List, length}
-use Rattle.std.specs.Io.KnownBytes.{Appends, Consumes}
-use Rattle.std.specs.List.{All, count_by, flat_map}
-use Rattle.litscan.specs.Lines.{HasNoFeed, with_feed}
-use Rattle.litscan.specs.Options.{is_silent, limit_of}
-use Rattle.litscan.specs.Printed.{PrintsUnlessSilent, StopsAtEnough, counts}
+use Rattle.std.proofs.Common.{◌-◌, ◌<◌, ◌^◌, ℕ, List}
+use Rattle.litscan.proofs.lemmas.Passing.{SoFar}
 use Rattle.litscan.proofs.scan.scan_lines.Given as goal
 
 -- the lines that were read so far are counted, and printed
-abbrev pub invariant-loop-number : goal.invariant-loop-number
-invariant-loop-number g l = record {
+abbrev pub invariant-loop-options : goal.invariant-loop-options
+invariant-loop-options g l = record {
   seen : List (List ℕ);
   out : List ℕ;
-  whole : All HasNoFeed seen;
-  read : Consumes (g.R.Read.remaining l.fn.reader.inner) (g.R.Read.remaining l.reader.inner) (flat_map with_feed seen);
-  number : l.number ≡ length seen + 1;
-  offset : l.offset ≡ length (flat_map with_feed seen) + 0;
-  stops : StopsAtEnough (limit_of l.options) (counts l.search l.options) seen;
-  counted : l.count ≡ count_by (counts l.search l.options) seen;
-  written : Appends (g.W.Write.contents l.fn.writer.inner) (g.W.Write.contents l.writer.inner) out;
-  printed : PrintsUnlessSilent (is_silent l.options) l.search l.options l.name 1 0 seen out;
+  so_far : SoFar l.search l.options l.name (g.R.Read.remaining l.fn.reader.inner) (g.R.Read.remaining l.reader.inner)
+      (g.W.Write.contents l.fn.writer.inner) (g.W.Write.contents l.writer.inner) seen out l.count l.lines l.offset;
+  small : l.offset < 2 ^ 64;
 }
+
+abbrev pub decreases-loop-options : goal.decreases-loop-options
+decreases-loop-options g l = 2 ^ 64 - l.offset

@@ -1,0 +1,380 @@
+-- Lines that are passed over. For `passed`, `device` and `scan`.
+use Rattle.std.proofs.Common.{◌≡◌, ◌⊎◌, ◌+◌, ◌-◌, ◌<◌, ◌≤◌, ◌==◌, ℕ, Bool, List, [], ◌∷◌, ◌++◌, length, get_or}
+use Rattle.std.proofs.Common.{None, Option, false, true}
+use Rattle.std.proofs.KnownBytes.{Appends-trans, Consumes-trans}
+use Rattle.std.proofs.lemmas.Bool.{cases_Bool, cases_lt}
+use Rattle.std.proofs.Common.{append-nil, append_assoc, ap, arith, cond, drop, inl, inr, length-append, refl}
+use Rattle.std.proofs.Common.{slice_range, subst, sym, take, ◌∙◌}
+use Rattle.std.proofs.lemmas.Bool.{cond-false, ne_eqb}
+use Rattle.std.proofs.lemmas.List.{drop-append-le, flat_map_more, get_or-append-add, length-drop, length_push}
+use Rattle.std.proofs.lemmas.List.{take-append-le}
+use Rattle.std.proofs.lemmas.List.Elements.{All-append, All-cons, All-head, All-nil, All-push, All-tail}
+use Rattle.std.proofs.lemmas.List.Sums.{count_by-le-length, sum_by-append, sum_by-cons, sum_by-take-le}
+use Rattle.std.proofs.Math.Seq.{drop-append-add, take-append-add}
+use Rattle.std.proofs.lemmas.Grind.{flat_map-append}
+use Rattle.std.specs.Io.KnownBytes.{Appends, Consumes, IsAtEnd}
+use Rattle.std.specs.List.{All, count_by, flat_map}
+use Rattle.literal_base.specs.Occurs.{Occurs, case_folded, pattern_at, whole_of}
+use Rattle.literal_search.specs.SearchValue.{SearchValue}
+use Rattle.litscan.specs.Asked.{one_asked}
+use Rattle.litscan.specs.Lines.{HasNoFeed, lines_of, with_feed}
+use Rattle.litscan.specs.Inside.Passed.{ArePassed, HasNoWord, lines_read}
+use Rattle.litscan.specs.Options.{is_enough, is_silent, limit_of}
+use Rattle.litscan.specs.Printed.{PrintsLine, PrintsUnlessSilent, Reads, StopsAtEnough, are_enough, counts}
+use Rattle.litscan.specs.declared.options.Options.{Options}
+use Rattle.litscan.specs.declared.passed.Passed.{Passed}
+use Rattle.litscan.specs.declared.scan.Scanned.{Scanned}
+use Rattle.std.specs.Option.{IsSome, OnSome}
+use Rattle.std.specs.declared.io.ErrorKind.{ErrorKind}
+use Rattle.litscan.proofs.lemmas.Asked.{asked_if}
+use Rattle.litscan.proofs.lemmas.Lines.{Other, lines_are, lines_of-feeds, lines_of-split}
+use Rattle.litscan.proofs.lemmas.Printing.{count-append, prints_more, prints_none}
+use Rattle.litscan.proofs.lemmas.Reading.{length-feeds_most, length-lines_read, read_all, read_more, reads_any}
+use Rattle.litscan.proofs.lemmas.Reading.{reads_front, stops_later}
+
+abbrev pub is_feed : ℕ → Bool
+is_feed byte = byte == 10
+
+-- a text that is empty, or ends with a line feed, is some lines with a line feed behind each
+pub made_of_lines : (text : List ℕ) → (length text ≡ 0) ⊎ ((0 < length text) × (get_or text (length text - 1) 0 ≡ 10))
+    → (lines : List (List ℕ)) × All HasNoFeed lines × (text ≡ flat_map with_feed lines)
+made_of_lines text ends =
+    let are = lines_are text in
+    (are.before, are.before_whole, by (flat_map with_feed are.before) are.last are.text_is are.last_whole)
+  where
+    by : (front last : List ℕ) → text ≡ front ++ last → HasNoFeed last → text ≡ front
+    by front [] is whole = is ∙ append-nil front
+    by front (byte ∷ more) is whole =
+        let long = ap (λ (l : List ℕ). length l) is ∙ length-append front (byte ∷ more) in
+        elim ends [
+          | inl empty ↦ absurd (omega (arith, long, empty))
+          | inr feed ↦
+              let place : length text - 1 ≡ length front + length more = omega (arith, long) in
+              absurd (whole (length more) 0 (omega arith)
+              (sym (get_or-append-add front (byte ∷ more) (length more) 0)
+              ∙ ap (λ l. get_or l (length front + length more) 0) (sym is)
+              ∙ ap (λ n. get_or text n 0) (sym place) ∙ feed.1))
+        ]
+
+one_feed : (line : List ℕ) → HasNoFeed line → count_by is_feed (with_feed line) ≡ 1
+one_feed [] whole = refl
+one_feed (byte ∷ more) whole =
+    let none = cond-false {A = ℕ} (is_feed byte) 1 0 (ne_eqb byte 10 (All-head Other byte more whole)) in
+    let rest = one_feed more (All-tail Other byte more whole) in
+    omega (arith, none, rest, sum_by-cons (λ b. cond (is_feed b) 1 0) byte (with_feed more))
+
+-- it has as many line feeds as there are lines
+pub feeds_of_lines : (lines : List (List ℕ)) → All HasNoFeed lines
+    → count_by is_feed (flat_map with_feed lines) ≡ length lines
+feeds_of_lines [] whole = refl
+feeds_of_lines (line ∷ more) whole =
+    let first = one_feed line (All-head HasNoFeed line more whole) in
+    let rest = feeds_of_lines more (All-tail HasNoFeed line more whole) in
+    let both = sum_by-append (λ b. cond (is_feed b) 1 0) (with_feed line) (flat_map with_feed more) in
+    omega (arith, first, rest, both)
+
+module _ (search : SearchValue) where
+  abbrev pub OccursIn : List ℕ → ℕ → ℕ → Type 0
+  OccursIn text i at = Occurs search.query.patterns search.ignore_case text (whole_of text) i at
+
+  -- what occurs in a part of a text occurs in the text
+  occurs_in_part : (front part back : List ℕ) (i at : ℕ) → OccursIn part i at
+      → OccursIn (front ++ (part ++ back)) i (length front + at)
+  occurs_in_part front part back i at occurs =
+      let pattern = pattern_at search.query.patterns i in
+      let n = length pattern in
+      let fits : at + n ≤ length part = occurs.before_end in
+      let long = length-append front (part ++ back) ∙ ap (λ k. length front + k) (length-append part back) in
+      let left : length front + at + n - (length front + at) ≡ n = omega arith in
+      let left_in : at + n - at ≡ n = omega arith in
+      let same : slice_range (front ++ (part ++ back)) (length front + at) (length front + at + n)
+      ≡ slice_range part at (at + n) =
+      ap (λ l. take (length front + at + n - (length front + at)) l) (drop-append-add front (part ++ back) at
+      ∙ drop-append-le at part back (omega (arith, fits)))
+      ∙ ap (λ k. take k (drop at part ++ back)) left
+      ∙ take-append-le n (drop at part) back (omega (arith, fits, length-drop at part))
+      ∙ ap (λ k. take k (drop at part)) (sym left_in) in
+      record {
+        is_pattern = occurs.is_pattern;
+        after_start = omega arith;
+        before_end = omega (arith, long, fits);
+        same = ap (case_folded search.ignore_case) same ∙ occurs.same;
+      }
+
+  -- where nothing begins in a text before a place, nothing occurs in lines that end before it
+  pub none_in_lines : (front : List ℕ) (lines : List (List ℕ)) (back : List ℕ) (place : ℕ)
+      → ((i at : ℕ) → at < place → ¬ OccursIn (front ++ (flat_map with_feed lines ++ back)) i at)
+      → length front + length (flat_map with_feed lines) ≤ place
+      → All (HasNoWord search) lines
+  none_in_lines front [] back place none inside =
+      All-nil (HasNoWord search)
+  none_in_lines front (line ∷ more) back place none inside =
+      let rest = flat_map with_feed more ++ back in
+      let first : (with_feed line ++ flat_map with_feed more) ++ back ≡ line ++ (10 ∷ rest) =
+      append_assoc (with_feed line) (flat_map with_feed more) back ∙ append_assoc line (10 ∷ []) rest in
+      let behind : front ++ ((with_feed line ++ flat_map with_feed more) ++ back) ≡ (front ++ with_feed line) ++ rest =
+      ap (λ l. front ++ l) (append_assoc (with_feed line) (flat_map with_feed more) back)
+      ∙ sym (append_assoc front (with_feed line) rest) in
+      let size = length-append (with_feed line) (flat_map with_feed more) in
+      let line_size = length-append line (10 ∷ []) in
+      All-cons (HasNoWord search) line more
+      (λ i at occurs. none i (length front + at) (omega (arith, inside, size, line_size, occurs.before_end))
+      (subst (λ l. OccursIn (front ++ l) i (length front + at)) (sym first)
+      (occurs_in_part front line (10 ∷ rest) i at occurs)))
+      (none_in_lines (front ++ with_feed line) more back place
+      (λ i at below. subst (λ l. ¬ OccursIn l i at) behind (none i at below))
+      (omega (arith, inside, size, length-append front (with_feed line))))
+
+  module _ (options : Options) (name : List ℕ) (kept : options.others ≡ false) where
+    none_asked : (line : List ℕ) → HasNoWord search line → counts search options line ≡ false
+    none_asked line none =
+        cond-false options.others _ _ kept
+        ∙ (elim (cases_Bool (one_asked search options line)) [
+          | inl told ↦ let is = asked_if search options line told in absurd (none is.0 is.1 is.2.occurs)
+          | inr other ↦ other
+        ])
+
+    -- lines in which no word occurs do not count
+    pub none_counts : (lines : List (List ℕ))
+        → All (HasNoWord search) lines
+        → count_by (counts search options) lines ≡ 0
+    none_counts [] none = refl
+    none_counts (line ∷ more) none =
+        let first = cond-false {A = ℕ} (counts search options line) 1 0 (none_asked line (All-head (HasNoWord search) line more none)) in
+        let rest = none_counts more (All-tail (HasNoWord search) line more none) in
+        omega (arith, first, rest, sum_by-cons (λ l. cond (counts search options l) 1 0) line more)
+
+    -- and nothing is printed of them
+    pub none_printed : (silent : Bool) (number offset : ℕ) (lines : List (List ℕ))
+        → All (HasNoWord search) lines
+        → PrintsUnlessSilent silent search options name number offset lines []
+    none_printed true number offset lines none = refl
+    none_printed false number offset [] none = refl
+    none_printed false number offset (line ∷ more) none =
+        ([], [], first, none_printed false (number + 1) (offset + length line + 1) more (All-tail (HasNoWord search) line more none), refl)
+      where
+        first : PrintsLine (counts search options line) search options name number offset line []
+        first = subst (λ b. PrintsLine b search options name number offset line [])
+            (sym (none_asked line (All-head (HasNoWord search) line more none))) refl
+
+-- lines that do not count are not enough where those before them are not
+pub stops_behind : (limit : Option ℕ) (test : List ℕ → Bool) (seen more : List (List ℕ)) → count_by test more ≡ 0
+    → StopsAtEnough limit test seen → is_enough limit (count_by test seen) ≡ false
+    → StopsAtEnough limit test (seen ++ more)
+stops_behind limit test seen more none before not_yet n below =
+    let one = λ (line : List ℕ). cond {A = ℕ} (test line) 1 0 in
+    let enough = λ (lines : List (List ℕ)). is_enough limit (count_by test lines) in
+    elim (cases_lt n (length seen)) [
+      | inl front ↦ ap enough (take-append-le n seen more (omega (arith, front))) ∙ before n front
+      | inr behind ↦
+          let k = n - length seen in
+          let place : n ≡ length seen + k = omega (arith, behind) in
+          let no_more = sum_by-take-le one more k in
+          let count : count_by test (seen ++ take k more) ≡ count_by test seen =
+          omega (arith, sum_by-append one seen (take k more), no_more, none) in
+          ap enough (ap (λ m. take m (seen ++ more)) place ∙ take-append-add seen more k)
+          ∙ ap (λ m. is_enough limit m) count ∙ not_yet
+    ]
+
+-- a scan has read these lines and printed this of them: so many count, so many they are, and so many bytes they have
+pub record SoFar (search : SearchValue) (options : Options) (name : List ℕ) (old new : Option (List ℕ))
+    (written now : Option (List ℕ)) (seen : List (List ℕ)) (out : List ℕ) (count lines offset : ℕ) : Type 0 where
+  pub whole : All HasNoFeed seen
+  pub read : Consumes old new (flat_map with_feed seen)
+  pub lines_are : lines ≡ length seen
+  pub offset_is : offset ≡ length (flat_map with_feed seen)
+  pub stops : StopsAtEnough (limit_of options) (counts search options) seen
+  pub counted : count ≡ count_by (counts search options) seen
+  pub written_are : Appends written now out
+  pub printed : PrintsUnlessSilent (is_silent options) search options name 1 0 seen out
+
+-- no more lines count than there are, and no more are there than bytes
+pub few_so_far : {search : SearchValue} {options : Options} {name : List ℕ} {old new written now : Option (List ℕ)}
+    {seen : List (List ℕ)} {out : List ℕ} {count lines offset : ℕ}
+    → SoFar search options name old new written now seen out count lines offset → (count ≤ lines) × (lines ≤ offset)
+few_so_far {search} {options} {seen = seen} is = (
+  omega (arith, is.counted, is.lines_are, count_by-le-length (counts search options) seen),
+  omega (arith, is.lines_are, is.offset_is, length-feeds_most seen),
+)
+
+module _ {search : SearchValue} {options : Options} {name : List ℕ} {old new : Option (List ℕ)}
+    {written now : Option (List ℕ)} {seen : List (List ℕ)} {out : List ℕ} {count lines offset : ℕ}
+    (so_far : SoFar search options name old new written now seen out count lines offset)
+    (not_yet : is_enough (limit_of options) count ≡ false)
+  where
+    not_enough : is_enough (limit_of options) (count_by (counts search options) seen) ≡ false
+    not_enough = ap (λ n. is_enough (limit_of options) n) (sym so_far.counted) ∙ not_yet
+
+    -- lines were passed over
+    passed_on : (next : Option (List ℕ)) (passed : List (List ℕ)) → ArePassed search passed
+        → options.others ≡ false ⊎ (passed ≡ []) → Consumes new next (flat_map with_feed passed)
+        → SoFar search options name old next written now (seen ++ passed) out count (lines + length passed)
+        (offset + length (flat_map with_feed passed))
+    passed_on next passed are why read = record {
+      whole = All-append HasNoFeed seen passed so_far.whole are.whole;
+      read = subst (Consumes old next) (sym (flat_map-append with_feed seen passed))
+          (Consumes-trans old new next _ _ so_far.read read);
+      lines_are = omega (arith, so_far.lines_are, length-append seen passed);
+      offset_is = omega (
+        arith,
+        so_far.offset_is,
+        length-append (flat_map with_feed seen) (flat_map with_feed passed),
+        ap (λ (l : List ℕ). length l) (flat_map-append with_feed seen passed),
+      );
+      stops = stops_behind (limit_of options) (counts search options) seen passed none so_far.stops not_enough;
+      counted = omega (
+        arith,
+        so_far.counted,
+        none,
+        sum_by-append (λ l. cond {A = ℕ} (counts search options l) 1 0) seen passed,
+      );
+      written_are = so_far.written_are;
+      printed = subst (PrintsUnlessSilent (is_silent options) search options name 1 0 (seen ++ passed)) (append-nil out)
+          (prints_more search options name (is_silent options) 1 0 (length seen + 1)
+          (length (flat_map with_feed seen) + 0) seen passed out [] refl refl so_far.printed (printed_nothing why));
+    }
+      where
+        none : count_by (counts search options) passed ≡ 0
+        none = elim why [
+          | inl kept ↦ none_counts search options name kept passed are.none
+          | inr empty ↦ ap (count_by (counts search options)) empty
+        ]
+
+        printed_nothing : options.others ≡ false ⊎ (passed ≡ [])
+            → PrintsUnlessSilent (is_silent options) search options name (length seen + 1)
+            (length (flat_map with_feed seen) + 0) passed []
+        printed_nothing (inl kept) = none_printed search options name kept (is_silent options) _ _ passed are.none
+        printed_nothing (inr empty) =
+            subst (λ l. PrintsUnlessSilent (is_silent options) search options name (length seen + 1)
+            (length (flat_map with_feed seen) + 0) l []) (sym empty)
+            (prints_none search options name (is_silent options) (length seen + 1)
+            (length (flat_map with_feed seen) + 0))
+
+    -- the same where these lines are known only by their number and their bytes
+    pub passed_here : {next : Option (List ℕ)} (passed : Passed)
+        → (more : List (List ℕ)) × ArePassed search more × (options.others ≡ true → more ≡ [])
+        × Consumes new next (flat_map with_feed more) × (passed.lines ≡ length more)
+        × (passed.bytes ≡ length (flat_map with_feed more))
+        → (all : List (List ℕ))
+        × SoFar search options name old next written now all out count (lines + passed.lines) (offset + passed.bytes)
+    passed_here {next} passed is =
+        let why : options.others ≡ false ⊎ (is.0 ≡ []) =
+        elim (cases_Bool options.others) [
+          | inl others ↦ inr (is.2 others)
+          | inr kept ↦ inl kept
+        ] in (
+          seen ++ is.0,
+          subst (λ n. SoFar search options name old next written now (seen ++ is.0) out count (lines + n)
+              (offset + passed.bytes)) (sym is.4)
+              (subst (λ n. SoFar search options name old next written now (seen ++ is.0) out count (lines + length is.0)
+              (offset + n)) (sym is.5) (passed_on next is.0 is.1 why is.3)),
+        )
+
+    -- what was printed behind, of what was read behind: a line, or the end of the text
+    pub printed_on : (line part : List ℕ) (fed : Bool) (number start : ℕ) → number ≡ lines + 1 → start ≡ offset
+        → PrintsUnlessSilent (is_silent options) search options name number start (lines_read fed line) part
+        → PrintsUnlessSilent (is_silent options) search options name 1 0 (seen ++ lines_read fed line) (out ++ part)
+    printed_on line part fed number start number_is start_is printed =
+        prints_more search options name (is_silent options) 1 0 number start seen (lines_read fed line) out part
+        (omega (arith, number_is, so_far.lines_are)) (omega (arith, start_is, so_far.offset_is)) so_far.printed printed
+
+    -- and so the scan stops where it has to
+    pub stops_on : (line : List ℕ) (fed : Bool)
+        → StopsAtEnough (limit_of options) (counts search options) (seen ++ lines_read fed line)
+    stops_on line fed =
+        stops_later (limit_of options) (counts search options) seen (lines_read fed line) (length-lines_read fed line)
+        so_far.stops not_enough
+
+    pub counted_on : (line : List ℕ) (fed : Bool) (taken : ℕ)
+        → taken ≡ count_by (counts search options) (lines_read fed line)
+        → count + taken ≡ count_by (counts search options) (seen ++ lines_read fed line)
+    counted_on line fed taken is = count-append (counts search options) seen (lines_read fed line) count taken
+        so_far.counted is
+
+    -- one line more was read
+    pub read_on : {next there : Option (List ℕ)} (line part : List ℕ) (fed : Bool) (number start behind taken : ℕ)
+        → fed ≡ true → number ≡ lines + 1 → start ≡ offset → behind ≡ start + length line + 1 → HasNoFeed line
+        → Consumes new next (cond fed (with_feed line) line) → Appends now there part
+        → PrintsUnlessSilent (is_silent options) search options name number start (lines_read fed line) part
+        → taken ≡ count_by (counts search options) (lines_read fed line)
+        → SoFar search options name old next written there (seen ++ line ∷ []) (out ++ part) (count + taken) number
+        behind
+    read_on {next} {there} line part true number start behind taken is number_is start_is behind_is whole read append
+        printed counted = record {
+          whole = All-push HasNoFeed seen line so_far.whole whole;
+          read = read_more old new next seen line true is so_far.read read;
+          lines_are = omega (arith, number_is, so_far.lines_are, length_push seen line);
+          offset_is = omega (arith, start_is, behind_is, so_far.offset_is, longer);
+          stops = stops_on line true;
+          counted = counted_on line true taken counted;
+          written_are = Appends-trans written now there out part so_far.written_are append;
+          printed = printed_on line part true number start number_is start_is printed;
+        }
+      where
+        longer : length (flat_map with_feed (seen ++ line ∷ [])) ≡ length (flat_map with_feed seen) + (length line + 1)
+        longer =
+            ap (λ (l : List _). length l) (sym (flat_map_more with_feed [] seen line))
+            ∙ length-append (flat_map with_feed seen) (with_feed line)
+            ∙ ap (λ n. length (flat_map with_feed seen) + n) (length-append line (10 ∷ []))
+    read_on line part false number start behind taken is number_is start_is behind_is whole read append printed counted =
+        absurd (cc)
+
+-- what a scan answers of a text that it read
+abbrev pub Answers : SearchValue → Options → List ℕ → Option (List ℕ) → Option (List ℕ) → Option (List ℕ)
+    → Option (List ℕ) → Scanned → Type 0
+Answers search options name old new written now scanned =
+    (text out : List ℕ) × Reads scanned.failure (are_enough options scanned) old new text
+    × StopsAtEnough (limit_of options) (counts search options) (lines_of text) × Appends written now out
+    × PrintsUnlessSilent (is_silent options) search options name 1 0 (lines_of text) out
+    × (scanned.count ≡ count_by (counts search options) (lines_of text))
+
+module _ {search : SearchValue} {options : Options} {name : List ℕ} {old new : Option (List ℕ)}
+    {written now : Option (List ℕ)} {seen : List (List ℕ)} {out : List ℕ} {count lines offset : ℕ}
+    (so_far : SoFar search options name old new written now seen out count lines offset)
+  where
+    -- if that is what it has read so far
+    pub scanned_so_far : (next : Option (List ℕ)) (failure : Option ErrorKind)
+        → Reads failure (is_enough (limit_of options) count) old next (flat_map with_feed seen)
+        → Answers search options name old next written now (record { count = count; failure = failure })
+    scanned_so_far next failure reads =
+        let are = sym (lines_of-feeds seen so_far.whole) in (
+          flat_map with_feed seen,
+          out,
+          reads,
+          subst (StopsAtEnough (limit_of options) (counts search options)) are so_far.stops,
+          so_far.written_are,
+          subst (λ all. PrintsUnlessSilent (is_silent options) search options name 1 0 all out) are so_far.printed,
+          so_far.counted ∙ ap (count_by (counts search options)) are,
+        )
+
+    -- and if a read failed behind it
+    pub failed_so_far : (next : Option (List ℕ)) {failure : Option ErrorKind} (scanned : Scanned)
+        → scanned ≡ record { count = count; failure = failure } → IsSome failure
+        → Answers search options name old next written now scanned
+    failed_so_far next {failure} scanned is failed =
+        subst (Answers search options name old next written now) (sym is)
+        (scanned_so_far next failure (reads_front failure (is_enough (limit_of options) count) old new next (flat_map with_feed seen)
+        failed so_far.read))
+
+    -- and behind the last line feed
+    pub ended_so_far : is_enough (limit_of options) count ≡ false → (next there : Option (List ℕ)) (line part : List ℕ) (fed : Bool) (number start taken : ℕ) → fed ≡ false → number ≡ lines + 1
+        → start ≡ offset → HasNoFeed line → Consumes new next (cond fed (with_feed line) line)
+        → (fed ≡ false → OnSome new (IsAtEnd next)) → Appends now there part
+        → PrintsUnlessSilent (is_silent options) search options name number start (lines_read fed line) part
+        → taken ≡ count_by (counts search options) (lines_read fed line)
+        → Answers search options name old next written there (record { count = count + taken; failure = None })
+    ended_so_far not_yet next there line part true number start taken is number_is start_is whole read ended append printed counted =
+        absurd (cc)
+    ended_so_far not_yet next there line part false number start taken is number_is start_is whole read ended append
+        printed counted =
+        let are = sym (lines_of-split seen line so_far.whole whole) in (
+          flat_map with_feed seen ++ line,
+          out ++ part,
+          reads_any _ old next (flat_map with_feed seen ++ line)
+              (read_all old new next (flat_map with_feed seen) line false is so_far.read read ended),
+          subst (StopsAtEnough (limit_of options) (counts search options)) are (stops_on so_far not_yet line false),
+          Appends-trans written now there out part so_far.written_are append,
+          subst (λ all. PrintsUnlessSilent (is_silent options) search options name 1 0 all (out ++ part)) are
+              (printed_on so_far not_yet line part false number start number_is start_is printed),
+          counted_on so_far not_yet line false taken counted ∙ ap (count_by (counts search options)) are,
+        )
