@@ -1,17 +1,16 @@
 //! Readers and writers that keep in mind how they failed.
 ghost use Rattle.std.specs.Prelude.{◌≡◌, None, Ok, Err, Some, false, if◌then◌else◌, IfErr, IfOk, IfSome};
-ghost use Rattle.std.specs.Prelude.{List, MatchResult, OnOk, length, true, ℕ};
+ghost use Rattle.std.specs.Prelude.{List, MatchResult, OnOk, true, ℕ};
 ghost use Rattle.std.specs.IoError.{error_kind};
 ghost use Rattle.std.specs.Option.{OnSome};
 ghost use Rattle.std.specs.Io.{StopsAt};
 ghost use Rattle.std.specs.Io.KnownBytes.{Appends, Consumes, IsAtEnd, Keeps};
-ghost use Rattle.std.specs.List.{flat_map};
 ghost use Rattle.litscan.specs.Fault.{IsReadFault, IsWriteFault, write_fault};
 ghost use Rattle.litscan.specs.Lines.{HasNoFeed, with_feed};
-ghost use Rattle.litscan.specs.Inside.Passed.{ArePassed};
+ghost use Rattle.litscan.specs.Inside.Passed.{Takes};
 
 use crate::fault::Fault;
-use crate::passed::{Passed, lines_without_word};
+use crate::passed::{Passed, take_ahead};
 use literal_search::Search;
 use std::fmt::Display;
 use std::io::{self, BufRead, ErrorKind, Write};
@@ -93,29 +92,32 @@ impl<R: BufRead> Device<R> {
     }
 
     /// Passes over lines in which no word of a search occurs: of those that the reader has read ahead all before the
-    /// first that may hold one.
-    pub fn pass_lines(&mut self, search: &Search) -> Result<Passed, Fault>
-        ensures lines { IfOk result (λ passed. (lines : List (List ℕ)) × ArePassed search.now lines
-            × Consumes (R.remaining self.old.inner) (R.remaining self.new.inner) (flat_map with_feed lines)
-            × (passed.lines ≡ length lines) × (passed.bytes ≡ length (flat_map with_feed lines))) }
+    /// first that may hold one. That one is read too, in place of what is in the buffer, if it is whole.
+    pub fn pass_lines(&mut self, search: &Search, line: &mut Vec<u8>) -> Result<Passed, Fault>
+        ensures takes { IfOk result (λ passed. (text : List ℕ) × Takes search.now passed line.new.items text
+            × Consumes (R.remaining self.old.inner) (R.remaining self.new.inner) text) }
         ensures error { IfErr result (IsReadFault self.new.failure) }
     {
-        let passed = match self.inner.fill_buf() {
-            Ok(bytes) => lines_without_word(search, bytes),
+        let taken = match self.inner.fill_buf() {
+            Ok(bytes) => take_ahead(search, bytes, line),
             Err(error) => return self.after_fill(error),
         };
-        self.inner.consume(passed.bytes);
+        let Ok(passed) = taken else {
+            self.failure = Some(ErrorKind::OutOfMemory);
+            return Err(Fault::OutOfMemory);
+        };
+        self.inner.consume(passed.len());
         Ok(passed)
     }
 
     /// What [`Device::pass_lines`] answers where nothing could be read. An interrupted read is tried again by the next.
     fn after_fill(&mut self, error: io::Error) -> Result<Passed, Fault>
         ensures inner { self.new.inner ≡ self.old.inner }
-        ensures none { IfOk result (λ passed. passed ≡ record { lines = 0; bytes = 0 }) }
+        ensures none { IfOk result (λ passed. passed ≡ record { lines = 0; bytes = 0; next = None }) }
         ensures error { IfErr result (IsReadFault self.new.failure) }
     {
         if error.kind() == ErrorKind::Interrupted {
-            return Ok(Passed { lines: 0, bytes: 0 });
+            return Ok(Passed::none());
         }
         self.failure = Some(error.kind());
         Err(Fault::of_read(error))

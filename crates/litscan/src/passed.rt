@@ -1,36 +1,110 @@
 //! Lines that are passed over, many at once: those before the first match in what a reader has read ahead.
-ghost use Rattle.std.specs.Prelude.{◌≡◌, ◌⊎◌, ◌-◌, ◌<◌, ◌≤◌, ◌==◌, List, ℕ, length, slice_index, take};
-ghost use Rattle.std.specs.List.{count_by, flat_map};
-ghost use Rattle.litscan.specs.Lines.{with_feed};
-ghost use Rattle.litscan.specs.Inside.Passed.{ArePassed};
+ghost use Rattle.std.specs.Prelude.{◌≡◌, ◌⊎◌, ◌≢◌, ◌+◌, ◌-◌, ◌<◌, ◌≤◌, ◌==◌, ◌^◌, List, None, ℕ, IfOk, MatchOption, ⊤};
+ghost use Rattle.std.specs.Prelude.{length, slice_index, take};
+ghost use Rattle.std.specs.List.{count_by};
+ghost use Rattle.litscan.specs.Inside.Passed.{IsAhead, LiesInLine, Takes, len_of};
 
-use literal_search::Search;
+use literal_search::{Match, Search};
+use std::alloc::AllocError;
 
 /// How many bytes are looked at for line feeds at once.
 const PART: usize = 255;
 
-/// How many lines were passed over, and how many bytes with their line feeds.
+/// How many lines without a word were passed over, how many bytes these have with their line feeds, and how many the
+/// next line has without its line feed, if a word occurs in it and it was read ahead whole.
 #[derive(Clone, Copy)]
 pub struct Passed {
     pub lines: usize,
     pub bytes: usize,
+    pub next: Option<usize>,
 }
 
-/// Of the lines that end in these bytes those before the first that may hold a word.
-pub fn lines_without_word(search: &Search, bytes: &[u8]) -> Passed
-    ensures lines { (lines : List (List ℕ)) × ArePassed search.now lines
-        × (take result.bytes bytes.now ≡ flat_map with_feed lines) × (result.lines ≡ length lines) }
-    ensures inside { result.bytes ≤ length bytes.now }
-{
-    let place = match search.find(bytes) {
-        Some(found) => found.start(),
-        None => bytes.len(),
-    };
-    let end = end_of_lines(bytes, place);
-    Passed {
-        lines: count_feeds(&bytes[..end]),
-        bytes: end,
+impl Passed {
+    /// Nothing was passed over.
+    pub fn none() -> Passed
+        ensures { result ≡ record { lines = 0; bytes = 0; next = None } }
+    {
+        Passed {
+            lines: 0,
+            bytes: 0,
+            next: None,
+        }
     }
+
+    /// How many bytes were passed over, with those of the next line.
+    pub fn len(&self) -> usize
+        requires { len_of self.now < 2 ^ 64 }
+        ensures { result ≡ len_of self.now }
+    {
+        match self.next {
+            Some(len) => self.bytes + len + 1,
+            None => self.bytes,
+        }
+    }
+}
+
+/// Of these bytes, which are read ahead, the lines before the first that may hold a word; and that line, which is put
+/// in the place of another one, if it is whole.
+pub fn take_ahead(search: &Search, bytes: &[u8], line: &mut Vec<u8>) -> Result<Passed, AllocError>
+    ensures takes { IfOk result (λ passed.
+        Takes search.now passed line.new.items (take (len_of passed) bytes.now)) }
+    ensures inside { IfOk result (λ passed. len_of passed ≤ length bytes.now) }
+{
+    let passed = look_ahead(search, bytes);
+    if let Some(len) = passed.next {
+        line.clear();
+        line.extend_from_slice(&bytes[passed.bytes..passed.bytes + len])?;
+    }
+    Ok(passed)
+}
+
+/// The same without a copy of the line.
+fn look_ahead(search: &Search, bytes: &[u8]) -> Passed
+    ensures { IsAhead search.now bytes.now result }
+{
+    let Some(found) = search.find(bytes) else {
+        let end = end_of_lines(bytes, bytes.len());
+        return Passed {
+            lines: count_feeds(&bytes[..end]),
+            bytes: end,
+            next: None,
+        };
+    };
+    let start = end_of_lines(bytes, found.start());
+    Passed {
+        lines: count_feeds(&bytes[..start]),
+        bytes: start,
+        next: length_from(bytes, start, found),
+    }
+}
+
+/// How long the line of a match is, which begins at a place, if its line feed is there, and the match before it.
+fn length_from(bytes: &[u8], start: usize, found: Match) -> Option<usize>
+    requires before { start ≤ found.start }
+    requires inside { found.end ≤ length bytes.now }
+    requires line { (k : ℕ) → start ≤ k → k < found.start → slice_index bytes.now k ≢ 10 }
+    ensures { MatchOption result ⊤ (LiesInLine bytes.now start found) }
+{
+    let end = first_feed(bytes, found.start());
+    if end < found.end() || end == bytes.len() {
+        return None;
+    }
+    Some(end - start)
+}
+
+/// The first line feed from a place on, or the end of the bytes.
+fn first_feed(bytes: &[u8], from: usize) -> usize
+    requires { from ≤ length bytes.now }
+    ensures inside { (from ≤ result) × (result ≤ length bytes.now) }
+    ensures none { (k : ℕ) → from ≤ k → k < result → slice_index bytes.now k ≢ 10 }
+    ensures feed { result < length bytes.now → slice_index bytes.now result ≡ 10 }
+{
+    for at in from..bytes.len() {
+        if bytes[at] == b'\n' {
+            return at;
+        }
+    }
+    bytes.len()
 }
 
 /// The place behind the last line feed before another place, or 0 if there is none.
@@ -38,6 +112,7 @@ fn end_of_lines(bytes: &[u8], place: usize) -> usize
     requires { place ≤ length bytes.now }
     ensures before { result ≤ place }
     ensures feed { (result ≡ 0) ⊎ ((0 < result) × (slice_index bytes.now (result - 1) ≡ 10)) }
+    ensures last { (k : ℕ) → result ≤ k → k < place → slice_index bytes.now k ≢ 10 }
 {
     for end in (0..place).rev() {
         if bytes[end] == b'\n' {

@@ -1,14 +1,15 @@
 //! Which lines count, and what is printed of them.
 ghost use Rattle.std.specs.Prelude.{◌≡◌, ◌<◌, ◌≤◌, ◌+◌, ◌^◌, ◌&&◌, ◌||◌, ℕ, List, ◌∷◌, [], length, min, true};
 ghost use Rattle.std.specs.Prelude.{IfErr, IfOk, MatchOption, MatchResult, OnOk};
-ghost use Rattle.std.specs.List.{count_by, flat_map};
+ghost use Rattle.std.specs.List.{count_by};
+ghost use Rattle.std.specs.Option.{IsSome};
 ghost use Rattle.std.specs.Io.KnownBytes.{Appends, Consumes};
 ghost use Rattle.literal_base.specs.MatchValue.{MatchValue};
 ghost use Rattle.literal_base.specs.declared.packed.MatchKind.TheVariants.{LeftmostLongest};
-ghost use Rattle.litscan.specs.Asked.{AreMatches};
+ghost use Rattle.litscan.specs.Asked.{AreMatches, one_asked};
 ghost use Rattle.litscan.specs.Fault.{IsReadFault, IsWriteFault};
 ghost use Rattle.litscan.specs.Lines.{lines_of, with_feed};
-ghost use Rattle.litscan.specs.Inside.Passed.{ArePassed, lines_read};
+ghost use Rattle.litscan.specs.Inside.Passed.{HasWord, Takes, TakesNext, lines_read};
 ghost use Rattle.litscan.specs.Options.{is_colored, is_silent, limit_of};
 ghost use Rattle.litscan.specs.Printed.{CannotRead, Prints, PrintsUnlessSilent, PrintsWhole, Reads, ReadsTooMany};
 ghost use Rattle.litscan.specs.Printed.{StopsAtEnough, StopsScan, are_enough, counts, marked_from, printed_behind};
@@ -25,9 +26,8 @@ use literal_search::Search;
 use std::alloc::Global;
 use std::io::{BufRead, ErrorKind, Write};
 
-/// Behind so many lines in a row that do not count, a scan looks for the next match in all that is read ahead. Where
-/// most lines count, it is faster to search each.
-const IDLE: u64 = 2;
+/// Behind so many lines in a row that do not count, a scan looks for the next match in all that is read ahead.
+const LONG: usize = 2;
 
 /// What a scan of a text found.
 #[derive(Clone, Copy)]
@@ -144,7 +144,7 @@ fn scan_lines<R: BufRead, W: Write>(
 {
     let mut line = Vec::new(alloc);
     let (mut count, mut lines, mut offset) = (0, 0, 0);
-    let mut idle = IDLE;
+    let mut gap = Gap::new(options);
     loop {
         if is_enough(options.limit(), count) {
             return Ok(Scanned {
@@ -152,23 +152,19 @@ fn scan_lines<R: BufRead, W: Write>(
                 failure: None,
             });
         }
-        let passed = match pass_lines(search, options, idle, reader) {
-            Ok(passed) => passed,
+        let next = match next_line(search, options, gap, reader, &mut line) {
+            Ok(next) => next,
             Err(fault) => return failed_behind(count, fault, reader.failure()),
         };
-        let fed = match reader.read_line(&mut line) {
-            Ok(fed) => fed,
-            Err(fault) => return failed_behind(count, fault, reader.failure()),
-        };
-        let Some((start, next)) = offsets_behind(offset, passed, line.as_slice()) else {
+        let Some((start, end)) = offsets_behind(offset, next.passed.bytes, line.as_slice()) else {
             return Ok(Scanned {
                 count,
                 failure: Some(ErrorKind::FileTooLarge),
             });
         };
-        lines += passed.lines as u64 + 1;
+        lines += next.passed.lines as u64 + 1;
         let taken = take_read(
-            fed,
+            next,
             search,
             options,
             name,
@@ -178,39 +174,98 @@ fn scan_lines<R: BufRead, W: Write>(
             writer,
         )?;
         count += taken;
-        if !fed {
+        if !next.fed {
             return Ok(Scanned {
                 count,
                 failure: None,
             });
         }
-        offset = next;
-        idle = idle_with(idle, taken);
+        offset = end;
+        gap = gap.with(next.passed.lines, taken > 0);
     }
 }
 
-/// Passes over lines that do not count, of those that the reader has read ahead, if enough lines before them did not.
+/// How many lines in a row did not count, since the last that did, and before that one.
+#[derive(Clone, Copy)]
+struct Gap {
+    now: usize,
+    before: usize,
+}
+
+impl Gap {
+    /// Before the first line. It is long, unless lines without a word count.
+    fn new(options: Options) -> Gap {
+        let now = if options.others { 0 } else { LONG };
+        Gap { now, before: 0 }
+    }
+
+    /// With lines that were passed over, and one more, which may count.
+    fn with(self, passed: usize, counts: bool) -> Gap {
+        let now = self.now.saturating_add(passed);
+        if counts {
+            return Gap {
+                now: 0,
+                before: now,
+            };
+        }
+        Gap {
+            now: now.saturating_add(1),
+            before: self.before,
+        }
+    }
+
+    /// Whether it is faster to look for the next match in all that is read ahead than to search the next line.
+    fn is_long(self) -> bool {
+        self.now.max(self.before) >= LONG
+    }
+}
+
+/// What was read: lines that were passed over, which do not count, and what is in the buffer.
+#[derive(Clone, Copy)]
+struct Next {
+    passed: Passed,
+    /// Whether a line feed was behind what is in the buffer. If there was none, the text is over.
+    fed: bool,
+}
+
+/// Reads the next line that may count, in place of what is in the buffer. Lines that do not count are passed over, as
+/// far as they are read ahead.
+fn next_line<R: BufRead>(
+    search: &Search,
+    options: Options,
+    gap: Gap,
+    reader: &mut Device<R>,
+    line: &mut Vec<u8>,
+) -> Result<Next, Fault>
+    ensures takes { IfOk result (λ next. TakesNext search.now options next line.new.items
+        (R.remaining reader.old.inner) (R.remaining reader.new.inner)) }
+    ensures error { IfErr result (IsReadFault reader.new.failure) }
+{
+    let passed = pass_lines(search, options, gap, reader, line)?;
+    if passed.next.is_some() {
+        return Ok(Next { passed, fed: true });
+    }
+    let fed = reader.read_line(line)?;
+    Ok(Next { passed, fed })
+}
+
+/// Passes over lines that do not count, if these are those without a word, and if the last gap was long.
 fn pass_lines<R: BufRead>(
     search: &Search,
     options: Options,
-    idle: u64,
+    gap: Gap,
     reader: &mut Device<R>,
+    line: &mut Vec<u8>,
 ) -> Result<Passed, Fault>
-    ensures lines { IfOk result (λ passed. (lines : List (List ℕ)) × ArePassed search.now lines
-        × (options.others ≡ true → lines ≡ [])
-        × Consumes (R.remaining reader.old.inner) (R.remaining reader.new.inner) (flat_map with_feed lines)
-        × (passed.lines ≡ length lines) × (passed.bytes ≡ length (flat_map with_feed lines))) }
+    ensures takes { IfOk result (λ passed. (text : List ℕ) × Takes search.now passed line.new.items text
+        × Consumes (R.remaining reader.old.inner) (R.remaining reader.new.inner) text) }
+    ensures none { IfOk result (λ passed. options.others ≡ true → passed.lines ≡ 0) }
     ensures error { IfErr result (IsReadFault reader.new.failure) }
 {
-    if options.others || idle < IDLE {
-        return Ok(Passed { lines: 0, bytes: 0 });
+    if options.others || !gap.is_long() {
+        return Ok(Passed::none());
     }
-    reader.pass_lines(search)
-}
-
-/// How many lines in a row did not count, with one line more, if all these did not.
-fn idle_with(idle: u64, taken: u64) -> u64 {
-    if taken > 0 { 0 } else { idle.saturating_add(1) }
+    reader.pass_lines(search, line)
 }
 
 /// What a scan found whose read failed so. Memory that is refused ends all.
@@ -224,14 +279,14 @@ fn failed_behind(count: u64, fault: Fault, failure: Option<ErrorKind>) -> Result
     }
 }
 
-/// The offsets in the text behind lines that were passed over, and behind the next line and its line feed, if these are
-/// below 2^64.
-fn offsets_behind(offset: u64, passed: Passed, line: &[u8]) -> Option<(u64, u64)>
-    ensures { MatchOption result (2 ^ 64 ≤ offset + passed.bytes + length line.now + 1)
-        (λ ends. (ends.0 ≡ offset + passed.bytes) × (ends.1 ≡ offset + passed.bytes + length line.now + 1)
+/// The offsets in the text behind so many bytes that were passed over, and behind the next line and its line feed, if
+/// these are below 2^64.
+fn offsets_behind(offset: u64, passed: usize, line: &[u8]) -> Option<(u64, u64)>
+    ensures { MatchOption result (2 ^ 64 ≤ offset + passed + length line.now + 1)
+        (λ ends. (ends.0 ≡ offset + passed) × (ends.1 ≡ offset + passed + length line.now + 1)
         × (ends.1 < 2 ^ 64)) }
 {
-    let start = offset.checked_add(passed.bytes as u64)?;
+    let start = offset.checked_add(passed as u64)?;
     let next = start
         .checked_add(line.len() as u64)
         .and_then(|end| end.checked_add(1))?;
@@ -240,7 +295,7 @@ fn offsets_behind(offset: u64, passed: Passed, line: &[u8]) -> Option<(u64, u64)
 
 /// Takes what was read as a line: behind the last line feed only what is not empty.
 fn take_read<W: Write>(
-    fed: bool,
+    next: Next,
     search: &Search,
     options: Options,
     name: &[u8],
@@ -249,26 +304,29 @@ fn take_read<W: Write>(
     line: &[u8],
     writer: &mut Device<W>,
 ) -> Result<u64, Fault>
+    requires known { IsSome next.passed.next → HasWord search.now line.now }
     requires longest { search.now.query.kind ≡ LeftmostLongest }
     requires inside { offset + length line.now < 2 ^ 64 }
     ensures few { IfOk result (λ count. count ≤ 1) }
     ensures counted { IfOk result (λ count.
-        count ≡ count_by (counts search.now options) (lines_read fed line.now)) }
+        count ≡ count_by (counts search.now options) (lines_read next.fed line.now)) }
     ensures printed { OnOk result ((out : List ℕ)
         × Appends (W.contents writer.old.inner) (W.contents writer.new.inner) out
-        × PrintsUnlessSilent (is_silent options) search.now options name.now number offset (lines_read fed line.now)
-        out) }
+        × PrintsUnlessSilent (is_silent options) search.now options name.now number offset
+        (lines_read next.fed line.now) out) }
     ensures error { IfErr result (IsWriteFault writer.new.failure) }
 {
-    if !fed && line.is_empty() {
+    if !next.fed && line.is_empty() {
         return Ok(0);
     }
-    take_line(search, options, name, number, offset, line, writer)
+    let known = next.passed.next.is_some();
+    take_line(known, search, options, name, number, offset, line, writer)
 }
 
 /// Prints what is asked for of a line if it counts, unless no line is printed. Answers 1 if it counts,
 /// and else 0.
 fn take_line<W: Write>(
+    known: bool,
     search: &Search,
     options: Options,
     name: &[u8],
@@ -277,6 +335,7 @@ fn take_line<W: Write>(
     line: &[u8],
     writer: &mut Device<W>,
 ) -> Result<u64, Fault>
+    requires known { known ≡ true → HasWord search.now line.now }
     requires longest { search.now.query.kind ≡ LeftmostLongest }
     requires inside { offset + length line.now < 2 ^ 64 }
     ensures few { IfOk result (λ count. count ≤ 1) }
@@ -288,12 +347,12 @@ fn take_line<W: Write>(
     ensures error { IfErr result (IsWriteFault writer.new.failure) }
 {
     if prints_nothing(options) {
-        return Ok(u64::from(counts(search, options, line)));
+        return Ok(u64::from(counts(known, search, options, line)));
     }
     if options.only {
         return print_matches(search, options, name, number, offset, line, writer);
     }
-    if !counts(search, options, line) {
+    if !counts(known, search, options, line) {
         return Ok(0);
     }
     print_line(search, options, name, number, offset, line, writer)?;
@@ -307,12 +366,25 @@ fn prints_nothing(options: Options) -> bool
     options.is_silent() || options.only && options.others
 }
 
-/// Whether a line counts.
-fn counts(search: &Search, options: Options, line: &[u8]) -> bool
-    requires { search.now.query.kind ≡ LeftmostLongest }
+/// Whether a line counts, of which it may be known that a word occurs in it.
+fn counts(known: bool, search: &Search, options: Options, line: &[u8]) -> bool
+    requires known { known ≡ true → HasWord search.now line.now }
+    requires longest { search.now.query.kind ≡ LeftmostLongest }
     ensures { result ≡ counts search.now options line.now }
 {
-    has_asked(search, options, line) != options.others
+    is_asked(known, search, options, line) != options.others
+}
+
+/// Whether a word occurs in a line as is asked for.
+fn is_asked(known: bool, search: &Search, options: Options, line: &[u8]) -> bool
+    requires known { known ≡ true → HasWord search.now line.now }
+    requires longest { search.now.query.kind ≡ LeftmostLongest }
+    ensures { result ≡ one_asked search.now options line.now }
+{
+    if known && !(options.whole || options.alone) {
+        return true;
+    }
+    has_asked(search, options, line)
 }
 
 /// Prints the matches in a line, each as a line of its own. Answers 1 if there is one, and else 0.

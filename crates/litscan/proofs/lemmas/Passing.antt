@@ -1,30 +1,35 @@
 -- Lines that are passed over. For `passed`, `device` and `scan`.
-use Rattle.std.proofs.Common.{◌≡◌, ◌⊎◌, ◌+◌, ◌-◌, ◌<◌, ◌≤◌, ◌==◌, ℕ, Bool, List, [], ◌∷◌, ◌++◌, length, get_or}
-use Rattle.std.proofs.Common.{None, Option, false, true}
+use Rattle.std.proofs.Common.{◌≡◌, ◌≢◌, ◌⊎◌, ◌+◌, ◌-◌, ◌<◌, ◌≤◌, ◌==◌, ℕ, Bool, List, [], ◌∷◌, ◌++◌}
+use Rattle.std.proofs.Common.{None, Option, Some, false, get_or, length, take-append-drop, true}
 use Rattle.std.proofs.KnownBytes.{Appends-trans, Consumes-trans}
 use Rattle.std.proofs.lemmas.Bool.{cases_Bool, cases_lt}
 use Rattle.std.proofs.Common.{append-nil, append_assoc, ap, arith, cond, drop, inl, inr, length-append, refl}
 use Rattle.std.proofs.Common.{slice_range, subst, sym, take, ◌∙◌}
 use Rattle.std.proofs.lemmas.Bool.{cond-false, ne_eqb}
-use Rattle.std.proofs.lemmas.List.{drop-append-le, flat_map_more, get_or-append-add, length-drop, length_push}
+use Rattle.std.proofs.lemmas.List.{drop-append-le, flat_map_more, get_or-append-add, get_or-drop}
+use Rattle.std.proofs.lemmas.List.{get_or-take, get_or_default, length-drop, length-take-le, length_push, take_more}
+use Rattle.std.proofs.lemmas.List.{drop-take, take-take}
 use Rattle.std.proofs.lemmas.List.{take-append-le}
 use Rattle.std.proofs.lemmas.List.Elements.{All-append, All-cons, All-head, All-nil, All-push, All-tail}
 use Rattle.std.proofs.lemmas.List.Sums.{count_by-le-length, sum_by-append, sum_by-cons, sum_by-take-le}
-use Rattle.std.proofs.Math.Seq.{drop-append-add, take-append-add}
+use Rattle.std.proofs.Math.Seq.{drop-append-add, drop-append_seam, take-add, take-append-add, take-append_seam}
 use Rattle.std.proofs.lemmas.Grind.{flat_map-append}
-use Rattle.std.specs.Io.KnownBytes.{Appends, Consumes, IsAtEnd}
+use Rattle.std.specs.Io.KnownBytes.{Appends, Consumes, IsAtEnd, prepend_known}
 use Rattle.std.specs.List.{All, count_by, flat_map}
 use Rattle.literal_base.specs.Occurs.{Occurs, case_folded, pattern_at, whole_of}
+use Rattle.literal_base.specs.MatchValue.{MatchValue}
 use Rattle.literal_search.specs.SearchValue.{SearchValue}
 use Rattle.litscan.specs.Asked.{one_asked}
 use Rattle.litscan.specs.Lines.{HasNoFeed, lines_of, with_feed}
-use Rattle.litscan.specs.Inside.Passed.{ArePassed, HasNoWord, lines_read}
+use Rattle.litscan.specs.Inside.Passed.{ArePassed, HasNoWord, HasWord, IsAhead, LiesInLine, Takes, lines_read}
+use Rattle.litscan.specs.Inside.Passed.{TakesNext, len_of, len_with, next_of}
 use Rattle.litscan.specs.Options.{is_enough, is_silent, limit_of}
 use Rattle.litscan.specs.Printed.{PrintsLine, PrintsUnlessSilent, Reads, StopsAtEnough, are_enough, counts}
 use Rattle.litscan.specs.declared.options.Options.{Options}
 use Rattle.litscan.specs.declared.passed.Passed.{Passed}
+use Rattle.litscan.specs.declared.scan.Next.{Next}
 use Rattle.litscan.specs.declared.scan.Scanned.{Scanned}
-use Rattle.std.specs.Option.{IsSome, OnSome}
+use Rattle.std.specs.Option.{IfSome, IsSome, OnSome, is_some}
 use Rattle.std.specs.declared.io.ErrorKind.{ErrorKind}
 use Rattle.litscan.proofs.lemmas.Asked.{asked_if}
 use Rattle.litscan.proofs.lemmas.Lines.{Other, lines_are, lines_of-feeds, lines_of-split}
@@ -73,6 +78,57 @@ feeds_of_lines (line ∷ more) whole =
     let both = sum_by-append (λ b. cond (is_feed b) 1 0) (with_feed line) (flat_map with_feed more) in
     omega (arith, first, rest, both)
 
+same_in_part : (front part back : List ℕ) (at n : ℕ) → at + n ≤ length part
+    → slice_range (front ++ (part ++ back)) (length front + at) (length front + at + n) ≡ slice_range part at (at + n)
+same_in_part front part back at n fits =
+    let left : length front + at + n - (length front + at) ≡ n = omega arith in
+    let left_in : at + n - at ≡ n = omega arith in
+    ap (λ l. take (length front + at + n - (length front + at)) l) (drop-append-add front (part ++ back) at
+    ∙ drop-append-le at part back (omega (arith, fits)))
+    ∙ ap (λ k. take k (drop at part ++ back)) left
+    ∙ take-append-le n (drop at part) back (omega (arith, fits, length-drop at part))
+    ∙ ap (λ k. take k (drop at part)) (sym left_in)
+
+-- where nothing is passed over nothing is taken
+pub takes_nothing : (search : SearchValue) (line : List ℕ)
+    → Takes search (record { lines = 0; bytes = 0; next = None }) line []
+takes_nothing search line = record {
+  lines = [];
+  are = record { whole = All-nil HasNoFeed; none = All-nil (HasNoWord search) };
+  count = refl;
+  bytes = refl;
+  next = tt;
+  text_is = refl;
+}
+
+-- the line behind the front of a text
+pub line_behind : (bytes front line : List ℕ) (start len : ℕ) → start ≡ length front → len ≡ length line
+    → take (start + len + 1) bytes ≡ front ++ with_feed line → slice_range bytes start (start + len) ≡ line
+line_behind bytes front line start len start_is len_is is =
+    let n : start + len - start ≡ len = omega arith in
+    let all : start + len + 1 ≡ start + (len + 1) = omega arith in
+    let rest : take (len + 1) (drop start bytes) ≡ with_feed line =
+    sym (drop-take start (len + 1) bytes) ∙ ap (λ k. drop start (take k bytes)) (sym all) ∙ ap (drop start) is
+    ∙ ap (λ k. drop k (front ++ with_feed line)) start_is ∙ drop-append_seam front (with_feed line) in
+    ap (λ k. take k (drop start bytes)) n ∙ sym (take-take len (len + 1) (drop start bytes) (omega arith))
+    ∙ ap (take len) rest ∙ ap (λ k. take k (with_feed line)) len_is ∙ take-append_seam line (10 ∷ [])
+
+-- so what is taken with a line is taken with a copy of it
+pub takes_copy : (search : SearchValue) (bytes : List ℕ) (passed : Passed) (copy : List ℕ) (len : ℕ)
+    → passed.next ≡ Some len → copy ≡ slice_range bytes passed.bytes (passed.bytes + len)
+    → (ahead : IsAhead search bytes passed) → Takes search passed copy (take (len_of passed) bytes)
+takes_copy search bytes passed copy len is copied ahead =
+    subst (λ l. Takes search passed l (take (len_of passed) bytes)) (sym (copied ∙ same)) ahead.1
+  where
+    same : slice_range bytes passed.bytes (passed.bytes + len) ≡ ahead.0
+    same =
+        let taken = ahead.1 in
+        let word = subst (λ o. IfSome o (λ n. (n ≡ length ahead.0) × HasNoFeed ahead.0 × HasWord search ahead.0)) is
+        taken.next in
+        line_behind bytes (flat_map with_feed taken.lines) ahead.0 passed.bytes len taken.bytes word.0
+        (subst (λ o. take (len_with passed.bytes o) bytes ≡ flat_map with_feed taken.lines ++ next_of o ahead.0) is
+        taken.text_is)
+
 module _ (search : SearchValue) where
   abbrev pub OccursIn : List ℕ → ℕ → ℕ → Type 0
   OccursIn text i at = Occurs search.query.patterns search.ignore_case text (whole_of text) i at
@@ -81,25 +137,27 @@ module _ (search : SearchValue) where
   occurs_in_part : (front part back : List ℕ) (i at : ℕ) → OccursIn part i at
       → OccursIn (front ++ (part ++ back)) i (length front + at)
   occurs_in_part front part back i at occurs =
-      let pattern = pattern_at search.query.patterns i in
-      let n = length pattern in
+      let n = length (pattern_at search.query.patterns i) in
       let fits : at + n ≤ length part = occurs.before_end in
       let long = length-append front (part ++ back) ∙ ap (λ k. length front + k) (length-append part back) in
-      let left : length front + at + n - (length front + at) ≡ n = omega arith in
-      let left_in : at + n - at ≡ n = omega arith in
-      let same : slice_range (front ++ (part ++ back)) (length front + at) (length front + at + n)
-      ≡ slice_range part at (at + n) =
-      ap (λ l. take (length front + at + n - (length front + at)) l) (drop-append-add front (part ++ back) at
-      ∙ drop-append-le at part back (omega (arith, fits)))
-      ∙ ap (λ k. take k (drop at part ++ back)) left
-      ∙ take-append-le n (drop at part) back (omega (arith, fits, length-drop at part))
-      ∙ ap (λ k. take k (drop at part)) (sym left_in) in
       record {
         is_pattern = occurs.is_pattern;
         after_start = omega arith;
         before_end = omega (arith, long, fits);
-        same = ap (case_folded search.ignore_case) same ∙ occurs.same;
+        same = ap (case_folded search.ignore_case) (same_in_part front part back at n fits) ∙ occurs.same;
       }
+
+  -- and the other way round, if it lies in the part
+  pub occurs_of_part : (front part back : List ℕ) (i at : ℕ)
+      → OccursIn (front ++ (part ++ back)) i (length front + at)
+      → at + length (pattern_at search.query.patterns i) ≤ length part → OccursIn part i at
+  occurs_of_part front part back i at occurs fits = record {
+    is_pattern = occurs.is_pattern;
+    after_start = omega arith;
+    before_end = fits;
+    same = ap (case_folded search.ignore_case)
+        (sym (same_in_part front part back at (length (pattern_at search.query.patterns i)) fits)) ∙ occurs.same;
+  }
 
   -- where nothing begins in a text before a place, nothing occurs in lines that end before it
   pub none_in_lines : (front : List ℕ) (lines : List (List ℕ)) (back : List ℕ) (place : ℕ)
@@ -124,6 +182,96 @@ module _ (search : SearchValue) where
       (none_in_lines (front ++ with_feed line) more back place
       (λ i at below. subst (λ l. ¬ OccursIn l i at) behind (none i at below))
       (omega (arith, inside, size, length-append front (with_feed line))))
+
+  module _ (bytes : List ℕ) (end place lines : ℕ) (before : end ≤ place) (inside : place ≤ length bytes)
+      (feed : (end ≡ 0) ⊎ ((0 < end) × (get_or bytes (end - 1) 0 ≡ 10)))
+      (none : (i at : ℕ) → at < place → ¬ OccursIn bytes i at) (count : lines ≡ count_by is_feed (take end bytes))
+    where
+      size : length (take end bytes) ≡ end
+      size = length-take-le end bytes (omega (arith, before, inside))
+
+      -- the lines up to a line feed before a place, where nothing begins before that place
+      made : (all : List (List ℕ)) × All HasNoFeed all × (take end bytes ≡ flat_map with_feed all)
+      made = made_of_lines (take end bytes) (elim feed [
+        | inl zero ↦ inl (omega (arith, size, zero))
+        | inr last ↦ inr (
+          omega (arith, size, last.0),
+          ap (λ n. get_or (take end bytes) (n - 1) 0) size
+              ∙ get_or-take end bytes (end - 1) 0 (omega (arith, last.0)) ∙ last.1,
+        )
+      ])
+
+      are : ArePassed search made.0
+      are =
+          let same : flat_map with_feed made.0 ++ drop end bytes ≡ bytes =
+          ap (λ l. l ++ drop end bytes) (sym made.2) ∙ take-append-drop end bytes in
+          record {
+            whole = made.1;
+            none = none_in_lines [] made.0 (drop end bytes) place
+                (λ i at below. subst (λ l. ¬ OccursIn l i at) (sym same) (none i at below))
+                (omega (arith, size, before, ap (λ (l : List ℕ). length l) made.2));
+          }
+
+      taken : (line : List ℕ) (next : Option ℕ)
+          → IfSome next (λ len. (len ≡ length line) × HasNoFeed line × HasWord search line) → (text : List ℕ)
+          → text ≡ take end bytes ++ next_of next line
+          → Takes search (record { lines = lines; bytes = end; next = next }) line text
+      taken line next word text is = record {
+        lines = made.0;
+        are = are;
+        count = count ∙ ap (count_by is_feed) made.2 ∙ feeds_of_lines made.0 made.1;
+        bytes = sym size ∙ ap (λ (l : List ℕ). length l) made.2;
+        next = word;
+        text_is = is ∙ ap (λ l. l ++ next_of next line) made.2;
+      }
+
+      -- are taken alone
+      pub takes_lines : IsAhead search bytes (record { lines = lines; bytes = end; next = None })
+      takes_lines = ([], taken [] None tt _ (sym (append-nil (take end bytes))), omega (arith, before, inside))
+
+      -- and with the line of the match there, if it is whole
+      pub takes_line : (found : MatchValue) (len : ℕ) → place ≡ found.start → OccursIn bytes found.pattern found.start
+          → found.end ≡ found.start + length (pattern_at search.query.patterns found.pattern)
+          → LiesInLine bytes end found len
+          → IsAhead search bytes (record { lines = lines; bytes = end; next = Some len })
+      takes_line found len is occurs whole lies = (
+        line,
+        taken line (Some len) (sym long, no_feed, (found.pattern, found.start - end, word)) _ text_is,
+        omega (arith, lies.fed),
+      )
+        where
+          rest : List ℕ
+          rest = drop end bytes
+
+          line : List ℕ
+          line = take len rest
+
+          long : length line ≡ len
+          long = length-take-le len rest (omega (arith, lies.fed, length-drop end bytes))
+
+          text_is : take (end + len + 1) bytes ≡ take end bytes ++ with_feed line
+          text_is =
+              take_more bytes (end + len) 0 lies.fed ∙ ap (λ b. take (end + len) bytes ++ b ∷ []) lies.feed
+              ∙ ap (λ l. l ++ 10 ∷ []) (take-add end len bytes) ∙ append_assoc (take end bytes) line (10 ∷ [])
+
+          no_feed : HasNoFeed line
+          no_feed k d below =
+              let inside : k < len = omega (arith, below, long) in
+              subst (λ b. b ≢ 10)
+              (sym (get_or-take len rest k d inside ∙ get_or-drop end bytes k d
+              ∙ get_or_default bytes (end + k) d 0 (omega (arith, inside, lies.fed))))
+              (lies.whole (end + k) (omega arith) (omega (arith, inside)))
+
+          same : take end bytes ++ (line ++ drop len rest) ≡ bytes
+          same = ap (λ l. take end bytes ++ l) (take-append-drop len rest) ∙ take-append-drop end bytes
+
+          word : OccursIn line found.pattern (found.start - end)
+          word =
+              let at : found.start ≡ length (take end bytes) + (found.start - end) = omega (arith, size, before, is) in
+              occurs_of_part (take end bytes) line (drop len rest) found.pattern (found.start - end)
+              (subst (λ l. OccursIn l found.pattern (length (take end bytes) + (found.start - end))) (sym same)
+              (subst (λ n. OccursIn bytes found.pattern n) at occurs))
+              (omega (arith, lies.inside, whole, long, before, is))
 
   module _ (options : Options) (name : List ℕ) (kept : options.others ≡ false) where
     none_asked : (line : List ℕ) → HasNoWord search line → counts search options line ≡ false
@@ -250,25 +398,21 @@ module _ {search : SearchValue} {options : Options} {name : List ℕ} {old new :
             (prints_none search options name (is_silent options) (length seen + 1)
             (length (flat_map with_feed seen) + 0))
 
-    -- the same where these lines are known only by their number and their bytes
-    pub passed_here : {next : Option (List ℕ)} (passed : Passed)
-        → (more : List (List ℕ)) × ArePassed search more × (options.others ≡ true → more ≡ [])
-        × Consumes new next (flat_map with_feed more) × (passed.lines ≡ length more)
-        × (passed.bytes ≡ length (flat_map with_feed more))
-        → (all : List (List ℕ))
-        × SoFar search options name old next written now all out count (lines + passed.lines) (offset + passed.bytes)
-    passed_here {next} passed is =
-        let why : options.others ≡ false ⊎ (is.0 ≡ []) =
+    -- the same of what was read in one step
+    pub passed_here : {next : Next} {line : List ℕ} {there : Option (List ℕ)}
+        → (is : TakesNext search options next line new there)
+        → SoFar search options name old is.between written now (seen ++ is.lines) out count
+        (lines + next.passed.lines) (offset + next.passed.bytes)
+    passed_here {next} is =
+        let why : options.others ≡ false ⊎ (is.lines ≡ []) =
         elim (cases_Bool options.others) [
-          | inl others ↦ inr (is.2 others)
+          | inl others ↦ inr (is.none others)
           | inr kept ↦ inl kept
-        ] in (
-          seen ++ is.0,
-          subst (λ n. SoFar search options name old next written now (seen ++ is.0) out count (lines + n)
-              (offset + passed.bytes)) (sym is.4)
-              (subst (λ n. SoFar search options name old next written now (seen ++ is.0) out count (lines + length is.0)
-              (offset + n)) (sym is.5) (passed_on next is.0 is.1 why is.3)),
-        )
+        ] in
+        subst (λ n. SoFar search options name old is.between written now (seen ++ is.lines) out count (lines + n)
+        (offset + next.passed.bytes)) (sym is.count)
+        (subst (λ n. SoFar search options name old is.between written now (seen ++ is.lines) out count
+        (lines + length is.lines) (offset + n)) (sym is.bytes) (passed_on is.between is.lines is.are why is.passes))
 
     -- what was printed behind, of what was read behind: a line, or the end of the text
     pub printed_on : (line part : List ℕ) (fed : Bool) (number start : ℕ) → number ≡ lines + 1 → start ≡ offset
@@ -357,13 +501,15 @@ module _ {search : SearchValue} {options : Options} {name : List ℕ} {old new :
         failed so_far.read))
 
     -- and behind the last line feed
-    pub ended_so_far : is_enough (limit_of options) count ≡ false → (next there : Option (List ℕ)) (line part : List ℕ) (fed : Bool) (number start taken : ℕ) → fed ≡ false → number ≡ lines + 1
+    pub ended_so_far : is_enough (limit_of options) count ≡ false → (next there : Option (List ℕ)) (line part : List ℕ)
+        → (fed : Bool) (number start taken : ℕ) → fed ≡ false → number ≡ lines + 1
         → start ≡ offset → HasNoFeed line → Consumes new next (cond fed (with_feed line) line)
         → (fed ≡ false → OnSome new (IsAtEnd next)) → Appends now there part
         → PrintsUnlessSilent (is_silent options) search options name number start (lines_read fed line) part
         → taken ≡ count_by (counts search options) (lines_read fed line)
         → Answers search options name old next written there (record { count = count + taken; failure = None })
-    ended_so_far not_yet next there line part true number start taken is number_is start_is whole read ended append printed counted =
+    ended_so_far not_yet next there line part true number start taken is number_is start_is whole read ended append
+        printed counted =
         absurd (cc)
     ended_so_far not_yet next there line part false number start taken is number_is start_is whole read ended append
         printed counted =
@@ -378,3 +524,72 @@ module _ {search : SearchValue} {options : Options} {name : List ℕ} {old new :
               (printed_on so_far not_yet line part false number start number_is start_is printed),
           counted_on so_far not_yet line false taken counted ∙ ap (count_by (counts search options)) are,
         )
+
+-- what is read in two parts
+between_parts : (old new : Option (List ℕ)) (front line : List ℕ) → Consumes old new (front ++ line)
+    → Consumes old (prepend_known line new) front × Consumes (prepend_known line new) new line
+between_parts None None front line read = (tt, tt)
+between_parts None (Some left) front line read = (tt, refl)
+between_parts (Some bytes) None front line read = absurd read
+between_parts (Some bytes) (Some left) front line read = (read ∙ append_assoc front line left, refl)
+
+module _ (search : SearchValue) (options : Options) (passed : Passed) (line text : List ℕ)
+    (takes : Takes search passed line text) (none : options.others ≡ true → passed.lines ≡ 0)
+  where
+    no_lines : options.others ≡ true → takes.lines ≡ []
+    no_lines others = by takes.lines (sym takes.count ∙ none others)
+      where
+        by : (lines : List (List ℕ)) → length lines ≡ 0 → lines ≡ []
+        by [] zero = refl
+        by (first ∷ more) zero = absurd (omega (arith, zero))
+
+    -- lines are passed over, and the next one is read with them
+    pub takes_both : (old new : Option (List ℕ)) → is_some passed.next ≡ true → Consumes old new text
+        → TakesNext search options (record { passed = passed; fed = true }) line old new
+    takes_both old new some read = by passed.next some takes.next takes.text_is
+      where
+        by : (next : Option ℕ) → is_some next ≡ true
+            → IfSome next (λ len. (len ≡ length line) × HasNoFeed line × HasWord search line)
+            → text ≡ flat_map with_feed takes.lines ++ next_of next line
+            → TakesNext search options (record { passed = passed; fed = true }) line old new
+        by None some word is = absurd (cc)
+        by (Some len) some word is =
+            let parts = between_parts old new (flat_map with_feed takes.lines) (with_feed line)
+            (subst (Consumes old new) is read) in
+            record {
+              lines = takes.lines;
+              are = takes.are;
+              none = no_lines;
+              count = takes.count;
+              bytes = takes.bytes;
+              known = λ is. word.2;
+              whole = word.1;
+              between = prepend_known (with_feed line) new;
+              passes = parts.0;
+              reads = parts.1;
+              ended = λ unfed. absurd (cc);
+            }
+
+    -- or behind them
+    pub takes_apart : (fed : Bool) (old after new : Option (List ℕ)) (last : List ℕ) → is_some passed.next ≡ false
+        → Consumes old after text → HasNoFeed last → Consumes after new (cond fed (with_feed last) last)
+        → (fed ≡ false → OnSome after (IsAtEnd new))
+        → TakesNext search options (record { passed = passed; fed = fed }) last old new
+    takes_apart fed old after new last none_there read whole reads ended = record {
+      lines = takes.lines;
+      are = takes.are;
+      none = no_lines;
+      count = takes.count;
+      bytes = takes.bytes;
+      known = λ is. absurd (cc);
+      whole = whole;
+      between = after;
+      passes = by passed.next none_there takes.text_is;
+      reads = reads;
+      ended = ended;
+    }
+      where
+        by : (next : Option ℕ) → is_some next ≡ false → text ≡ flat_map with_feed takes.lines ++ next_of next line
+            → Consumes old after (flat_map with_feed takes.lines)
+        by None none is = subst (Consumes old after) (is ∙ append-nil (flat_map with_feed takes.lines)) read
+        by (Some len) none is = absurd (cc)

@@ -1,5 +1,5 @@
-use Rattle.std.proofs.Common.{◌≡◌, ◌+◌, ◌++◌, None, Some, ◌∷◌, [], Bool, ℕ, Option, false, true, refl, inr, sym, ap}
-use Rattle.std.proofs.Common.{subst, ◌∙◌, arith}
+use Rattle.std.proofs.Common.{◌≡◌, ◌+◌, ◌++◌, None, Some, ◌∷◌, [], Bool, ℕ, Option, false, not, true}
+use Rattle.std.proofs.Common.{refl, inr, sym, ap, subst, ◌∙◌, arith}
 use Rattle.std.proofs.KnownBytes.{Appends-nil, Consumes-nil}
 use Rattle.std.proofs.lemmas.List.Elements.{All-nil}
 use Rattle.std.specs.List.{count_by, flat_map}
@@ -10,7 +10,6 @@ use Rattle.litscan.specs.Inside.Passed.{lines_read}
 use Rattle.litscan.specs.Options.{is_enough, is_silent, limit_of}
 use Rattle.litscan.specs.Printed.{PrintsUnlessSilent, counts}
 use Rattle.litscan.specs.declared.options.Options.{Options}
-use Rattle.litscan.proofs.lemmas.Lines.{lines_of-feeds}
 use Rattle.litscan.proofs.lemmas.Passing.{ended_so_far, failed_so_far, few_so_far, passed_here, read_on}
 use Rattle.litscan.proofs.lemmas.Passing.{scanned_so_far}
 use Rattle.litscan.proofs.lemmas.Printing.{prints_none}
@@ -22,6 +21,14 @@ use Rattle.litscan.proofs.scan.scan_lines.Goals as goal
 not_yet : (options : Options) (count : ℕ) {limit : Option ℕ} {said : Bool} → said ≡ is_enough limit count
     → limit ≡ limit_of options → said ≡ false → is_enough (limit_of options) count ≡ false
 not_yet options count is same unsaid = ap (λ l. is_enough l count) (sym same) ∙ sym is ∙ unsaid
+
+fed_if : (fed : Bool) → not fed ≡ false → fed ≡ true
+fed_if true is = refl
+fed_if false is = absurd (cc)
+
+unfed_if : (fed : Bool) → not fed ≡ true → fed ≡ false
+unfed_if false is = refl
+unfed_if true is = absurd (cc)
 
 pub loop-options-init : goal.loop-options-init
 loop-options-init g c = record {
@@ -43,22 +50,23 @@ loop-options-init g c = record {
 pub loop-options-preserved : goal.loop-options-preserved
 loop-options-preserved g c =
     let no = not_yet c.args.options c.loop-options.count c.is_enough.ensures c.limit.ensures c.if-is_enough.false in
-    let here = passed_here c.loop-options.invariant.so_far no c.in-Ok.passed c.in-Ok.ensures.lines in
-    let line = c.read_line.new.line.items in
-    let fed = c.in-Ok-read_line.fed in
+    let next = c.in-Ok.ensures.takes in
+    let here = passed_here c.loop-options.invariant.so_far no next in
+    let line = c.next_line.new.line.items in
+    let fed = c.in-Ok.next.fed in
     let taken = c.in_ok-taken.ensures.printed in
     let shown = c.as_slice-in-loop-options.ensures.value in
     let start = c.in-Some.start in
-    let number = c.loop-options.lines + (c.in-Ok.passed.lines + 1) in
+    let number = c.loop-options.lines + (c.in-Ok.next.passed.lines + 1) in
     let prints = PrintsUnlessSilent (is_silent c.args.options) c.args.search.now c.args.options c.args.name.now number
     start in
     record {
-      seen = here.0 ++ line ∷ [];
+      seen = (c.loop-options.invariant.seen ++ next.lines) ++ line ∷ [];
       out = c.loop-options.invariant.out ++ taken.0;
-      so_far = read_on here.1 no line taken.0 fed number start c.in-Some.next c.in_ok-taken.taken c.if-not-fed.false
+      so_far = read_on here no line taken.0 fed number start c.in-Some.end c.in_ok-taken.taken
+          (fed_if fed c.if-not-next.false)
           (omega arith) (omega (arith, c.in-Some.ensures)) (omega (arith, c.in-Some.ensures, c.as_slice.ensures.len))
-          c.in-Ok-read_line.ensures.whole c.in-Ok-read_line.ensures.bytes taken.1
-          (subst (λ l. prints (lines_read fed l) taken.0) shown taken.2)
+          next.whole next.reads taken.1 (subst (λ l. prints (lines_read fed l) taken.0) shown taken.2)
           (c.in_ok-taken.ensures.counted
           ∙ ap (λ l. count_by (counts c.args.search.now c.args.options) (lines_read fed l)) shown);
       small = omega (arith, c.in-Some.ensures);
@@ -67,85 +75,76 @@ loop-options-preserved g c =
 -- what was printed of the lines so far, where no more is read
 pub returns-then-is_enough-clause-scanned : goal.returns-then-is_enough-clause-scanned
 returns-then-is_enough-clause-scanned g c =
-    let options = c.args.options in
-    let seen = c.loop-options.invariant.seen in
     let so_far = c.loop-options.invariant.so_far in
-    let lines = lines_of-feeds seen so_far.whole in
-    let enough : is_enough (limit_of options) c.loop-options.count ≡ true =
+    let enough : is_enough (limit_of c.args.options) c.loop-options.count ≡ true =
     sym (c.is_enough.ensures ∙ ap (λ limit. is_enough limit c.loop-options.count) c.limit.ensures)
     ∙ c.if-is_enough.true in
-    scanned_so_far so_far _ None (reads_enough _ _ _ (flat_map with_feed seen) enough so_far.read)
+    scanned_so_far so_far _ None
+    (reads_enough _ _ _ (flat_map with_feed c.loop-options.invariant.seen) enough so_far.read)
 
 pub returns-in-Err-clause-scanned : goal.returns-in-Err-clause-scanned
 returns-in-Err-clause-scanned g c =
-    let so_far = c.loop-options.invariant.so_far in
     let failed : IsSome c.failure.result =
     subst IsSome (sym c.failure.ensures)
-    (read_failed c.pass_lines.new.reader.failure c.in-Err.fault c.in-Err.ensures.error) in
+    (read_failed c.next_line.new.reader.failure c.in-Err.fault c.in-Err.ensures.error) in
     ok_gives _ _ _ c.failed_behind.result c.failed_behind.ensures
-    (λ scanned is. failed_so_far so_far _ scanned is failed)
-
-pub returns-in-Err-read_line-clause-scanned : goal.returns-in-Err-read_line-clause-scanned
-returns-in-Err-read_line-clause-scanned g c =
-    let no = not_yet c.args.options c.loop-options.count c.is_enough.ensures c.limit.ensures c.if-is_enough.false in
-    let here = passed_here c.loop-options.invariant.so_far no c.in-Ok.passed c.in-Ok.ensures.lines in
-    let failed : IsSome c.failure-in-Err-read_line.result =
-    subst IsSome (sym c.failure-in-Err-read_line.ensures)
-    (read_failed c.read_line.new.self.failure c.in-Err-read_line.fault c.in-Err-read_line.ensures.error) in
-    ok_gives _ _ _ c.failed_behind-in-Err-read_line.result c.failed_behind-in-Err-read_line.ensures
-    (λ scanned is. failed_so_far here.1 _ scanned is failed)
+    (λ scanned is. failed_so_far c.loop-options.invariant.so_far _ scanned is failed)
 
 pub returns-in_default-clause-scanned : goal.returns-in_default-clause-scanned
 returns-in_default-clause-scanned g c =
     let no = not_yet c.args.options c.loop-options.count c.is_enough.ensures c.limit.ensures c.if-is_enough.false in
-    let here = passed_here c.loop-options.invariant.so_far no c.in-Ok.passed c.in-Ok.ensures.lines in
-    scanned_so_far here.1 (g.R.Read.remaining c.read_line.new.self.inner) (Some FileTooLarge)
-    (begins_with _ _ (flat_map with_feed here.0) here.1.read)
+    let next = c.in-Ok.ensures.takes in
+    let here = passed_here c.loop-options.invariant.so_far no next in
+    scanned_so_far here (g.R.Read.remaining c.next_line.new.reader.inner) (Some FileTooLarge)
+    (begins_with _ _ (flat_map with_feed (c.loop-options.invariant.seen ++ next.lines)) here.read)
 
 pub returns-in_default-clause-failed : goal.returns-in_default-clause-failed
 returns-in_default-clause-failed g c =
     let no = not_yet c.args.options c.loop-options.count c.is_enough.ensures c.limit.ensures c.if-is_enough.false in
-    let here = passed_here c.loop-options.invariant.so_far no c.in-Ok.passed c.in-Ok.ensures.lines in
+    let next = c.in-Ok.ensures.takes in
+    let here = passed_here c.loop-options.invariant.so_far no next in
     inr (
-      too_many_with _ _ _ (flat_map with_feed here.0) c.read_line.new.line.items _ here.1.read
-          c.in-Ok-read_line.ensures.bytes
-          (omega (arith, c.in_default.ensures, here.1.offset_is, c.as_slice.ensures.len)),
+      too_many_with _ _ _ (flat_map with_feed (c.loop-options.invariant.seen ++ next.lines))
+          c.next_line.new.line.items _ here.read next.reads
+          (omega (arith, c.in_default.ensures, here.offset_is, c.as_slice.ensures.len)),
       refl,
     )
 
 pub overflow_add-lines : goal.overflow_add-lines
 overflow_add-lines g c =
     let no = not_yet c.args.options c.loop-options.count c.is_enough.ensures c.limit.ensures c.if-is_enough.false in
-    let here = passed_here c.loop-options.invariant.so_far no c.in-Ok.passed c.in-Ok.ensures.lines in
-    omega (arith, few_so_far here.1, c.in-Some.ensures)
+    omega (arith, few_so_far (passed_here c.loop-options.invariant.so_far no c.in-Ok.ensures.takes), c.in-Some.ensures)
 
 pub overflow_add-lines-in-loop-options : goal.overflow_add-lines-in-loop-options
 overflow_add-lines-in-loop-options g c =
     let no = not_yet c.args.options c.loop-options.count c.is_enough.ensures c.limit.ensures c.if-is_enough.false in
-    let here = passed_here c.loop-options.invariant.so_far no c.in-Ok.passed c.in-Ok.ensures.lines in
-    omega (arith, few_so_far here.1, c.in-Some.ensures)
+    omega (arith, few_so_far (passed_here c.loop-options.invariant.so_far no c.in-Ok.ensures.takes), c.in-Some.ensures)
 
 pub overflow_add-count : goal.overflow_add-count
 overflow_add-count g c =
     let no = not_yet c.args.options c.loop-options.count c.is_enough.ensures c.limit.ensures c.if-is_enough.false in
-    let here = passed_here c.loop-options.invariant.so_far no c.in-Ok.passed c.in-Ok.ensures.lines in
-    omega (arith, few_so_far here.1, c.in-Some.ensures, c.in_ok-taken.ensures.few)
+    omega (
+      arith,
+      few_so_far (passed_here c.loop-options.invariant.so_far no c.in-Ok.ensures.takes),
+      c.in-Some.ensures,
+      c.in_ok-taken.ensures.few,
+    )
 
-pub returns-then-not-fed-clause-scanned : goal.returns-then-not-fed-clause-scanned
-returns-then-not-fed-clause-scanned g c =
+pub returns-then-not-next-clause-scanned : goal.returns-then-not-next-clause-scanned
+returns-then-not-next-clause-scanned g c =
     let no = not_yet c.args.options c.loop-options.count c.is_enough.ensures c.limit.ensures c.if-is_enough.false in
-    let here = passed_here c.loop-options.invariant.so_far no c.in-Ok.passed c.in-Ok.ensures.lines in
-    let line = c.read_line.new.line.items in
-    let fed = c.in-Ok-read_line.fed in
+    let next = c.in-Ok.ensures.takes in
+    let here = passed_here c.loop-options.invariant.so_far no next in
+    let line = c.next_line.new.line.items in
+    let fed = c.in-Ok.next.fed in
     let taken = c.in_ok-taken.ensures.printed in
     let shown = c.as_slice-in-loop-options.ensures.value in
     let start = c.in-Some.start in
-    let number = c.loop-options.lines + (c.in-Ok.passed.lines + 1) in
+    let number = c.loop-options.lines + (c.in-Ok.next.passed.lines + 1) in
     let prints = PrintsUnlessSilent (is_silent c.args.options) c.args.search.now c.args.options c.args.name.now number
     start in
-    ended_so_far here.1 no _ _ line taken.0 fed number start c.in_ok-taken.taken c.if-not-fed.true (omega arith)
-    (omega (arith, c.in-Some.ensures)) c.in-Ok-read_line.ensures.whole c.in-Ok-read_line.ensures.bytes
-    c.in-Ok-read_line.ensures.ended taken.1
+    ended_so_far here no _ _ line taken.0 fed number start c.in_ok-taken.taken (unfed_if fed c.if-not-next.true)
+    (omega arith) (omega (arith, c.in-Some.ensures)) next.whole next.reads next.ended taken.1
     (subst (λ l. prints (lines_read fed l) taken.0) shown taken.2)
     (c.in_ok-taken.ensures.counted
     ∙ ap (λ l. count_by (counts c.args.search.now c.args.options) (lines_read fed l)) shown)
