@@ -288,7 +288,8 @@ module _ (search : SearchValue) where
         → count_by (counts search options) lines ≡ 0
     none_counts [] none = refl
     none_counts (line ∷ more) none =
-        let first = cond-false {A = ℕ} (counts search options line) 1 0 (none_asked line (All-head (HasNoWord search) line more none)) in
+        let word = none_asked line (All-head (HasNoWord search) line more none) in
+        let first = cond-false {A = ℕ} (counts search options line) 1 0 word in
         let rest = none_counts more (All-tail (HasNoWord search) line more none) in
         omega (arith, first, rest, sum_by-cons (λ l. cond (counts search options l) 1 0) line more)
 
@@ -299,7 +300,8 @@ module _ (search : SearchValue) where
     none_printed true number offset lines none = refl
     none_printed false number offset [] none = refl
     none_printed false number offset (line ∷ more) none =
-        ([], [], first, none_printed false (number + 1) (offset + length line + 1) more (All-tail (HasNoWord search) line more none), refl)
+        let rest = All-tail (HasNoWord search) line more none in
+        ([], [], first, none_printed false (number + 1) (offset + length line + 1) more rest, refl)
       where
         first : PrintsLine (counts search options line) search options name number offset line []
         first = subst (λ b. PrintsLine b search options name number offset line [])
@@ -460,7 +462,8 @@ module _ {search : SearchValue} {options : Options} {name : List ℕ} {old new :
             ap (λ (l : List _). length l) (sym (flat_map_more with_feed [] seen line))
             ∙ length-append (flat_map with_feed seen) (with_feed line)
             ∙ ap (λ n. length (flat_map with_feed seen) + n) (length-append line (10 ∷ []))
-    read_on line part false number start behind taken is number_is start_is behind_is whole read append printed counted =
+    read_on line part false number start behind taken is number_is start_is behind_is whole read append printed
+        counted =
         absurd (cc)
 
 -- what a scan answers of a text that it read
@@ -497,7 +500,8 @@ module _ {search : SearchValue} {options : Options} {name : List ℕ} {old new :
         → Answers search options name old next written now scanned
     failed_so_far next {failure} scanned is failed =
         subst (Answers search options name old next written now) (sym is)
-        (scanned_so_far next failure (reads_front failure (is_enough (limit_of options) count) old new next (flat_map with_feed seen)
+        (scanned_so_far next failure (reads_front failure (is_enough (limit_of options) count) old new next
+        (flat_map with_feed seen)
         failed so_far.read))
 
     -- and behind the last line feed
