@@ -17,7 +17,7 @@ SHARED = HERE.parent / "out/lib/libliteral_search.so"
 WARNINGS = ["-Wall", "-Wextra", "-Wpedantic", "-Wconversion", "-Werror", f"-I{HERE}"]
 SANITIZED = ["-g", "-fsanitize=address,undefined", "-fno-sanitize-recover=all"]
 ALONE = ["-fsyntax-only", "-include", "literal_search.h", "/dev/null"]
-# A program that prints for which level the library would choose its build, and whether the processor has that level.
+# A program that prints which level of processors dist/choose.s chooses, and which one the compiler finds.
 LEVEL = """#include <stdio.h>
 int level(void);
 int two(void) __asm__("level.v2");
@@ -62,6 +62,7 @@ class Programs(unittest.TestCase):
         self.assertEqual(run(*command, "-pthread", "-o", program), (0, ""))
         return program
 
+
 class Find(Programs):
     def test_header(self):
         self.assertEqual(run("cc", "-std=c11", *WARNINGS, "-xc", *ALONE), (0, ""))
@@ -96,7 +97,7 @@ class Find(Programs):
         self.assertEqual(run(self.compiled("calls", "-O1"), "stack"), (0, ""))
 
     def test_calls_by_the_build_for_v2(self):
-        """Which only older processors choose."""
+        """Only older processors choose it."""
         shared, archive, edits = f"{self.room.name}/v2.so", f"{self.room.name}/v2.a", []
         for it in exports("-g", LIBRARY):
             edits += [f"--redefine-sym={it}={it}.any", f"--localize-symbol={it}.any"]
@@ -106,21 +107,23 @@ class Find(Programs):
         self.assertEqual(run(self.compiled("calls", "-O1", library=archive), "stack"), (0, ""))
         whole = "-Wl,--whole-archive", archive, "-Wl,--no-whole-archive"
         self.assertEqual(run("cc", "-shared", "-o", shared, *whole), (0, ""))
-        status, said = run(sys.executable, "-m", "unittest", "test_calls", cwd=HERE, env={**PLAIN, "TESTED": shared})
+        given = {**PLAIN, "TESTED_LIBRARY": shared}
+        status, said = run(sys.executable, "-m", "unittest", "test_calls", cwd=HERE, env=given)
         self.assertEqual(status, 0, said)
 
     def test_choice_of_the_build(self):
-        """It is the compiler's, also on processors that lack one feature of the level."""
+        """It agrees with the compiler's test for the level, also on processors that lack one of its features."""
         source, program = Path(self.room.name, "level.s"), f"{self.room.name}/level"
         source.write_text((DIST / "choose.s").read_text("ascii") + "export level\n", "ascii")
         self.assertEqual(run("cc", "-xc", "-", "-xassembler", str(source), "-o", program, text=LEVEL), (0, ""))
-        processors = [[]]
+        find, processors = self.compiled("find"), [[]]
         if shutil.which("qemu-x86_64"):
             lacking = ("avx2", "bmi1", "bmi2", "f16c", "fma", "abm", "movbe", "xsave")
             named = ("Nehalem", "Haswell", "Haswell,level=6", *(f"Haswell,-{it}" for it in lacking))
             processors += [["qemu-x86_64", "-cpu", it] for it in named]
-        for processor in processors:
-            self.assertIn(run(*processor, program, stderr=subprocess.DEVNULL), ((0, "2 2"), (0, "3 3")), processor)
+        for words in processors:
+            self.assertIn(run(*words, program, stderr=subprocess.DEVNULL), ((0, "2 2"), (0, "3 3")), words)
+            self.assertEqual(run(*words, find, *WORDS, text=TEXT, stderr=subprocess.DEVNULL), (0, FOUND), words)
 
     @unittest.skipUnless("refuse" in REFUSER, "run by bindings/test")
     def test_each_request_refused(self):
@@ -163,7 +166,7 @@ class OnArm(Programs):
         self.assertEqual(run(*self.compiled_for_arm("calls")), (0, ""))
 
     def test_same_matches(self):
-        """By each kind of scan, in a text of the same words."""
+        """As here, for lists that are searched for in different ways."""
         text = (HERE / "literal_search.h").read_text("ascii")
         words = sorted(set(re.findall(r"\w{3,}", text)), key=lambda it: it[::-1])
         for name in ("find", "stream"):
