@@ -29,7 +29,7 @@ CITATIONS = re.compile(
 # What is not read, by its path from the top: git's own, what is built, digests, and what Python keeps of the checks.
 # Elsewhere a folder of such a name is one of proofs, of a function that is called so.
 NOT_READ = re.compile(
-    r"\.git|dist/x86_64-linux-gnu|checks/refused|(?:crates/\w+/|bindings/)?out|bindings/rust/target"
+    r"\.git|dist/\w+-linux-gnu|checks/refused|(?:crates/\w+/|bindings/)?out|bindings/rust/target"
     r"|(?:checks|bindings/(?:c|\w+/\w+))/__pycache__|.*\.so"
 )
 

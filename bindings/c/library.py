@@ -1,5 +1,6 @@
 """The library for C, called by the tests through ctypes: its structs, functions and numbers, as the header has them."""
 import ctypes
+import os
 import re
 from pathlib import Path
 
@@ -39,8 +40,8 @@ Match, Page, Answer = (TYPES[f"literal_{name}"] for name in ("match", "page", "a
 
 
 def load():
-    """The shared library, where bindings/test installs it."""
-    library = ctypes.CDLL(str(BINDINGS / "out/lib/libliteral_search.so"))
+    """The shared library, where bindings/test installs it, or the one that a test names by `TESTED_LIBRARY`."""
+    library = ctypes.CDLL(os.environ.get("TESTED_LIBRARY", str(BINDINGS / "out/lib/libliteral_search.so")))
     for name, (result, parameters) in FUNCTIONS.items():
         function = getattr(library, name)
         function.argtypes, function.restype = [type_of(it) for it, _ in parameters], type_of(result)

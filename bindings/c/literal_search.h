@@ -59,9 +59,10 @@
  *   - malloc, realloc and free are from one allocator. malloc and realloc align a block to each power of two up to 16
  *     that divides its size.
  *
- * The library runs on Linux with glibc 2.34 or newer, on x86-64-v2 processors (SSE4.2 and POPCNT). On an older
- * processor glibc refuses to start a program, or to load the shared library, except a static program or one linked by
- * lld: there the first search ends with an illegal instruction (SIGILL).
+ * The library runs on Linux with glibc 2.34 or newer, on aarch64 and on x86-64-v2 processors (SSE4.2 and POPCNT). On an
+ * older x86 processor glibc refuses to start a program, or to load the shared library, except a static program or one
+ * linked by lld: there the first search ends with an illegal instruction (SIGILL). On x86-64-v3 processors (AVX2) the
+ * library uses wider vectors.
  */
 #ifndef LITERAL_SEARCH_H
 #define LITERAL_SEARCH_H

@@ -1,6 +1,8 @@
-"""Compiles the header and the programs in C, and runs them: under the sanitizers, with little stack, on an older
-processor. It takes the library of dist/, and the shared one from where bindings/test installs it."""
+"""Compiles the header and the programs in C, and runs them: under the sanitizers, with little stack, by each build for
+x86-64, on an older processor, and for aarch64. It takes the libraries of dist/, and the shared one from where
+bindings/test installs it."""
 import os
+import re
 import shutil
 import subprocess
 import sys
@@ -9,11 +11,22 @@ import unittest
 from pathlib import Path
 
 HERE = Path(__file__).resolve().parent
-LIBRARY = HERE.parents[1] / "dist/x86_64-linux-gnu/libliteral_search.a"
+DIST = HERE.parents[1] / "dist"
+LIBRARY, FOR_ARM = (DIST / f"{it}-linux-gnu/libliteral_search.a" for it in ("x86_64", "aarch64"))
 SHARED = HERE.parent / "out/lib/libliteral_search.so"
 WARNINGS = ["-Wall", "-Wextra", "-Wpedantic", "-Wconversion", "-Werror", f"-I{HERE}"]
 SANITIZED = ["-g", "-fsanitize=address,undefined", "-fno-sanitize-recover=all"]
 ALONE = ["-fsyntax-only", "-include", "literal_search.h", "/dev/null"]
+# A program that prints which level of processors dist/choose.s chooses, and which one the compiler finds.
+LEVEL = """#include <stdio.h>
+int level(void);
+int two(void) __asm__("level.v2");
+int two(void) { return 2; }
+int three(void) __asm__("level.v3");
+int three(void) { return 3; }
+int main(void) { return printf("%d %d", level(), __builtin_cpu_supports("x86-64-v3") ? 3 : 2) < 0; }
+"""
+CROSS = "aarch64-linux-gnu-gcc"
 TEXT = "Nobody likes maple in their apple flavored Snapple.\n"
 WORDS, FOUND = ["apple", "maple", "Snapple"], "1 13 18\n0 28 33\n2 43 50\n"
 MOST_REQUESTS = 100
@@ -30,19 +43,27 @@ def run(*words, text="", **how):
     return ran.returncode, ran.stdout
 
 
-class Find(unittest.TestCase):
+def exports(*words):
+    """The names that an archive or a shared library defines, by some words of nm."""
+    listed = run("nm", "--defined-only", *map(str, words))[1].splitlines()
+    return {it.split()[2] for it in listed if " " in it}
+
+
+class Programs(unittest.TestCase):
     @classmethod
     def setUpClass(cls):
         cls.room = tempfile.TemporaryDirectory()
         cls.addClassCleanup(cls.room.cleanup)
 
-    def compiled(self, name, *words):
+    def compiled(self, name, *words, library=LIBRARY, compiler="cc"):
         """A program, compiled."""
-        program = f"{self.room.name}/{name}"
-        compiler = ["cc", "-std=c11", *WARNINGS, *words]
-        self.assertEqual(run(*compiler, f"{HERE}/{name}.c", str(LIBRARY), "-pthread", "-o", program), (0, ""))
+        program = f"{self.room.name}/{name}-{compiler}"
+        command = [compiler, "-std=c11", *WARNINGS, *words, f"{HERE}/{name}.c", str(library)]
+        self.assertEqual(run(*command, "-pthread", "-o", program), (0, ""))
         return program
 
+
+class Find(Programs):
     def test_header(self):
         self.assertEqual(run("cc", "-std=c11", *WARNINGS, "-xc", *ALONE), (0, ""))
         self.assertEqual(run("c++", "-std=c++17", *WARNINGS, "-xc++", *ALONE), (0, ""))
@@ -75,6 +96,35 @@ class Find(unittest.TestCase):
     def test_calls_with_little_stack(self):
         self.assertEqual(run(self.compiled("calls", "-O1"), "stack"), (0, ""))
 
+    def test_calls_by_the_build_for_v2(self):
+        """Only older processors choose it."""
+        shared, archive, edits = f"{self.room.name}/v2.so", f"{self.room.name}/v2.a", []
+        for it in exports("-g", LIBRARY):
+            edits += [f"--redefine-sym={it}={it}.any", f"--localize-symbol={it}.any"]
+            edits += [f"--redefine-sym={it}.v2={it}", f"--globalize-symbol={it}"]
+        self.assertEqual(run("objcopy", *edits, LIBRARY, archive), (0, ""))
+        self.assertEqual(run(self.compiled("calls", *SANITIZED, library=archive)), (0, ""))
+        self.assertEqual(run(self.compiled("calls", "-O1", library=archive), "stack"), (0, ""))
+        whole = "-Wl,--whole-archive", archive, "-Wl,--no-whole-archive"
+        self.assertEqual(run("cc", "-shared", "-o", shared, *whole), (0, ""))
+        given = {**PLAIN, "TESTED_LIBRARY": shared}
+        status, said = run(sys.executable, "-m", "unittest", "test_calls", cwd=HERE, env=given)
+        self.assertEqual(status, 0, said)
+
+    def test_choice_of_the_build(self):
+        """It agrees with the compiler's test for the level, also on processors that lack one of its features."""
+        source, program = Path(self.room.name, "level.s"), f"{self.room.name}/level"
+        source.write_text((DIST / "choose.s").read_text("ascii") + "export level\n", "ascii")
+        self.assertEqual(run("cc", "-xc", "-", "-xassembler", str(source), "-o", program, text=LEVEL), (0, ""))
+        find, processors = self.compiled("find"), [[]]
+        if shutil.which("qemu-x86_64"):
+            lacking = ("avx2", "bmi1", "bmi2", "f16c", "fma", "abm", "movbe", "xsave")
+            named = ("Nehalem", "Haswell", "Haswell,level=6", *(f"Haswell,-{it}" for it in lacking))
+            processors += [["qemu-x86_64", "-cpu", it] for it in named]
+        for words in processors:
+            self.assertIn(run(*words, program, stderr=subprocess.DEVNULL), ((0, "2 2"), (0, "3 3")), words)
+            self.assertEqual(run(*words, find, *WORDS, text=TEXT, stderr=subprocess.DEVNULL), (0, FOUND), words)
+
     @unittest.skipUnless("refuse" in REFUSER, "run by bindings/test")
     def test_each_request_refused(self):
         """It finds all the same, as where an output has no buffer, or says why not."""
@@ -93,9 +143,8 @@ class Find(unittest.TestCase):
     def test_only_the_header_s_names_are_shown(self):
         names = set(run("sed", "-n", r"s/^u\?int32_t \(literal_\w*\)(.*/\1/p", f"{HERE}/literal_search.h")[1].split())
         self.assertGreater(len(names), 9)
-        for words in (("-g", LIBRARY), ("-D", SHARED)):
-            listed = run("nm", "--defined-only", *map(str, words))[1].splitlines()
-            self.assertEqual({it.split()[2] for it in listed if " " in it}, names)
+        for words in (("-g", LIBRARY), ("-g", FOR_ARM), ("-D", SHARED)):
+            self.assertEqual(exports(*words), names)
 
     def test_older_processors_are_refused(self):
         """The loader reads the mark that GNU ld takes over from the library."""
@@ -107,6 +156,28 @@ class Find(unittest.TestCase):
             self.assertEqual((status, said), (127, f"{find}: CPU ISA level is lower than required\n"))
 
 
+@unittest.skipUnless(all(map(shutil.which, (CROSS, "qemu-aarch64"))), f"there is no {CROSS}, or no qemu-aarch64")
+class OnArm(Programs):
+    def compiled_for_arm(self, name):
+        """The words that run a program for aarch64."""
+        return "qemu-aarch64", self.compiled(name, "-static", library=FOR_ARM, compiler=CROSS)
+
+    def test_calls(self):
+        self.assertEqual(run(*self.compiled_for_arm("calls")), (0, ""))
+
+    def test_same_matches(self):
+        """As here, for lists that are searched for in different ways."""
+        text = (HERE / "literal_search.h").read_text("ascii")
+        words = sorted(set(re.findall(r"\w{3,}", text)), key=lambda it: it[::-1])
+        for name in ("find", "stream"):
+            on_arm = self.compiled_for_arm(name)
+            here = self.compiled(name)
+            for count in (1, 2, 3, 8, 16, 32, 128, len(words)):
+                found = run(here, *words[:count], text=text)
+                self.assertEqual(run(*on_arm, *words[:count], text=text), found)
+                self.assertGreaterEqual(found[1].count("\n"), count)
+
+
 class Build(unittest.TestCase):
     def setUp(self):
         room = tempfile.TemporaryDirectory()
@@ -114,7 +185,8 @@ class Build(unittest.TestCase):
         self.room = Path(room.name, "a folder")
 
     def test_what_is_missing(self):
-        tools = ("rt", "ld", "objcopy", "strip", "ar", "nm")
+        binutils = ("ld", "objcopy", "strip", "ar", "nm")
+        tools = ("rt", *binutils, *(f"aarch64-linux-gnu-{it}" for it in binutils))
         for name in tools:
             folder = self.room / f"no {name}"
             folder.mkdir(parents=True)

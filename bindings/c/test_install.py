@@ -134,20 +134,29 @@ class Install(unittest.TestCase):
     def test_other_machines(self):
         here = {"uname": '[ "$1" = -m ] && echo x86_64 || echo Linux', "getconf": "echo glibc 2.34"}
         others = {
-            "aarch64 Linux with glibc 2.34": {"uname": '[ "$1" = -m ] && echo aarch64 || echo Linux'},
-            "x86_64 FreeBSD with glibc 2.34": {"uname": '[ "$1" = -m ] && echo x86_64 || echo FreeBSD'},
-            "x86_64 Linux with glibc 2.33": {"getconf": "echo glibc 2.33"},
-            "x86_64 Linux with glibc 2.4": {"getconf": "echo glibc 2.4"},
-            "x86_64 Linux with another C library": {"getconf": "exit 1"},
+            "Linux on riscv64 with glibc 2.34": {"uname": '[ "$1" = -m ] && echo riscv64 || echo Linux'},
+            "FreeBSD on x86_64 with glibc 2.34": {"uname": '[ "$1" = -m ] && echo x86_64 || echo FreeBSD'},
+            "Linux on x86_64 with glibc 2.33": {"getconf": "echo glibc 2.33"},
+            "Linux on x86_64 with glibc 2.4": {"getconf": "echo glibc 2.4"},
+            "Linux on x86_64 with another C library": {"getconf": "exit 1"},
         }
         for machine, other in others.items():
             given = self.path_of(*TOOLS, **{**here, **other})
             status, said = run(INSTALL, "--from", self.given, self.prefix, env=given)
-            why = f"only 64-bit x86 Linux with glibc 2.34 or newer is supported, and this is {machine}"
+            why = f"only Linux on x86_64 or aarch64 with glibc 2.34 or newer is supported, and this is {machine}"
             self.assertEqual((status, said), (1, f"install: {why}\n"))
             self.assertFalse(self.prefix.exists())
         for glibc in ("2.34", "2.40", "3.0"):
             self.install(self.prefix, env=self.path_of(*TOOLS, **{**here, "getconf": f"echo glibc {glibc}"}))
+
+    def test_on_arm(self):
+        """The library alone, from its folder in dist/."""
+        machine = {"uname": '[ "$1" = -m ] && echo aarch64 || echo Linux', "getconf": "echo glibc 2.34"}
+        self.assertEqual(run(INSTALL, self.prefix, env=self.path_of(*TOOLS, **machine))[0], 0)
+        files = ["include/literal_search.h", "lib/libliteral_search.a", "lib/pkgconfig/literal_search.pc"]
+        self.assertEqual(set(self.installed()), set(files))
+        given = (TOP / "dist/aarch64-linux-gnu/libliteral_search.a").read_bytes()
+        self.assertEqual((self.prefix / files[1]).read_bytes(), given)
 
     def test_what_is_wrong(self):
         (self.given / "litfind").unlink()

@@ -1,6 +1,6 @@
 """Builds the extension on the library in dist/. What the package is, setup.cfg says.
 
-A source archive gets that library and its header, in a folder `library`, so it is built where the repository is not.
+A source archive gets all libraries and the header, in a folder `library`, so it is built where the repository is not.
 """
 import os
 import platform
@@ -25,7 +25,7 @@ except ImportError:  # (before setuptools 70.1 it was in the package wheel)
 
 TOP, NAME = Path(__file__).resolve().parent.parent.parent, "libliteral_search.a"
 IN_ARCHIVE = Path("library").is_dir()
-LIBRARY = f"library/{NAME}" if IN_ARCHIVE else f"../../dist/x86_64-linux-gnu/{NAME}"
+LIBRARIES = {it: f"{'library' if IN_ARCHIVE else '../../dist'}/{it}-linux-gnu/{NAME}" for it in ("x86_64", "aarch64")}
 HEADER = "library/literal_search.h" if IN_ARCHIVE else "../c/literal_search.h"
 GLIBC = 34  # the library needs glibc 2.34
 
@@ -35,9 +35,11 @@ class Archive(sdist):
 
     def make_release_tree(self, base_dir, files):
         super().make_release_tree(base_dir, files)
-        Path(base_dir, "library").mkdir()
-        for name in (LIBRARY, HEADER):
-            shutil.copy(name, Path(base_dir, "library"))
+        for processor, library in LIBRARIES.items():
+            folder = Path(base_dir, f"library/{processor}-linux-gnu")
+            folder.mkdir(parents=True)
+            shutil.copy(library, folder)
+        shutil.copy(HEADER, Path(base_dir, "library"))
 
 
 def wheel_for_all(usual):
@@ -48,19 +50,21 @@ def wheel_for_all(usual):
             python, abi, _ = super().get_tag()
             built = filter(os.path.isfile, self.get_finalized_command("build_ext").get_outputs())
             needed = re.findall(rb"GLIBC_2\.(\d+)", b"".join(Path(it).read_bytes() for it in built))
-            return python, abi, f"manylinux_2_{max(GLIBC, *map(int, needed))}_x86_64"
+            return python, abi, f"manylinux_2_{max(GLIBC, *map(int, needed))}_{PROCESSOR}"
 
     return Wheel
 
 
-def check_machine():
-    """Ends where the library does not run."""
+def supported_processor():
+    """The processor that the package is built for. Ends where the library does not run."""
     kind, version = platform.libc_ver()
     numbers = tuple(map(int, re.findall(r"\d+", version)[:2]))
-    if sysconfig.get_platform() != "linux-x86_64" or kind != "glibc" or numbers < (2, GLIBC):
+    system, _, processor = sysconfig.get_platform().partition("-")
+    if system != "linux" or processor not in LIBRARIES or kind != "glibc" or numbers < (2, GLIBC):
         here = f"{sysconfig.get_platform()} with {f'{kind} {version}'.strip() or 'another C library'}"
-        target = f"64-bit x86 Linux with glibc 2.{GLIBC} or newer"
+        target = f"Linux on {' or '.join(LIBRARIES)} with glibc 2.{GLIBC} or newer"
         sys.exit(f"literal-search: only {target} is supported, and this is {here}")
+    return processor
 
 
 def room():
@@ -71,9 +75,10 @@ def room():
     return made.name, made
 
 
-check_machine()
+PROCESSOR = supported_processor()
+LIBRARY = LIBRARIES[PROCESSOR]
 if not Path(LIBRARY).is_file():
-    sys.exit(f"{TOP}/dist/x86_64-linux-gnu/{NAME} is not there: run dist/build first")
+    sys.exit(f"{TOP}/dist/{PROCESSOR}-linux-gnu/{NAME} is not there: run dist/build first")
 if not IN_ARCHIVE:
     for licence in ("LICENSE-MIT", "UNLICENSE"):
         with suppress(PermissionError):  # (then somebody has copied it already)

@@ -524,7 +524,11 @@ static struct PyModuleDef module = {
 
 /* Whether the processor has what the library is compiled for. The loader looks, too, but not where lld linked this. */
 static int has_instructions(void) {
+#ifdef __x86_64__
     return __builtin_cpu_supports("sse4.2") && __builtin_cpu_supports("popcnt");
+#else
+    return 1;
+#endif
 }
 
 PyMODINIT_FUNC PyInit__native(void) {

@@ -47,7 +47,7 @@ class Setup(unittest.TestCase):
 
     def test_other_machines(self):
         others = {
-            "linux-aarch64 with glibc 2.36": "sysconfig.get_platform = lambda: 'linux-aarch64'",
+            "linux-riscv64 with glibc 2.36": "sysconfig.get_platform = lambda: 'linux-riscv64'",
             "linux-i686 with glibc 2.36": "sysconfig.get_platform = lambda: 'linux-i686'",
             "linux-x86_64 with glibc 2.33": "platform.libc_ver = lambda: ('glibc', '2.33')",
             "linux-x86_64 with another C library": "platform.libc_ver = lambda: ('', '')",
@@ -55,7 +55,7 @@ class Setup(unittest.TestCase):
         for machine, change in others.items():
             before = "platform.libc_ver, sysconfig.get_platform = lambda: ('glibc', '2.36'), lambda: 'linux-x86_64'"
             status, said = run(sys.executable, "-c", SETUP.format(f"{before}; {change}"), "--version")
-            why = f"only 64-bit x86 Linux with glibc 2.34 or newer is supported, and this is {machine}"
+            why = f"only Linux on x86_64 or aarch64 with glibc 2.34 or newer is supported, and this is {machine}"
             self.assertEqual((status, said), (1, f"literal-search: {why}\n"))
 
     @unittest.skipUnless(HAS_WHEEL, "there is no wheel")
