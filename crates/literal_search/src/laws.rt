@@ -1,6 +1,6 @@
 //! What follows from the definitions, for callers: call a law where its fact is needed.
 ghost use Rattle.std.specs.Prelude.{◌≡◌, ◌+◌, ◌<◌, ◌≤◌, ◌-◌, ◌^◌, ◌++◌, ◌∷◌, [], ℕ, Bool, List, length, take, Err};
-ghost use Rattle.std.specs.Prelude.{IsNone, None, Ok, Option, Some, false, map, sum_by};
+ghost use Rattle.std.specs.Prelude.{◌↔◌, IsNone, None, Ok, Option, Some, false, map, slice_range, sum_by};
 ghost use Rattle.std.specs.Iterator.{Yields};
 ghost use Rattle.std.specs.List.{All};
 ghost use Rattle.std.specs.Str.{IsCharBoundary, IsUtf8};
@@ -9,9 +9,10 @@ ghost use Rattle.literal_base.specs.declared.search.Span.{Span};
 ghost use Rattle.literal_base.specs.Counts.{Counts};
 ghost use Rattle.literal_base.specs.Greedy.{IsGreedy, IsGreedyIn};
 ghost use Rattle.literal_base.specs.MatchValue.{MatchValue};
-ghost use Rattle.literal_base.specs.Occurs.{NoneIsEmpty, Occurs, between, pattern_at, rest_from};
+ghost use Rattle.literal_base.specs.Occurs.{NoneIsEmpty, Occurs, between, pattern_at, rest_from, whole_of};
 ghost use Rattle.literal_base.specs.Query.{Query};
 ghost use Rattle.literal_search.specs.SearchValue.{ScansThrice, looked_upto, ScansListAtMost, SearchValue, longest_of};
+ghost use Rattle.literal_search.specs.Automaton.{AreAtEnd, OccursAtEnd};
 ghost use Rattle.literal_search.specs.MatchesValue.{GivesCounted, GivesMatch, MatchesValue};
 ghost use Rattle.literal_search.specs.Overlapping.{IsOverlapping, OverlappingValue};
 ghost use Rattle.literal_search.specs.OverlappingMatchesValue.{GivesOverlapping, OverlappingMatchesValue};
@@ -160,4 +161,18 @@ pub fn zeros_are_refused()
 pub fn overlapping_is_over_for_good()
     ensures { (old new newer : OverlappingMatchesValue) (answer : Option MatchValue) → GivesOverlapping old None new
         → GivesOverlapping new answer newer → IsNone answer × (newer ≡ new) }
+{}
+
+/// What occurs at the end of a part of a haystack, taken as a text of its own, occurs in the haystack where the part
+/// ends (`one`). So in a state after the part end the patterns that occur in the haystack, from the part's start on, and
+/// end there (`all`).
+pub fn parts_end_as_in_the_haystack()
+    ensures one { (patterns : List (List ℕ)) (ignore_case : Bool) (haystack : List ℕ) (from at i : ℕ)
+        → from ≤ at → at ≤ length haystack
+        → OccursAtEnd patterns ignore_case (slice_range haystack from at) (whole_of (slice_range haystack from at)) i
+        ↔ OccursAtEnd patterns ignore_case haystack (between from at) i }
+    ensures all { (patterns : List (List ℕ)) (ignore_case : Bool) (haystack : List ℕ) (from at : ℕ) (all : List ℕ)
+        → from ≤ at → at ≤ length haystack
+        → AreAtEnd patterns ignore_case (slice_range haystack from at) (whole_of (slice_range haystack from at)) all
+        → AreAtEnd patterns ignore_case haystack (between from at) all }
 {}

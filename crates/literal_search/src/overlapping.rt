@@ -15,6 +15,7 @@ ghost use Rattle.literal_search.specs.PreparedOverlapping.{RefusesOverlapping, T
 ghost use Rattle.literal_search.specs.Inside.LentTables.{AreFor, AreLent};
 ghost use Rattle.literal_search.specs.Inside.Overlapping.{AreListed, AreParts, overlapping_of};
 
+use crate::automaton::{Automaton, automaton_of};
 use crate::classes::classes_for;
 use crate::grow::{GrowError, grow};
 use crate::numbers::{Numbers, prints_for};
@@ -48,7 +49,7 @@ pub struct Overlapping {
 
 /// What a search and its iterations read.
 #[derive(Drop)]
-struct Parts {
+pub struct Parts {
     ignore_case: bool,
     patterns: Vec<Vec<u8>>,
     numbers: Numbers,
@@ -190,6 +191,14 @@ impl Overlapping {
         numbers.len() as u128 * 4 + total_bytes(&self.parts.patterns)
     }
 
+    /// The automaton by which it searches, for loops of a caller's own.
+    pub fn automaton(&self) -> Automaton<'_>
+        ensures patterns { result.patterns ≡ self.now.patterns }
+        ensures ignore_case { result.ignore_case ≡ self.now.ignore_case }
+    {
+        automaton_of(&self.parts)
+    }
+
     /// How many patterns there are, none of them empty.
     pub fn patterns_len(&self) -> usize
         ensures len { result ≡ length self.now.patterns }
@@ -213,7 +222,7 @@ impl fmt::Debug for Overlapping {
 
 impl Parts {
     /// The parts of its numbers, by which it searches.
-    fn lent(&self) -> LentTables<'_>
+    pub fn lent(&self) -> LentTables<'_>
         requires { AreParts self.now }
         ensures lent { AreLent result }
         ensures is_for { AreFor (overlapping_of self.now) result }

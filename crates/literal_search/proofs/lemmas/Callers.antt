@@ -1,6 +1,6 @@
 -- What callers take from this crate beside its contracts and laws: what an automaton was built of, and iterations over
 -- matches. For callers.
-use Rattle.std.proofs.Common.{◌≡◌, ◌<◌, ◌++◌, ℕ, Bool, List, [], ◌∷◌, length, map, take, get_or, Option, None, Some}
+use Rattle.std.proofs.Common.{◌≡◌, ◌+◌, ◌<◌, ◌≤◌, ◌++◌, ℕ, Bool, List, [], ◌∷◌, length, map, take, get_or, Option, None, Some}
 use Rattle.std.proofs.Common.{Ok, Result, append-nil, append_assoc, refl, slice_range, sym, ap, ◌∙◌, arith, subst}
 use Rattle.std.specs.Bool.{⊤}
 use Rattle.std.specs.Borrow.{Bor, MutBor}
@@ -31,6 +31,7 @@ use Rattle.literal_search.specs.Overlapping.{BuildsOverlapping, OverlappingValue
 use Rattle.literal_search.specs.Replaced.{IsReplaced, IsWritten, WritesMatch, WritingValue, replaced}
 use Rattle.literal_search.specs.States.{HasTooManyStates}
 use Rattle.literal_search.proofs.lemmas.Rows.{none_few, one_class}
+use Rattle.literal_search.proofs.lemmas.Walk.{slice_push}
 
 -- whichever iterator the given value becomes, that gives references to these byte strings and ends
 pub record GivesBytes {U T : Type 0} (becomes : U → T → Type 0) (steps : T → Option (Bor (List ℕ)) → T → Type 0)
@@ -155,6 +156,11 @@ pub greedy_from_matches : (searched : SearchValue) (haystack : List ℕ) (m : Ma
 greedy_from_matches searched haystack m all n o start run nothing =
     subst (λ (it : MatchesValue). IsGreedyIn it.search.query it.search.ignore_case it.haystack
     (between it.at it.span.end) all) start (greedy_from_yields m all n o run nothing)
+
+-- a part of a haystack with one byte more, as the text behind a step of an automaton
+pub part_goes_on : (haystack : List ℕ) (from at : ℕ) → from ≤ at → at < length haystack
+    → slice_range haystack from at ++ get_or haystack at 0 ∷ [] ≡ slice_range haystack from (at + 1)
+part_goes_on haystack from at after inside = sym (slice_push haystack from at after inside)
 
 -- where there is no pattern the states are not too many
 pub none_need_few : (ignore_case : Bool) → ¬ NeedTooManyStates ignore_case []

@@ -1,0 +1,162 @@
+//! The automaton of a search for every occurrence, for loops of callers.
+ghost use Rattle.std.specs.Prelude.{◌≡◌, ◌⊎◌, ◌↔◌, ◌+◌, ◌-◌, ◌<◌, ◌≤◌, ◌^◌, ◌++◌, ◌∷◌, [], ℕ, List, IsTrue};
+ghost use Rattle.std.specs.Prelude.{length, slice_index, slice_range};
+ghost use Rattle.literal_base.specs.Occurs.{whole_of};
+ghost use Rattle.literal_search.specs.Automaton.{AreAtEnd, EndsText, IsState, IsStateAfter};
+ghost use Rattle.literal_search.specs.Inside.Overlapping.{AreParts, overlapping_of};
+ghost use Rattle.literal_search.specs.Inside.Walk.{classes_by, rows_by};
+ghost use Rattle.literal_search.specs.PreparedOverlapping.{AreTables};
+
+use crate::overlapping::Parts;
+use crate::prepared_overlapping::LentTables;
+use crate::walk::{ENDS, Table};
+use std::marker::Model;
+
+/// The automaton of an [`Overlapping`](crate::Overlapping), which it borrows, for loops of a caller's own. Contracts see
+/// its tables.
+///
+/// After some text it is in the state of the longest suffix of the text that is a prefix of a pattern (`IsStateAfter`).
+/// [`Automaton::next_state`] appends one byte to the text. Two texts with equal states have the same matches, and so
+/// have all texts that go on from them alike.
+///
+/// ```rust
+/// let search = Overlapping::new(alloc, false, [b"append".as_slice(), b"end"])?;
+/// let automaton = search.automaton();
+/// let mut state = automaton.start_state();
+/// for byte in b"append" {
+///     state = automaton.next_state(state, *byte);
+/// }
+/// assert!(rt; automaton.is_match(state));
+/// assert!(rt; automaton.matches(state) == [0, 1]);
+/// ```
+#[derive(Drop)]
+pub struct Automaton<'s> {
+    parts: &'s Parts,
+    lent: LentTables<'s>,
+}
+
+impl<'s> Model for Automaton<'s> {
+    ghost use Rattle.literal_search.specs.Inside.LentTables.{AreFor, AreLent, tables_by};
+    ghost use Rattle.literal_search.specs.Inside.Overlapping.{overlapping_of};
+    ghost use Rattle.literal_search.specs.PreparedOverlapping.{Tables};
+
+    ghost Value = { Tables };
+
+    ghost view = { λ a. tables_by (overlapping_of a.parts.now) a.lent };
+
+    ghost invariant = { λ a. AreLent a.lent × AreFor (overlapping_of a.parts.now) a.lent };
+}
+
+/// A state of an [`Automaton`]: a number that no other automaton shares. Contracts see the number.
+#[derive(Clone, Copy, Debug, PartialEq, Eq, Drop)]
+pub struct State {
+    number: u32,
+}
+
+impl Model for State {
+    ghost use Rattle.std.specs.Prelude.{ℕ};
+
+    ghost Value = { ℕ };
+
+    ghost view = { λ s. s.number };
+
+    ghost inverse = { λ n. record { number = n } };
+}
+
+/// The automaton of the parts of a search.
+pub(crate) fn automaton_of(parts: &Parts) -> Automaton<'_>
+    requires { AreParts parts.now }
+    ensures patterns { result.patterns ≡ (overlapping_of parts.now).patterns }
+    ensures ignore_case { result.ignore_case ≡ (overlapping_of parts.now).ignore_case }
+{
+    Automaton {
+        parts,
+        lent: parts.lent(),
+    }
+}
+
+impl<'s> Automaton<'s> {
+    /// The state after the empty text.
+    pub fn start_state(&self) -> State
+        ensures { IsStateAfter self.now [] result }
+    {
+        State { number: 0 }
+    }
+
+    /// The state after one byte more: one look-up. The state has to be one of this automaton, after whatever text.
+    #[inline(always)]
+    pub fn next_state(&self, state: State, byte: u8) -> State
+        requires { IsState self.now state }
+        ensures { (text : List ℕ) → IsStateAfter self.now text state
+            → IsStateAfter self.now (text ++ byte ∷ []) result }
+    {
+        let number = self.table().code_for(state.place(), byte);
+        State { number }
+    }
+
+    /// Whether a pattern is a suffix of the text. It looks nothing up.
+    #[inline(always)]
+    pub fn is_match(&self, state: State) -> bool
+        ensures { (text : List ℕ) → IsStateAfter self.now text state
+            → IsTrue result ↔ ((i : ℕ) × EndsText self.now text i) }
+    {
+        let _table = self.table();
+        state.number >= ENDS
+    }
+
+    /// The identifiers of all patterns that are a suffix of the text, ascending, as numbers. The state has to be one of
+    /// this automaton, after whatever text.
+    pub fn matches(&self, state: State) -> &[u32]
+        requires { IsState self.now state }
+        ensures { (text : List ℕ) → IsStateAfter self.now text state
+            → AreAtEnd self.now.patterns self.now.ignore_case text (whole_of text) result.now }
+    {
+        let table = self.table();
+        if state.number < ENDS {
+            return &[];
+        }
+        let Ok(longest) = table.ending_at(state.place()) else {
+            unreachable!();
+        };
+        self.list_of(longest as usize)
+    }
+
+    /// The list of a pattern: the patterns that are a suffix of it.
+    fn list_of(&self, pattern: usize) -> &[u32]
+        requires { pattern < length self.now.patterns }
+        ensures { result.now ≡ slice_range self.now.ends (slice_index self.now.starts pattern)
+            (slice_index self.now.starts (pattern + 1)) }
+    {
+        let _table = self.table();
+        let starts = self.lent.starts;
+        let (start, end) = (starts[pattern] as usize, starts[pattern + 1] as usize);
+        &self.lent.ends[start..end]
+    }
+
+    /// What a step reads.
+    #[inline(always)]
+    fn table(&self) -> Table<'_>
+        ensures tables { AreTables self.now }
+        ensures each { length result.classes.now ≡ 64 }
+        ensures classes { classes_by result ≡ self.now.classes }
+        ensures width { result.width ≡ self.now.width }
+        ensures rows { rows_by result ≡ self.now.rows }
+    {
+        self.lent.table()
+    }
+}
+
+impl State {
+    /// Where the row of the state begins.
+    #[inline(always)]
+    fn place(self) -> usize
+        ensures { ((self < 2 ^ 31) × (result ≡ self)) ⊎ ((2 ^ 31 ≤ self) × (result ≡ self - 2 ^ 31)) }
+    {
+        let number = self.number;
+        if number < ENDS {
+            number as usize
+        } else {
+            (number - ENDS) as usize
+        }
+    }
+}
