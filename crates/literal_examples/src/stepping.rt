@@ -3,13 +3,11 @@ ghost use Rattle.literal_base.specs.Occurs.{whole_of};
 ghost use Rattle.literal_search.specs.Earliest.{IsEarliestEnd};
 
 use literal_search::Overlapping;
-use literal_search::laws::parts_end_as_in_the_haystack;
 
 /// The earliest end of an occurrence in a haystack, an offset in bytes, as `Overlapping::earliest_end` finds it.
 pub fn first_end(search: &Overlapping, haystack: &[u8]) -> Option<usize>
     ensures { IsEarliestEnd search.now.patterns search.now.ignore_case haystack.now (whole_of haystack.now) result }
 {
-    parts_end_as_in_the_haystack();
     let _count = search.patterns_len();
     let automaton = search.automaton();
     let mut state = automaton.start_state();

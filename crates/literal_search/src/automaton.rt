@@ -5,29 +5,28 @@ ghost use Rattle.literal_base.specs.Occurs.{whole_of};
 ghost use Rattle.literal_search.specs.Automaton.{AreAtEnd, EndsText, IsState, IsStateAfter};
 ghost use Rattle.literal_search.specs.Inside.Overlapping.{AreParts, overlapping_of};
 ghost use Rattle.literal_search.specs.Inside.Walk.{classes_by, rows_by};
-ghost use Rattle.literal_search.specs.PreparedOverlapping.{AreTables};
+ghost use Rattle.literal_search.specs.PreparedOverlapping.{AreTables, overlapping_value};
 
 use crate::overlapping::Parts;
 use crate::prepared_overlapping::LentTables;
 use crate::walk::{ENDS, Table};
 use std::marker::Model;
 
-/// The automaton of an [`Overlapping`](crate::Overlapping), which it borrows, for loops of a caller's own. Contracts see
-/// its tables.
+/// The automaton of an [`Overlapping`](crate::Overlapping), which it borrows, for loops of a caller's own. Contracts
+/// see its tables.
 ///
-/// After some text it is in the state of the longest suffix of the text that is a prefix of a pattern (`IsStateAfter`).
-/// [`Automaton::next_state`] appends one byte to the text. Two texts with equal states have the same matches, and so
-/// have all texts that go on from them alike.
+/// After a text it is in the state of the longest suffix of the text that is a prefix of a pattern (`IsStateAfter`). A
+/// caller's loop begins with [`Automaton::start_state`], and appends a byte to the text by [`Automaton::next_state`].
+/// If two texts lead to equal states, the same patterns are suffixes of both, also after the same further bytes.
 ///
 /// ```rust
-/// let search = Overlapping::new(alloc, false, [b"append".as_slice(), b"end"])?;
+/// let search = Overlapping::new(alloc, false, [b"append".as_slice(), b"app", b"end"])?;
 /// let automaton = search.automaton();
 /// let mut state = automaton.start_state();
 /// for byte in b"append" {
 ///     state = automaton.next_state(state, *byte);
 /// }
-/// assert!(rt; automaton.is_match(state));
-/// assert!(rt; automaton.matches(state) == [0, 1]);
+/// assert!(rt; automaton.is_match(state) && automaton.matches(state) == [0, 2].as_slice());
 /// ```
 #[derive(Drop)]
 pub struct Automaton<'s> {
@@ -47,8 +46,8 @@ impl<'s> Model for Automaton<'s> {
     ghost invariant = { λ a. AreLent a.lent × AreFor (overlapping_of a.parts.now) a.lent };
 }
 
-/// A state of an [`Automaton`]: a number that no other automaton shares. Contracts see the number.
-#[derive(Clone, Copy, Debug, PartialEq, Eq, Drop)]
+/// A state of an [`Automaton`], and of no other. Contracts see it as a number.
+#[derive(Clone, Copy, Debug, PartialEq, Eq, Hash, Drop)]
 pub struct State {
     number: u32,
 }
@@ -66,8 +65,7 @@ impl Model for State {
 /// The automaton of the parts of a search.
 pub(crate) fn automaton_of(parts: &Parts) -> Automaton<'_>
     requires { AreParts parts.now }
-    ensures patterns { result.patterns ≡ (overlapping_of parts.now).patterns }
-    ensures ignore_case { result.ignore_case ≡ (overlapping_of parts.now).ignore_case }
+    ensures { overlapping_value result ≡ overlapping_of parts.now }
 {
     Automaton {
         parts,
@@ -83,7 +81,7 @@ impl<'s> Automaton<'s> {
         State { number: 0 }
     }
 
-    /// The state after one byte more: one look-up. The state has to be one of this automaton, after whatever text.
+    /// The state after the text with one more byte, by one look-up. The state has to be one of this automaton.
     #[inline(always)]
     pub fn next_state(&self, state: State, byte: u8) -> State
         requires { IsState self.now state }
@@ -94,7 +92,7 @@ impl<'s> Automaton<'s> {
         State { number }
     }
 
-    /// Whether a pattern is a suffix of the text. It looks nothing up.
+    /// Whether any pattern is a suffix of the text: the state itself tells it, without a look-up.
     #[inline(always)]
     pub fn is_match(&self, state: State) -> bool
         ensures { (text : List ℕ) → IsStateAfter self.now text state
@@ -104,8 +102,7 @@ impl<'s> Automaton<'s> {
         state.number >= ENDS
     }
 
-    /// The identifiers of all patterns that are a suffix of the text, ascending, as numbers. The state has to be one of
-    /// this automaton, after whatever text.
+    /// The numbers of all patterns that are a suffix of the text, ascending. The state has to be one of this automaton.
     pub fn matches(&self, state: State) -> &[u32]
         requires { IsState self.now state }
         ensures { (text : List ℕ) → IsStateAfter self.now text state

@@ -163,9 +163,8 @@ pub fn overlapping_is_over_for_good()
         → GivesOverlapping new answer newer → IsNone answer × (newer ≡ new) }
 {}
 
-/// What occurs at the end of a part of a haystack, taken as a text of its own, occurs in the haystack where the part
-/// ends (`one`). So in a state after the part end the patterns that occur in the haystack, from the part's start on, and
-/// end there (`all`).
+/// A pattern occurs at the end of a part of a haystack, as a text of its own, exactly if it occurs there in the
+/// haystack (`one`). So the patterns that are a suffix of the part are those that occur at its end (`all`).
 pub fn parts_end_as_in_the_haystack()
     ensures one { (patterns : List (List ℕ)) (ignore_case : Bool) (haystack : List ℕ) (from at i : ℕ)
         → from ≤ at → at ≤ length haystack

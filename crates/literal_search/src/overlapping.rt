@@ -12,6 +12,7 @@ ghost use Rattle.literal_search.specs.Overlapping.{BuildsOverlapping};
 ghost use Rattle.literal_search.specs.OverlappingMatchesValue.{GivesOverlapping, most_overlapping};
 ghost use Rattle.literal_search.specs.Prepared.{AreShort};
 ghost use Rattle.literal_search.specs.PreparedOverlapping.{RefusesOverlapping, TakesListedPlaces, WritesOverlapping};
+ghost use Rattle.literal_search.specs.PreparedOverlapping.{overlapping_value};
 ghost use Rattle.literal_search.specs.Inside.LentTables.{AreFor, AreLent};
 ghost use Rattle.literal_search.specs.Inside.Overlapping.{AreListed, AreParts, overlapping_of};
 
@@ -191,10 +192,9 @@ impl Overlapping {
         numbers.len() as u128 * 4 + total_bytes(&self.parts.patterns)
     }
 
-    /// The automaton by which it searches, for loops of a caller's own.
+    /// The automaton of the patterns, for loops of a caller's own.
     pub fn automaton(&self) -> Automaton<'_>
-        ensures patterns { result.patterns ≡ self.now.patterns }
-        ensures ignore_case { result.ignore_case ≡ self.now.ignore_case }
+        ensures { overlapping_value result ≡ self.now }
     {
         automaton_of(&self.parts)
     }

@@ -1,10 +1,12 @@
 -- States of an automaton after a text, and which patterns end there.
 use Rattle.std.proofs.lemmas.Grind.{get_or_default_zero}
 use Rattle.std.proofs.Common.{◌≡◌, ◌⊎◌, ◌↔◌, ℕ, ◌+◌, ◌-◌, ◌*◌, ◌<◌, ◌≤◌, ◌^◌, List, [], ◌∷◌, ◌++◌, length, get_or}
-use Rattle.std.proofs.Common.{Bool, Option, None, Some, inl, inr, ap, arith, drop, length-append, map, refl, subst, sym, take, ◌∙◌}
+use Rattle.std.proofs.Common.{Bool, Option, None, Some, inl, inr, ap, arith, drop, length-append, map, refl, subst}
+use Rattle.std.proofs.Common.{sym, take, ◌∙◌}
 use Rattle.std.proofs.Math.Seq.{get_or-append_seam}
 use Rattle.std.proofs.lemmas.Bool.{cases_lt}
-use Rattle.std.proofs.lemmas.List.{drop-drop, drop-take, get_or-drop, get_or-take, get_or_append_left, get_or_past, length-drop, length-map}
+use Rattle.std.proofs.lemmas.List.{drop-drop, drop-take, get_or-drop, get_or-take, get_or_append_left, get_or_past}
+use Rattle.std.proofs.lemmas.List.{length-drop, length-map}
 use Rattle.std.proofs.lemmas.List.{length-take, map-append, take-take, take_all}
 use Rattle.std.specs.List.{slice_range}
 use Rattle.std.specs.Option.{unwrap_or}
@@ -113,8 +115,8 @@ module _ (t : Tables) (are : AreTables t) (text : List ℕ) (state : ℕ) (is : 
 
   ends_text : (i : ℕ) → IsSuffix (texts_in t) symbols i → EndsText t text i
   ends_text i suffix =
-      let one = end_occurs t.ignore_case t.classes t.patterns are.tells are.kept.some text is.bytes (whole_of text) valid
-      0 (length text) i (omega arith) (omega arith) (omega arith)
+      let one = end_occurs t.ignore_case t.classes t.patterns are.tells are.kept.some text is.bytes (whole_of text)
+      valid 0 (length text) i (omega arith) (omega arith) (omega arith)
       (subst (λ (s : List ℕ). IsSuffix (texts_in t) s i) (sym read_whole) suffix) in
       (length text - length (pattern_at t.patterns i), one.0, sym one.1)
 

@@ -46,7 +46,8 @@ module _ (patterns : List (List ℕ)) (width : ℕ) (rows : List ℕ) (recognise
     stands : (next : ℕ) → next ≡ leads_on.state * stride_of width
         → IsAt patterns width rows recognises (text ++ symbol ∷ []) next
     stands next is =
-        record { state = leads_on.state; is_state = leads_on.is_state; place_is = is; live_suffix = sym leads_on.word_is }
+        let to = leads_on in
+        record { state = to.state; is_state = to.is_state; place_is = is; live_suffix = sym to.word_is }
 
     -- a number below 2^31 leads to a state with whose word nothing ends
     pub at_without_end : code < 2 ^ 31
