@@ -16,10 +16,6 @@ pub record IsStateAfter (t : Tables) (text : List ℕ) (state : ℕ) : Type 0 wh
       → LeadsTo (texts_in t) recognises.words t.width state
       (live_suffix (texts_in t) (symbols_in t.classes text))
 
--- the state after some text
-abbrev pub IsState : Tables → ℕ → Type 0
-IsState t state = (text : List ℕ) × IsStateAfter t text state
-
 -- the pattern of this number occurs at the end of the span
 abbrev pub OccursAtEnd : List (List ℕ) → Bool → List ℕ → Span → ℕ → Type 0
 OccursAtEnd patterns ignore_case haystack span i =

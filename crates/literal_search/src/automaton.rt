@@ -2,11 +2,12 @@
 ghost use Rattle.std.specs.Prelude.{◌≡◌, ◌⊎◌, ◌↔◌, ◌+◌, ◌-◌, ◌<◌, ◌≤◌, ◌^◌, ◌++◌, ◌∷◌, [], ℕ, List, IsTrue};
 ghost use Rattle.std.specs.Prelude.{length, slice_index, slice_range};
 ghost use Rattle.literal_base.specs.Occurs.{whole_of};
-ghost use Rattle.literal_search.specs.Automaton.{AreAtEnd, EndsText, IsState, IsStateAfter};
+ghost use Rattle.literal_search.specs.Automaton.{AreAtEnd, EndsText, IsStateAfter};
 ghost use Rattle.literal_search.specs.Inside.Overlapping.{AreParts, overlapping_of};
 ghost use Rattle.literal_search.specs.Inside.Walk.{classes_by, rows_by};
 ghost use Rattle.literal_search.specs.PreparedOverlapping.{AreTables, overlapping_value};
 
+use crate::classes::CLASSES_LEN;
 use crate::overlapping::Parts;
 use crate::prepared_overlapping::LentTables;
 use crate::walk::{ENDS, Table};
@@ -81,14 +82,17 @@ impl<'s> Automaton<'s> {
         State { number: 0 }
     }
 
-    /// The state after the text with one more byte, by one look-up. The state has to be one of this automaton.
+    /// The state after the text with one more byte, by one look-up. After a state of another automaton it is any one.
     #[inline(always)]
     pub fn next_state(&self, state: State, byte: u8) -> State
-        requires { IsState self.now state }
         ensures { (text : List ℕ) → IsStateAfter self.now text state
             → IsStateAfter self.now (text ++ byte ∷ []) result }
     {
-        let number = self.table().code_for(state.place(), byte);
+        let (table, place) = (self.table(), state.place());
+        if place + CLASSES_LEN > table.rows.len() {
+            return self.start_state();
+        }
+        let number = table.code_for(place, byte);
         State { number }
     }
 
@@ -102,9 +106,9 @@ impl<'s> Automaton<'s> {
         state.number >= ENDS
     }
 
-    /// The numbers of all patterns that are a suffix of the text, ascending. The state has to be one of this automaton.
+    /// The numbers of all patterns that are a suffix of the text, ascending. In a state of another automaton they are
+    /// any.
     pub fn matches(&self, state: State) -> &[u32]
-        requires { IsState self.now state }
         ensures { (text : List ℕ) → IsStateAfter self.now text state
             → AreAtEnd self.now.patterns self.now.ignore_case text (whole_of text) result.now }
     {
@@ -112,20 +116,22 @@ impl<'s> Automaton<'s> {
         if state.number < ENDS {
             return &[];
         }
-        let Ok(longest) = table.ending_at(state.place()) else {
-            unreachable!();
-        };
-        self.list_of(longest as usize)
+        match table.ending_at(state.place()) {
+            Ok(longest) => self.list_of(longest as usize),
+            Err(_) => &[],
+        }
     }
 
     /// The list of a pattern: the patterns that are a suffix of it.
     fn list_of(&self, pattern: usize) -> &[u32]
-        requires { pattern < length self.now.patterns }
-        ensures { result.now ≡ slice_range self.now.ends (slice_index self.now.starts pattern)
+        ensures { pattern < length self.now.patterns → result.now ≡ slice_range self.now.ends (slice_index self.now.starts pattern)
             (slice_index self.now.starts (pattern + 1)) }
     {
         let _table = self.table();
         let starts = self.lent.starts;
+        if pattern >= starts.len() - 1 {
+            return &[];
+        }
         let (start, end) = (starts[pattern] as usize, starts[pattern + 1] as usize);
         &self.lent.ends[start..end]
     }
