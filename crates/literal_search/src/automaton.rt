@@ -47,7 +47,8 @@ impl<'s> Model for Automaton<'s> {
     ghost invariant = { λ a. AreLent a.lent × AreFor (overlapping_of a.parts.now) a.lent };
 }
 
-/// A state of an [`Automaton`], and of no other. Contracts see it as a number.
+/// A state of an [`Automaton`]. In a state of another automaton each call is safe, and its answer says nothing.
+/// Contracts see a state as a number.
 #[derive(Clone, Copy, Debug, PartialEq, Eq, Hash, Drop)]
 pub struct State {
     number: u32,
@@ -82,7 +83,7 @@ impl<'s> Automaton<'s> {
         State { number: 0 }
     }
 
-    /// The state after the text with one more byte, by one look-up. After a state of another automaton it is any one.
+    /// The state after the text with one more byte, by one look-up.
     #[inline(always)]
     pub fn next_state(&self, state: State, byte: u8) -> State
         ensures { (text : List ℕ) → IsStateAfter self.now text state
@@ -106,8 +107,7 @@ impl<'s> Automaton<'s> {
         state.number >= ENDS
     }
 
-    /// The numbers of all patterns that are a suffix of the text, ascending. In a state of another automaton they are
-    /// any.
+    /// The numbers of all patterns that are a suffix of the text, ascending.
     pub fn matches(&self, state: State) -> &[u32]
         ensures { (text : List ℕ) → IsStateAfter self.now text state
             → AreAtEnd self.now.patterns self.now.ignore_case text (whole_of text) result.now }
@@ -124,7 +124,8 @@ impl<'s> Automaton<'s> {
 
     /// The list of a pattern: the patterns that are a suffix of it.
     fn list_of(&self, pattern: usize) -> &[u32]
-        ensures { pattern < length self.now.patterns → result.now ≡ slice_range self.now.ends (slice_index self.now.starts pattern)
+        ensures { pattern < length self.now.patterns
+            → result.now ≡ slice_range self.now.ends (slice_index self.now.starts pattern)
             (slice_index self.now.starts (pattern + 1)) }
     {
         let _table = self.table();

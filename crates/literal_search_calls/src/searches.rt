@@ -147,6 +147,16 @@ fn overlapping_counts_what_it_looks_up(rt: HostRuntime) -> Result<(), Fail> {
 }
 
 #[test]
+fn overlapping_tells_what_it_was_built_of(rt: HostRuntime) -> Result<(), Fail> {
+    let all = Overlapping::new(rt.alloc(), true, [b"Abc".as_slice(), b"b"])?;
+    assert!(rt; all.max_pattern_len() == 3 && all.ignores_case());
+    assert!(rt; all.pattern(PatternID::must(0)) == Some(b"Abc".as_slice()));
+    assert!(rt; all.pattern(PatternID::must(2)).is_none());
+    assert!(rt; all.is_match(b"aBc") && !all.is_match(b"ac"));
+    Ok(())
+}
+
+#[test]
 fn too_large_a_table_is_refused(rt: HostRuntime) -> Result<(), Fail> {
     let mut long = Vec::new(rt.alloc());
     for place in 0..1usize << 23 {
