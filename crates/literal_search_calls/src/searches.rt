@@ -63,6 +63,19 @@ fn counts_what_it_looks_up(rt: HostRuntime) -> Result<(), Fail> {
 }
 
 #[test]
+fn shorter_matches_of_one_place_are_found_in_spans(rt: HostRuntime) -> Result<(), Fail> {
+    let search = longest_of(rt.alloc(), &[b"foo", b"foo12", b"fo", b"oo"])?;
+    let mut span = Span { start: 1, end: 6 };
+    let mut ends = Vec::new(rt.alloc());
+    while let Some(found) = search.match_in(b"xfoo12", span) {
+        ends.push(found.end())?;
+        span.end = found.end() - 1;
+    }
+    assert!(rt; ends == [6, 4, 3]);
+    Ok(())
+}
+
+#[test]
 fn tells_what_it_was_built_of(rt: HostRuntime) -> Result<(), Fail> {
     let search = first_of(rt.alloc(), &[b"Abc", b"b", b"cd"])?;
     assert!(rt; search.min_pattern_len() == 1 && search.max_pattern_len() == 3);
