@@ -166,8 +166,8 @@ pub fn overlapping_is_over_for_good()
 {}
 
 /// With `LeftmostLongest` each pattern that occurs where a match by [`Search::match_in`](crate::Search::match_in)
-/// begins, in the same span, is as long as the match, or occurs in the span that ends one byte before the match does. So
-/// repeated calls, each in such a span, give a match of each length, the longest first.
+/// begins, in the same span, is as long as the match, or occurs in the span that ends one byte before the match does.
+/// So repeated calls, each in such a span, give a match of each length, the longest first.
 pub fn shorter_matches_lie_in_shorter_spans()
     ensures { (query : Query) (ignore_case : Bool) (haystack : List ℕ) (span : Span) (found : MatchValue) (i : ℕ)
         → query.kind ≡ LeftmostLongest → IsMatchIn query ignore_case haystack span (Some found)

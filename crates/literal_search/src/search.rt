@@ -163,9 +163,9 @@ impl Search {
         self.match_in(haystack, Span { start: at, end })
     }
 
-    /// The match that begins where a span of the haystack does: of the patterns that occur there, whole in the span, the
-    /// one that the match kind prefers, and `None` where none does. With `MatchKind::LeftmostLongest` the next shorter
-    /// match is that in the span that ends one byte before this match does. The span has to be valid.
+    /// The match that begins where a span of the haystack does: of the patterns that occur there, whole in the span,
+    /// the one that the match kind prefers, and `None` where none does. With `MatchKind::LeftmostLongest` the next
+    /// shorter match is that in the span that ends one byte before this match does. The span has to be valid.
     pub fn match_in(&self, haystack: &[u8], span: Span) -> Option<Match>
         requires { IsValidSpan haystack.now span }
         ensures at { IsMatchIn self.now.query self.now.ignore_case haystack.now span result }

@@ -71,7 +71,7 @@ fn shorter_matches_of_one_place_are_found_in_spans(rt: HostRuntime) -> Result<()
         ends.push(found.end())?;
         span.end = found.end() - 1;
     }
-    assert!(rt; ends == [6, 4, 3]);
+    assert!(rt; ends.as_slice() == [6, 4, 3].as_slice());
     Ok(())
 }
 
