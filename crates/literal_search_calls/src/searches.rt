@@ -62,16 +62,21 @@ fn counts_what_it_looks_up(rt: HostRuntime) -> Result<(), Fail> {
     Ok(())
 }
 
+/// Where the match ends that begins with the second byte of a text and lies before an offset.
+fn end_before(search: &Search, end: usize) -> Option<usize> {
+    let text = b"xfoo12";
+    if end < 1 || end > text.len() {
+        return None;
+    }
+    let found = search.match_in(text, Span { start: 1, end })?;
+    Some(found.end())
+}
+
 #[test]
 fn shorter_matches_of_one_place_are_found_in_spans(rt: HostRuntime) -> Result<(), Fail> {
     let search = longest_of(rt.alloc(), &[b"foo", b"foo12", b"fo", b"oo"])?;
-    let mut span = Span { start: 1, end: 6 };
-    let mut ends = Vec::new(rt.alloc());
-    while let Some(found) = search.match_in(b"xfoo12", span) {
-        ends.push(found.end())?;
-        span.end = found.end() - 1;
-    }
-    assert!(rt; ends.as_slice() == [6, 4, 3].as_slice());
+    assert!(rt; end_before(&search, 6) == Some(6) && end_before(&search, 5) == Some(4));
+    assert!(rt; end_before(&search, 3) == Some(3) && end_before(&search, 2).is_none());
     Ok(())
 }
 
