@@ -1,13 +1,13 @@
 -- States of an automaton after a text, and which patterns end there.
 use Rattle.std.proofs.lemmas.Grind.{get_or_default_zero}
-use Rattle.std.proofs.Common.{◌≡◌, ◌⊎◌, ◌↔◌, ℕ, ◌+◌, ◌-◌, ◌*◌, ◌<◌, ◌≤◌, ◌^◌, List, [], ◌∷◌, ◌++◌, length, get_or}
-use Rattle.std.proofs.Common.{Bool, Option, None, Some, inl, inr, ap, arith, drop, length-append, map, refl, subst}
-use Rattle.std.proofs.Common.{sym, take, ◌∙◌}
+use Rattle.std.proofs.Common.{◌≡◌, ◌⊎◌, ℕ, ◌+◌, ◌-◌, ◌*◌, ◌<◌, ◌≤◌, ◌^◌, List, [], ◌∷◌, ◌++◌, length, get_or}
+use Rattle.std.proofs.Common.{Bool, Option, None, Some, inl, inr, ap, arith, drop, length-append, refl, subst}
+use Rattle.std.proofs.Common.{sym, ◌∙◌}
 use Rattle.std.proofs.Math.Seq.{get_or-append_seam}
 use Rattle.std.proofs.lemmas.Bool.{cases_lt}
 use Rattle.std.proofs.lemmas.List.{drop-drop, drop-take, get_or-drop, get_or-take, get_or_append_left, get_or_past}
-use Rattle.std.proofs.lemmas.List.{length-drop, length-map}
-use Rattle.std.proofs.lemmas.List.{length-take, map-append, take-take, take_all}
+use Rattle.std.proofs.lemmas.List.{length-map}
+use Rattle.std.proofs.lemmas.List.{map-append, take-take, take_all}
 use Rattle.std.specs.List.{slice_range}
 use Rattle.std.specs.Option.{unwrap_or}
 use Rattle.literal_base.specs.Occurs.{IsValidSpan, NoneIsEmpty, between, case_folded, pattern_at, whole_of}
