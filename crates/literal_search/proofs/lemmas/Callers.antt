@@ -22,7 +22,7 @@ use denote.Param.Members.{Mut}
 use Rattle.literal_base.specs.declared.packed.MatchKind.{MatchKind}
 use Rattle.literal_base.specs.Greedy.{IsGreedy, IsGreedyIn}
 use Rattle.literal_base.specs.MatchValue.{MatchValue}
-use Rattle.literal_base.specs.Occurs.{between, pattern_at, whole_of}
+use Rattle.literal_base.specs.Occurs.{Occurs, between, pattern_at, rest_from, whole_of}
 use Rattle.literal_base.proofs.lemmas.Callers.{GivesList}
 use Rattle.literal_search.specs.SearchValue.{BuildsSearch, SearchValue, GivesAll, GivesNext, NeedTooManyStates}
 use Rattle.literal_search.specs.SearchValue.{search_by}
@@ -177,16 +177,40 @@ module _ {search : OverlappingValue} {t : Tables} (is_for : overlapping_value t 
     pub part_tells : at ≤ length haystack → IsStateAfter t (slice_range haystack from at) state → (told : Bool)
         → ((text : List ℕ) → IsStateAfter t text state → IsTrue told ↔ ((i : ℕ) × EndsText t text i))
         → IsTrue told
-        ↔ ((i : ℕ) × OccursAtEnd search.patterns search.ignore_case haystack (between from at) i)
+        ↔ ((i : ℕ) × (place : ℕ)
+        × Occurs search.patterns search.ignore_case haystack (rest_from haystack from) i place
+        × (place + length (pattern_at search.patterns i) ≡ at))
     part_tells inside is told tells =
         subst (λ (s : OverlappingValue). IsTrue told
-        ↔ ((i : ℕ) × OccursAtEnd s.patterns s.ignore_case haystack (between from at) i)) is_for (
+        ↔ ((i : ℕ) × (place : ℕ) × Occurs s.patterns s.ignore_case haystack (rest_from haystack from) i place
+        × (place + length (pattern_at s.patterns i) ≡ at))) is_for (
           λ yes.
-              let one = (tells (slice_range haystack from at) is).0 yes in
-              (one.0, in_haystack t.patterns t.ignore_case haystack from at after inside one.0 one.1),
-          λ one.
-              (tells (slice_range haystack from at) is).1
-              (one.0, in_part t.patterns t.ignore_case haystack from at after inside one.0 one.1),
+              let (i, ends) = (tells (slice_range haystack from at) is).0 yes in
+              let (place, o, end) = in_haystack t.patterns t.ignore_case haystack from at after inside i ends in (
+                i,
+                place,
+                record {
+                  is_pattern = o.is_pattern;
+                  after_start = o.after_start;
+                  before_end = omega (arith, end);
+                  same = o.same;
+                },
+                end,
+              ),
+          λ (i, place, o, end).
+              (tells (slice_range haystack from at) is).1 (
+                i,
+                in_part t.patterns t.ignore_case haystack from at after inside i (
+                  place,
+                  record {
+                    is_pattern = o.is_pattern;
+                    after_start = o.after_start;
+                    before_end = omega (arith, end);
+                    same = o.same;
+                  },
+                  end,
+                ),
+              ),
         )
 
     -- what `matches` lists: the occurrences that end there
