@@ -32,7 +32,7 @@ CONFIRMING = "crates/literal_prefilters/src/prefilter/confirming.rt"
 # The functions that may make a tally: for the hashes of patterns, or for a search that is given none.
 MAKERS = (
     "Builder::build", "Searcher::find_in", "Searcher::find_iter", "Prefilter::find_in", "ConfirmingSearch::find_in",
-    "Search::find_in", "Search::match_at", "Search::find_all_in", "MatchesIterator::next",
+    "Search::find_in", "Search::match_in", "Search::find_all_in", "MatchesIterator::next",
     "Overlapping::earliest_end", "OverlappingMatchesIterator::next", "Prepared::find_in", "PreparedMatches::next_match",
     "PreparedOverlapping::earliest_end", "PreparedOverlappingMatches::next_match",
 )
@@ -50,7 +50,7 @@ TICKS = {
     "crates/literal_prefilters/src/prefilter/byte_table.rt": {"ByteTable::find": ("tick_scanned", "9327f693401c")},
     CONFIRMING: {"confirming::confirm": ("tick_tried", ""), "confirming::confirm_by_table": ("tick_tried", "")},
     "crates/literal_search/src/walk.rt": {
-        "Table::code_at": ("tick_scanned", "3eae1eb9e9e7"), "Table::code_by": ("tick_scanned", "e935c45fa3c8"),
+        "Table::code_at": ("tick_scanned", "28ba682a56cc"), "Table::code_by": ("tick_scanned", "e935c45fa3c8"),
     },
 }
 READS = ("tick_compared", "tick_scanned")

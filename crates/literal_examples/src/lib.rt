@@ -9,6 +9,7 @@ pub mod keywords;
 pub mod lexer;
 pub mod redact;
 pub mod router;
+pub mod stepping;
 pub mod tokens;
 
 // Single calls, and a few that go together.

@@ -1,4 +1,5 @@
 -- Lemmas that several proofs share, by topic.
+pub mod Automaton
 pub mod BackTables
 pub mod Backward
 pub mod Behind

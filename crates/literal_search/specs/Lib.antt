@@ -1,5 +1,6 @@
 pub mod SearchValue
 pub mod At
+pub mod Automaton
 pub mod Earliest
 pub mod ErrorText
 pub mod Inside

@@ -25,6 +25,10 @@ pub record Tables : Type 0 where
   pub ends : List ℕ
   pub starts : List ℕ
 
+-- the search that the tables are of, as contracts see it
+abbrev pub overlapping_value : Tables → OverlappingValue
+overlapping_value t = record { patterns = t.patterns; ignore_case = t.ignore_case }
+
 -- the classes of the patterns' bytes
 abbrev pub texts_in : Tables → List (List ℕ)
 texts_in t = map (symbols_in t.classes) t.patterns

@@ -1,17 +1,20 @@
 //! What follows from the definitions, for callers: call a law where its fact is needed.
 ghost use Rattle.std.specs.Prelude.{◌≡◌, ◌+◌, ◌<◌, ◌≤◌, ◌-◌, ◌^◌, ◌++◌, ◌∷◌, [], ℕ, Bool, List, length, take, Err};
-ghost use Rattle.std.specs.Prelude.{IsNone, None, Ok, Option, Some, false, map, sum_by};
+ghost use Rattle.std.specs.Prelude.{◌↔◌, ◌⊎◌, IsNone, None, Ok, Option, Some, false, map, slice_range, sum_by};
 ghost use Rattle.std.specs.Iterator.{Yields};
 ghost use Rattle.std.specs.List.{All};
 ghost use Rattle.std.specs.Str.{IsCharBoundary, IsUtf8};
 ghost use Rattle.std.specs.declared.io.Error.{Error};
+ghost use Rattle.literal_base.specs.declared.packed.MatchKind.TheVariants.{LeftmostLongest};
 ghost use Rattle.literal_base.specs.declared.search.Span.{Span};
 ghost use Rattle.literal_base.specs.Counts.{Counts};
 ghost use Rattle.literal_base.specs.Greedy.{IsGreedy, IsGreedyIn};
 ghost use Rattle.literal_base.specs.MatchValue.{MatchValue};
-ghost use Rattle.literal_base.specs.Occurs.{NoneIsEmpty, Occurs, between, pattern_at, rest_from};
+ghost use Rattle.literal_base.specs.Occurs.{NoneIsEmpty, Occurs, between, pattern_at, rest_from, whole_of};
 ghost use Rattle.literal_base.specs.Query.{Query};
 ghost use Rattle.literal_search.specs.SearchValue.{ScansThrice, looked_upto, ScansListAtMost, SearchValue, longest_of};
+ghost use Rattle.literal_search.specs.At.{IsMatchIn};
+ghost use Rattle.literal_search.specs.Automaton.{AreAtEnd, OccursAtEnd};
 ghost use Rattle.literal_search.specs.MatchesValue.{GivesCounted, GivesMatch, MatchesValue};
 ghost use Rattle.literal_search.specs.Overlapping.{IsOverlapping, OverlappingValue};
 ghost use Rattle.literal_search.specs.OverlappingMatchesValue.{GivesOverlapping, OverlappingMatchesValue};
@@ -160,4 +163,28 @@ pub fn zeros_are_refused()
 pub fn overlapping_is_over_for_good()
     ensures { (old new newer : OverlappingMatchesValue) (answer : Option MatchValue) → GivesOverlapping old None new
         → GivesOverlapping new answer newer → IsNone answer × (newer ≡ new) }
+{}
+
+/// With `LeftmostLongest` each pattern that occurs where a match by [`Search::match_in`](crate::Search::match_in)
+/// begins, in the same span, is as long as the match, or occurs in the span that ends one byte before the match does.
+/// So repeated calls, each in such a span, give a match of each length, the longest first.
+pub fn shorter_matches_lie_in_shorter_spans()
+    ensures { (query : Query) (ignore_case : Bool) (haystack : List ℕ) (span : Span) (found : MatchValue) (i : ℕ)
+        → query.kind ≡ LeftmostLongest → IsMatchIn query ignore_case haystack span (Some found)
+        → Occurs query.patterns ignore_case haystack span i span.start
+        → (length (pattern_at query.patterns i) ≡ found.end - found.start)
+        ⊎ Occurs query.patterns ignore_case haystack (between span.start (found.end - 1)) i span.start }
+{}
+
+/// A pattern occurs at the end of a part of a haystack, as a text of its own, exactly if it occurs there in the
+/// haystack (`one`). So the patterns that are a suffix of the part are those that occur at its end (`all`).
+pub fn parts_end_as_in_the_haystack()
+    ensures one { (patterns : List (List ℕ)) (ignore_case : Bool) (haystack : List ℕ) (from at i : ℕ)
+        → from ≤ at → at ≤ length haystack
+        → OccursAtEnd patterns ignore_case (slice_range haystack from at) (whole_of (slice_range haystack from at)) i
+        ↔ OccursAtEnd patterns ignore_case haystack (between from at) i }
+    ensures all { (patterns : List (List ℕ)) (ignore_case : Bool) (haystack : List ℕ) (from at : ℕ) (all : List ℕ)
+        → from ≤ at → at ≤ length haystack
+        → AreAtEnd patterns ignore_case (slice_range haystack from at) (whole_of (slice_range haystack from at)) all
+        → AreAtEnd patterns ignore_case haystack (between from at) all }
 {}

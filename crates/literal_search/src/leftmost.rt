@@ -4,9 +4,9 @@ ghost use Rattle.std.specs.Prelude.{◌≡◌, ◌⊎◌, ◌+◌, ◌-◌, ◌*
 ghost use Rattle.std.specs.Prelude.{IfOk, IfSome, IsNone, IsTrue, List, MatchOption, Some, ◌↔◌};
 ghost use Rattle.std.specs.Result.{IsOkAnd};
 ghost use Rattle.literal_base.specs.Leftmost.{IsLeftmost};
-ghost use Rattle.literal_base.specs.Occurs.{IsValidSpan, between, rest_from};
+ghost use Rattle.literal_base.specs.Occurs.{IsValidSpan, between};
 ghost use Rattle.literal_base.specs.declared.search.Span.{Span};
-ghost use Rattle.literal_search.specs.At.{IsMatchAt};
+ghost use Rattle.literal_search.specs.At.{IsMatchIn};
 ghost use Rattle.literal_search.specs.Inside.Backward.{ForBackward, IsMatchBy};
 ghost use Rattle.literal_search.specs.Inside.Backward.{IsSafe, NoneFrom};
 ghost use Rattle.literal_search.specs.Inside.Leftmost.{AreLanes, AreSteps, HasBytes, HavePassed, HaveRows};
@@ -766,31 +766,30 @@ impl<'t> Backward<'t> {
         Ok(Some(found))
     }
 
-    /// The match that begins at a place, by one walk from so far behind it that all that begins there lies before.
+    /// The match that begins where a span does, by one walk from so far behind it that all that begins there is read.
     pub fn find_at(
         &self,
         haystack: &[u8],
-        at: usize,
+        span: Span,
         tally: &mut Tally,
     ) -> Result<Option<Match>, Damaged>
         requires safe { IsSafe self.now }
-        requires inside { at ≤ length haystack.now }
+        requires valid { IsValidSpan haystack.now span }
         ensures at { ForBackward self.now (λ tables. IsOkAnd result
-            (IsMatchAt tables.search.query tables.search.ignore_case haystack.now at)) }
-        ensures lies { IfOk result (λ answer. IfSome answer (IsMatchBy self.now (rest_from haystack.now at) at)) }
+            (IsMatchIn tables.search.query tables.search.ignore_case haystack.now span)) }
+        ensures lies { IfOk result (λ answer. IfSome answer (IsMatchBy self.now span span.start)) }
         ensures others { tally.new ≡ record tally.old { scanned = tally.new.scanned } }
         ensures most { tally.new.scanned ≤ tally.old.scanned + self.now.table.longest }
+        ensures within { IfOk result (λ _. tally.new.scanned ≤ tally.old.scanned + (span.end - span.start)) }
         ensures least { IfOk result (λ answer. MatchOption answer (tally.old.scanned ≤ tally.new.scanned)
-            (λ found. tally.old.scanned + found.end ≤ tally.new.scanned + at)) }
+            (λ found. tally.old.scanned + found.end ≤ tally.new.scanned + span.start)) }
     {
         let (limit, bytes) = (self.table.limit()?, self.table.class_bytes());
         let classes = &bytes;
-        let end = haystack.len();
-        if at == end || self.table.longest == 0 {
+        if span.start == span.end || self.table.longest == 0 {
             return Ok(None);
         }
-        let span = Span { start: at, end };
-        if let Some(begun) = self.begun_at(classes, haystack, span, at, limit, tally)? {
+        if let Some(begun) = self.begun_at(classes, haystack, span, span.start, limit, tally)? {
             let found = self.match_at(haystack, span, begun.at, begun.code)?;
             return Ok(Some(found));
         }

@@ -7,6 +7,7 @@ ghost use Rattle.literal_base.specs.Given.{CanBeTaken};
 ghost use Rattle.literal_search.specs.SearchValue.{GivesAll, RefusesSearch, longest_of};
 ghost use Rattle.literal_search.specs.Inside.Search.{IsShortestOf};
 
+mod automaton;
 mod backward;
 mod builder;
 mod classes;
@@ -32,6 +33,7 @@ mod suffixes;
 mod walk;
 mod window;
 
+pub use automaton::{Automaton, State};
 pub use builder::SearchBuilder;
 use grow::GrowError;
 pub use literal_base::count::Tally;

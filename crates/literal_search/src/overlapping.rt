@@ -1,20 +1,23 @@
 //! A search for everything that occurs.
 ghost use Rattle.std.specs.Prelude.{◌≡◌, ◌+◌, ◌-◌, ◌<◌, ◌≤◌, ◌^◌, ◌++◌, ◌∷◌, [], ℕ, length, map, slice_index};
-ghost use Rattle.std.specs.Prelude.{IfErr, IfOk, OnErr};
+ghost use Rattle.std.specs.Prelude.{◌↔◌, IfErr, IfOk, IsTrue, MatchOption, OnErr};
 ghost use Rattle.std.specs.List.{repeat};
 ghost use Rattle.std.specs.Option.{option_map};
-ghost use Rattle.literal_base.specs.Occurs.{IsValidSpan, between, whole_of};
+ghost use Rattle.literal_base.specs.Occurs.{IsValidSpan, Occurs, between, one_occurs, pattern_at, whole_of};
 ghost use Rattle.literal_base.specs.Given.{CanBeTaken};
 ghost use Rattle.literal_search.specs.SearchValue.{CanBeKept, NeedFewStates, NeedTooManyStates, RefusesSearch};
+ghost use Rattle.literal_search.specs.SearchValue.{longest_of};
 ghost use Rattle.literal_search.specs.Earliest.{IsEarliestEnd, ScansToEndWithin};
 ghost use Rattle.literal_search.specs.Memory.{TakesListedBytes};
 ghost use Rattle.literal_search.specs.Overlapping.{BuildsOverlapping};
 ghost use Rattle.literal_search.specs.OverlappingMatchesValue.{GivesOverlapping, most_overlapping};
 ghost use Rattle.literal_search.specs.Prepared.{AreShort};
 ghost use Rattle.literal_search.specs.PreparedOverlapping.{RefusesOverlapping, TakesListedPlaces, WritesOverlapping};
+ghost use Rattle.literal_search.specs.PreparedOverlapping.{overlapping_value};
 ghost use Rattle.literal_search.specs.Inside.LentTables.{AreFor, AreLent};
 ghost use Rattle.literal_search.specs.Inside.Overlapping.{AreListed, AreParts, overlapping_of};
 
+use crate::automaton::{Automaton, automaton_of};
 use crate::classes::classes_for;
 use crate::grow::{GrowError, grow};
 use crate::numbers::{Numbers, prints_for};
@@ -25,6 +28,7 @@ use crate::suffixes::Recognised;
 use crate::{BuildError, copies, shortest_len, total_bytes};
 use literal_base::count::Tally;
 use literal_base::{Match, Span};
+use literal_ids::PatternID;
 use std::alloc::{AllocError, Global};
 use std::fmt;
 use std::marker::Model;
@@ -48,7 +52,7 @@ pub struct Overlapping {
 
 /// What a search and its iterations read.
 #[derive(Drop)]
-struct Parts {
+pub struct Parts {
     ignore_case: bool,
     patterns: Vec<Vec<u8>>,
     numbers: Numbers,
@@ -163,6 +167,17 @@ impl Overlapping {
         }
     }
 
+    /// Whether a pattern occurs in the haystack.
+    pub fn is_match(&self, haystack: &[u8]) -> bool
+        ensures occurs { IsTrue result ↔ ((i : ℕ) × (at : ℕ)
+            × Occurs self.now.patterns self.now.ignore_case haystack.now (whole_of haystack.now) i at) }
+        ensures told { result ≡ one_occurs self.now.patterns self.now.ignore_case haystack.now }
+    {
+        let end = haystack.len();
+        self.earliest_end(haystack, Span { start: 0, end })
+            .is_some()
+    }
+
     /// Writes the numbers of the search into the first places of an array, and answers how many these are.
     /// [`PreparedOverlapping`](crate::PreparedOverlapping) searches by them. After an error the array is unchanged.
     pub fn prepare(&self, array: &mut [u32]) -> Result<usize, ArrayTooShort>
@@ -190,6 +205,13 @@ impl Overlapping {
         numbers.len() as u128 * 4 + total_bytes(&self.parts.patterns)
     }
 
+    /// The automaton of the patterns, for loops of a caller's own.
+    pub fn automaton(&self) -> Automaton<'_>
+        ensures { overlapping_value result ≡ self.now }
+    {
+        automaton_of(&self.parts)
+    }
+
     /// How many patterns there are, none of them empty.
     pub fn patterns_len(&self) -> usize
         ensures len { result ≡ length self.now.patterns }
@@ -197,13 +219,35 @@ impl Overlapping {
     {
         self.parts.patterns.len()
     }
+
+    /// The bytes of the pattern of a number, as they were given, and `None` where there is none of that number.
+    pub fn pattern(&self, id: PatternID) -> Option<&[u8]>
+        ensures { MatchOption result (length self.now.patterns ≤ id)
+            (λ bytes. (id < length self.now.patterns) × (bytes.now ≡ pattern_at self.now.patterns id)) }
+    {
+        let pattern = self.parts.patterns.get(id.as_usize())?;
+        Some(pattern.as_slice())
+    }
+
+    /// How many bytes the longest pattern has, and 0 where there is none.
+    pub fn max_pattern_len(&self) -> usize
+        ensures { result ≡ longest_of self.now.patterns }
+    {
+        self.parts.lent().table().longest
+    }
+
+    /// Whether ASCII case is ignored.
+    pub fn ignores_case(&self) -> bool
+        ensures { result ≡ self.now.ignore_case }
+    {
+        self.parts.ignore_case
+    }
 }
 
 /// Says whether ASCII case is ignored, and how many patterns there are.
 impl fmt::Debug for Overlapping {
     fn fmt<W: fmt::Write>(&self, f: &mut fmt::Formatter<W>) -> fmt::Result {
-        let ignore_case = self.parts.ignore_case;
-        let patterns = self.patterns_len();
+        let (ignore_case, patterns) = (self.ignores_case(), self.patterns_len());
         write!(
             f,
             "Overlapping {{ ignore_case: {ignore_case}, patterns: {patterns} }}"
@@ -213,7 +257,7 @@ impl fmt::Debug for Overlapping {
 
 impl Parts {
     /// The parts of its numbers, by which it searches.
-    fn lent(&self) -> LentTables<'_>
+    pub fn lent(&self) -> LentTables<'_>
         requires { AreParts self.now }
         ensures lent { AreLent result }
         ensures is_for { AreFor (overlapping_of self.now) result }

@@ -42,8 +42,8 @@ pub struct PreparedOverlapping<'p> {
 pub struct LentTables<'p> {
     header: Header<'p>,
     /// Where the list of each pattern begins, and the last ends.
-    starts: &'p [u32],
-    ends: &'p [u32],
+    pub starts: &'p [u32],
+    pub ends: &'p [u32],
     /// The numbers of the scan for candidates by which a search passes over bytes, if there is one.
     prints: &'p [u32],
 }
@@ -177,7 +177,7 @@ impl<'p> LentTables<'p> {
     /// What a walk reads of them.
     #[inline(always)]
     #[tactic(auto, using(crate::proofs::lemmas::LentTables::lent_table, crate::proofs::lemmas::Prepared::classes_long))]
-    fn table(&self) -> Table<'_>
+    pub fn table(&self) -> Table<'_>
         requires { AreLent self.now }
         ensures each { length result.classes.now ≡ 64 }
         ensures table { (search : OverlappingValue) → AreFor search self.now

@@ -6,8 +6,8 @@ ghost use Rattle.literal_base.specs.Given.{CanBeTaken};
 ghost use Rattle.literal_base.specs.Greedy.{IsGreedy, IsGreedyIn};
 ghost use Rattle.literal_base.specs.Leftmost.{IsLeftmost};
 ghost use Rattle.literal_base.specs.Occurs.{IsValidSpan, NothingOccurs, Occurs, between, one_occurs, pattern_at};
-ghost use Rattle.literal_base.specs.Occurs.{whole_of};
-ghost use Rattle.literal_search.specs.At.{IsMatchAt, ScansAt};
+ghost use Rattle.literal_base.specs.Occurs.{rest_from, whole_of};
+ghost use Rattle.literal_search.specs.At.{IsMatchAt, IsMatchIn, ScansAt};
 ghost use Rattle.literal_search.specs.SearchValue.{BuildsSearch, CanBeKept, MayRefuseList, NeedFewReversed};
 ghost use Rattle.literal_search.specs.SearchValue.{NeedTooManyReversed, RefusesSearch, ScansNext, ScansThrice};
 ghost use Rattle.literal_search.specs.SearchValue.{ScansWithin};
@@ -159,7 +159,33 @@ impl Search {
         ensures at { IsMatchAt self.now.query self.now.ignore_case haystack.now at result }
         ensures not_empty { IfSome result (λ found. found.start < found.end) }
     {
-        self.match_at_counted(haystack, at, &mut Tally::new())
+        let end = haystack.len();
+        self.match_in(haystack, Span { start: at, end })
+    }
+
+    /// The match that begins where a span of the haystack does: of the patterns that occur there, whole in the span,
+    /// the one that the match kind prefers, and `None` where none does. With `MatchKind::LeftmostLongest` the next
+    /// shorter match is that in the span that ends one byte before this match does. The span has to be valid.
+    pub fn match_in(&self, haystack: &[u8], span: Span) -> Option<Match>
+        requires { IsValidSpan haystack.now span }
+        ensures at { IsMatchIn self.now.query self.now.ignore_case haystack.now span result }
+        ensures not_empty { IfSome result (λ found. found.start < found.end) }
+    {
+        self.match_in_counted(haystack, span, &mut Tally::new())
+    }
+
+    /// Answers as [`Search::match_in`], and adds each byte that it looks up to a tally, as scanned: at most as many as
+    /// the longest pattern has, and as the span has, and at least those of the match.
+    pub fn match_in_counted(&self, haystack: &[u8], span: Span, tally: &mut Tally) -> Option<Match>
+        requires { IsValidSpan haystack.now span }
+        ensures at { IsMatchIn self.now.query self.now.ignore_case haystack.now span result }
+        ensures not_empty { IfSome result (λ found. found.start < found.end) }
+        ensures bounded { ScansAt self.now.query.patterns span result tally.old tally.new }
+    {
+        match self.parts.backward().find_at(haystack, span, tally) {
+            Ok(answer) => answer,
+            Err(_) => unreachable!(),
+        }
     }
 
     /// Answers as [`Search::match_at`], and adds each byte that it looks up to a tally, as scanned: at most as many as
@@ -168,12 +194,10 @@ impl Search {
         requires { at ≤ length haystack.now }
         ensures at { IsMatchAt self.now.query self.now.ignore_case haystack.now at result }
         ensures not_empty { IfSome result (λ found. found.start < found.end) }
-        ensures bounded { ScansAt self.now.query.patterns at result tally.old tally.new }
+        ensures bounded { ScansAt self.now.query.patterns (rest_from haystack.now at) result tally.old tally.new }
     {
-        match self.parts.backward().find_at(haystack, at, tally) {
-            Ok(answer) => answer,
-            Err(_) => unreachable!(),
-        }
+        let end = haystack.len();
+        self.match_in_counted(haystack, Span { start: at, end }, tally)
     }
 
     /// All matches in the haystack, from the left, none of which overlaps another: first the leftmost match of the

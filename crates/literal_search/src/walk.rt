@@ -78,7 +78,19 @@ impl<'t> Table<'t> {
         ensures ticks { tally.new ≡ record tally.old { scanned = tally.old.scanned + 1 } }
     {
         tally.tick_scanned();
-        let byte = haystack[at] as usize;
+        self.code_for(place, haystack[at])
+    }
+
+    /// The number in the row that begins at a place for a byte.
+    #[inline(always)]
+    pub(crate) fn code_for(&self, place: usize, byte: u8) -> u32
+        requires classes { length self.now.classes.now ≡ 64 }
+        requires within { place + CLASSES_LEN ≤ length self.now.rows.now }
+        ensures { AreClasses (classes_by self.now) self.now.width
+            → place + self.now.width < length (rows_by self.now) → result ≡ slice_index (rows_by self.now)
+            (place + slice_index (classes_by self.now) byte) }
+    {
+        let byte = byte as usize;
         let class = (self.classes[byte / 4] >> (8 * (byte % 4))) % 256;
         self.rows[class as usize..][place]
     }

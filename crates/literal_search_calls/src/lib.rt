@@ -3,6 +3,8 @@
 #![tactic(auto)]
 
 #[cfg(test)]
+mod automaton;
+#[cfg(test)]
 mod callers;
 #[cfg(test)]
 mod fingerprints;

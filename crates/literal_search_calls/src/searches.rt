@@ -62,6 +62,24 @@ fn counts_what_it_looks_up(rt: HostRuntime) -> Result<(), Fail> {
     Ok(())
 }
 
+/// Where the match ends that begins with the second byte of a text and lies before an offset.
+fn end_before(search: &Search, end: usize) -> Option<usize> {
+    let text = b"xfoo12";
+    if end < 1 || end > text.len() {
+        return None;
+    }
+    let found = search.match_in(text, Span { start: 1, end })?;
+    Some(found.end())
+}
+
+#[test]
+fn shorter_matches_of_one_place_are_found_in_spans(rt: HostRuntime) -> Result<(), Fail> {
+    let search = longest_of(rt.alloc(), &[b"foo", b"foo12", b"fo", b"oo"])?;
+    assert!(rt; end_before(&search, 6) == Some(6) && end_before(&search, 5) == Some(4));
+    assert!(rt; end_before(&search, 3) == Some(3) && end_before(&search, 2).is_none());
+    Ok(())
+}
+
 #[test]
 fn tells_what_it_was_built_of(rt: HostRuntime) -> Result<(), Fail> {
     let search = first_of(rt.alloc(), &[b"Abc", b"b", b"cd"])?;
@@ -143,6 +161,16 @@ fn overlapping_counts_what_it_looks_up(rt: HostRuntime) -> Result<(), Fail> {
     let second = Some(Match::must(1, Span { start: 12, end: 18 }));
     assert!(rt; counted_of_all(&all) == second);
     assert!(rt; earliest_ends(&all) == [Some(18); 2]);
+    Ok(())
+}
+
+#[test]
+fn overlapping_tells_what_it_was_built_of(rt: HostRuntime) -> Result<(), Fail> {
+    let all = Overlapping::new(rt.alloc(), true, [b"Abc".as_slice(), b"b"])?;
+    assert!(rt; all.max_pattern_len() == 3 && all.ignores_case());
+    assert!(rt; all.pattern(PatternID::must(0)) == Some(b"Abc".as_slice()));
+    assert!(rt; all.pattern(PatternID::must(2)).is_none());
+    assert!(rt; all.is_match(b"aBc") && !all.is_match(b"ac"));
     Ok(())
 }
 

@@ -1,8 +1,9 @@
 -- What callers take from this crate beside its contracts and laws: what an automaton was built of, and iterations over
 -- matches. For callers.
-use Rattle.std.proofs.Common.{◌≡◌, ◌<◌, ◌++◌, ℕ, Bool, List, [], ◌∷◌, length, map, take, get_or, Option, None, Some}
-use Rattle.std.proofs.Common.{Ok, Result, append-nil, append_assoc, refl, slice_range, sym, ap, ◌∙◌, arith, subst}
-use Rattle.std.specs.Bool.{⊤}
+use Rattle.std.proofs.Common.{◌≡◌, ◌↔◌, ◌+◌, ◌<◌, ◌≤◌, ◌++◌, ℕ, Bool, List, [], ◌∷◌, length, map, take}
+use Rattle.std.proofs.Common.{Option, None, Some, Ok, Result, append-nil, append_assoc, refl, slice_range, sym, ap}
+use Rattle.std.proofs.Common.{◌∙◌, arith, get_or, subst}
+use Rattle.std.specs.Bool.{IsTrue, ⊤}
 use Rattle.std.specs.Borrow.{Bor, MutBor}
 use Rattle.std.specs.Fn.{Called}
 use Rattle.std.specs.Global.{Vec}
@@ -21,16 +22,20 @@ use denote.Param.Members.{Mut}
 use Rattle.literal_base.specs.declared.packed.MatchKind.{MatchKind}
 use Rattle.literal_base.specs.Greedy.{IsGreedy, IsGreedyIn}
 use Rattle.literal_base.specs.MatchValue.{MatchValue}
-use Rattle.literal_base.specs.Occurs.{between, pattern_at, whole_of}
+use Rattle.literal_base.specs.Occurs.{Occurs, between, pattern_at, rest_from, whole_of}
 use Rattle.literal_base.proofs.lemmas.Callers.{GivesList}
 use Rattle.literal_search.specs.SearchValue.{BuildsSearch, SearchValue, GivesAll, GivesNext, NeedTooManyStates}
 use Rattle.literal_search.specs.SearchValue.{search_by}
 use Rattle.literal_search.specs.SearchValue.{NeedTooManyReversed}
+use Rattle.literal_search.specs.Automaton.{AreAtEnd, EndsText, IsStateAfter, OccursAtEnd}
 use Rattle.literal_search.specs.MatchesValue.{GivesMatch, MatchesValue}
 use Rattle.literal_search.specs.Overlapping.{BuildsOverlapping, OverlappingValue}
+use Rattle.literal_search.specs.PreparedOverlapping.{Tables, overlapping_value}
 use Rattle.literal_search.specs.Replaced.{IsReplaced, IsWritten, WritesMatch, WritingValue, replaced}
 use Rattle.literal_search.specs.States.{HasTooManyStates}
+use Rattle.literal_search.proofs.lemmas.Automaton.{all_in_haystack, in_haystack, in_part}
 use Rattle.literal_search.proofs.lemmas.Rows.{none_few, one_class}
+use Rattle.literal_search.proofs.lemmas.Walk.{slice_push}
 
 -- whichever iterator the given value becomes, that gives references to these byte strings and ends
 pub record GivesBytes {U T : Type 0} (becomes : U → T → Type 0) (steps : T → Option (Bor (List ℕ)) → T → Type 0)
@@ -155,6 +160,68 @@ pub greedy_from_matches : (searched : SearchValue) (haystack : List ℕ) (m : Ma
 greedy_from_matches searched haystack m all n o start run nothing =
     subst (λ (it : MatchesValue). IsGreedyIn it.search.query it.search.ignore_case it.haystack
     (between it.at it.span.end) all) start (greedy_from_yields m all n o run nothing)
+
+-- A loop over a haystack by the automaton of a search: the state after the part of it that was read.
+module _ {search : OverlappingValue} {t : Tables} (is_for : overlapping_value t ≡ search) (haystack : List ℕ)
+    (from at : ℕ) (after : from ≤ at) (state : ℕ)
+  where
+    -- a step leads to the state after the part with one byte more
+    pub part_step : at < length haystack → IsStateAfter t (slice_range haystack from at) state → (next : ℕ)
+        → ((text : List ℕ) → IsStateAfter t text state → IsStateAfter t (text ++ get_or haystack at 0 ∷ []) next)
+        → IsStateAfter t (slice_range haystack from (at + 1)) next
+    part_step inside is next step =
+        subst (λ text. IsStateAfter t text next) (sym (slice_push haystack from at after inside))
+        (step (slice_range haystack from at) is)
+
+    -- what `is_match` tells: whether an occurrence ends there
+    pub part_tells : at ≤ length haystack → IsStateAfter t (slice_range haystack from at) state → (told : Bool)
+        → ((text : List ℕ) → IsStateAfter t text state → IsTrue told ↔ ((i : ℕ) × EndsText t text i))
+        → IsTrue told
+        ↔ ((i : ℕ) × (place : ℕ)
+        × Occurs search.patterns search.ignore_case haystack (rest_from haystack from) i place
+        × (place + length (pattern_at search.patterns i) ≡ at))
+    part_tells inside is told tells =
+        subst (λ (s : OverlappingValue). IsTrue told
+        ↔ ((i : ℕ) × (place : ℕ) × Occurs s.patterns s.ignore_case haystack (rest_from haystack from) i place
+        × (place + length (pattern_at s.patterns i) ≡ at))) is_for (
+          λ yes.
+              let (i, ends) = (tells (slice_range haystack from at) is).0 yes in
+              let (place, o, end) = in_haystack t.patterns t.ignore_case haystack from at after inside i ends in (
+                i,
+                place,
+                record {
+                  is_pattern = o.is_pattern;
+                  after_start = o.after_start;
+                  before_end = omega (arith, end);
+                  same = o.same;
+                },
+                end,
+              ),
+          λ (i, place, o, end).
+              (tells (slice_range haystack from at) is).1 (
+                i,
+                in_part t.patterns t.ignore_case haystack from at after inside i (
+                  place,
+                  record {
+                    is_pattern = o.is_pattern;
+                    after_start = o.after_start;
+                    before_end = omega (arith, end);
+                    same = o.same;
+                  },
+                  end,
+                ),
+              ),
+        )
+
+    -- what `matches` lists: the occurrences that end there
+    pub part_lists : at ≤ length haystack → IsStateAfter t (slice_range haystack from at) state → (all : List ℕ)
+        → ((text : List ℕ) → IsStateAfter t text state
+        → AreAtEnd t.patterns t.ignore_case text (whole_of text) all)
+        → AreAtEnd search.patterns search.ignore_case haystack (between from at) all
+    part_lists inside is all lists =
+        subst (λ (s : OverlappingValue). AreAtEnd s.patterns s.ignore_case haystack (between from at) all) is_for
+        (all_in_haystack t.patterns t.ignore_case haystack from at after inside all
+        (lists (slice_range haystack from at) is))
 
 -- where there is no pattern the states are not too many
 pub none_need_few : (ignore_case : Bool) → ¬ NeedTooManyStates ignore_case []

@@ -16,13 +16,13 @@ use Rattle.literal_search.specs.Inside.LentTables.{AreFor, AreLent, IsNextBy, Is
 use Rattle.literal_search.specs.Inside.Prepared.{IsHeader, header_table, numbers_for}
 use Rattle.literal_search.specs.Inside.Rows.{rows_of}
 use Rattle.literal_search.specs.Inside.Scan.{IsTableFor}
-use Rattle.literal_search.specs.Inside.Standing.{IsStanding, longest_at, overlapping_value, standing_at}
+use Rattle.literal_search.specs.Inside.Standing.{IsStanding, longest_at, standing_at}
 use Rattle.literal_search.specs.Inside.NextEnd.{FindsNext, IsNextStop, Stands}
 use Rattle.literal_search.specs.Inside.Walk.{classes_by, rows_by}
 use Rattle.literal_search.specs.Overlapping.{OverlappingValue}
 use Rattle.literal_search.specs.PreparedOverlapping.{AreSized, AreTables}
 use Rattle.literal_search.specs.PreparedOverlapping.{IsPreparedOverlapping, Tables, tables_in}
-use Rattle.literal_search.specs.PreparedOverlapping.{TakesListedPlaces, ends_at, ends_in}
+use Rattle.literal_search.specs.PreparedOverlapping.{TakesListedPlaces, ends_at, ends_in, overlapping_value}
 use Rattle.literal_search.specs.PreparedOverlapping.{listed_len, overlapping_len, prints_behind, starts_in}
 use Rattle.literal_search.specs.Prepared.{ArePrints, classes_end, scan_by, rows_at, shortest_by}
 use Rattle.literal_search.specs.declared.prepared.Header.{Header}

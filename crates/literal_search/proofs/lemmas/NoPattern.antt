@@ -8,9 +8,8 @@ use Rattle.literal_search.specs.Inside.Overlapping.{AreListed}
 use Rattle.literal_search.specs.Inside.Prepared.{numbers_for}
 use Rattle.literal_search.specs.Inside.Rows.{packed_classes}
 use Rattle.literal_search.specs.Inside.Search.{AreKept}
-use Rattle.literal_search.specs.Inside.Standing.{overlapping_value}
 use Rattle.literal_search.specs.Prepared.{check_of}
-use Rattle.literal_search.specs.PreparedOverlapping.{AreTables, Tables}
+use Rattle.literal_search.specs.PreparedOverlapping.{AreTables, Tables, overlapping_value}
 use Rattle.literal_search.specs.SearchValue.{CanBeKept, NeedFewStates, search_by, unshadowed}
 use Rattle.literal_search.specs.States.{HasTooManyStates}
 use Rattle.literal_search.specs.Table.{nothing}

@@ -34,18 +34,19 @@ module _ (patterns : List (List ℕ)) (width : ℕ) (rows : List ℕ) (recognise
     (text : List ℕ) (place : ℕ) (at : IsAt patterns width rows recognises text place) (symbol : ℕ)
     (below : symbol < width) (code : ℕ) (code_is : code ≡ get_or rows (place + symbol) 0)
   where
-    to : LeadsTo patterns recognises.words width code (live_suffix patterns (text ++ symbol ∷ []))
-    to = grind (arith, live_push)
+    pub leads_on : LeadsTo patterns recognises.words width code (live_suffix patterns (text ++ symbol ∷ []))
+    leads_on = grind (arith, live_push)
 
     leads_by : (ends : Option ℕ) → ending patterns (text ++ symbol ∷ []) ≡ ends
-        → code ≡ code_of (to.state * stride_of width) ends
+        → code ≡ code_of (leads_on.state * stride_of width) ends
     leads_by ends is =
-        to.code_is
-        ∙ ap (code_of (to.state * stride_of width)) (sym (ending_by_live patterns (text ++ symbol ∷ [])) ∙ is)
+        leads_on.code_is
+        ∙ ap (code_of (leads_on.state * stride_of width)) (sym (ending_by_live patterns (text ++ symbol ∷ [])) ∙ is)
 
-    stands : (next : ℕ) → next ≡ to.state * stride_of width
+    stands : (next : ℕ) → next ≡ leads_on.state * stride_of width
         → IsAt patterns width rows recognises (text ++ symbol ∷ []) next
     stands next is =
+        let to = leads_on in
         record { state = to.state; is_state = to.is_state; place_is = is; live_suffix = sym to.word_is }
 
     -- a number below 2^31 leads to a state with whose word nothing ends
@@ -70,11 +71,11 @@ module _ (patterns : List (List ℕ)) (width : ℕ) (rows : List ℕ) (recognise
             → IsAt patterns width rows recognises (text ++ symbol ∷ []) (code - 2 ^ 31)
             × (ending patterns (text ++ symbol ∷ []) ≡ Some (get_or rows (code - 2 ^ 31 + width) 0))
         by_ending None ends =
-            let fits = row_fits patterns width rows recognises to.state to.is_state in
+            let fits = row_fits patterns width rows recognises leads_on.state leads_on.is_state in
             let few = recognises.few in
             absurd (omega (arith, leads_by None ends))
         by_ending (Some i) ends =
-            let place_is : code - 2 ^ 31 ≡ to.state * stride_of width = omega (arith, leads_by (Some i) ends) in
+            let place_is : code - 2 ^ 31 ≡ leads_on.state * stride_of width = omega (arith, leads_by (Some i) ends) in
             let on = stands (code - 2 ^ 31) place_is in
             let pattern_is : get_or rows (code - 2 ^ 31 + width) 0 ≡ i =
             ends_at patterns width rows recognises (text ++ symbol ∷ []) (code - 2 ^ 31) on

@@ -6,15 +6,10 @@ use Rattle.literal_base.specs.Occurs.{between}
 use Rattle.literal_search.specs.Inside.Suffixes.{AreSuffixes}
 use Rattle.literal_search.specs.Inside.NextEnd.{Stands}
 use Rattle.literal_search.specs.Inside.Walk.{text_of}
-use Rattle.literal_search.specs.Overlapping.{OverlappingValue}
 use Rattle.literal_search.specs.OverlappingMatchesValue.{IsToCome, OverlappingMatchesValue}
-use Rattle.literal_search.specs.PreparedOverlapping.{Tables, texts_in}
+use Rattle.literal_search.specs.PreparedOverlapping.{Tables, overlapping_value, texts_in}
 use Rattle.literal_search.specs.declared.standing.Standing.{Standing}
 use Rattle.literal_search.specs.declared.walk.Stop.{Stop}
-
--- what a caller sees of a search by tables
-abbrev pub overlapping_value : Tables → OverlappingValue
-overlapping_value t = record { patterns = t.patterns; ignore_case = t.ignore_case }
 
 -- the classes of what was read of a span
 abbrev pub read_of : Tables → List ℕ → Span → ℕ → List ℕ

@@ -3,8 +3,7 @@ use Rattle.std.proofs.lemmas.Bool.{eqb-true}
 use Rattle.std.proofs.lemmas.List.{length-map, nil_from_length}
 use Rattle.std.specs.Global.{Vec}
 use Rattle.literal_search.specs.Inside.Overlapping.{AreListed}
-use Rattle.literal_search.specs.Inside.Standing.{overlapping_value}
-use Rattle.literal_search.specs.PreparedOverlapping.{AreTables, Tables}
+use Rattle.literal_search.specs.PreparedOverlapping.{AreTables, Tables, overlapping_value}
 use Rattle.literal_search.specs.SearchValue.{NeedFewStates, NeedTooManyStates}
 use Rattle.literal_search.specs.States.{HasTooManyStates}
 use Rattle.literal_search.proofs.lemmas.BackTables.{short_forward}

@@ -1,0 +1,166 @@
+//! The automaton of a search for every occurrence, for loops of callers.
+ghost use Rattle.std.specs.Prelude.{◌≡◌, ◌⊎◌, ◌↔◌, ◌+◌, ◌-◌, ◌<◌, ◌≤◌, ◌^◌, ◌++◌, ◌∷◌, [], ℕ, List, IsTrue};
+ghost use Rattle.std.specs.Prelude.{length, slice_index, slice_range};
+ghost use Rattle.literal_base.specs.Occurs.{whole_of};
+ghost use Rattle.literal_search.specs.Automaton.{AreAtEnd, EndsText, IsStateAfter};
+ghost use Rattle.literal_search.specs.Inside.Overlapping.{AreParts, overlapping_of};
+ghost use Rattle.literal_search.specs.Inside.Walk.{classes_by, rows_by};
+ghost use Rattle.literal_search.specs.PreparedOverlapping.{AreTables, overlapping_value};
+
+use crate::classes::CLASSES_LEN;
+use crate::overlapping::Parts;
+use crate::prepared_overlapping::LentTables;
+use crate::walk::{ENDS, Table};
+use std::marker::Model;
+
+/// The automaton of an [`Overlapping`](crate::Overlapping), which it borrows, for loops of a caller's own. Contracts
+/// see its tables.
+///
+/// After a text it is in the state of the longest suffix of the text that is a prefix of a pattern (`IsStateAfter`). A
+/// caller's loop begins with [`Automaton::start_state`], and appends a byte to the text by [`Automaton::next_state`].
+/// If two texts lead to equal states, the same patterns are suffixes of both, also after the same further bytes.
+///
+/// ```rust
+/// let search = Overlapping::new(alloc, false, [b"append".as_slice(), b"app", b"end"])?;
+/// let automaton = search.automaton();
+/// let mut state = automaton.start_state();
+/// for byte in b"append" {
+///     state = automaton.next_state(state, *byte);
+/// }
+/// assert!(rt; automaton.is_match(state) && automaton.matches(state) == [0, 2].as_slice());
+/// ```
+#[derive(Drop)]
+pub struct Automaton<'s> {
+    parts: &'s Parts,
+    lent: LentTables<'s>,
+}
+
+impl<'s> Model for Automaton<'s> {
+    ghost use Rattle.literal_search.specs.Inside.LentTables.{AreFor, AreLent, tables_by};
+    ghost use Rattle.literal_search.specs.Inside.Overlapping.{overlapping_of};
+    ghost use Rattle.literal_search.specs.PreparedOverlapping.{Tables};
+
+    ghost Value = { Tables };
+
+    ghost view = { λ a. tables_by (overlapping_of a.parts.now) a.lent };
+
+    ghost invariant = { λ a. AreLent a.lent × AreFor (overlapping_of a.parts.now) a.lent };
+}
+
+/// A state of an [`Automaton`]. In a state of another automaton each call is safe, and its answer says nothing.
+/// Contracts see a state as a number.
+#[derive(Clone, Copy, Debug, PartialEq, Eq, Hash, Drop)]
+pub struct State {
+    number: u32,
+}
+
+impl Model for State {
+    ghost use Rattle.std.specs.Prelude.{ℕ};
+
+    ghost Value = { ℕ };
+
+    ghost view = { λ s. s.number };
+
+    ghost inverse = { λ n. record { number = n } };
+}
+
+/// The automaton of the parts of a search.
+pub(crate) fn automaton_of(parts: &Parts) -> Automaton<'_>
+    requires { AreParts parts.now }
+    ensures { overlapping_value result ≡ overlapping_of parts.now }
+{
+    Automaton {
+        parts,
+        lent: parts.lent(),
+    }
+}
+
+impl<'s> Automaton<'s> {
+    /// The state after the empty text.
+    pub fn start_state(&self) -> State
+        ensures { IsStateAfter self.now [] result }
+    {
+        State { number: 0 }
+    }
+
+    /// The state after the text with one more byte, by one look-up.
+    #[inline(always)]
+    pub fn next_state(&self, state: State, byte: u8) -> State
+        ensures { (text : List ℕ) → IsStateAfter self.now text state
+            → IsStateAfter self.now (text ++ byte ∷ []) result }
+    {
+        let (table, place) = (self.table(), state.place());
+        if place + CLASSES_LEN > table.rows.len() {
+            return self.start_state();
+        }
+        let number = table.code_for(place, byte);
+        State { number }
+    }
+
+    /// Whether any pattern is a suffix of the text: the state itself tells it, without a look-up.
+    #[inline(always)]
+    pub fn is_match(&self, state: State) -> bool
+        ensures { (text : List ℕ) → IsStateAfter self.now text state
+            → IsTrue result ↔ ((i : ℕ) × EndsText self.now text i) }
+    {
+        let _table = self.table();
+        state.number >= ENDS
+    }
+
+    /// The numbers of all patterns that are a suffix of the text, ascending.
+    pub fn matches(&self, state: State) -> &[u32]
+        ensures { (text : List ℕ) → IsStateAfter self.now text state
+            → AreAtEnd self.now.patterns self.now.ignore_case text (whole_of text) result.now }
+    {
+        let table = self.table();
+        if state.number < ENDS {
+            return &[];
+        }
+        match table.ending_at(state.place()) {
+            Ok(longest) => self.list_of(longest as usize),
+            Err(_) => &[],
+        }
+    }
+
+    /// The list of a pattern: the patterns that are a suffix of it.
+    fn list_of(&self, pattern: usize) -> &[u32]
+        ensures { pattern < length self.now.patterns
+            → result.now ≡ slice_range self.now.ends (slice_index self.now.starts pattern)
+            (slice_index self.now.starts (pattern + 1)) }
+    {
+        let _table = self.table();
+        let starts = self.lent.starts;
+        if pattern >= starts.len() - 1 {
+            return &[];
+        }
+        let (start, end) = (starts[pattern] as usize, starts[pattern + 1] as usize);
+        &self.lent.ends[start..end]
+    }
+
+    /// What a step reads.
+    #[inline(always)]
+    fn table(&self) -> Table<'_>
+        ensures tables { AreTables self.now }
+        ensures each { length result.classes.now ≡ 64 }
+        ensures classes { classes_by result ≡ self.now.classes }
+        ensures width { result.width ≡ self.now.width }
+        ensures rows { rows_by result ≡ self.now.rows }
+    {
+        self.lent.table()
+    }
+}
+
+impl State {
+    /// Where the row of the state begins.
+    #[inline(always)]
+    fn place(self) -> usize
+        ensures { ((self < 2 ^ 31) × (result ≡ self)) ⊎ ((2 ^ 31 ≤ self) × (result ≡ self - 2 ^ 31)) }
+    {
+        let number = self.number;
+        if number < ENDS {
+            number as usize
+        } else {
+            (number - ENDS) as usize
+        }
+    }
+}
