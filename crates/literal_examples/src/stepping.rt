@@ -8,7 +8,7 @@ use literal_search::Overlapping;
 pub fn first_end(search: &Overlapping, haystack: &[u8]) -> Option<usize>
     ensures { IsEarliestEnd search.now.patterns search.now.ignore_case haystack.now (whole_of haystack.now) result }
 {
-    let _count = search.patterns_len();
+    let _count = search.patterns_len(); // (its contract says that no pattern is empty)
     let automaton = search.automaton();
     let mut state = automaton.start_state();
     for at in 0..haystack.len() {

@@ -103,7 +103,7 @@ impl<'s> Automaton<'s> {
         ensures { (text : List ℕ) → IsStateAfter self.now text state
             → IsTrue result ↔ ((i : ℕ) × EndsText self.now text i) }
     {
-        let _table = self.table();
+        let _table = self.table(); // (its contract says what the tables hold)
         state.number >= ENDS
     }
 
@@ -128,7 +128,7 @@ impl<'s> Automaton<'s> {
             → result.now ≡ slice_range self.now.ends (slice_index self.now.starts pattern)
             (slice_index self.now.starts (pattern + 1)) }
     {
-        let _table = self.table();
+        let _table = self.table(); // (as above)
         let starts = self.lent.starts;
         if pattern >= starts.len() - 1 {
             return &[];
