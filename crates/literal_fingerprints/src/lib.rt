@@ -10,6 +10,7 @@ pub mod laws;
 mod looked_up;
 mod nibbles;
 mod pair;
+mod wide;
 
 pub use candidates::CandidateScan;
 pub use fingerprints::{BYTES, Fingerprints};
