@@ -196,7 +196,20 @@ impl Fingerprints {
         if is_short {
             return self.rest(passed.before, haystack, passed.at, span, tally);
         }
-        self.next_far(passed.bytes, haystack, passed.at, span, tally)
+        // (copies of what is handed on: a reference to it would keep it out of registers)
+        let tables = Fingerprints {
+            first: self.first,
+            second: self.second,
+            third: self.third,
+            fourth: self.fourth,
+        };
+        let before = LookedUp {
+            first: passed.before.first,
+            second: passed.before.second,
+            third: passed.before.third,
+            fourth: passed.before.fourth,
+        };
+        tables.next_far(before, haystack, passed.at, span, tally)
     }
 
     /// Looks up bytes 16 at a time from a place on, as long as there are 16 before another one, or until a pattern may
@@ -227,29 +240,26 @@ impl Fingerprints {
         ensures rest { result.at ≤ result.stop → upto < result.at + 16 }
         ensures ticks { tally.new ≡ record tally.old { scanned = tally.old.scanned + (result.at - from) } }
     {
-        let mut before = before;
-        let mut bytes = u8x16::splat(0);
-        let mut at = from;
+        let (mut before, mut last, mut at) = (before, u8x16::splat(0), from);
         while LANES <= upto - at {
-            bytes = load(haystack, at, tally);
+            let bytes = load(haystack, at, tally);
             let here = self.look_up(bytes);
             let passed = zeros_before(here.shared_after(before));
-            before = here;
-            at += LANES;
             if passed < LANES {
-                let stop = at - LANES + passed;
                 return Passed {
-                    at,
-                    stop,
+                    at: at + LANES,
+                    stop: at + passed,
                     bytes,
-                    before,
+                    before: here,
                 };
             }
+            (before, last) = (here, bytes);
+            at += LANES;
         }
         Passed {
             at,
             stop: at,
-            bytes,
+            bytes: last,
             before,
         }
     }

@@ -3,11 +3,12 @@ ghost use Rattle.std.specs.Prelude.{◌≡◌, ◌≢◌, ◌⊎◌, ℕ, ◌+�
 ghost use Rattle.literal_base.specs.Occurs.{IsValidSpan};
 ghost use Rattle.literal_fingerprints.specs.FingerprintsValue.{NoneBegins, PassesAt, shared_buckets};
 ghost use Rattle.literal_fingerprints.specs.Inside.Lanes.{HasBack, HasLanes, HasWide};
-ghost use Rattle.literal_fingerprints.specs.Inside.Scan.{AreBucketsOf, HasPassed, NoneShared};
+ghost use Rattle.literal_fingerprints.specs.Inside.Scan.{AreBucketsOf, HasPassed, IsLookedUp, NoneShared};
 ghost use Rattle.literal_fingerprints.specs.Inside.Scan.{shared_highs, shared_lows};
 
 use super::{Fingerprints, Passed};
 use crate::buckets::LOOKED_AT;
+use crate::lanes::LANES;
 use crate::looked_up::{LookedUp, WideLookedUp};
 use crate::wide::{
     WIDE, back_half, both_wide, by_high_wide, by_low_wide, load_wide, look_up_wide, one_back_wide,
@@ -21,24 +22,24 @@ use std::simd::prelude::*;
 const FEW_BITS: u32 = 32;
 
 impl Fingerprints {
-    /// Goes on with a scan behind the 16 bytes that were looked up last. The fingerprints are copied, so that the
-    /// caller keeps its own in registers.
+    /// Goes on with a scan at a place before which all bytes are looked up.
     #[inline(never)]
     pub(super) fn next_far(
         self,
-        bytes: u8x16,
+        before: LookedUp,
         haystack: &[u8],
         from: usize,
         span: Span,
         tally: &mut Tally,
     ) -> usize
         requires valid { IsValidSpan haystack.now span }
-        requires after { span.start + 16 ≤ from }
-        requires inside { from ≤ span.end }
-        requires bytes { HasLanes bytes (λ k. slice_index (take span.end haystack.now) (from - 16 + k)) }
+        requires after { span.start ≤ from }
+        requires inside { from + 16 ≤ span.end }
+        requires looked { IsLookedUp before self (take span.end haystack.now) span.start from }
         requires none { NoneShared self (take span.end haystack.now) span.start from }
         ensures inside { result ≤ span.end }
         ensures far { from ≤ result + 3 }
+        ensures after { span.start ≤ result }
         ensures passed { NoneBegins self haystack.now span result }
         ensures stops { PassesAt self haystack.now result ⊎ (span.end < result + 19) }
         ensures others { tally.new ≡ record tally.old { scanned = tally.new.scanned } }
@@ -46,15 +47,19 @@ impl Fingerprints {
         ensures read { tally.old.scanned + result ≤ tally.new.scanned + from }
         ensures counted { tally.new.scanned + from ≤ tally.old.scanned + result + 35 }
     {
-        let far = self.pass_far(bytes, haystack, from, span, tally);
+        let near = self.pass(before, haystack, from, from + LANES, span, tally);
+        if near.stop < near.at {
+            return near.stop - (LOOKED_AT - 1);
+        }
+        let far = self.pass_far(near.bytes, haystack, near.at, span, tally);
         if far.stop < far.at {
             return far.stop - (LOOKED_AT - 1);
         }
-        let passed = self.pass(far.before, haystack, far.at, span.end, span, tally);
-        if passed.stop < passed.at {
-            return passed.stop - (LOOKED_AT - 1);
+        let last = self.pass(far.before, haystack, far.at, span.end, span, tally);
+        if last.stop < last.at {
+            return last.stop - (LOOKED_AT - 1);
         }
-        self.rest(passed.before, haystack, passed.at, span, tally)
+        self.rest(last.before, haystack, last.at, span, tally)
     }
 
     /// Whether few places pass by the low halves alone.

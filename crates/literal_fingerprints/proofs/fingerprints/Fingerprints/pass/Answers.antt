@@ -21,15 +21,12 @@ returns-then-passed-lt-LANES-clause-passed c =
     let lanes = c.shared_after.ensures f cut start at before.looked here in
     let n = c.zeros_before-passed.result in
     let stops = c.zeros_before-passed.ensures.stops c.if-passed-lt-LANES.true in
-    let place : at + n ≡ at + 16 - 16 + n = omega arith in
     record {
       within = omega (arith, c.if-passed-lt-LANES.true);
-      none = subst (NoneShared f cut start) place
-          (passed_more cut start f at n before.none
-          (none_shared f cut start at _ lanes n c.zeros_before-passed.ensures.few c.zeros_before-passed.ensures.zero));
+      none = passed_more cut start f at n before.none
+          (none_shared f cut start at _ lanes n c.zeros_before-passed.ensures.few c.zeros_before-passed.ensures.zero);
       far = λ less. omega (arith, far f cut start at _ lanes n c.if-passed-lt-LANES.true stops);
-      stops = λ less. subst (λ m. PassesAt f cut (m - 3)) place
-          (passes f cut start at _ lanes n c.if-passed-lt-LANES.true stops);
+      stops = λ less. passes f cut start at _ lanes n c.if-passed-lt-LANES.true stops;
       looked = λ all. absurd (omega (arith, all, c.if-passed-lt-LANES.true));
     }
 
