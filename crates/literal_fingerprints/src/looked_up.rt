@@ -1,11 +1,11 @@
 //! What the tables give 16 or 32 bytes, and which of them may end the fingerprint of a pattern.
-ghost use Rattle.std.specs.Prelude.{◌+◌, ℕ, List};
+ghost use Rattle.std.specs.Prelude.{◌+◌, ◌≤◌, ℕ, List, slice_index};
 ghost use Rattle.literal_fingerprints.specs.FingerprintsValue.{FingerprintsValue, shared_buckets};
 ghost use Rattle.literal_fingerprints.specs.Inside.Lanes.{HasBack, HasLanes, HasWide};
 ghost use Rattle.literal_fingerprints.specs.Inside.Scan.{AreBucketsOf, IsLookedUp, shared_from};
 
 use crate::lanes::{both, one_back, three_back, two_back};
-use crate::wide::{both_wide, one_back_wide, three_back_wide, two_back_wide};
+use crate::wide::{back_half, both_wide, one_back_wide, three_back_wide, two_back_wide};
 use std::simd::prelude::*;
 
 /// The buckets of 16 bytes by each table.
@@ -74,5 +74,20 @@ impl WideLookedUp {
         );
         let back = both_wide(one_back_wide(before.third, self.third), self.fourth);
         both_wide(front, back)
+    }
+
+    /// The buckets of the last 16 of 32 bytes.
+    #[inline(always)]
+    pub fn back_half(self) -> LookedUp
+        ensures { (f : FingerprintsValue) (last haystack : List ℕ) (start at : ℕ)
+            → AreBucketsOf self f last → HasBack last (λ k. slice_index haystack (at + k)) → start ≤ at
+            → IsLookedUp result f haystack start (at + 16) }
+    {
+        LookedUp {
+            first: back_half(self.first),
+            second: back_half(self.second),
+            third: back_half(self.third),
+            fourth: back_half(self.fourth),
+        }
     }
 }

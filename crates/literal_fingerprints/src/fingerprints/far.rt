@@ -119,17 +119,15 @@ impl Fingerprints {
         ensures near { result.at ≤ result.stop + 32 }
         ensures ticks { tally.new ≡ record tally.old { scanned = tally.old.scanned + (result.at - from) } }
     {
-        let mut last = twice(bytes);
-        let mut before = self.look_up_wide(last);
+        let mut before = self.look_up_wide(twice(bytes));
         let mut at = from;
         while WIDE <= span.end - at {
-            last = load_wide(haystack, at, tally);
-            let here = self.look_up_wide(last);
-            let passed = zeros_before_wide(here.shared_after(before));
-            if passed < WIDE {
+            let here = self.look_up_wide(load_wide(haystack, at, tally));
+            let shared = here.shared_after(before);
+            if zeros_before_wide(shared) < WIDE {
                 return Passed {
                     at: at + WIDE,
-                    stop: at + passed,
+                    stop: at + zeros_before_wide(shared),
                     bytes,
                     before: LookedUp::before_span(),
                 };
@@ -137,12 +135,11 @@ impl Fingerprints {
             before = here;
             at += WIDE;
         }
-        let bytes = back_half(last);
         Passed {
             at,
             stop: at,
             bytes,
-            before: self.look_up(bytes),
+            before: before.back_half(),
         }
     }
 

@@ -1,4 +1,4 @@
-use Rattle.std.proofs.Common.{◌≡◌, ℕ, ◌+◌, ◌-◌, ◌≤◌, get_or, take}
+use Rattle.std.proofs.Common.{◌≡◌, ℕ, ◌+◌, ◌-◌, ◌≤◌, List, get_or, take}
 use Rattle.literal_fingerprints.specs.Inside.Lanes.{HasBack}
 use Rattle.literal_fingerprints.specs.Inside.Scan.{AreBucketsOf, NoneShared}
 use Rattle.literal_fingerprints.proofs.fingerprints.Fingerprints.pass_by_all.Given as goal
@@ -7,8 +7,8 @@ abbrev pub invariant-loop-at : goal.invariant-loop-at
 invariant-loop-at l = record {
   low : l.from ≤ l.at;
   high : l.at ≤ l.span.end;
-  last : HasBack l.last (λ k. get_or (take l.span.end l.haystack) (l.at - 16 + k) 0);
-  looked : AreBucketsOf l.before l.self l.last;
+  looked : (last : List ℕ) × AreBucketsOf l.before l.self last
+      × HasBack last (λ k. get_or (take l.span.end l.haystack) (l.at - 16 + k) 0);
   none : NoneShared l.self (take l.span.end l.haystack) l.span.start l.at;
   scanned : l.tally ≡ record l.initial.tally { scanned = l.initial.tally.scanned + (l.at - l.from) };
 }
