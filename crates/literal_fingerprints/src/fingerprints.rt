@@ -171,6 +171,7 @@ impl Fingerprints {
     /// valid. The scan stops at the first place at which a pattern may begin by its fingerprint. Bytes are read 16 at
     /// a time, and 32 at a time after the first 256, each once. The last bytes, fewer than 16, are read together; with
     /// 14 or 15 of them the scan stops up to two places before the end of the span.
+    #[inline(always)]
     pub fn next(&self, haystack: &[u8], span: Span, tally: &mut Tally) -> usize
         requires { IsValidSpan haystack.now span }
         ensures inside { (span.start ≤ result) × (result ≤ span.end) }
