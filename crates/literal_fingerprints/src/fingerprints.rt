@@ -23,7 +23,7 @@ use std::simd::prelude::*;
 /// For how many patterns there are fingerprints.
 const MOST_PATTERNS: usize = 64;
 
-/// So many bytes are looked up 16 at a time before the scan looks up 32 at a time: that costs more where it begins.
+/// So many bytes are looked up 16 at a time before the scan looks up 32 at a time, which takes some time to begin.
 const NEAR: usize = 256;
 
 /// How many bytes fingerprints take.
@@ -169,7 +169,7 @@ impl Fingerprints {
 
     /// A place of the span, or its end, before which no pattern begins that lies whole in the span. The span has to be
     /// valid. The scan stops at the first place at which a pattern may begin by its fingerprint. Bytes are read 16 at
-    /// a time, and 32 at a time after the first 256, each once. The last bytes, fewer than 16, are read together; with
+    /// a time, or 32 at a time, if the patterns are few, after the first 256, each once. The last bytes, fewer than 16, are read together; with
     /// 14 or 15 of them the scan stops up to two places before the end of the span.
     #[inline(always)]
     pub fn next(&self, haystack: &[u8], span: Span, tally: &mut Tally) -> usize
@@ -194,23 +194,27 @@ impl Fingerprints {
         if passed.stop < passed.at {
             return passed.stop - (LOOKED_AT - 1);
         }
-        if is_short {
-            return self.rest(passed.before, haystack, passed.at, span, tally);
+        if !is_short && self.has_few_bits() {
+            // (copies of what is handed on: a reference to it would keep it out of registers)
+            let tables = Fingerprints {
+                first: self.first,
+                second: self.second,
+                third: self.third,
+                fourth: self.fourth,
+            };
+            let before = LookedUp {
+                first: passed.before.first,
+                second: passed.before.second,
+                third: passed.before.third,
+                fourth: passed.before.fourth,
+            };
+            return tables.next_far(before, haystack, passed.at, span, tally);
         }
-        // (copies of what is handed on: a reference to it would keep it out of registers)
-        let tables = Fingerprints {
-            first: self.first,
-            second: self.second,
-            third: self.third,
-            fourth: self.fourth,
-        };
-        let before = LookedUp {
-            first: passed.before.first,
-            second: passed.before.second,
-            third: passed.before.third,
-            fourth: passed.before.fourth,
-        };
-        tables.next_far(before, haystack, passed.at, span, tally)
+        let last = self.pass(passed.before, haystack, passed.at, span.end, span, tally);
+        if last.stop < last.at {
+            return last.stop - (LOOKED_AT - 1);
+        }
+        self.rest(last.before, haystack, last.at, span, tally)
     }
 
     /// Looks up bytes 16 at a time from a place on, as long as there are 16 before another one, or until a pattern may

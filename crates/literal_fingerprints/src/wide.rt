@@ -1,10 +1,7 @@
 //! Vectors of 32 bytes, lane by lane.
 ghost use Rattle.std.specs.Prelude.{◌≡◌, ◌≢◌, ℕ, ◌+◌, ◌/◌, ◌%◌, ◌<◌, ◌≤◌, length, slice_index, bit_and};
-ghost use Rattle.literal_fingerprints.specs.FingerprintsValue.{buckets_of};
-ghost use Rattle.literal_fingerprints.specs.Inside.Nibbles.{half_table};
 ghost use Rattle.literal_fingerprints.specs.Inside.Lanes.{HasBack, HasLanes, HasWide};
 
-use crate::nibbles::Nibbles;
 use literal_base::count::Tally;
 use std::simd::prelude::*;
 
@@ -70,17 +67,6 @@ pub fn by_high_wide(table: &[u8; 16], bytes: u8x32) -> u8x32
     ensures { HasWide result (λ k. slice_index table.now (slice_index bytes k / 16 % 16)) }
 {
     twice(u8x16::from_slice(table)).swizzle_dyn_within::<16>(bytes >> u8x32::splat(4))
-}
-
-/// The buckets of each byte.
-#[inline(always)]
-pub fn look_up_wide(nibbles: &Nibbles, bytes: u8x32) -> u8x32
-    ensures { HasWide result (λ k. buckets_of (half_table nibbles.now) (slice_index bytes k)) }
-{
-    both_wide(
-        by_low_wide(&nibbles.low, bytes),
-        by_high_wide(&nibbles.high, bytes),
-    )
 }
 
 /// The last lane of one vector, and all but the last of the next.

@@ -2,10 +2,9 @@
 use Rattle.std.specs.Prelude.{◌≡◌, ℕ, ◌+◌, ◌-◌, ◌/◌, ◌%◌, ◌<◌, ◌≤◌, if◌then◌else◌, List, nat_lt, slice_index, bit_and}
 use Rattle.literal_fingerprints.specs.FingerprintsValue.{FingerprintsValue, HalfTable, PassesAt, buckets_of}
 use Rattle.literal_fingerprints.specs.FingerprintsValue.{shared_buckets}
-use Rattle.literal_fingerprints.specs.Inside.Lanes.{HasLanes, HasWide}
+use Rattle.literal_fingerprints.specs.Inside.Lanes.{HasLanes}
 use Rattle.literal_fingerprints.specs.declared.fingerprints.Passed.{Passed}
 use Rattle.literal_fingerprints.specs.declared.looked_up.LookedUp.{LookedUp}
-use Rattle.literal_fingerprints.specs.declared.looked_up.WideLookedUp.{WideLookedUp}
 
 -- the buckets of the byte 16 before a place, and none before the start of the span
 abbrev pub looked_up : HalfTable → List ℕ → ℕ → ℕ → ℕ
@@ -37,13 +36,6 @@ pub record HasPassed (passed : Passed) (f : FingerprintsValue) (haystack : List 
   pub far : passed.stop < passed.at → start + 3 ≤ passed.stop
   pub stops : passed.stop < passed.at → PassesAt f haystack (passed.stop - 3)
   pub looked : passed.at ≤ passed.stop → IsLookedUp passed.before f haystack start passed.at
-
--- what each table gives each of 32 bytes
-pub record AreBucketsOf (looked : WideLookedUp) (f : FingerprintsValue) (bytes : List ℕ) : Type 0 where
-  pub first : HasWide looked.first (λ k. buckets_of f.first (slice_index bytes k))
-  pub second : HasWide looked.second (λ k. buckets_of f.second (slice_index bytes k))
-  pub third : HasWide looked.third (λ k. buckets_of f.third (slice_index bytes k))
-  pub fourth : HasWide looked.fourth (λ k. buckets_of f.fourth (slice_index bytes k))
 
 -- the buckets of the lower half of a byte by a table, and of its upper half
 abbrev pub low_of : HalfTable → ℕ → ℕ

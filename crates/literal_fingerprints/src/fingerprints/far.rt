@@ -3,15 +3,15 @@ ghost use Rattle.std.specs.Prelude.{◌≡◌, ◌≢◌, ◌⊎◌, ℕ, ◌+�
 ghost use Rattle.literal_base.specs.Occurs.{IsValidSpan};
 ghost use Rattle.literal_fingerprints.specs.FingerprintsValue.{NoneBegins, PassesAt, shared_buckets};
 ghost use Rattle.literal_fingerprints.specs.Inside.Lanes.{HasBack, HasLanes, HasWide};
-ghost use Rattle.literal_fingerprints.specs.Inside.Scan.{AreBucketsOf, HasPassed, IsLookedUp, NoneShared};
+ghost use Rattle.literal_fingerprints.specs.Inside.Scan.{HasPassed, IsLookedUp, NoneShared};
 ghost use Rattle.literal_fingerprints.specs.Inside.Scan.{shared_highs, shared_lows};
 
 use super::{Fingerprints, Passed};
 use crate::buckets::LOOKED_AT;
 use crate::lanes::LANES;
-use crate::looked_up::{LookedUp, WideLookedUp};
+use crate::looked_up::LookedUp;
 use crate::wide::{
-    WIDE, back_half, both_wide, by_high_wide, by_low_wide, load_wide, look_up_wide, one_back_wide,
+    WIDE, back_half, both_wide, by_high_wide, by_low_wide, load_wide, one_back_wide,
     three_back_wide, twice, two_back_wide, zeros_before_wide,
 };
 use literal_base::Span;
@@ -51,7 +51,7 @@ impl Fingerprints {
         if near.stop < near.at {
             return near.stop - (LOOKED_AT - 1);
         }
-        let far = self.pass_far(near.bytes, haystack, near.at, span, tally);
+        let far = self.pass_by_lows(near.bytes, haystack, near.at, span, tally);
         if far.stop < far.at {
             return far.stop - (LOOKED_AT - 1);
         }
@@ -64,86 +64,14 @@ impl Fingerprints {
 
     /// Whether few places pass by the low halves alone.
     #[inline(always)]
-    fn has_few_bits(&self) -> bool {
+    pub(super) fn has_few_bits(&self) -> bool {
         let front = self.first.low_bits().wrapping_add(self.second.low_bits());
         let back = self.third.low_bits().wrapping_add(self.fourth.low_bits());
         front.wrapping_add(back) <= FEW_BITS
     }
 
-    /// Looks up bytes 32 at a time, as long as there are so many, or until a pattern may begin by its fingerprint.
-    #[inline(always)]
-    fn pass_far(
-        &self,
-        bytes: u8x16,
-        haystack: &[u8],
-        from: usize,
-        span: Span,
-        tally: &mut Tally,
-    ) -> Passed
-        requires valid { IsValidSpan haystack.now span }
-        requires after { span.start + 16 ≤ from }
-        requires inside { from ≤ span.end }
-        requires bytes { HasLanes bytes (λ k. slice_index (take span.end haystack.now) (from - 16 + k)) }
-        requires none { NoneShared self.now (take span.end haystack.now) span.start from }
-        ensures passed { HasPassed result self.now (take span.end haystack.now) span.start }
-        ensures least { from ≤ result.stop }
-        ensures most { result.at ≤ span.end }
-        ensures near { result.at ≤ result.stop + 32 }
-        ensures ticks { tally.new ≡ record tally.old { scanned = tally.old.scanned + (result.at - from) } }
-    {
-        if self.has_few_bits() {
-            self.pass_by_lows(bytes, haystack, from, span, tally)
-        } else {
-            self.pass_by_all(bytes, haystack, from, span, tally)
-        }
-    }
-
-    /// The same by both halves of all tables.
-    #[inline(always)]
-    fn pass_by_all(
-        &self,
-        bytes: u8x16,
-        haystack: &[u8],
-        from: usize,
-        span: Span,
-        tally: &mut Tally,
-    ) -> Passed
-        requires valid { IsValidSpan haystack.now span }
-        requires after { span.start + 16 ≤ from }
-        requires inside { from ≤ span.end }
-        requires bytes { HasLanes bytes (λ k. slice_index (take span.end haystack.now) (from - 16 + k)) }
-        requires none { NoneShared self.now (take span.end haystack.now) span.start from }
-        ensures passed { HasPassed result self.now (take span.end haystack.now) span.start }
-        ensures least { from ≤ result.stop }
-        ensures most { result.at ≤ span.end }
-        ensures near { result.at ≤ result.stop + 32 }
-        ensures ticks { tally.new ≡ record tally.old { scanned = tally.old.scanned + (result.at - from) } }
-    {
-        let mut before = self.look_up_wide(twice(bytes));
-        let mut at = from;
-        while WIDE <= span.end - at {
-            let here = self.look_up_wide(load_wide(haystack, at, tally));
-            let shared = here.shared_after(before);
-            if zeros_before_wide(shared) < WIDE {
-                return Passed {
-                    at: at + WIDE,
-                    stop: at + zeros_before_wide(shared),
-                    bytes,
-                    before: LookedUp::before_span(),
-                };
-            }
-            before = here;
-            at += WIDE;
-        }
-        Passed {
-            at,
-            stop: at,
-            bytes,
-            before: before.back_half(),
-        }
-    }
-
-    /// The same, where bytes are looked up by their high halves only if four of them share a bucket by their low ones.
+    /// Looks up bytes 32 at a time, as long as there are so many, or until a pattern may begin by its fingerprint. They
+    /// are looked up by their high halves only if four of them share a bucket by their low ones.
     #[inline(always)]
     fn pass_by_lows(
         &self,
@@ -164,11 +92,12 @@ impl Fingerprints {
         ensures near { result.at ≤ result.stop + 32 }
         ensures ticks { tally.new ≡ record tally.old { scanned = tally.old.scanned + (result.at - from) } }
     {
-        let mut last = twice(bytes);
+        let mut before = twice(bytes);
         let mut at = from;
-        while WIDE <= span.end - at {
+        let last = span.end.saturating_sub(WIDE);
+        while at <= last {
             let here = load_wide(haystack, at, tally);
-            let passed = self.zeros_by_lows(last, here);
+            let passed = self.zeros_by_lows(before, here);
             if passed < WIDE {
                 return Passed {
                     at: at + WIDE,
@@ -177,10 +106,10 @@ impl Fingerprints {
                     before: LookedUp::before_span(),
                 };
             }
-            last = here;
+            before = here;
             at += WIDE;
         }
-        let bytes = back_half(last);
+        let bytes = back_half(before);
         Passed {
             at,
             stop: at,
@@ -230,18 +159,5 @@ impl Fingerprints {
         let third = by_high_wide(&self.third.high, one_back_wide(before, here));
         let fourth = by_high_wide(&self.fourth.high, here);
         both_wide(both_wide(first, second), both_wide(third, fourth))
-    }
-
-    /// What the tables give 32 bytes.
-    #[inline(always)]
-    fn look_up_wide(&self, bytes: u8x32) -> WideLookedUp
-        ensures { AreBucketsOf result self.now bytes }
-    {
-        WideLookedUp {
-            first: look_up_wide(&self.first, bytes),
-            second: look_up_wide(&self.second, bytes),
-            third: look_up_wide(&self.third, bytes),
-            fourth: look_up_wide(&self.fourth, bytes),
-        }
     }
 }

@@ -18,11 +18,11 @@ returns-then-near-clause-stops c =
 pub returns-then-far-clause-passed : goal.returns-then-far-clause-passed
 returns-then-far-clause-passed c =
     none_begins c.args.self c.args.haystack.now c.args.span c.requires.valid _
-    (λ k after below. c.pass_far-far.ensures.passed.none k after (omega arith))
+    (λ k after below. c.pass_by_lows-far.ensures.passed.none k after (omega arith))
 
 pub returns-then-far-clause-stops : goal.returns-then-far-clause-stops
 returns-then-far-clause-stops c =
-    let far = c.pass_far-far.ensures in
+    let far = c.pass_by_lows-far.ensures in
     inl (passes_upto c.args.self c.args.haystack.now c.args.span.end _
     (omega (arith, c.if-far.true, far.most, far.passed.far c.if-far.true))
     (far.passed.stops c.if-far.true))

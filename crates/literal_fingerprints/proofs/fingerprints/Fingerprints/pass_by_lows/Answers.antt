@@ -14,17 +14,23 @@ returns-then-passed-lt-WIDE-clause-passed c =
     let at = c.loop-at.at in
     let before = c.loop-at.invariant in
     let far : 16 ≤ at = omega (arith, before.low, c.requires.after) in
-    let inside : at + 32 ≤ end = omega (arith, c.loop-at-test.true, before.high) in
+    let inside : at + 32 ≤ end = omega (
+      arith,
+      c.loop-at-test.true,
+      before.low,
+      c.requires.after,
+      c.saturating_sub-last.ensures,
+    ) in
     let loaded = lanes_upto haystack end at inside c.load_wide-here.result c.load_wide-here.ensures.lanes in
     let here = here_of cut at c.load_wide-here.result loaded far in
     let n = c.zeros_by_lows-passed.result in
     record {
       within = omega (arith, c.if-passed-lt-WIDE.true);
       none = none_far cut at f far start n before.none
-          (c.zeros_by_lows-passed.ensures.zero (text cut at) before.last here);
+          (c.zeros_by_lows-passed.ensures.zero (text cut at) before.before here);
       far = λ less. omega (arith, before.low, c.requires.after);
       stops = λ less. passes_far cut at f far n
-          (c.zeros_by_lows-passed.ensures.stops (text cut at) before.last here c.if-passed-lt-WIDE.true);
+          (c.zeros_by_lows-passed.ensures.stops (text cut at) before.before here c.if-passed-lt-WIDE.true);
       looked = λ all. absurd (omega (arith, all, c.if-passed-lt-WIDE.true));
     }
 
@@ -38,15 +44,21 @@ loop-at-preserved c =
     let at = c.loop-at.at in
     let before = c.loop-at.invariant in
     let far : 16 ≤ at = omega (arith, before.low, c.requires.after) in
-    let inside : at + 32 ≤ end = omega (arith, c.loop-at-test.true, before.high) in
+    let inside : at + 32 ≤ end = omega (
+      arith,
+      c.loop-at-test.true,
+      before.low,
+      c.requires.after,
+      c.saturating_sub-last.ensures,
+    ) in
     let loaded = lanes_upto haystack end at inside c.load_wide-here.result c.load_wide-here.ensures.lanes in
     let here = here_of cut at c.load_wide-here.result loaded far in
     record {
       low = omega (arith, before.low);
       high = inside;
-      last = back_of cut at c.load_wide-here.result loaded;
+      before = back_of cut at c.load_wide-here.result loaded;
       none = none_far cut at f far start 32 before.none
-          (λ k below. c.zeros_by_lows-passed.ensures.zero (text cut at) before.last here k (omega (arith, c.if-passed-lt-WIDE.false)));
+          (λ k below. c.zeros_by_lows-passed.ensures.zero (text cut at) before.before here k (omega (arith, c.if-passed-lt-WIDE.false)));
       scanned = search rules;
     }
 
@@ -57,7 +69,7 @@ returns-clause-passed c =
     let at = c.loop-at.at in
     let before = c.loop-at.invariant in
     let place : at - 16 + 16 ≡ at = omega (arith, before.low, c.requires.after) in
-    let here = lanes_of_half _ _ _ before.last c.back_half-bytes.ensures in
+    let here = lanes_of_half _ _ _ before.before c.back_half-bytes.ensures in
     let looked = c.look_up.ensures cut start (at - 16) (omega (arith, before.low, c.requires.after)) here in
     record {
       within = omega arith;
