@@ -24,7 +24,7 @@ use std::simd::prelude::*;
 const MOST_PATTERNS: usize = 64;
 
 /// So many bytes are looked up 16 at a time before the scan looks up 32 at a time, which takes some time to begin.
-const NEAR: usize = 256;
+const NEAR: usize = 512;
 
 /// How many bytes fingerprints take.
 pub const BYTES: usize = 8 * HALVES;
@@ -168,9 +168,9 @@ impl Fingerprints {
     }
 
     /// A place of the span, or its end, before which no pattern begins that lies whole in the span. The span has to be
-    /// valid. The scan stops at the first place at which a pattern may begin by its fingerprint. Bytes are read 16 at
-    /// a time, or 32 at a time, if the patterns are few, after the first 256, each once. The last bytes, fewer than 16, are read together; with
-    /// 14 or 15 of them the scan stops up to two places before the end of the span.
+    /// valid. The scan stops at the first place at which a pattern may begin by its fingerprint. Bytes are read 16 at a
+    /// time, or, for few patterns after the first 512 bytes, 32 at a time, each once. The last bytes, fewer than 16,
+    /// are read together; with 14 or 15 of them the scan stops up to two places before the end of the span.
     #[inline(always)]
     pub fn next(&self, haystack: &[u8], span: Span, tally: &mut Tally) -> usize
         requires { IsValidSpan haystack.now span }

@@ -1,5 +1,6 @@
 -- What a scan by 32 bytes a turn knows.
-use Rattle.std.proofs.Common.{◌≡◌, ◌≢◌, ℕ, ◌+◌, ◌-◌, ◌/◌, ◌%◌, ◌<◌, ◌≤◌, ◌∙◌, List, ap, arith, bit_and, get_or, inl, inr, sym}
+use Rattle.std.proofs.Common.{◌≡◌, ◌≢◌, ℕ, ◌+◌, ◌-◌, ◌%◌, ◌<◌, ◌≤◌, ◌∙◌, List, ap, arith, bit_and, get_or, inl, inr}
+use Rattle.std.proofs.Common.{sym}
 use Rattle.std.proofs.lemmas.Bool.{cases_lt}
 use Rattle.std.proofs.lemmas.Nat.{and_assoc, and_comm}
 use Rattle.std.specs.Int.Bits.{and_zero_l}
@@ -21,7 +22,10 @@ back_of_twice bytes lanes f has twice = record {
 
 pub lanes_of_half : (lanes half : List ℕ) (f : ℕ → ℕ) → HasBack lanes f → HasLanes half (λ k. get_or lanes (16 + k) 0)
     → HasLanes half f
-lanes_of_half lanes half f has back = record { long = back.long; each = λ k below. back.each k below ∙ has.each k below }
+lanes_of_half lanes half f has back = record {
+  long = back.long;
+  each = λ k below. back.each k below ∙ has.each k below;
+}
 
 module _ (haystack : List ℕ) (at : ℕ) where
   -- the bytes from 16 before a place on
@@ -81,8 +85,10 @@ by_halves f text =
     (bit_and (high_of f.first (text 0)) (high_of f.second (text 1)))
     (bit_and (high_of f.third (text 2)) (high_of f.fourth (text 3)))
     ∙ meets _ _ _ _
-    (crossed (low_of f.first (text 0)) (low_of f.second (text 1)) (high_of f.first (text 0)) (high_of f.second (text 1)))
-    (crossed (low_of f.third (text 2)) (low_of f.fourth (text 3)) (high_of f.third (text 2)) (high_of f.fourth (text 3)))
+    (crossed (low_of f.first (text 0)) (low_of f.second (text 1)) (high_of f.first (text 0))
+    (high_of f.second (text 1)))
+    (crossed (low_of f.third (text 2)) (low_of f.fourth (text 3)) (high_of f.third (text 2))
+    (high_of f.fourth (text 3)))
 
 pub none_by_lows : (f : FingerprintsValue) (text : ℕ → ℕ) → shared_lows f text ≡ 0 → shared_buckets f text ≡ 0
 none_by_lows f text none =

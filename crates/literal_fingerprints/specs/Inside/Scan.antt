@@ -37,19 +37,21 @@ pub record HasPassed (passed : Passed) (f : FingerprintsValue) (haystack : List 
   pub stops : passed.stop < passed.at → PassesAt f haystack (passed.stop - 3)
   pub looked : passed.at ≤ passed.stop → IsLookedUp passed.before f haystack start passed.at
 
--- the buckets of the lower half of a byte by a table, and of its upper half
+-- the buckets of the lower half of a byte by a table
 abbrev pub low_of : HalfTable → ℕ → ℕ
 low_of table byte = slice_index table.low (byte % 16)
 
+-- the buckets of its upper half
 abbrev pub high_of : HalfTable → ℕ → ℕ
 high_of table byte = slice_index table.high (byte / 16 % 16)
 
--- the buckets that the first four bytes of a text share by their lower halves, and by their upper halves
+-- the buckets that the first four bytes of a text share by their lower halves, each byte by the table for its place
 abbrev pub shared_lows : FingerprintsValue → (ℕ → ℕ) → ℕ
 shared_lows f text =
     bit_and (bit_and (low_of f.first (text 0)) (low_of f.second (text 1)))
     (bit_and (low_of f.third (text 2)) (low_of f.fourth (text 3)))
 
+-- the same by their upper halves
 abbrev pub shared_highs : FingerprintsValue → (ℕ → ℕ) → ℕ
 shared_highs f text =
     bit_and (bit_and (high_of f.first (text 0)) (high_of f.second (text 1)))

@@ -18,8 +18,8 @@ use literal_base::Span;
 use literal_base::count::Tally;
 use std::simd::prelude::*;
 
-/// If the low halves of the tables have so many bits at most, as for eight patterns, few places pass by these alone.
-const FEW_BITS: u32 = 32;
+/// If the low halves of the tables have so many bits at most, as for thirteen patterns, few places pass by these alone.
+const FEW_BITS: u32 = 52;
 
 impl Fingerprints {
     /// Goes on with a scan at a place before which all bytes are looked up.

@@ -22,4 +22,5 @@ swizzle c = wide_positions_fit _ _ (high c.args.bytes c.fits-bytes.0 c.fits-byte
 
 pub returns : goal.returns
 returns c =
-    wide_of_positions _ _ (high c.args.bytes c.fits-bytes.0 c.fits-bytes.1) (λ k below. omega arith) c.args.table.now _ c.twice.ensures
+    wide_of_positions _ _ (high c.args.bytes c.fits-bytes.0 c.fits-bytes.1) (λ k below. omega arith)
+    c.args.table.now _ c.twice.ensures

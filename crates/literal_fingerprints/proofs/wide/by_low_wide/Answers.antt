@@ -15,4 +15,5 @@ pub swizzle : goal.swizzle
 swizzle c = wide_positions_fit _ _ (low c.args.bytes c.fits-bytes.0) (λ k below. omega arith)
 
 pub returns : goal.returns
-returns c = wide_of_positions _ _ (low c.args.bytes c.fits-bytes.0) (λ k below. omega arith) c.args.table.now _ c.twice.ensures
+returns c =
+    wide_of_positions _ _ (low c.args.bytes c.fits-bytes.0) (λ k below. omega arith) c.args.table.now _ c.twice.ensures

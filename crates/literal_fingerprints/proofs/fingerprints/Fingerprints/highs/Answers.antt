@@ -15,8 +15,8 @@ returns c text ends begins =
     let first = c.three_back_wide.ensures text ends begins in
     let second = c.two_back_wide.ensures text ends begins in
     let third = c.one_back_wide.ensures text ends begins in
-    subst (λ (f : FingerprintsValue). HasWide c.both_wide-3.result (λ k. shared_highs f (λ j. text (13 + k + j)))) c.self.view_is
-    (record {
+    subst (λ (f : FingerprintsValue). HasWide c.both_wide-3.result (λ k. shared_highs f (λ j. text (13 + k + j))))
+    c.self.view_is (record {
       long = c.both_wide-3.ensures.long;
       each = λ k below.
           c.both_wide-3.ensures.each k below

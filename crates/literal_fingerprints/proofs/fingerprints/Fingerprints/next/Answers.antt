@@ -1,4 +1,4 @@
-use Rattle.std.proofs.Common.{◌+◌, ◌≤◌, ap, arith, inl, take}
+use Rattle.std.proofs.Common.{◌≤◌, ap, arith, inl, take}
 use Rattle.literal_base.specs.Counts.{Counts}
 use Rattle.literal_fingerprints.proofs.lemmas.Passing.{none_begins}
 use Rattle.literal_fingerprints.proofs.lemmas.Scan.{passes_upto}

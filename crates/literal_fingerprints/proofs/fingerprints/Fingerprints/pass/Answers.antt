@@ -1,6 +1,4 @@
-use Rattle.std.proofs.Common.{◌≡◌, ◌+◌, ◌-◌, ◌≤◌, arith, get_or, rules, subst, take}
-use Rattle.literal_fingerprints.specs.FingerprintsValue.{PassesAt}
-use Rattle.literal_fingerprints.specs.Inside.Scan.{NoneShared}
+use Rattle.std.proofs.Common.{◌≡◌, ◌+◌, ◌-◌, ◌≤◌, arith, get_or, rules, take}
 use Rattle.literal_fingerprints.proofs.lemmas.Lanes.{lanes_from, lanes_upto}
 use Rattle.literal_fingerprints.proofs.lemmas.Scan.{far, none_shared, passed_more, passes}
 use Rattle.literal_fingerprints.proofs.fingerprints.Fingerprints.pass.Goals as goal

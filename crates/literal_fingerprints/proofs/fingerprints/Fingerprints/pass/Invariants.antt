@@ -1,4 +1,4 @@
-use Rattle.std.proofs.Common.{◌≡◌, ℕ, ◌+◌, ◌-◌, ◌%◌, ◌≤◌, get_or, take}
+use Rattle.std.proofs.Common.{◌≡◌, ◌+◌, ◌-◌, ◌%◌, ◌≤◌, get_or, take}
 use Rattle.literal_fingerprints.specs.Inside.Lanes.{HasLanes}
 use Rattle.literal_fingerprints.specs.Inside.Scan.{IsLookedUp, NoneShared}
 use Rattle.literal_fingerprints.proofs.fingerprints.Fingerprints.pass.Given as goal

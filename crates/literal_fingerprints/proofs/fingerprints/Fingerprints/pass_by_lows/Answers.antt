@@ -1,4 +1,4 @@
-use Rattle.std.proofs.Common.{◌≡◌, ◌+◌, ◌-◌, ◌≤◌, ◌∙◌, arith, rules, subst, sym, take}
+use Rattle.std.proofs.Common.{◌≡◌, ◌+◌, ◌-◌, ◌≤◌, arith, rules, subst, take}
 use Rattle.literal_fingerprints.specs.Inside.Scan.{IsLookedUp}
 use Rattle.literal_fingerprints.proofs.lemmas.Far.{back_of, here_of, lanes_of_half, none_far, passes_far, text}
 use Rattle.literal_fingerprints.proofs.lemmas.Lanes.{lanes_upto}
@@ -58,7 +58,8 @@ loop-at-preserved c =
       high = inside;
       before = back_of cut at c.load_wide-here.result loaded;
       none = none_far cut at f far start 32 before.none
-          (λ k below. c.zeros_by_lows-passed.ensures.zero (text cut at) before.before here k (omega (arith, c.if-passed-lt-WIDE.false)));
+          (λ k below. c.zeros_by_lows-passed.ensures.zero (text cut at) before.before here k
+          (omega (arith, c.if-passed-lt-WIDE.false)));
       scanned = search rules;
     }
 

@@ -1,4 +1,4 @@
-use Rattle.std.proofs.Common.{◌≡◌, ℕ, ◌+◌, ◌-◌, ◌≤◌, get_or, take}
+use Rattle.std.proofs.Common.{◌≡◌, ◌+◌, ◌-◌, ◌≤◌, get_or, take}
 use Rattle.literal_fingerprints.specs.Inside.Lanes.{HasBack}
 use Rattle.literal_fingerprints.specs.Inside.Scan.{NoneShared}
 use Rattle.literal_fingerprints.proofs.fingerprints.Fingerprints.pass_by_lows.Given as goal

@@ -13,5 +13,6 @@ returns-clause-passed c =
     let lanes = c.shared_after.ensures f cut start from c.requires.looked here in
     none_begins f c.args.haystack.now c.args.span c.requires.valid _ (λ k after below.
     passed_more cut start f from _ c.requires.none
-    (none_shared f cut start from _ lanes _ c.zeros_before-passed.ensures.few c.zeros_before-passed.ensures.zero) k after
+    (none_shared f cut start from _ lanes _ c.zeros_before-passed.ensures.few
+    c.zeros_before-passed.ensures.zero) k after
     (omega (arith, c.min.ensures, c.max.ensures, c.saturating_sub.ensures)))

@@ -16,7 +16,8 @@ returns-clause-zero c text ends begins k below =
     let highs = c.highs.ensures text ends begins in
     let inside = c.zeros_before_wide-2.ensures.few in
     sym (by_halves c.args.self.now (λ j. text (13 + k + j)))
-    ∙ (sym (c.both_wide.ensures.each k (omega arith) ∙ meets _ _ _ _ (lows.each k (omega arith)) (highs.each k (omega arith)))
+    ∙ (sym (c.both_wide.ensures.each k (omega arith)
+    ∙ meets _ _ _ _ (lows.each k (omega arith)) (highs.each k (omega arith)))
     ∙ c.zeros_before_wide-2.ensures.zero k below)
 
 pub returns-clause-stops : goal.returns-clause-stops
@@ -26,4 +27,5 @@ returns-clause-stops c text ends begins below none =
     let highs = c.highs.ensures text ends begins in
     c.zeros_before_wide-2.ensures.stops below
     (c.both_wide.ensures.each k below
-    ∙ (meets _ _ _ _ (lows.each k below) (highs.each k below) ∙ (by_halves c.args.self.now (λ j. text (13 + k + j)) ∙ none)))
+    ∙ (meets _ _ _ _ (lows.each k below) (highs.each k below)
+    ∙ (by_halves c.args.self.now (λ j. text (13 + k + j)) ∙ none)))
