@@ -46,9 +46,9 @@ struct Passed {
     at: usize,
     /// The place of the last of the first four bytes that share a bucket, or `at` if there are none.
     stop: usize,
-    /// The last 16 bytes that were looked up.
+    /// The last 16 bytes that were looked up, unless the scan stops.
     bytes: u8x16,
-    /// What the tables give these 16 bytes.
+    /// What the tables give the last 16 bytes, unless the scan stops.
     before: LookedUp,
 }
 

@@ -1,4 +1,4 @@
-//! Scans by vectors of 16 bytes that pass over places at which no pattern of a list begins, with ASCII case kept or
+//! Scans by vectors of bytes that pass over places at which no pattern of a list begins, with ASCII case kept or
 //! ignored: by the fingerprints of several patterns, or by two or three rare bytes of one.
 #![tactic(auto)]
 
