@@ -47,6 +47,7 @@ TICKS = {
         "lanes::load": ("tick_scanned", "81399e5b4db7"), "lanes::load_rest": ("tick_scanned", "6704b36834f4"),
         "lanes::byte_at": ("tick_scanned", "20400241e889"),
     },
+    "crates/literal_fingerprints/src/wide.rt": {"wide::load_wide": ("tick_scanned", "34f300c94c73")},
     "crates/literal_prefilters/src/prefilter/byte_table.rt": {"ByteTable::find": ("tick_scanned", "9327f693401c")},
     CONFIRMING: {"confirming::confirm": ("tick_tried", ""), "confirming::confirm_by_table": ("tick_tried", "")},
     "crates/literal_search/src/walk.rt": {

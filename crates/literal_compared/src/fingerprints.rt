@@ -80,20 +80,33 @@ fn assert_stops_at_each_place(
     Ok(())
 }
 
-/// The only match lies behind 1 MiB.
+/// The only match begins at an offset.
+fn assert_stops_at(
+    rt: &impl Abort,
+    alloc: Global,
+    scan: &Fingerprints,
+    at: usize,
+) -> Result<(), Fail> {
+    let haystack = haystack_with(alloc, at.saturating_add(40), b"fOUR", at)?;
+    let end = haystack.len();
+    let span = Span {
+        start: end.min(3),
+        end,
+    };
+    let place = scan.next(&haystack, span, &mut Tally::new());
+    assert_holds(rt, place == at, "another place");
+    Ok(())
+}
+
+/// The only match lies behind 1 MiB, or where the scan begins to read 32 bytes at a time.
 fn assert_stops_far_behind(rt: &impl Abort, alloc: Global) -> Result<(), Fail> {
     let list = [b"some".as_slice(), b"many", b"Four"];
     let scan = Fingerprints::new(true, &copies(alloc, &list)?).ok_or("there are none")?;
     for more in [0, 5, 15] {
-        let at = (1usize << 20) + more;
-        let haystack = haystack_with(alloc, at + 40, b"fOUR", at)?;
-        let end = haystack.len();
-        let span = Span {
-            start: end.min(3),
-            end,
-        };
-        let place = scan.next(&haystack, span, &mut Tally::new());
-        assert_holds(rt, place == at, "another place");
+        assert_stops_at(rt, alloc, &scan, (1usize << 20) + more)?;
+    }
+    for at in 480usize..640 {
+        assert_stops_at(rt, alloc, &scan, at)?;
     }
     Ok(())
 }

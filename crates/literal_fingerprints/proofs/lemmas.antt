@@ -1,4 +1,5 @@
 pub mod Buckets
+pub mod Far
 pub mod Hits
 pub mod Lanes
 pub mod Passing

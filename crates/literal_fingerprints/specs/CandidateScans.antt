@@ -28,7 +28,7 @@ MayStop scan haystack span place =
 
 -- how many bytes a scan by fingerprints, or by a pair, reads at most behind the place at which it stops
 abbrev pub ahead_by_pair : Option RarePair → ℕ
-ahead_by_pair None = 19
+ahead_by_pair None = 35
 ahead_by_pair (Some pair) = 37
 
 -- the same of a scan

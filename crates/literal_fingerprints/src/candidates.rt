@@ -67,7 +67,7 @@ impl CandidateScan {
         ensures { result ≡ ahead_of self.now }
     {
         match self.pair {
-            None => 19,
+            None => 35,
             Some(_) => 37,
         }
     }

@@ -1,17 +1,20 @@
 //! Tables of the bytes with which patterns begin, and the scan by them.
-ghost use Rattle.std.specs.Prelude.{◌≡◌, ◌⊎◌, ℕ, ◌+◌, ◌-◌, ◌*◌, ◌<◌, ◌≤◌, List, IfSome, IsTrue};
-ghost use Rattle.std.specs.Prelude.{[], length, map, slice_index, slice_index_or};
+ghost use Rattle.std.specs.Prelude.{◌≡◌, ◌⊎◌, ℕ, ◌+◌, ◌-◌, ◌*◌, ◌%◌, ◌<◌, ◌≤◌, List, IfSome, IsTrue};
+ghost use Rattle.std.specs.Prelude.{[], length, map, slice_index, slice_index_or, take};
 ghost use Rattle.literal_base.specs.Occurs.{IsValidSpan};
 ghost use Rattle.literal_fingerprints.specs.FingerprintsValue.{AllPass, LetsPass, NoneBegins, PassesAt};
 ghost use Rattle.literal_fingerprints.specs.FingerprintsValue.{fingerprints_in};
 ghost use Rattle.literal_fingerprints.specs.Inside.Lanes.{HasLanes};
 ghost use Rattle.literal_fingerprints.specs.Inside.Nibbles.{halves_of};
-ghost use Rattle.literal_fingerprints.specs.Inside.Scan.{IsLookedUp};
+ghost use Rattle.literal_fingerprints.specs.Inside.Scan.{HasPassed, IsLookedUp, NoneShared};
+
+mod far;
 
 use crate::buckets::{Buckets, LOOKED_AT};
 use crate::lanes::{LANES, load, load_rest, look_up, zeros_before};
 use crate::looked_up::LookedUp;
 use crate::nibbles::{HALVES, Nibbles};
+use crate::wide::WIDE;
 use literal_base::Span;
 use literal_base::count::Tally;
 use std::marker::Model;
@@ -19,6 +22,9 @@ use std::simd::prelude::*;
 
 /// For how many patterns there are fingerprints.
 const MOST_PATTERNS: usize = 64;
+
+/// So many bytes are looked up 16 at a time before the scan looks up 32 at a time, which takes some time to begin.
+const NEAR: usize = 512;
 
 /// How many bytes fingerprints take.
 pub const BYTES: usize = 8 * HALVES;
@@ -31,6 +37,19 @@ pub struct Fingerprints {
     second: Nibbles,
     third: Nibbles,
     fourth: Nibbles,
+}
+
+/// How far a scan has come.
+#[derive(Clone, Copy)]
+struct Passed {
+    /// All bytes before this place are looked up.
+    at: usize,
+    /// The place of the last of the first four bytes that share a bucket, or `at` if there are none.
+    stop: usize,
+    /// The last 16 bytes that were looked up, unless the scan stops.
+    bytes: u8x16,
+    /// What the tables give the last 16 bytes, unless the scan stops.
+    before: LookedUp,
 }
 
 impl Model for Fingerprints {
@@ -149,9 +168,10 @@ impl Fingerprints {
     }
 
     /// A place of the span, or its end, before which no pattern begins that lies whole in the span. The span has to be
-    /// valid. The scan stops at the first place at which a pattern may begin by its fingerprint. Bytes are read 16 at
-    /// a time, each once, and those that are left behind the last 16 together. With 14 or 15 of them the scan ends up
-    /// to two places before the end of the span.
+    /// valid. The scan stops at the first place at which a pattern may begin by its fingerprint. Bytes are read 16 at a
+    /// time, or, for few patterns after the first 512 bytes, 32 at a time, each once. The last bytes, fewer than 16,
+    /// are read together; with 14 or 15 of them the scan stops up to two places before the end of the span.
+    #[inline(always)]
     pub fn next(&self, haystack: &[u8], span: Span, tally: &mut Tally) -> usize
         requires { IsValidSpan haystack.now span }
         ensures inside { (span.start ≤ result) × (result ≤ span.end) }
@@ -160,23 +180,120 @@ impl Fingerprints {
         ensures others { tally.new ≡ record tally.old { scanned = tally.new.scanned } }
         ensures once { tally.new.scanned ≤ tally.old.scanned + (span.end - span.start) }
         ensures read { tally.old.scanned + result ≤ tally.new.scanned + span.start }
-        ensures counted { tally.new.scanned + span.start ≤ tally.old.scanned + result + 19 }
+        ensures counted { tally.new.scanned + span.start ≤ tally.old.scanned + result + 35 }
         ensures thrice { tally.new.scanned + 3 * span.start ≤ tally.old.scanned + 3 * result + 16 }
     {
-        let mut before = LookedUp::before_span();
-        let mut at = span.start;
-        while LANES <= span.end - at {
-            let here = self.look_up(load(haystack, at, tally));
+        let is_short = span.end - span.start < NEAR + WIDE;
+        let near = if is_short {
+            span.end
+        } else {
+            span.start + NEAR
+        };
+        let before = LookedUp::before_span();
+        let passed = self.pass(before, haystack, span.start, near, span, tally);
+        if passed.stop < passed.at {
+            return passed.stop - (LOOKED_AT - 1);
+        }
+        if !is_short && self.has_few_bits() {
+            // (copies of what is handed on: a reference to it would keep it out of registers)
+            let tables = Fingerprints {
+                first: self.first,
+                second: self.second,
+                third: self.third,
+                fourth: self.fourth,
+            };
+            let before = LookedUp {
+                first: passed.before.first,
+                second: passed.before.second,
+                third: passed.before.third,
+                fourth: passed.before.fourth,
+            };
+            return tables.next_far(before, haystack, passed.at, span, tally);
+        }
+        let last = self.pass(passed.before, haystack, passed.at, span.end, span, tally);
+        if last.stop < last.at {
+            return last.stop - (LOOKED_AT - 1);
+        }
+        self.rest(last.before, haystack, last.at, span, tally)
+    }
+
+    /// Looks up bytes 16 at a time from a place on, as long as there are 16 before another one, or until a pattern may
+    /// begin by its fingerprint.
+    #[inline(always)]
+    fn pass(
+        &self,
+        before: LookedUp,
+        haystack: &[u8],
+        from: usize,
+        upto: usize,
+        span: Span,
+        tally: &mut Tally,
+    ) -> Passed
+        requires valid { IsValidSpan haystack.now span }
+        requires after { span.start ≤ from }
+        requires ordered { from ≤ upto }
+        requires inside { upto ≤ span.end }
+        requires looked { IsLookedUp before self.now (take span.end haystack.now) span.start from }
+        requires none { NoneShared self.now (take span.end haystack.now) span.start from }
+        ensures passed { HasPassed result self.now (take span.end haystack.now) span.start }
+        ensures bytes { from + 16 ≤ result.at
+            → HasLanes result.bytes (λ k. slice_index (take span.end haystack.now) (result.at - 16 + k)) }
+        ensures least { from ≤ result.stop }
+        ensures most { result.at ≤ upto }
+        ensures near { result.at ≤ result.stop + 16 }
+        ensures whole { (result.at - from) % 16 ≡ 0 }
+        ensures rest { result.at ≤ result.stop → upto < result.at + 16 }
+        ensures ticks { tally.new ≡ record tally.old { scanned = tally.old.scanned + (result.at - from) } }
+    {
+        let (mut before, mut last, mut at) = (before, u8x16::splat(0), from);
+        while LANES <= upto - at {
+            let bytes = load(haystack, at, tally);
+            let here = self.look_up(bytes);
             let passed = zeros_before(here.shared_after(before));
             if passed < LANES {
-                return at + passed - (LOOKED_AT - 1);
+                return Passed {
+                    at: at + LANES,
+                    stop: at + passed,
+                    bytes,
+                    before: here,
+                };
             }
-            before = here;
+            (before, last) = (here, bytes);
             at += LANES;
         }
-        let here = self.look_up(load_rest(haystack, at, span.end, tally));
+        Passed {
+            at,
+            stop: at,
+            bytes: last,
+            before,
+        }
+    }
+
+    /// The last bytes of a span, fewer than 16.
+    #[inline(always)]
+    fn rest(
+        &self,
+        before: LookedUp,
+        haystack: &[u8],
+        from: usize,
+        span: Span,
+        tally: &mut Tally,
+    ) -> usize
+        requires valid { IsValidSpan haystack.now span }
+        requires after { span.start ≤ from }
+        requires inside { from ≤ span.end }
+        requires few { span.end < from + 16 }
+        requires looked { IsLookedUp before self.now (take span.end haystack.now) span.start from }
+        requires none { NoneShared self.now (take span.end haystack.now) span.start from }
+        ensures inside { (span.start ≤ result) × (result ≤ span.end) }
+        ensures passed { NoneBegins self.now haystack.now span result }
+        ensures stops { span.end < result + 19 }
+        ensures far { from ≤ result + 3 }
+        ensures ticks { tally.new ≡ record tally.old { scanned = tally.old.scanned + (span.end - from) } }
+    {
+        let here = self.look_up(load_rest(haystack, from, span.end, tally));
         let passed = zeros_before(here.shared_after(before));
-        (at + passed)
+        (from + passed)
             .saturating_sub(LOOKED_AT - 1)
             .max(span.start)
             .min(span.end)

@@ -1,4 +1,4 @@
-//! Scans by vectors of 16 bytes that pass over places at which no pattern of a list begins, with ASCII case kept or
+//! Scans by vectors of bytes that pass over places at which no pattern of a list begins, with ASCII case kept or
 //! ignored: by the fingerprints of several patterns, or by two or three rare bytes of one.
 #![tactic(auto)]
 
@@ -10,6 +10,7 @@ pub mod laws;
 mod looked_up;
 mod nibbles;
 mod pair;
+mod wide;
 
 pub use candidates::CandidateScan;
 pub use fingerprints::{BYTES, Fingerprints};

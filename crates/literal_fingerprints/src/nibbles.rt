@@ -29,6 +29,14 @@ impl Nibbles {
         Nibbles { low, high }
     }
 
+    /// How many bits are set in the sets of the low halves.
+    pub fn low_bits(&self) -> u32 {
+        let [a, b, c, d, e, f, g, h, i, j, k, l, m, n, o, p] = self.low;
+        let front = u64::from_le_bytes([a, b, c, d, e, f, g, h]);
+        let back = u64::from_le_bytes([i, j, k, l, m, n, o, p]);
+        front.count_ones().wrapping_add(back.count_ones())
+    }
+
     /// The buckets of a byte.
     pub fn buckets(&self, byte: u8) -> u8
         ensures { result ≡ buckets_of (half_table self.now) byte }

@@ -1,7 +1,8 @@
--- What operations on vectors of 16 bytes hold in each lane.
+-- What operations on vectors hold in each lane.
 use Rattle.std.proofs.Common.{◌≡◌, ◌≢◌, ℕ, ◌+◌, ◌-◌, ◌*◌, ◌/◌, ◌%◌, ◌^◌, ◌<◌, ◌≤◌, ◌∙◌, ◌++◌, List, true, false, not}
 use Rattle.std.proofs.Common.{eqb, length, get_or, replicate, refl, cond, map, sym, ap, arith, take, w8, inl, inr}
 use Rattle.std.proofs.Common.{Bool, drop, length-append, subst, zero-add}
+use Rattle.std.proofs.lemmas.Simd.{length-replicate}
 use Rattle.std.proofs.lemmas.Bool.{cases_lt}
 use Rattle.std.proofs.lemmas.Bool.Decides.{nat_tests}
 use Rattle.std.proofs.lemmas.List.{get_or-append_right, get_or-drop, get_or-take, get_or_append_left, get_or_past}
@@ -16,7 +17,7 @@ use Rattle.std.specs.Simd.Lanes.{mask_l, pick_l, sel_l, top, zip2}
 use Rattle.std.specs.List.{slice_range}
 use lib.Count.{count_trailing_zeros}
 use lib.Lanes.{chunk}
-use Rattle.literal_fingerprints.specs.Inside.Lanes.{HasLanes}
+use Rattle.literal_fingerprints.specs.Inside.Lanes.{AreLanes, HasBack, HasLanes, HasWide}
 
 -- neighbouring lanes of two vectors
 pub lanes_of_picked : (n : ℕ) → n ≤ 16 → (a b : List ℕ) → length a ≡ 16 → length b ≡ 16 → (f : ℕ → ℕ)
@@ -34,6 +35,59 @@ lanes_of_picked n few a b p q f first last =
                 get_or-append_right a b 16 (n + k) 0 p (omega arith)
                 ∙ (last.each (n + k - 16) (omega arith) ∙ ap f place)
           ]);
+    }
+
+-- the same of vectors of 32, by the last 16 lanes of the first
+pub wide_of_picked : (n : ℕ) → 16 ≤ n → n ≤ 32 → (a b : List ℕ) → length a ≡ 32 → length b ≡ 32 → (f : ℕ → ℕ)
+    → HasBack a f → HasWide b (λ k. f (16 + k))
+    → HasWide (pick_l 0 (a ++ b) (range_with_len n 32)) (λ k. f (n - 16 + k))
+wide_of_picked n far few a b p q f first last =
+    let picked = pick_l-range_with_len 0 (a ++ b) n 32 (omega (arith, length-append a b)) in
+    record {
+      long = ap length picked ∙ length-chunk n 32 (a ++ b) (omega (arith, length-append a b));
+      each = λ k below.
+          ap (λ l. get_or l k 0) picked ∙ (get_or-chunk n 32 (a ++ b) k 0 below
+          ∙ elim (cases_lt (n + k) 32) [
+            | inl before ↦
+                let place : 16 + (n - 16 + k) ≡ n + k = omega arith in
+                get_or_append_left a b 0 (n + k) (omega arith)
+                ∙ (ap (λ j. get_or a j 0) (sym place) ∙ first.each (n - 16 + k) (omega arith))
+            | inr after ↦
+                let place : 16 + (n + k - 32) ≡ n - 16 + k = omega arith in
+                get_or-append_right a b 32 (n + k) 0 p (omega arith)
+                ∙ (last.each (n + k - 32) (omega arith) ∙ ap f place)
+          ]);
+    }
+
+-- a vector of 16 twice
+pub lanes_of_twice : (half : List ℕ) → length half ≡ 16
+    → HasWide (pick_l 0 (half ++ half) (range_with_len 0 32)) (λ k. get_or half (k % 16) 0)
+lanes_of_twice half p =
+    let picked = pick_l-range_with_len 0 (half ++ half) 0 32 (omega (arith, length-append half half)) in
+    record {
+      long = ap length picked ∙ length-chunk 0 32 (half ++ half) (omega (arith, length-append half half));
+      each = λ k below.
+          ap (λ l. get_or l k 0) picked ∙ (get_or-chunk 0 32 (half ++ half) k 0 below
+          ∙ elim (cases_lt k 16) [
+            | inl before ↦
+                let place : 0 + k ≡ k % 16 = omega arith in
+                get_or_append_left half half 0 (0 + k) (omega arith) ∙ ap (λ j. get_or half j 0) place
+            | inr after ↦
+                let place : 0 + k - 16 ≡ k % 16 = omega arith in
+                get_or-append_right half half 16 (0 + k) 0 p (omega arith) ∙ ap (λ j. get_or half j 0) place
+          ]);
+    }
+
+-- the last 16 lanes of a vector of 32
+pub lanes_of_back : (lanes : List ℕ) → length lanes ≡ 32
+    → HasLanes (pick_l 0 (lanes ++ lanes) (range_with_len 16 16)) (λ k. get_or lanes (16 + k) 0)
+lanes_of_back lanes p =
+    let picked = pick_l-range_with_len 0 (lanes ++ lanes) 16 16 (omega (arith, length-append lanes lanes)) in
+    record {
+      long = ap length picked ∙ length-chunk 16 16 (lanes ++ lanes) (omega (arith, length-append lanes lanes));
+      each = λ k below.
+          ap (λ l. get_or l k 0) picked ∙ (get_or-chunk 16 16 (lanes ++ lanes) k 0 below
+          ∙ get_or_append_left lanes lanes 0 (16 + k) (omega arith));
     }
 
 -- bytes up to an end, and zeros behind them
@@ -75,29 +129,30 @@ lanes_of_rest haystack at end ordered few inside =
     }
 
 -- bytes before the end are the same in what lies before it
-pub lanes_upto : (haystack : List ℕ) (end at : ℕ) → at + 16 ≤ end → (lanes : List ℕ)
-    → HasLanes lanes (λ k. get_or haystack (at + k) 0) → HasLanes lanes (λ k. get_or (take end haystack) (at + k) 0)
+pub lanes_upto : {n : ℕ} → (haystack : List ℕ) (end at : ℕ) → at + n ≤ end → (lanes : List ℕ)
+    → AreLanes n lanes (λ k. get_or haystack (at + k) 0)
+    → AreLanes n lanes (λ k. get_or (take end haystack) (at + k) 0)
 lanes_upto haystack end at inside lanes has = record {
   long = has.long;
   each = λ k below. has.each k below ∙ sym (get_or-take end haystack (at + k) 0 (omega arith));
 }
 
 -- an operator on two vectors
-pub lanes_of_two : (f : ℕ → ℕ → ℕ) (a b : List ℕ) → length a ≡ 16 → length b ≡ 16
-    → HasLanes (zip2 f a b) (λ k. f (get_or a k 0) (get_or b k 0))
+pub lanes_of_two : {n : ℕ} → (f : ℕ → ℕ → ℕ) (a b : List ℕ) → length a ≡ n → length b ≡ n
+    → AreLanes n (zip2 f a b) (λ k. f (get_or a k 0) (get_or b k 0))
 lanes_of_two f a b p q = record {
   long = length-zip2 f a b (p ∙ sym q) ∙ p;
   each = λ k below. get_or-zip2 f a b k 0 0 0 (omega arith) (omega arith);
 }
 
 -- an operator on a vector and one byte
-pub lanes_of_splat : (f : ℕ → ℕ → ℕ) (a : List ℕ) (x : ℕ) → length a ≡ 16
-    → HasLanes (zip2 f a (replicate 16 x)) (λ k. f (get_or a k 0) x)
-lanes_of_splat f a x p =
-    let two = lanes_of_two f a (replicate 16 x) p refl in
+pub lanes_of_splat : {n : ℕ} → (f : ℕ → ℕ → ℕ) (a : List ℕ) (x : ℕ) → length a ≡ n
+    → AreLanes n (zip2 f a (replicate n x)) (λ k. f (get_or a k 0) x)
+lanes_of_splat {n} f a x p =
+    let two = lanes_of_two f a (replicate n x) p (length-replicate n x) in
     record {
       long = two.long;
-      each = λ k below. two.each k below ∙ ap (f (get_or a k 0)) (get_or-replicate 16 k x 0 below);
+      each = λ k below. two.each k below ∙ ap (f (get_or a k 0)) (get_or-replicate n k x 0 below);
     }
 
 -- one of two bytes, by a test of each lane with a third
@@ -147,44 +202,70 @@ module _ (js : List ℕ) (f : ℕ → ℕ) (lanes : HasLanes js f) (small : (k :
             ∙ (ap (λ j. get_or (take 16 table) j 0) place ∙ get_or-take 16 table (f k) 0 least);
       }
 
+module _ (js : List ℕ) (f : ℕ → ℕ) (lanes : HasWide js f) (small : (k : ℕ) → k < 32 → f k < 16) where
+  -- positions in each half of a vector of 32
+  pub wide_positions_fit : SwzOk w8 16 32 0 js
+  wide_positions_fit =
+      let long = lanes.long in
+      SwzOk-from_below w8 16 2 32 0 js refl (omega arith)
+      (Each1-from_get_or (λ j. j < 16) js 0
+      (λ k l. let below : k < 32 = omega arith in omega (arith, lanes.each k below, small k below)))
+
+  -- the entries there, if both halves are the same table
+  pub wide_of_positions : (table twice : List ℕ) → HasWide twice (λ k. get_or (take 16 table) (k % 16) 0)
+      → HasWide (swz_l w8 16 twice 0 js) (λ k. get_or table (f k) 0)
+  wide_of_positions table twice has =
+      let long = lanes.long in
+      record {
+        long = length-swz_l w8 16 twice 0 js ∙ long;
+        each = λ k below.
+            let is = lanes.each k below in
+            let least = small k below in
+            let at = 16 * ((0 + k) / 16) + get_or js k 0 in
+            let inside : at < 32 = omega arith in
+            let place : at % 16 ≡ f k = omega arith in
+            get_or-swz_l_below w8 16 twice 0 js k (omega arith) (omega arith)
+            ∙ (has.each at inside
+            ∙ (ap (λ j. get_or (take 16 table) j 0) place ∙ get_or-take 16 table (f k) 0 least));
+      }
+
 unset_is : (x : ℕ) → not (not (eqb x 0)) ≡ true → x ≡ 0
 unset_is x e = grind (arith, nat_tests)
 
 set_not : (x : ℕ) → not (not (eqb x 0)) ≡ false → x ≢ 0
 set_not x e none = grind (arith, nat_tests)
 
-abbrev pub set_lanes : List ℕ → ℕ
-set_lanes lanes =
-    mask_l (map (top 7) (zip2 (λ a b. cond (not (eqb a b)) 255 0) lanes (replicate 16 0))) % 2 ^ 64
+abbrev pub set_lanes : ℕ → List ℕ → ℕ
+set_lanes n lanes = mask_l (map (top 7) (zip2 (λ a b. cond (not (eqb a b)) 255 0) lanes (replicate n 0))) % 2 ^ 64
 
-module _ (lanes : List ℕ) (long : length lanes ≡ 16) where
-  set_is : set_lanes lanes ≡ mask_l (map (λ x. not (eqb x 0)) lanes)
-  set_is = bitmask_splat w8 (λ a b. not (eqb a b)) lanes 16 0 long (omega arith)
+module _ (n : ℕ) (few : n ≤ 64) (lanes : List ℕ) (long : length lanes ≡ n) where
+  set_is : set_lanes n lanes ≡ mask_l (map (λ x. not (eqb x 0)) lanes)
+  set_is = bitmask_splat w8 (λ a b. not (eqb a b)) lanes n 0 long few
 
-  in_front : (n : ℕ) → n ≤ prefix_len (λ x. not (not (eqb x 0))) lanes → (k : ℕ) → k < n → get_or lanes k 0 ≡ 0
-  in_front n few k below =
+  in_front : (m : ℕ) → m ≤ prefix_len (λ x. not (not (eqb x 0))) lanes → (k : ℕ) → k < m → get_or lanes k 0 ≡ 0
+  in_front m short k below =
       unset_is _ (prefix_len_passes (λ x. not (not (eqb x 0))) lanes k 0 (omega arith))
 
-  pub none_set : set_lanes lanes ≡ 0 → (k : ℕ) → k < 16 → get_or lanes k 0 ≡ 0
-  none_set none = in_front 16 (omega (arith, leading_from_mask_l (λ x. not (eqb x 0)) lanes (sym set_is ∙ none)))
+  pub none_set : set_lanes n lanes ≡ 0 → (k : ℕ) → k < n → get_or lanes k 0 ≡ 0
+  none_set none = in_front n (omega (arith, leading_from_mask_l (λ x. not (eqb x 0)) lanes (sym set_is ∙ none)))
 
-  first_is : set_lanes lanes ≢ 0
-      → count_trailing_zeros 64 (set_lanes lanes) ≡ prefix_len (λ x. not (not (eqb x 0))) lanes
+  first_is : set_lanes n lanes ≢ 0
+      → count_trailing_zeros 64 (set_lanes n lanes) ≡ prefix_len (λ x. not (not (eqb x 0))) lanes
   first_is some =
       ap (count_trailing_zeros 64) set_is
       ∙ trailing_mask_l (λ x. not (eqb x 0)) 64 lanes (omega arith) (omega (arith, set_is))
 
-  pub first_few : set_lanes lanes ≢ 0 → count_trailing_zeros 64 (set_lanes lanes) ≤ 16
+  pub first_few : set_lanes n lanes ≢ 0 → count_trailing_zeros 64 (set_lanes n lanes) ≤ n
   first_few some = omega (arith, first_is some, prefix_len-le-length (λ x. not (not (eqb x 0))) lanes)
 
-  pub first_zeros : set_lanes lanes ≢ 0 → (k : ℕ) → k < count_trailing_zeros 64 (set_lanes lanes)
+  pub first_zeros : set_lanes n lanes ≢ 0 → (k : ℕ) → k < count_trailing_zeros 64 (set_lanes n lanes)
       → get_or lanes k 0 ≡ 0
-  first_zeros some = in_front (count_trailing_zeros 64 (set_lanes lanes)) (omega (arith, first_is some))
+  first_zeros some = in_front (count_trailing_zeros 64 (set_lanes n lanes)) (omega (arith, first_is some))
 
-  pub first_stops : set_lanes lanes ≢ 0 → count_trailing_zeros 64 (set_lanes lanes) < 16
-      → get_or lanes (count_trailing_zeros 64 (set_lanes lanes)) 0 ≢ 0
+  pub first_stops : set_lanes n lanes ≢ 0 → count_trailing_zeros 64 (set_lanes n lanes) < n
+      → get_or lanes (count_trailing_zeros 64 (set_lanes n lanes)) 0 ≢ 0
   first_stops some below none =
-      let n = prefix_len (λ x. not (not (eqb x 0))) lanes in
-      let here : get_or lanes n 0 ≡ 0 = ap (λ k. get_or lanes k 0) (sym (first_is some)) ∙ none in
+      let m = prefix_len (λ x. not (not (eqb x 0))) lanes in
+      let here : get_or lanes m 0 ≡ 0 = ap (λ k. get_or lanes k 0) (sym (first_is some)) ∙ none in
       let stops = prefix_len_stops (λ x. not (not (eqb x 0))) lanes 0 (omega (arith, first_is some)) in
-      set_not (get_or lanes n 0) stops here
+      set_not (get_or lanes m 0) stops here

@@ -94,13 +94,16 @@ module _ (f : FingerprintsValue) (haystack : List ℕ) (start at : ℕ) (lanes :
           some_shared (subst (λ j. shared_from f haystack start j ≡ 0) place
           (shared_in_span haystack start f (at + n - 3) (omega arith) ∙ none))
 
+-- what four bytes share depends on these alone
+pub same_shared : (f : FingerprintsValue) (text other : ℕ → ℕ) → ((k : ℕ) → k < 4 → text k ≡ other k)
+    → shared_buckets f text ≡ shared_buckets f other
+same_shared f text other same =
+    meets _ _ _ _
+    (meets _ _ _ _ (ap (buckets_of f.first) (same 0 (omega arith))) (ap (buckets_of f.second) (same 1 (omega arith))))
+    (meets _ _ _ _ (ap (buckets_of f.third) (same 2 (omega arith))) (ap (buckets_of f.fourth) (same 3 (omega arith))))
+
 -- four bytes that lie before an end share the same buckets in what lies before it
 pub passes_upto : (f : FingerprintsValue) (haystack : List ℕ) (end place : ℕ) → place + 3 < end
     → PassesAt f (take end haystack) place → PassesAt f haystack place
 passes_upto f haystack end place inside passes none =
-    let byte : (k : ℕ) → k < 4 → get_or (take end haystack) (place + k) 0 ≡ get_or haystack (place + k) 0 =
-    λ k few. get_or-take end haystack (place + k) 0 (omega arith) in
-    passes (meets _ _ _ _
-    (meets _ _ _ _ (ap (buckets_of f.first) (byte 0 (omega arith))) (ap (buckets_of f.second) (byte 1 (omega arith))))
-    (meets _ _ _ _ (ap (buckets_of f.third) (byte 2 (omega arith))) (ap (buckets_of f.fourth) (byte 3 (omega arith))))
-    ∙ none)
+    passes (same_shared f _ _ (λ k few. get_or-take end haystack (place + k) 0 (omega arith)) ∙ none)

@@ -1,7 +1,9 @@
 -- What a scan has looked up. Places are numbered from 16 before the haystack on, so that there are some before a span.
-use Rattle.std.specs.Prelude.{ℕ, ◌+◌, ◌-◌, if◌then◌else◌, List, nat_lt, slice_index, bit_and}
-use Rattle.literal_fingerprints.specs.FingerprintsValue.{FingerprintsValue, HalfTable, buckets_of}
+use Rattle.std.specs.Prelude.{◌≡◌, ℕ, ◌+◌, ◌-◌, ◌/◌, ◌%◌, ◌<◌, ◌≤◌, if◌then◌else◌, List, nat_lt, slice_index, bit_and}
+use Rattle.literal_fingerprints.specs.FingerprintsValue.{FingerprintsValue, HalfTable, PassesAt, buckets_of}
+use Rattle.literal_fingerprints.specs.FingerprintsValue.{shared_buckets}
 use Rattle.literal_fingerprints.specs.Inside.Lanes.{HasLanes}
+use Rattle.literal_fingerprints.specs.declared.fingerprints.Passed.{Passed}
 use Rattle.literal_fingerprints.specs.declared.looked_up.LookedUp.{LookedUp}
 
 -- the buckets of the byte 16 before a place, and none before the start of the span
@@ -21,3 +23,36 @@ pub record IsLookedUp (looked : LookedUp) (f : FingerprintsValue) (haystack : Li
   pub second : HasLanes looked.second (λ k. looked_up f.second haystack start (at + k))
   pub third : HasLanes looked.third (λ k. looked_up f.third haystack start (at + k))
   pub fourth : HasLanes looked.fourth (λ k. looked_up f.fourth haystack start (at + k))
+
+-- no four bytes from a start on, of which the last one lies before a place, share a bucket
+abbrev pub NoneShared : FingerprintsValue → List ℕ → ℕ → ℕ → Type 0
+NoneShared f haystack start at =
+    (k : ℕ) → start ≤ k → k + 3 < at → shared_buckets f (λ j. slice_index haystack (k + j)) ≡ 0
+
+-- a scan that began at a start has come so far
+pub record HasPassed (passed : Passed) (f : FingerprintsValue) (haystack : List ℕ) (start : ℕ) : Type 0 where
+  pub within : passed.stop ≤ passed.at
+  pub none : NoneShared f haystack start passed.stop
+  pub far : passed.stop < passed.at → start + 3 ≤ passed.stop
+  pub stops : passed.stop < passed.at → PassesAt f haystack (passed.stop - 3)
+  pub looked : passed.at ≤ passed.stop → IsLookedUp passed.before f haystack start passed.at
+
+-- the buckets of the lower half of a byte by a table
+abbrev pub low_of : HalfTable → ℕ → ℕ
+low_of table byte = slice_index table.low (byte % 16)
+
+-- the buckets of its upper half
+abbrev pub high_of : HalfTable → ℕ → ℕ
+high_of table byte = slice_index table.high (byte / 16 % 16)
+
+-- the buckets that the first four bytes of a text share by their lower halves, each byte by the table for its place
+abbrev pub shared_lows : FingerprintsValue → (ℕ → ℕ) → ℕ
+shared_lows f text =
+    bit_and (bit_and (low_of f.first (text 0)) (low_of f.second (text 1)))
+    (bit_and (low_of f.third (text 2)) (low_of f.fourth (text 3)))
+
+-- the same by their upper halves
+abbrev pub shared_highs : FingerprintsValue → (ℕ → ℕ) → ℕ
+shared_highs f text =
+    bit_and (bit_and (high_of f.first (text 0)) (high_of f.second (text 1)))
+    (bit_and (high_of f.third (text 2)) (high_of f.fourth (text 3)))

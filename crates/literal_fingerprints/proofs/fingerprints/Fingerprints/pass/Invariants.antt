@@ -1,0 +1,18 @@
+use Rattle.std.proofs.Common.{◌≡◌, ◌+◌, ◌-◌, ◌%◌, ◌≤◌, get_or, take}
+use Rattle.literal_fingerprints.specs.Inside.Lanes.{HasLanes}
+use Rattle.literal_fingerprints.specs.Inside.Scan.{IsLookedUp, NoneShared}
+use Rattle.literal_fingerprints.proofs.fingerprints.Fingerprints.pass.Given as goal
+
+abbrev pub invariant-loop-at : goal.invariant-loop-at
+invariant-loop-at l = record {
+  low : l.from ≤ l.at;
+  high : l.at ≤ l.upto;
+  whole : (l.at - l.from) % 16 ≡ 0;
+  bytes : l.from + 16 ≤ l.at → HasLanes l.last (λ k. get_or (take l.fn.span.end l.haystack) (l.at - 16 + k) 0);
+  looked : IsLookedUp l.before l.self (take l.fn.span.end l.haystack) l.fn.span.start l.at;
+  none : NoneShared l.self (take l.fn.span.end l.haystack) l.fn.span.start l.at;
+  scanned : l.tally ≡ record l.initial.tally { scanned = l.initial.tally.scanned + (l.at - l.from) };
+}
+
+abbrev pub decreases-loop-at : goal.decreases-loop-at
+decreases-loop-at l = l.upto - l.at
