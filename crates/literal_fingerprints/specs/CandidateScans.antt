@@ -1,8 +1,8 @@
 -- Scans that stop where a pattern may begin.
-use Rattle.std.specs.Prelude.{◌⊎◌, ℕ, ◌+◌, ◌<◌, Bool, List, MatchOption, None, Option, Some}
+use Rattle.std.specs.Prelude.{ℕ, ◌<◌, Bool, List, MatchOption, None, Option, Some}
 use Rattle.literal_base.specs.declared.search.Span.{Span}
 use Rattle.literal_base.specs.Occurs.{Occurs}
-use Rattle.literal_fingerprints.specs.FingerprintsValue.{AllPass, PassesAt}
+use Rattle.literal_fingerprints.specs.FingerprintsValue.{AllPass, FingerprintsMayStop}
 use Rattle.literal_fingerprints.specs.RarePairs.{AreOf, PairMayStop}
 use Rattle.literal_fingerprints.specs.declared.candidates.CandidateScan.{CandidateScan}
 use Rattle.literal_fingerprints.specs.declared.pair.RarePair.{RarePair}
@@ -19,11 +19,10 @@ NoneBeginsBefore scan haystack span place =
     (patterns : List (List ℕ)) (ignore_case : Bool) → StopsAtEach scan ignore_case patterns → (i at : ℕ) → at < place
     → ¬ Occurs patterns ignore_case haystack span i at
 
--- where a scan of the span may stop, by the pair, or, where there is none, by the fingerprints: these pass there, or
--- fewer than 19 bytes of the span are left
+-- where a scan of the span may stop, by the pair, or, where there is none, by the fingerprints
 abbrev pub MayStop : CandidateScan → List ℕ → Span → ℕ → Type 0
 MayStop scan haystack span place =
-    MatchOption scan.pair (PassesAt scan.fingerprints haystack place ⊎ (span.end < place + 19))
+    MatchOption scan.pair (FingerprintsMayStop scan.fingerprints haystack span place)
     (λ pair. PairMayStop pair haystack span place)
 
 -- how many bytes a scan by fingerprints, or by a pair, reads at most behind the place at which it stops

@@ -1,6 +1,6 @@
 -- Fingerprints of patterns, and what a scan by them passes over.
-use Rattle.std.specs.Prelude.{◌≡◌, ◌≢◌, ℕ, ◌+◌, ◌/◌, ◌%◌, ◌<◌, Bool, true, List, length, slice_index, bit_and}
-use Rattle.std.specs.Prelude.{slice_range}
+use Rattle.std.specs.Prelude.{◌≡◌, ◌≢◌, ◌⊎◌, ℕ, ◌+◌, ◌/◌, ◌%◌, ◌<◌, Bool, true, List, length, slice_index, bit_and}
+use Rattle.std.specs.Prelude.{slice_range, take}
 use Rattle.std.specs.List.{All}
 use Rattle.literal_base.specs.declared.search.Span.{Span}
 use Rattle.literal_base.specs.Occurs.{Occurs, same_byte}
@@ -44,6 +44,12 @@ shared_buckets f text =
 -- the four bytes from a place of the haystack on share a bucket
 abbrev pub PassesAt : FingerprintsValue → List ℕ → ℕ → Type 0
 PassesAt f haystack at = shared_buckets f (λ k. slice_index haystack (at + k)) ≢ 0
+
+-- where a scan of a span may stop: the four bytes from there on share a bucket, with zeros for those behind the span;
+-- or fewer than three bytes of the span are left
+abbrev pub FingerprintsMayStop : FingerprintsValue → List ℕ → Span → ℕ → Type 0
+FingerprintsMayStop f haystack span place =
+    PassesAt f (take span.end haystack) place ⊎ (span.end < place + 3)
 
 -- the pattern is not empty, and the first four bytes of each text that begins with it share a bucket
 pub record LetsPass (f : FingerprintsValue) (ignore_case : Bool) (pattern : List ℕ) : Type 0 where

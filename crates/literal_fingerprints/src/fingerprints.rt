@@ -1,9 +1,9 @@
 //! Tables of the bytes with which patterns begin, and the scan by them.
-ghost use Rattle.std.specs.Prelude.{◌≡◌, ◌⊎◌, ℕ, ◌+◌, ◌-◌, ◌*◌, ◌%◌, ◌<◌, ◌≤◌, List, IfSome, IsTrue};
+ghost use Rattle.std.specs.Prelude.{◌≡◌, ℕ, ◌+◌, ◌-◌, ◌*◌, ◌%◌, ◌<◌, ◌≤◌, List, IfSome, IsTrue};
 ghost use Rattle.std.specs.Prelude.{[], length, map, slice_index, slice_index_or, take};
 ghost use Rattle.literal_base.specs.Occurs.{IsValidSpan};
-ghost use Rattle.literal_fingerprints.specs.FingerprintsValue.{AllPass, LetsPass, NoneBegins, PassesAt};
-ghost use Rattle.literal_fingerprints.specs.FingerprintsValue.{fingerprints_in};
+ghost use Rattle.literal_fingerprints.specs.FingerprintsValue.{AllPass, FingerprintsMayStop, LetsPass};
+ghost use Rattle.literal_fingerprints.specs.FingerprintsValue.{NoneBegins, fingerprints_in};
 ghost use Rattle.literal_fingerprints.specs.Inside.Lanes.{HasLanes};
 ghost use Rattle.literal_fingerprints.specs.Inside.Nibbles.{halves_of};
 ghost use Rattle.literal_fingerprints.specs.Inside.Scan.{HasPassed, IsLookedUp, NoneShared};
@@ -176,7 +176,7 @@ impl Fingerprints {
         requires { IsValidSpan haystack.now span }
         ensures inside { (span.start ≤ result) × (result ≤ span.end) }
         ensures passed { NoneBegins self.now haystack.now span result }
-        ensures stops { PassesAt self.now haystack.now result ⊎ (span.end < result + 19) }
+        ensures stops { FingerprintsMayStop self.now haystack.now span result }
         ensures others { tally.new ≡ record tally.old { scanned = tally.new.scanned } }
         ensures once { tally.new.scanned ≤ tally.old.scanned + (span.end - span.start) }
         ensures read { tally.old.scanned + result ≤ tally.new.scanned + span.start }
@@ -287,7 +287,7 @@ impl Fingerprints {
         requires none { NoneShared self.now (take span.end haystack.now) span.start from }
         ensures inside { (span.start ≤ result) × (result ≤ span.end) }
         ensures passed { NoneBegins self.now haystack.now span result }
-        ensures stops { span.end < result + 19 }
+        ensures stops { FingerprintsMayStop self.now haystack.now span result }
         ensures far { from ≤ result + 3 }
         ensures ticks { tally.new ≡ record tally.old { scanned = tally.old.scanned + (span.end - from) } }
     {

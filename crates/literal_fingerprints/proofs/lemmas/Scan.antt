@@ -1,7 +1,6 @@
 -- What a scan knows of the places that it has passed over.
 use Rattle.std.proofs.Common.{◌≡◌, ◌≢◌, ℕ, ◌+◌, ◌-◌, ◌<◌, ◌≤◌, ◌∙◌, List, ap, arith, bit_and, cond}
-use Rattle.std.proofs.Common.{get_or, inl, inr, subst, sym, take}
-use Rattle.std.proofs.lemmas.List.{get_or-take}
+use Rattle.std.proofs.Common.{get_or, inl, inr, subst, sym}
 use Rattle.std.proofs.lemmas.Bool.{cases_lt, le-ltb, lt-ltb}
 use Rattle.literal_fingerprints.specs.FingerprintsValue.{FingerprintsValue, HalfTable, PassesAt, buckets_of}
 use Rattle.literal_fingerprints.specs.FingerprintsValue.{shared_buckets}
@@ -101,9 +100,3 @@ same_shared f text other same =
     meets _ _ _ _
     (meets _ _ _ _ (ap (buckets_of f.first) (same 0 (omega arith))) (ap (buckets_of f.second) (same 1 (omega arith))))
     (meets _ _ _ _ (ap (buckets_of f.third) (same 2 (omega arith))) (ap (buckets_of f.fourth) (same 3 (omega arith))))
-
--- four bytes that lie before an end share the same buckets in what lies before it
-pub passes_upto : (f : FingerprintsValue) (haystack : List ℕ) (end place : ℕ) → place + 3 < end
-    → PassesAt f (take end haystack) place → PassesAt f haystack place
-passes_upto f haystack end place inside passes none =
-    passes (same_shared f _ _ (λ k few. get_or-take end haystack (place + k) 0 (omega arith)) ∙ none)

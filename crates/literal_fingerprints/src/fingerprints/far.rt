@@ -1,7 +1,7 @@
 //! The scan by 32 bytes a turn.
-ghost use Rattle.std.specs.Prelude.{◌≡◌, ◌≢◌, ◌⊎◌, ℕ, ◌+◌, ◌-◌, ◌<◌, ◌≤◌, slice_index, take};
+ghost use Rattle.std.specs.Prelude.{◌≡◌, ◌≢◌, ℕ, ◌+◌, ◌-◌, ◌<◌, ◌≤◌, slice_index, take};
 ghost use Rattle.literal_base.specs.Occurs.{IsValidSpan};
-ghost use Rattle.literal_fingerprints.specs.FingerprintsValue.{NoneBegins, PassesAt, shared_buckets};
+ghost use Rattle.literal_fingerprints.specs.FingerprintsValue.{FingerprintsMayStop, NoneBegins, shared_buckets};
 ghost use Rattle.literal_fingerprints.specs.Inside.Lanes.{HasBack, HasLanes, HasWide};
 ghost use Rattle.literal_fingerprints.specs.Inside.Scan.{HasPassed, IsLookedUp, NoneShared};
 ghost use Rattle.literal_fingerprints.specs.Inside.Scan.{shared_highs, shared_lows};
@@ -41,7 +41,7 @@ impl Fingerprints {
         ensures far { from ≤ result + 3 }
         ensures after { span.start ≤ result }
         ensures passed { NoneBegins self haystack.now span result }
-        ensures stops { PassesAt self haystack.now result ⊎ (span.end < result + 19) }
+        ensures stops { FingerprintsMayStop self haystack.now span result }
         ensures others { tally.new ≡ record tally.old { scanned = tally.new.scanned } }
         ensures once { tally.new.scanned ≤ tally.old.scanned + (span.end - from) }
         ensures read { tally.old.scanned + result ≤ tally.new.scanned + from }

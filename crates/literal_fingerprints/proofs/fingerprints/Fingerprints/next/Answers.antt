@@ -1,9 +1,7 @@
-use Rattle.std.proofs.Common.{◌≤◌, ap, arith, inl, take}
+use Rattle.std.proofs.Common.{ap, arith, inl, take}
 use Rattle.literal_base.specs.Counts.{Counts}
 use Rattle.literal_fingerprints.proofs.lemmas.Passing.{none_begins}
-use Rattle.literal_fingerprints.proofs.lemmas.Scan.{passes_upto}
 use Rattle.literal_fingerprints.proofs.fingerprints.Fingerprints.next.Goals as goal
-use Rattle.literal_fingerprints.proofs.fingerprints.Fingerprints.next.Goals.{else-is_short, then-is_short}
 
 pub pass-passed-requires-clause-looked : goal.pass-passed-requires-clause-looked
 pass-passed-requires-clause-looked c =
@@ -15,15 +13,7 @@ returns-then-passed-clause-passed c =
     (λ k after below. c.pass-passed.ensures.passed.none k after (omega arith))
 
 pub returns-then-passed-clause-stops : goal.returns-then-passed-clause-stops
-returns-then-passed-clause-stops c =
-    let near = c.pass-passed.ensures in
-    let inside : c.if-is_short.near ≤ c.args.span.end = elim c.if-is_short.branch [
-      | then-is_short w ↦ omega (arith, w.near-is)
-      | else-is_short w ↦ omega (arith, w.near-is, w.if-is_short.false)
-    ] in
-    inl (passes_upto c.args.self.now c.args.haystack.now c.args.span.end _
-    (omega (arith, inside, c.if-passed.true, near.most, near.passed.far c.if-passed.true))
-    (near.passed.stops c.if-passed.true))
+returns-then-passed-clause-stops c = inl (c.pass-passed.ensures.passed.stops c.if-passed.true)
 
 pub returns-then-passed-clause-thrice : goal.returns-then-passed-clause-thrice
 returns-then-passed-clause-thrice c =
@@ -44,11 +34,7 @@ returns-then-last-clause-passed c =
     (λ k after below. c.pass-last.ensures.passed.none k after (omega arith))
 
 pub returns-then-last-clause-stops : goal.returns-then-last-clause-stops
-returns-then-last-clause-stops c =
-    let last = c.pass-last.ensures in
-    inl (passes_upto c.args.self.now c.args.haystack.now c.args.span.end _
-    (omega (arith, c.if-last.true, last.most, last.passed.far c.if-last.true))
-    (last.passed.stops c.if-last.true))
+returns-then-last-clause-stops c = inl (c.pass-last.ensures.passed.stops c.if-last.true)
 
 pub returns-clause-thrice : goal.returns-clause-thrice
 returns-clause-thrice c =

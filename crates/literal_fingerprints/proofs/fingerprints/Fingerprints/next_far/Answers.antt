@@ -1,6 +1,5 @@
 use Rattle.std.proofs.Common.{arith, inl}
 use Rattle.literal_fingerprints.proofs.lemmas.Passing.{none_begins}
-use Rattle.literal_fingerprints.proofs.lemmas.Scan.{passes_upto}
 use Rattle.literal_fingerprints.proofs.fingerprints.Fingerprints.next_far.Goals as goal
 
 pub returns-then-near-clause-passed : goal.returns-then-near-clause-passed
@@ -9,11 +8,7 @@ returns-then-near-clause-passed c =
     (λ k after below. c.pass-near.ensures.passed.none k after (omega arith))
 
 pub returns-then-near-clause-stops : goal.returns-then-near-clause-stops
-returns-then-near-clause-stops c =
-    let near = c.pass-near.ensures in
-    inl (passes_upto c.args.self c.args.haystack.now c.args.span.end _
-    (omega (arith, c.if-near.true, near.most, c.requires.inside, near.passed.far c.if-near.true))
-    (near.passed.stops c.if-near.true))
+returns-then-near-clause-stops c = inl (c.pass-near.ensures.passed.stops c.if-near.true)
 
 pub returns-then-far-clause-passed : goal.returns-then-far-clause-passed
 returns-then-far-clause-passed c =
@@ -21,11 +16,7 @@ returns-then-far-clause-passed c =
     (λ k after below. c.pass_by_lows-far.ensures.passed.none k after (omega arith))
 
 pub returns-then-far-clause-stops : goal.returns-then-far-clause-stops
-returns-then-far-clause-stops c =
-    let far = c.pass_by_lows-far.ensures in
-    inl (passes_upto c.args.self c.args.haystack.now c.args.span.end _
-    (omega (arith, c.if-far.true, far.most, far.passed.far c.if-far.true))
-    (far.passed.stops c.if-far.true))
+returns-then-far-clause-stops c = inl (c.pass_by_lows-far.ensures.passed.stops c.if-far.true)
 
 pub returns-then-last-clause-passed : goal.returns-then-last-clause-passed
 returns-then-last-clause-passed c =
@@ -33,8 +24,4 @@ returns-then-last-clause-passed c =
     (λ k after below. c.pass-last.ensures.passed.none k after (omega arith))
 
 pub returns-then-last-clause-stops : goal.returns-then-last-clause-stops
-returns-then-last-clause-stops c =
-    let last = c.pass-last.ensures in
-    inl (passes_upto c.args.self c.args.haystack.now c.args.span.end _
-    (omega (arith, c.if-last.true, last.most, last.passed.far c.if-last.true))
-    (last.passed.stops c.if-last.true))
+returns-then-last-clause-stops c = inl (c.pass-last.ensures.passed.stops c.if-last.true)
