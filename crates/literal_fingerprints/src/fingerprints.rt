@@ -23,7 +23,7 @@ use std::simd::prelude::*;
 /// For how many patterns there are fingerprints.
 const MOST_PATTERNS: usize = 64;
 
-/// So many bytes are looked up 16 at a time before the scan looks up 32 at a time, which takes some time to begin.
+/// The first bytes of a span are looked up 16 at a time. To begin with 32 at a time takes longer than it saves there.
 const NEAR: usize = 512;
 
 /// How many bytes fingerprints take.
@@ -168,9 +168,9 @@ impl Fingerprints {
     }
 
     /// A place of the span, or its end, before which no pattern begins that lies whole in the span. The span has to be
-    /// valid. The scan stops at the first place at which a pattern may begin by its fingerprint. Bytes are read 16 at a
-    /// time, or, for few patterns after the first 512 bytes, 32 at a time, each once. The last bytes, fewer than 16,
-    /// are read together; with 14 or 15 of them the scan stops up to two places before the end of the span.
+    /// valid. The scan stops at the first place at which a pattern may begin by its fingerprint. Each byte is read
+    /// once: 16 at a time, or, for few patterns in a long span, 32 at a time. The last bytes, fewer than 16, are read
+    /// together; with 14 or 15 of them the scan stops up to two places before the end of the span.
     #[inline(always)]
     pub fn next(&self, haystack: &[u8], span: Span, tally: &mut Tally) -> usize
         requires { IsValidSpan haystack.now span }

@@ -83,7 +83,7 @@ impl<'s> Automaton<'s> {
         State { number: 0 }
     }
 
-    /// The state after the text with one more byte, by one look-up.
+    /// The state after one more byte of the text.
     #[inline(always)]
     pub fn next_state(&self, state: State, byte: u8) -> State
         ensures { (text : List ℕ) → IsStateAfter self.now text state

@@ -91,8 +91,8 @@ impl<R: BufRead> Device<R> {
         }
     }
 
-    /// Passes over lines in which no word of a search occurs: of those that the reader has read ahead all before the
-    /// first that may hold one. That one is read too, in place of what is in the buffer, if it is whole.
+    /// Passes over lines without a match: those before the first match in what the reader has read ahead. The line of
+    /// that match is read into the line buffer, if all of it is read ahead.
     pub fn pass_lines(&mut self, search: &Search, line: &mut Vec<u8>) -> Result<Passed, Fault>
         ensures takes { IfOk result (λ passed. (text : List ℕ) × Takes search.now passed line.new.items text
             × Consumes (R.remaining self.old.inner) (R.remaining self.new.inner) text) }
@@ -110,7 +110,7 @@ impl<R: BufRead> Device<R> {
         Ok(passed)
     }
 
-    /// What [`Device::pass_lines`] answers where nothing could be read. An interrupted read is tried again by the next.
+    /// What [`Device::pass_lines`] answers if a read fails. After an interrupted read, it passes over nothing.
     fn after_fill(&mut self, error: io::Error) -> Result<Passed, Fault>
         ensures inner { self.new.inner ≡ self.old.inner }
         ensures none { IfOk result (λ passed. passed ≡ record { lines = 0; bytes = 0; next = None }) }

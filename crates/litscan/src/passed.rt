@@ -1,4 +1,4 @@
-//! Lines that are passed over, many at once: those before the first match in what a reader has read ahead.
+//! Lines without a match, many at once: those before the first match in what a reader has read ahead.
 ghost use Rattle.std.specs.Prelude.{◌≡◌, ◌⊎◌, ◌≢◌, ◌+◌, ◌-◌, ◌<◌, ◌≤◌, ◌==◌, ◌^◌, List, None, ℕ, IfOk, MatchOption, ⊤};
 ghost use Rattle.std.specs.Prelude.{length, slice_index, take};
 ghost use Rattle.std.specs.List.{count_by};
@@ -7,15 +7,17 @@ ghost use Rattle.litscan.specs.Inside.Passed.{IsAhead, LiesInLine, Takes, len_of
 use literal_search::{Match, Search};
 use std::alloc::AllocError;
 
-/// How many bytes are looked at for line feeds at once.
+/// Line feeds are counted in parts of this many bytes, so that the count of a part fits into a byte.
 const PART: usize = 255;
 
-/// How many lines without a word were passed over, how many bytes these have with their line feeds, and how many the
-/// next line has without its line feed, if a word occurs in it and it was read ahead whole.
+/// Lines without a match that were passed over, and maybe the next line.
 #[derive(Clone, Copy)]
 pub struct Passed {
+    /// How many lines were passed over.
     pub lines: usize,
+    /// How many bytes they have, with their line feeds.
     pub bytes: usize,
+    /// The length of the next line, without its line feed, if it has a match and all of it is read ahead.
     pub next: Option<usize>,
 }
 
@@ -31,7 +33,7 @@ impl Passed {
         }
     }
 
-    /// How many bytes were passed over, with those of the next line.
+    /// How many bytes these lines have, with the next one and its line feed.
     pub fn len(&self) -> usize
         requires { len_of self.now < 2 ^ 64 }
         ensures { result ≡ len_of self.now }
@@ -43,8 +45,8 @@ impl Passed {
     }
 }
 
-/// Of these bytes, which are read ahead, the lines before the first that may hold a word; and that line, which is put
-/// in the place of another one, if it is whole.
+/// The lines before the first match in bytes that are read ahead. The line of the match is copied into the line buffer,
+/// if all of it is there.
 pub fn take_ahead(search: &Search, bytes: &[u8], line: &mut Vec<u8>) -> Result<Passed, AllocError>
     ensures takes { IfOk result (λ passed.
         Takes search.now passed line.new.items (take (len_of passed) bytes.now)) }
@@ -58,7 +60,7 @@ pub fn take_ahead(search: &Search, bytes: &[u8], line: &mut Vec<u8>) -> Result<P
     Ok(passed)
 }
 
-/// The same without a copy of the line.
+/// The same, without the copy.
 fn look_ahead(search: &Search, bytes: &[u8]) -> Passed
     ensures { IsAhead search.now bytes.now result }
 {
@@ -78,7 +80,8 @@ fn look_ahead(search: &Search, bytes: &[u8]) -> Passed
     }
 }
 
-/// How long the line of a match is, which begins at a place, if its line feed is there, and the match before it.
+/// The length of the line of a match, from the place where the line begins, if its line feed is there and follows the
+/// match.
 fn length_from(bytes: &[u8], start: usize, found: Match) -> Option<usize>
     requires before { start ≤ found.start }
     requires inside { found.end ≤ length bytes.now }
@@ -135,7 +138,7 @@ fn count_feeds(bytes: &[u8]) -> usize
     count
 }
 
-/// The same for so few bytes that the count of a vector's lane fits into a byte.
+/// The same for so few bytes that the count fits into a byte. So the compiler can count in lanes of bytes.
 fn count_few(bytes: &[u8]) -> u8
     requires { length bytes.now ≤ 255 }
     ensures { result ≡ count_by (λ byte. byte == 10) bytes.now }

@@ -26,7 +26,7 @@ use literal_search::Search;
 use std::alloc::Global;
 use std::io::{BufRead, ErrorKind, Write};
 
-/// Behind so many lines in a row that do not count, a scan looks for the next match in all that is read ahead.
+/// After this many lines in a row without a match, a scan looks for the next match in all that is read ahead.
 const LONG: usize = 2;
 
 /// What a scan of a text found.
@@ -144,7 +144,7 @@ fn scan_lines<R: BufRead, W: Write>(
 {
     let mut line = Vec::new(alloc);
     let (mut count, mut lines, mut offset) = (0, 0, 0);
-    let mut gap = Gap::new(options);
+    let mut gap = Gap::new();
     loop {
         if is_enough(options.limit(), count) {
             return Ok(Scanned {
@@ -185,7 +185,7 @@ fn scan_lines<R: BufRead, W: Write>(
     }
 }
 
-/// How many lines in a row did not count, since the last that did, and before that one.
+/// The number of lines since the last one that counts, and of those between it and the one before it.
 #[derive(Clone, Copy)]
 struct Gap {
     now: usize,
@@ -193,13 +193,15 @@ struct Gap {
 }
 
 impl Gap {
-    /// Before the first line. It is long, unless lines without a word count.
-    fn new(options: Options) -> Gap {
-        let now = if options.others { 0 } else { LONG };
-        Gap { now, before: 0 }
+    /// At the start of a text. It is long, so the scan begins with a look ahead.
+    fn new() -> Gap {
+        Gap {
+            now: LONG,
+            before: 0,
+        }
     }
 
-    /// With lines that were passed over, and one more, which may count.
+    /// The gap after this many lines that were passed over, and one more line, which counts or does not.
     fn with(self, passed: usize, counts: bool) -> Gap {
         let now = self.now.saturating_add(passed);
         if counts {
@@ -214,22 +216,22 @@ impl Gap {
         }
     }
 
-    /// Whether it is faster to look for the next match in all that is read ahead than to search the next line.
+    /// Whether looking ahead is likely to be faster than searching the next line.
     fn is_long(self) -> bool {
         self.now.max(self.before) >= LONG
     }
 }
 
-/// What was read: lines that were passed over, which do not count, and what is in the buffer.
+/// What one step of a scan read: lines that were passed over, and the text in the line buffer.
 #[derive(Clone, Copy)]
 struct Next {
     passed: Passed,
-    /// Whether a line feed was behind what is in the buffer. If there was none, the text is over.
+    /// Whether a line feed followed the text in the line buffer. If not, this is the end of the input.
     fed: bool,
 }
 
-/// Reads the next line that may count, in place of what is in the buffer. Lines that do not count are passed over, as
-/// far as they are read ahead.
+/// Reads the next line that may count into the line buffer. It passes over lines that do not count, as far as these are
+/// read ahead.
 fn next_line<R: BufRead>(
     search: &Search,
     options: Options,
@@ -249,7 +251,7 @@ fn next_line<R: BufRead>(
     Ok(Next { passed, fed })
 }
 
-/// Passes over lines that do not count, if these are those without a word, and if the last gap was long.
+/// Passes over lines without a match, if these do not count and the last gap was long.
 fn pass_lines<R: BufRead>(
     search: &Search,
     options: Options,

@@ -18,11 +18,11 @@ use literal_base::Span;
 use literal_base::count::Tally;
 use std::simd::prelude::*;
 
-/// If the low halves of the tables have so many bits at most, as for thirteen patterns, few places pass by these alone.
+/// If the low halves of the tables have at most this many bits, few places pass by these halves alone.
 const FEW_BITS: u32 = 52;
 
 impl Fingerprints {
-    /// Goes on with a scan at a place before which all bytes are looked up.
+    /// Continues a scan from a place, before which all bytes of the span are looked up.
     #[inline(never)]
     pub(super) fn next_far(
         self,
