@@ -7,7 +7,7 @@ ghost use Rattle.std.specs.Char.{to_ascii_lowercase};
 ghost use Rattle.std.specs.Hash.{u32, usize};
 ghost use Rattle.literal_base.specs.Bytes.{by_byte, contains, no_bytes, opposite_case};
 ghost use Rattle.literal_base.specs.Classes.{AreRuns, NonePart, alphabet_len_of, class_of, elements_of};
-ghost use Rattle.literal_base.specs.Classes.{marks_of, with_range_marked};
+ghost use Rattle.literal_base.specs.Classes.{holds, marks_of, with_range_marked};
 ghost use Rattle.literal_base.specs.declared.packed.MatchKind.{MatchKind as PackedMatchKind};
 ghost use Rattle.literal_base.specs.declared.packed.MatchKind.TheVariants.{LeftmostFirst, LeftmostLongest};
 ghost use Rattle.literal_base.specs.declared.search.Anchored.{Anchored};
@@ -127,6 +127,17 @@ pub fn neighbours_share_a_class()
         → All (λ range. range.0 ≤ range.1) ranges
         → b < 255
         → (class_of (marks_of ranges) b ≡ class_of (marks_of ranges) (b + 1)) ↔ NonePart ranges b }
+{}
+
+/// Bytes of one class are in the same ranges, of those that were marked: no range holds just one of
+/// them. So a table with a column for each class can answer as one with a column for each byte.
+pub fn a_class_is_in_the_same_ranges()
+    ensures { (ranges : List (ℕ × ℕ)) (b c : ℕ)
+        → All (λ range. range.0 ≤ range.1) ranges
+        → b < 256
+        → c < 256
+        → class_of (marks_of ranges) b ≡ class_of (marks_of ranges) c
+        → All (λ range. holds range b ≡ holds range c) ranges }
 {}
 
 /// The marks of a list of ranges come from no mark by marking one range after another.

@@ -1,8 +1,10 @@
 //! Sets, classes and ranks of bytes: callers that rely on contracts alone, and worked cases.
 ghost use Rattle.std.specs.Prelude.{◌≡◌, ◌<◌, ◌≤◌, ◌+◌, ◌↔◌, ℕ, [], Ok, IfOk, IsNone, IsTrue, length, slice_index};
-ghost use Rattle.std.specs.List.{All};
+ghost use Rattle.std.specs.Prelude.{false, slice_index_or};
+ghost use Rattle.std.specs.List.{All, list_any};
 ghost use Rattle.literal_base.specs.Bytes.{by_byte};
-ghost use Rattle.literal_base.specs.Classes.{AreRuns, NonePart, alphabet_len_of, class_of, elements_of, marks_of};
+ghost use Rattle.literal_base.specs.Classes.{AreRuns, NonePart, alphabet_len_of, class_of, elements_of, holds};
+ghost use Rattle.literal_base.specs.Classes.{marks_of};
 
 use literal_base::alphabet::{ByteClassElements, ByteClassSet, ByteClasses};
 use literal_base::laws;
@@ -70,19 +72,32 @@ pub fn have_their_class(classes: &ByteClasses, class: u8) -> bool
     true
 }
 
-/// For each class below the length of the alphabet the last byte of that class. The classes come from
-/// marks, so that each byte's class has a place.
-pub fn last_bytes(alloc: Global, set: &ByteClassSet) -> Result<Vec<u8>, AllocError>
-    ensures { IfOk result (λ last. length last.items ≡ alphabet_len_of (by_byte (class_of set.now))) }
+/// For each class whether its bytes are in one of the ranges. So a table with a place for each class answers as one
+/// with a place for each byte.
+pub fn classes_inside(alloc: Global, ranges: &[(u8, u8)]) -> Result<Vec<bool>, AllocError>
+    requires { All (λ range. range.0 ≤ range.1) ranges.now }
+    ensures { IfOk result (λ inside. (b : ℕ) → b < 256
+        → slice_index_or inside.items (slice_index (by_byte (class_of (marks_of ranges.now))) b) false
+        ≡ list_any (λ range. holds range b) ranges.now) }
 {
-    let classes = set.byte_classes();
+    let classes = classes_of(ranges);
     laws::classes_are_below_the_alphabet_len();
-    let mut last = Vec::new(alloc);
-    last.resize(classes.alphabet_len(), 0)?;
-    for byte in 0..=255 {
-        last[usize::from(classes.get(byte))] = byte;
+    laws::a_class_is_in_the_same_ranges();
+    let mut inside = vec![in alloc; false; classes.alphabet_len()]?;
+    for index in 0..256usize {
+        let byte = index as u8;
+        inside[usize::from(classes.get(byte))] = is_in_one(ranges, byte);
     }
-    Ok(last)
+    Ok(inside)
+}
+
+/// Whether a byte is in one of the ranges.
+fn is_in_one(ranges: &[(u8, u8)], byte: u8) -> bool
+    ensures { result ≡ list_any (λ range. holds range byte) ranges.now }
+{
+    ranges
+        .iter()
+        .any(|(start, end)| *start <= byte && byte <= *end)
 }
 
 /// The runs of a class's bytes, which are collected.

@@ -1,7 +1,7 @@
 -- What is known of lists with a value for each byte, of marks and classes, of each byte that a `for` takes of a class,
 -- and of what was given as a slice, an array or a vector.
 -- For callers: their proofs cite this file, and no other of this crate's proofs.
-use Rattle.std.proofs.Common.{◌≡◌, ◌==◌, ℕ, ◌+◌, ◌<◌, ◌≤◌, ◌||◌, ◌↔◌, Bool, true, false, List, [], ◌∷◌, ◌++◌}
+use Rattle.std.proofs.Common.{◌≡◌, ◌==◌, ℕ, ◌+◌, ◌-◌, ◌<◌, ◌≤◌, ◌||◌, ◌↔◌, Bool, true, false, List, [], ◌∷◌, ◌++◌}
 use Rattle.std.proofs.Common.{length, get_or, slice_index, take, zero, suc, cond, sym, refl, ap, subst, ⊎_elim, ◌∙◌}
 use Rattle.std.proofs.Common.{arith}
 use Rattle.std.proofs.Common.{◌^◌, Option}
@@ -143,6 +143,38 @@ class_of-le : (marked : List Bool) (b c : ℕ) → b ≤ c → class_of marked b
 class_of-le marked b c ordered =
     subst (λ ms. count_by (λ m. m) ms ≤ class_of marked c) (take_of_take b c marked ordered)
     (sum_by-take-le (λ m. cond m 1 0) (take c marked) b)
+
+same_ranges_up : (ranges : List (ℕ × ℕ)) (b n : ℕ) → All (λ range. range.0 ≤ range.1) ranges → b + n < 256
+    → class_of (marks_of ranges) b ≡ class_of (marks_of ranges) (b + n)
+    → All (λ range. holds range b ≡ holds range (b + n)) ranges
+same_ranges_up ranges b zero ordered below same k d inside =
+    let e : b ≡ b + 0 = omega arith in ap (holds (get_or ranges k d)) e
+same_ranges_up ranges b (suc n) ordered below same k d inside =
+    let marked = marks_of ranges in
+    let e : b + n + 1 ≡ b + suc n = omega arith in
+    let here : class_of marked (b + n + 1) ≡ class_of marked (b + suc n) = ap (class_of marked) e in
+    let first : class_of marked b ≤ class_of marked (b + n) = class_of-le marked b (b + n) (omega arith) in
+    let last : class_of marked (b + n) ≤ class_of marked (b + n + 1) =
+    class_of-le marked (b + n) (b + n + 1) (omega arith) in
+    same_ranges_up ranges b n ordered (omega arith) (omega arith) k d inside
+    ∙ ((share_a_class ranges (b + n) ordered (omega arith)).0 (omega arith) k d inside
+    ∙ ap (holds (get_or ranges k d)) e)
+
+-- bytes of one class are in the same ranges
+pub same_ranges : (ranges : List (ℕ × ℕ)) (b c : ℕ) → All (λ range. range.0 ≤ range.1) ranges → b < 256 → c < 256
+    → class_of (marks_of ranges) b ≡ class_of (marks_of ranges) c → All (λ range. holds range b ≡ holds range c) ranges
+same_ranges ranges b c ordered below_b below_c same =
+    ⊎_elim
+    (λ less.
+    let e : b + (c - b) ≡ c = omega arith in
+    subst (λ k. All (λ range. holds range b ≡ holds range k) ranges) e
+    (same_ranges_up ranges b (c - b) ordered (omega arith) (same ∙ sym (ap (class_of (marks_of ranges)) e))))
+    (λ more k d inside.
+    let e : c + (b - c) ≡ b = omega arith in
+    sym (subst (λ n. All (λ range. holds range c ≡ holds range n) ranges) e
+    (same_ranges_up ranges c (b - c) ordered (omega arith) (sym same ∙ sym (ap (class_of (marks_of ranges)) e)))
+    k d inside))
+    (cases_lt b c)
 
 -- a byte's class is below the number of classes: byte 255 has the greatest
 pub class_below_len : (marked : List Bool) (b : ℕ) → b < 256

@@ -2,8 +2,8 @@
 use crate::asserted::assert_prints;
 use literal_base::alphabet::{ByteClassSet, ByteClasses, ByteSet};
 use literal_examples::classes::{
-    classes_of, copied, count_of_classes, count_of_elements, elements_taken, have_their_class,
-    last_bytes, next_after_all, runs_collected,
+    classes_inside, classes_of, copied, count_of_classes, count_of_elements, elements_taken,
+    have_their_class, next_after_all, runs_collected,
 };
 use std::test::Fail;
 
@@ -32,10 +32,11 @@ fn lists_bytes(rt: HostRuntime) -> Result<(), Fail> {
     assert!(rt; bytes.as_slice() == b"ef".as_slice());
     let runs = runs_collected(rt.alloc(), &ByteClasses::empty(), 0)?;
     assert!(rt; runs.as_slice() == [(0, 255)].as_slice());
+    let inside = classes_inside(rt.alloc(), &THREE)?;
+    assert!(rt; inside.as_slice() == [false, true, false, true, false, true, false].as_slice());
     let mut set = ByteClassSet::default();
     set.set_range(b'a', b'z');
-    let last = last_bytes(rt.alloc(), &copied(&set)?)?;
-    assert!(rt; last.as_slice() == [b'`', b'z', 255].as_slice());
+    assert!(rt; copied(&set)?.byte_classes().alphabet_len() == 3);
     Ok(())
 }
 
