@@ -1,10 +1,12 @@
 //! What a search is built by, each of it set by its name.
 ghost use Rattle.std.specs.Prelude.{◌≡◌, IfErr, IfOk};
 ghost use Rattle.literal_base.specs.Given.{CanBeTaken};
+ghost use Rattle.literal_search.specs.Overlapping.{BuildsOverlapping};
 ghost use Rattle.literal_search.specs.SearchBuilderValue.{default_builder};
-ghost use Rattle.literal_search.specs.SearchValue.{BuildsSearch, NeedFewReversed, NeedTooManyReversed, RefusesSearch};
+ghost use Rattle.literal_search.specs.SearchValue.{BuildsSearch, NeedFewReversed, NeedFewStates, NeedTooManyReversed};
+ghost use Rattle.literal_search.specs.SearchValue.{NeedTooManyStates, RefusesSearch};
 
-use crate::{BuildError, MatchKind, Search};
+use crate::{BuildError, MatchKind, Overlapping, Search};
 use std::alloc::Global;
 use std::marker::Model;
 
@@ -86,5 +88,22 @@ impl SearchBuilder {
             (NeedTooManyReversed self.now.ignore_case)) }
     {
         Search::new(alloc, self.kind, self.ignore_case, patterns)
+    }
+
+    /// The search for every occurrence of the patterns that the iterator gives: [`Overlapping::new`] by what is set.
+    /// The kind of match makes no difference to it.
+    pub fn build_overlapping<'a, I: IntoIterator<Item = &'a [u8]>>(
+        &self,
+        alloc: Global,
+        patterns: I,
+    ) -> Result<Overlapping, BuildError>
+        requires { CanBeTaken I.into_iter_gives I.IntoIter.can_next I.IntoIter.remaining patterns }
+        ensures ok { IfOk result
+            (BuildsOverlapping I.into_iter_gives I.IntoIter.next_gives patterns self.now.ignore_case) }
+        ensures few { IfOk result (λ built. NeedFewStates self.now.ignore_case built.patterns) }
+        ensures error { IfErr result (RefusesSearch I.into_iter_gives I.IntoIter.next_gives patterns
+            (NeedTooManyStates self.now.ignore_case)) }
+    {
+        Overlapping::new(alloc, self.ignore_case, patterns)
     }
 }

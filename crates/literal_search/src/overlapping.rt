@@ -21,6 +21,7 @@ use crate::automaton::{Automaton, automaton_of};
 use crate::classes::classes_for;
 use crate::grow::{GrowError, grow};
 use crate::numbers::{Numbers, prints_for};
+use crate::patterns::Patterns;
 use crate::prepared::{ArrayTooShort, OVERLAPPING_VERSION};
 use crate::prepared_overlapping::{LentTables, lent_in};
 use crate::standing::Standing;
@@ -218,6 +219,13 @@ impl Overlapping {
         ensures patterns { CanBeKept self.now.patterns }
     {
         self.parts.patterns.len()
+    }
+
+    /// The patterns, as they were given, in the order of their identifiers.
+    pub fn patterns(&self) -> Patterns<'_>
+        ensures { result ≡ self.now.patterns }
+    {
+        Patterns::of(&self.parts.patterns)
     }
 
     /// The bytes of the pattern of a number, as they were given, and `None` where there is none of that number.

@@ -23,6 +23,7 @@ use crate::backward::{Backward, LEAST, Marks, no_marks, place_after};
 use crate::classes::classes_for;
 use crate::grow::GrowError;
 use crate::numbers::{Numbers, prints_for};
+use crate::patterns::Patterns;
 use crate::prepared::{ArrayTooShort, PREPARED_VERSION};
 use crate::prepared_search::backward_in;
 use crate::shadowed::backward_rows;
@@ -351,6 +352,13 @@ impl Search {
             return 0;
         }
         shortest_len(&self.parts.patterns)
+    }
+
+    /// The patterns, as they were given, in the order of their identifiers.
+    pub fn patterns(&self) -> Patterns<'_>
+        ensures { result ≡ self.now.query.patterns }
+    {
+        Patterns::of(&self.parts.patterns)
     }
 
     /// The bytes of the pattern of a number, as they were given, and `None` where there is none of that number.

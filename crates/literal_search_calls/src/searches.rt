@@ -87,6 +87,8 @@ fn tells_what_it_was_built_of(rt: HostRuntime) -> Result<(), Fail> {
     assert!(rt; search.pattern(PatternID::must(0)) == Some(b"Abc".as_slice()));
     assert!(rt; search.pattern(PatternID::must(2)) == Some(b"cd".as_slice()));
     assert!(rt; search.pattern(PatternID::must(3)).is_none());
+    let mut patterns = search.patterns();
+    assert!(rt; patterns.next() == Some(b"Abc".as_slice()) && patterns.count() == 2);
     let none = first_of(rt.alloc(), &[])?;
     assert!(rt; none.min_pattern_len() == 0 && none.pattern(PatternID::must(0)).is_none());
     Ok(())
@@ -170,6 +172,7 @@ fn overlapping_tells_what_it_was_built_of(rt: HostRuntime) -> Result<(), Fail> {
     assert!(rt; all.max_pattern_len() == 3 && all.ignores_case());
     assert!(rt; all.pattern(PatternID::must(0)) == Some(b"Abc".as_slice()));
     assert!(rt; all.pattern(PatternID::must(2)).is_none());
+    assert!(rt; all.patterns().next() == Some(b"Abc".as_slice()) && all.patterns().count() == 2);
     assert!(rt; all.is_match(b"aBc") && !all.is_match(b"ac"));
     Ok(())
 }

@@ -124,7 +124,8 @@ fn find_all_of_nothing(rt: HostRuntime) -> Result<(), AllocError> {
 /// A search for everything that occurs of patterns that are ends of others, and of one that stands twice.
 fn build_overlapping(alloc: Global) -> Result<Overlapping, BuildError> {
     let words = [b"abc".as_slice(), b"c", b"bc", b"c"];
-    Overlapping::new(alloc, true, words)
+    let builder = Search::builder().ascii_case_insensitive(true);
+    builder.build_overlapping(alloc, words)
 }
 
 /// It finds all that ends with a `c`.
