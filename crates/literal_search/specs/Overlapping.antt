@@ -1,5 +1,5 @@
 -- Everything that occurs, in the order of ends, and a search for it as contracts see it.
-use Rattle.std.specs.Prelude.{◌≡◌, ◌⊎◌, ℕ, ◌+◌, ◌<◌, Bool, List, length, Option}
+use Rattle.std.specs.Prelude.{◌≡◌, ◌⊎◌, ℕ, ◌+◌, ◌<◌, Bool, List, length, Option, true}
 use Rattle.std.specs.Borrow.{Bor}
 use Rattle.std.specs.List.{All, AllPairs, IsAmong}
 use Rattle.literal_base.specs.declared.search.Span.{Span}
@@ -23,6 +23,15 @@ pub record IsOverlapping (patterns : List (List ℕ)) (ignore_case : Bool) (hays
   pub each : All (IsOccurrence patterns ignore_case haystack span) all
   pub ordered : AllPairs ComesBefore all
   pub every : (found : MatchValue) → IsOccurrence patterns ignore_case haystack span found → IsAmong all found
+
+-- a list has every occurrence in the span that passes a test, once, in that order
+pub record AreAllThat (test : MatchValue → Bool) (patterns : List (List ℕ)) (ignore_case : Bool) (haystack : List ℕ)
+    (span : Span) (all : List MatchValue) : Type 0 where
+  pub each : All (IsOccurrence patterns ignore_case haystack span) all
+  pub pass : All (λ found. test found ≡ true) all
+  pub ordered : AllPairs ComesBefore all
+  pub every : (found : MatchValue) → IsOccurrence patterns ignore_case haystack span found → test found ≡ true
+      → IsAmong all found
 
 -- an `Overlapping` as contracts see it: the patterns, and whether ASCII case is ignored
 pub record OverlappingValue : Type 0 where

@@ -1,9 +1,9 @@
 -- What is known of lists with a value for each byte, of marks and classes, of each byte that a `for` takes of a class,
--- and of what was given as a slice, an array or a vector.
+-- of what was given as a slice, an array or a vector, and of what occurs.
 -- For callers: their proofs cite this file, and no other of this crate's proofs.
 use Rattle.std.proofs.Common.{◌≡◌, ◌==◌, ℕ, ◌+◌, ◌-◌, ◌<◌, ◌≤◌, ◌||◌, ◌↔◌, Bool, true, false, List, [], ◌∷◌, ◌++◌}
 use Rattle.std.proofs.Common.{length, get_or, slice_index, take, zero, suc, cond, sym, refl, ap, subst, ⊎_elim, ◌∙◌}
-use Rattle.std.proofs.Common.{arith}
+use Rattle.std.proofs.Common.{arith, drop, inl, map}
 use Rattle.std.proofs.Common.{◌^◌, Option}
 use Rattle.std.specs.Array.Iter.{array_into_iter_items, array_steps, array_steps_back}
 use Rattle.std.specs.declared.array.IntoIter.{IntoIter}
@@ -32,6 +32,16 @@ use Rattle.std.proofs.Math.Seq.{get_or-append_seam}
 use Rattle.literal_base.specs.Bytes.{all_bytes, by_byte, contains}
 use Rattle.literal_base.specs.Classes.{NonePart, alphabet_len_of, class_of, elements_of, holds, is_marked_by, marks_of}
 use Rattle.literal_base.specs.Classes.{with_range_marked}
+use Rattle.std.specs.Char.{to_ascii_lowercase}
+use Rattle.std.specs.List.{slice_range}
+use Rattle.std.proofs.lemmas.Bool.{eq-eqb}
+use Rattle.std.proofs.lemmas.List.{get_or-drop, get_or-map, get_or-take, length-drop, length-map, length-take}
+use Rattle.literal_base.specs.declared.packed.MatchKind.TheVariants.{LeftmostLongest}
+use Rattle.literal_base.specs.declared.search.Span.{Span}
+use Rattle.literal_base.specs.Leftmost.{IsBetter, IsLeftmostMatch}
+use Rattle.literal_base.specs.MatchValue.{MatchValue}
+use Rattle.literal_base.specs.Occurs.{AreEqualBytes, IsValidSpan, Occurs, StandsAt, pattern_at, same_byte}
+use Rattle.literal_base.specs.Query.{Query}
 
 -- a list with a value for each byte has 256 of them, and at a byte its value
 pub length-by_byte : {X : Type 0} (f : ℕ → X) → length (by_byte f) ≡ 256
@@ -248,3 +258,63 @@ module _ {U T A : Type 0} {becomes : U → T → Type 0} {steps : T → Option A
   items_are it items is_iterator drains =
       sym (map-id items)
       ∙ items_from_drains items (drains.1.0, drains.1.1, λ _. (drains.0, drains.1.2)) (gives.each it is_iterator)
+
+same_at : (c : Bool) (a b : List ℕ) → AreEqualBytes c a b → (k : ℕ) → k < length a
+    → same_byte c (get_or a k 0) (get_or b k 0) ≡ true
+same_at true a b s k below =
+    let long = ap (λ (l : List ℕ). length l) s in
+    eq-eqb _ _ (sym (get_or-map to_ascii_lowercase a k 0 0 below)
+    ∙ (ap (λ l. get_or l k 0) s ∙ get_or-map to_ascii_lowercase b k 0 0
+    (omega (arith, length-map a to_ascii_lowercase, length-map b to_ascii_lowercase))))
+same_at false a b s k below = eq-eqb _ _ (ap (λ l. get_or l k 0) s)
+
+-- the bytes where a pattern occurs are those of the pattern
+pub bytes_at : (patterns : List (List ℕ)) (ignore_case : Bool) (haystack : List ℕ) (span : Span)
+    → IsValidSpan haystack span → (i at : ℕ) → Occurs patterns ignore_case haystack span i at
+    → (k : ℕ) → k < length (pattern_at patterns i)
+    → same_byte ignore_case (get_or haystack (at + k) 0) (get_or (pattern_at patterns i) k 0) ≡ true
+bytes_at patterns ignore_case haystack span valid i at occurs k below =
+    let p = pattern_at patterns i in
+    let part = slice_range haystack at (at + length p) in
+    let inside = valid.in_haystack in
+    let before = occurs.before_end in
+    let long : length part ≡ length p =
+    omega (arith, length-take (at + length p - at) (drop at haystack), length-drop at haystack) in
+    let is : get_or part k 0 ≡ get_or haystack (at + k) 0 =
+    get_or-take (at + length p - at) (drop at haystack) k 0 (omega arith) ∙ get_or-drop at haystack k 0 in
+    subst (λ b. same_byte ignore_case b (get_or p k 0) ≡ true) is
+    (same_at ignore_case part p occurs.same k (omega arith))
+
+-- with case kept they are the same
+pub bytes_are : (patterns : List (List ℕ)) (haystack : List ℕ) (span : Span) → IsValidSpan haystack span → (i at : ℕ)
+    → Occurs patterns false haystack span i at → (k : ℕ) → k < length (pattern_at patterns i)
+    → get_or haystack (at + k) 0 ≡ get_or (pattern_at patterns i) k 0
+bytes_are patterns haystack span valid i at occurs k below =
+    eqb-true _ _ (bytes_at patterns false haystack span valid i at occurs k below)
+
+-- what occurs in a span stands in the haystack
+pub stands : (patterns : List (List ℕ)) (ignore_case : Bool) (haystack : List ℕ) (span : Span)
+    → IsValidSpan haystack span → (i at : ℕ) → Occurs patterns ignore_case haystack span i at
+    → StandsAt ignore_case (pattern_at patterns i) haystack at
+stands patterns ignore_case haystack span valid i at occurs =
+    record { fits = omega (arith, valid.in_haystack, occurs.before_end); same = occurs.same }
+
+-- a pattern that stands in the haystack occurs in each span that contains it
+pub occurs_in : (patterns : List (List ℕ)) (ignore_case : Bool) (haystack : List ℕ) (span : Span) (i at : ℕ)
+    → i < length patterns → span.start ≤ at → at + length (pattern_at patterns i) ≤ span.end
+    → StandsAt ignore_case (pattern_at patterns i) haystack at → Occurs patterns ignore_case haystack span i at
+occurs_in patterns ignore_case haystack span i at below after before there =
+    record { is_pattern = below; after_start = after; before_end = before; same = there.same }
+
+-- if the longest pattern is preferred, none is longer that occurs where the match begins
+pub none_longer : (query : Query) (ignore_case : Bool) (haystack : List ℕ) (span : Span) (found : MatchValue)
+    → query.kind ≡ LeftmostLongest → IsLeftmostMatch query ignore_case haystack span found → (i : ℕ)
+    → Occurs query.patterns ignore_case haystack span i found.start
+    → found.start + length (pattern_at query.patterns i) ≤ found.end
+none_longer query ignore_case haystack span found kind leftmost i occurs =
+    let p = found.pattern in
+    ⊎_elim
+    (λ longer. absurd (leftmost.best i
+    (subst (λ k. IsBetter k query.patterns i p) (sym kind) (inl longer)) occurs))
+    (λ not. omega (arith, leftmost.whole))
+    (cases_lt (length (pattern_at query.patterns p)) (length (pattern_at query.patterns i)))

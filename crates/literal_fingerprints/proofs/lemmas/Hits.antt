@@ -12,7 +12,7 @@ use Rattle.literal_fingerprints.specs.RarePairs.{has_between}
 use Rattle.literal_fingerprints.specs.declared.pair.RarePair.{RarePair}
 use Rattle.literal_fingerprints.specs.Inside.Hits.{hit, hit_at, pair_hit_at, with_between}
 use Rattle.literal_fingerprints.specs.Inside.Lanes.{HasLanes}
-use Rattle.literal_fingerprints.proofs.lemmas.Passing.{bytes_at}
+use Rattle.literal_base.proofs.lemmas.Callers.{bytes_at}
 use Rattle.literal_fingerprints.proofs.lemmas.Sets.{meets}
 
 module _ (rare mask : ℕ) (haystack : List ℕ) (origin : ℕ) where

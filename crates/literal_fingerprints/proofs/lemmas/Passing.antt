@@ -8,34 +8,9 @@ use Rattle.std.specs.Char.{to_ascii_lowercase}
 use Rattle.std.specs.Global.{Vec}
 use Rattle.std.specs.List.{All, slice_range}
 use Rattle.literal_base.specs.declared.search.Span.{Span}
-use Rattle.literal_base.specs.Occurs.{AreEqualBytes, IsValidSpan, Occurs, pattern_at, same_byte}
+use Rattle.literal_base.specs.Occurs.{IsValidSpan, Occurs, pattern_at, same_byte}
+use Rattle.literal_base.proofs.lemmas.Callers.{bytes_at}
 use Rattle.literal_fingerprints.specs.FingerprintsValue.{FingerprintsValue, NoneBegins, shared_buckets}
-
-same_at : (c : Bool) (a b : List ℕ) → AreEqualBytes c a b → (k : ℕ) → k < length a
-    → same_byte c (get_or a k 0) (get_or b k 0) ≡ true
-same_at true a b s k below =
-    let long = ap (λ (l : List ℕ). length l) s in
-    eq-eqb _ _ (sym (get_or-map to_ascii_lowercase a k 0 0 below)
-    ∙ (ap (λ l. get_or l k 0) s ∙ get_or-map to_ascii_lowercase b k 0 0
-    (omega (arith, length-map a to_ascii_lowercase, length-map b to_ascii_lowercase))))
-same_at false a b s k below = eq-eqb _ _ (ap (λ l. get_or l k 0) s)
-
--- the bytes where a pattern occurs are those of the pattern
-pub bytes_at : (patterns : List (List ℕ)) (ignore_case : Bool) (haystack : List ℕ) (span : Span)
-    → IsValidSpan haystack span → (i at : ℕ) → Occurs patterns ignore_case haystack span i at
-    → (k : ℕ) → k < length (pattern_at patterns i)
-    → same_byte ignore_case (get_or haystack (at + k) 0) (get_or (pattern_at patterns i) k 0) ≡ true
-bytes_at patterns ignore_case haystack span valid i at occurs k below =
-    let p = pattern_at patterns i in
-    let part = slice_range haystack at (at + length p) in
-    let inside = valid.in_haystack in
-    let before = occurs.before_end in
-    let long : length part ≡ length p =
-    omega (arith, length-take (at + length p - at) (drop at haystack), length-drop at haystack) in
-    let is : get_or part k 0 ≡ get_or haystack (at + k) 0 =
-    get_or-take (at + length p - at) (drop at haystack) k 0 (omega arith) ∙ get_or-drop at haystack k 0 in
-    subst (λ b. same_byte ignore_case b (get_or p k 0) ≡ true) is
-    (same_at ignore_case part p occurs.same k (omega arith))
 
 -- where four bytes before the end of a span share no bucket, no pattern begins that lies in the span
 pub none_begins : (f : FingerprintsValue) (haystack : List ℕ) (span : Span) → IsValidSpan haystack span → (place : ℕ)

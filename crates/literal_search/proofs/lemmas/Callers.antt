@@ -36,6 +36,14 @@ use Rattle.literal_search.specs.States.{HasTooManyStates}
 use Rattle.literal_search.proofs.lemmas.Automaton.{all_in_haystack, in_haystack, in_part}
 use Rattle.literal_search.proofs.lemmas.Rows.{none_few, one_class}
 use Rattle.literal_search.proofs.lemmas.Walk.{slice_push}
+use Rattle.std.specs.List.{All, AllPairs, IsAmong, filter}
+use Rattle.std.proofs.Common.{cond, suc, true, zero, ⊎_elim}
+use Rattle.std.proofs.lemmas.Bool.{cases_Bool}
+use Rattle.std.proofs.lemmas.List.Elements.{All-filter, filter_passes}
+use Rattle.std.proofs.lemmas.List.Kept.{AllPairs-filter}
+use Rattle.literal_base.specs.declared.search.Span.{Span}
+use Rattle.literal_search.specs.Overlapping.{AreAllThat, ComesBefore, IsOccurrence, IsOverlapping}
+use Rattle.literal_search.specs.SearchValue.{longest_of}
 
 -- whichever iterator the given value becomes, that gives references to these byte strings and ends
 pub record GivesBytes {U T : Type 0} (becomes : U → T → Type 0) (steps : T → Option (Bor (List ℕ)) → T → Type 0)
@@ -293,3 +301,35 @@ replaced_by_calls {step = step} {searched = searched} {haystack = haystack} writ
           ∙ (ap (λ items. items ++ replaced haystack replacements written.first.at written.matches) written.begins.1
           ∙ ap (λ at. replaced haystack replacements at written.matches) written.begins.2));
     }
+
+-- no pattern is longer than the longest
+pub within_longest : (patterns : List (List ℕ)) (i : ℕ) → i < length patterns
+    → length (pattern_at patterns i) ≤ longest_of patterns
+within_longest [] i below = absurd (omega arith)
+within_longest (bytes ∷ more) zero below = omega arith
+within_longest (bytes ∷ more) (suc i) below = omega (arith, within_longest more i (omega arith))
+
+among_passing : (test : MatchValue → Bool) (all : List MatchValue) (found : MatchValue) → IsAmong all found
+    → test found ≡ true → IsAmong (filter test all) found
+among_passing test [] found (i, (below, is)) passes = absurd (omega arith)
+among_passing test (one ∷ more) found (zero, (below, is)) passes =
+    subst (λ b. IsAmong (cond b (one ∷ filter test more) (filter test more)) found) (sym (sym (ap test is) ∙ passes))
+    (zero, (omega arith, is))
+among_passing test (one ∷ more) found (suc i, (below, is)) passes =
+    let (k, rest) = among_passing test more found (i, (omega arith, is)) passes in
+    ⊎_elim
+    (λ yes. subst (λ b. IsAmong (cond b (one ∷ filter test more) (filter test more)) found) (sym yes)
+    (suc k, (omega (arith, rest.0), rest.1)))
+    (λ no. subst (λ b. IsAmong (cond b (one ∷ filter test more) (filter test more)) found) (sym no) (k, rest))
+    (cases_Bool (test one))
+
+-- those of everything that occurs that pass a test are all that do
+pub passing : (test : MatchValue → Bool) (patterns : List (List ℕ)) (ignore_case : Bool) (haystack : List ℕ)
+    (span : Span) (all : List MatchValue) → IsOverlapping patterns ignore_case haystack span all
+    → AreAllThat test patterns ignore_case haystack span (filter test all)
+passing test patterns ignore_case haystack span all overlapping = record {
+  each = All-filter test (IsOccurrence patterns ignore_case haystack span) all overlapping.each;
+  pass = filter_passes test all;
+  ordered = AllPairs-filter ComesBefore test all overlapping.ordered;
+  every = λ found occurs passes. among_passing test all found (overlapping.every found occurs) passes;
+}
