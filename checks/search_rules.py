@@ -32,7 +32,7 @@ CONFIRMING = "crates/literal_prefilters/src/prefilter/confirming.rt"
 # The functions that may make a tally: for the hashes of patterns, or for a search that is given none.
 MAKERS = (
     "Builder::build", "Searcher::find_in", "Searcher::find_iter", "Prefilter::find_in", "ConfirmingSearch::find_in",
-    "Search::find_in", "Search::match_in", "Search::find_all_in", "MatchesIterator::next",
+    "Search::find_in", "Search::match_in", "Search::find_all_in", "MatchesIterator::next", "StartsIterator::next",
     "Overlapping::earliest_end", "OverlappingMatchesIterator::next", "Prepared::find_in", "PreparedMatches::next_match",
     "PreparedOverlapping::earliest_end", "PreparedOverlappingMatches::next_match",
 )

@@ -7,12 +7,12 @@ ghost use Rattle.literal_base.specs.Leftmost.{IsLeftmost, IsLeftmostMatch};
 ghost use Rattle.literal_base.specs.Occurs.{IsValidSpan, between};
 ghost use Rattle.literal_base.specs.declared.search.Span.{Span};
 ghost use Rattle.literal_search.specs.SearchValue.{ScansNext, ScansThrice, looked_by};
-ghost use Rattle.literal_search.specs.MatchesValue.{place_behind};
 ghost use Rattle.literal_search.specs.Inside.Backward.{AreMarked, AreMarks, ForBackward, IsAhead, IsBlock};
 ghost use Rattle.literal_search.specs.Inside.Backward.{HasLookedAhead, IsBlockMarked};
-ghost use Rattle.literal_search.specs.Inside.Backward.{IsMark, IsMatchBy, IsPlaced, IsSafe, NoneFrom};
+ghost use Rattle.literal_search.specs.Inside.Backward.{IsMark, IsMatchBy, IsPlaced, IsSafe, NoneFrom, place_by};
 ghost use Rattle.literal_search.specs.Inside.Leftmost.{AreLanes, AreMarksBehind, AreSteps, HasBytes, HaveRows};
 ghost use Rattle.literal_search.specs.Inside.Leftmost.{IsLimit, IsPart};
+ghost use Rattle.literal_search.specs.declared.backward.GoesOn.{GoesOn};
 ghost use Rattle.literal_search.specs.declared.backward.TheConstants.{MARKED};
 
 use crate::leftmost::{Block, Lanes, OVERLAP, Passed};
@@ -70,6 +70,13 @@ pub struct Marks {
     pub part: usize,
 }
 
+/// Where a list goes on after a match: at its end, or one byte after its start, so that matches may overlap.
+#[derive(Clone, Copy)]
+pub enum GoesOn {
+    AtEnd,
+    AfterStart,
+}
+
 impl<'t> Backward<'t> {
     /// The block that begins at a place: as long as the longest pattern or longer, if as much is left.
     fn block_at(&self, span: Span, at: usize) -> Span
@@ -105,11 +112,11 @@ impl<'t> Backward<'t> {
             → IsOkAnd result (IsLeftmost tables.search.query tables.search.ignore_case haystack.now
             (between at span.end))) }
         ensures marked { ForBackward self.now (λ tables. AreMarked tables haystack.now span at numbers.old marks.old
-            → IfOk result (λ answer. AreMarked tables haystack.now span (place_behind span answer) numbers.new
-            marks.new)) }
+            → (on : GoesOn) → IfOk result (λ answer. AreMarked tables haystack.now span (place_by on span answer)
+            numbers.new marks.new)) }
         ensures lies { IfOk result (λ answer. IfSome answer (IsMatchBy self.now span at)) }
-        ensures placed { IfOk result
-            (λ answer. IsPlaced self.now.table.longest span (place_behind span answer) marks.new) }
+        ensures placed { (on : GoesOn) → IfOk result
+            (λ answer. IsPlaced self.now.table.longest span (place_by on span answer) marks.new) }
         ensures further { (marks.old.known ≤ marks.new.known) × (marks.new.known ≤ span.end) }
         ensures bounded { ScansThrice (between marks.old.known marks.new.known) tally.old tally.new }
         ensures least { IfOk result (λ _. tally.old.scanned + looked_by self.now.table.longest span marks.new.known
@@ -135,6 +142,7 @@ impl<'t> Backward<'t> {
         haystack: &[u8],
         span: Span,
         at: usize,
+        on: GoesOn,
         numbers: &mut [u32; LEAST],
         marks: &mut Marks,
         tally: &mut Tally,
@@ -148,13 +156,13 @@ impl<'t> Backward<'t> {
             (between at span.end))) }
         ensures marked { ForBackward self.now (λ tables. self.now.table.longest ≤ LEAST
             → AreMarked tables haystack.now span at numbers.old marks.old
-            → IfOk result (λ answer. AreMarked tables haystack.now span (place_behind span answer) numbers.new
+            → IfOk result (λ answer. AreMarked tables haystack.now span (place_by on span answer) numbers.new
             marks.new)) }
         ensures lies { IfOk result (λ answer. IfSome answer (IsMatchBy self.now span at)) }
-        ensures ahead { IfOk result (λ answer. IsAhead self.now.table.longest span (place_behind span answer)
+        ensures ahead { IfOk result (λ answer. IsAhead self.now.table.longest span (place_by on span answer)
             marks.new) }
         ensures further { IfOk result (λ _. (marks.old.known ≤ marks.new.known) × (marks.new.known ≤ span.end)) }
-        ensures looked { IfOk result (λ answer. place_behind span answer
+        ensures looked { IfOk result (λ answer. place_by on span answer
             ≤ looked_by self.now.table.longest span marks.new.known) }
         ensures others { tally.new ≡ record tally.old { scanned = tally.new.scanned } }
         ensures most { tally.new.scanned ≤ tally.old.scanned + 3 * (span.end - marks.old.known) }
@@ -173,7 +181,7 @@ impl<'t> Backward<'t> {
             end: span.end,
         };
         let answer = self.find_in(haystack, rest, tally)?;
-        *marks = no_marks(place_after(span, &answer));
+        *marks = no_marks(place_after(on, span, &answer));
         Ok(answer)
     }
 
@@ -709,12 +717,14 @@ pub fn no_marks(at: usize) -> Marks
     }
 }
 
-/// Where a list goes on behind an answer.
-pub fn place_after(span: Span, answer: &Option<Match>) -> usize
-    ensures { result ≡ place_behind span answer.now }
+/// Where a list goes on after an answer.
+pub fn place_after(on: GoesOn, span: Span, answer: &Option<Match>) -> usize
+    requires { IfSome answer.now (λ found. (found.start < found.end) × (found.end ≤ span.end)) }
+    ensures { result ≡ place_by on span answer.now }
 {
-    match answer {
-        Some(found) => found.end(),
-        None => span.end,
+    match (on, answer) {
+        (_, None) => span.end,
+        (GoesOn::AtEnd, Some(found)) => found.end(),
+        (GoesOn::AfterStart, Some(found)) => found.start() + 1,
     }
 }

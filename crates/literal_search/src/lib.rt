@@ -48,7 +48,7 @@ pub use prepared_overlapping::{PreparedOverlapping, PreparedOverlappingMatches};
 pub use prepared_search::{Prepared, PreparedMatches};
 pub use replace::ReplaceError;
 pub use replace_stream::ReplaceStreamError;
-pub use search::{Matches, Search};
+pub use search::{Matches, Search, Starts};
 use std::alloc::{AllocError, Global};
 use std::error::Error;
 use std::fmt;

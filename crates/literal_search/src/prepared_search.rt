@@ -11,7 +11,7 @@ ghost use Rattle.literal_search.specs.Prepared.{LiesIn, longest_in};
 ghost use Rattle.literal_search.specs.Prepared.{ForPrepared, HasAllParts, IsWhole, matches_for};
 ghost use Rattle.literal_search.specs.Inside.Prepared.{IsBackIn};
 
-use crate::backward::{Backward, LEAST, Marks, no_marks, place_after};
+use crate::backward::{Backward, GoesOn, LEAST, Marks, no_marks, place_after};
 use crate::classes::CLASSES_LEN;
 use crate::prepared::{Damaged, LENGTHS_AT, PREPARED_VERSION, SCAN_LEN, is_checked, split};
 use crate::walk::Table;
@@ -246,13 +246,14 @@ impl<'s, 'p, 'h> PreparedMatches<'s, 'p, 'h> {
             self.haystack,
             span,
             self.at,
+            GoesOn::AtEnd,
             &mut self.numbers,
             &mut self.marks,
             tally,
         );
         match answer {
             Ok(answer) => {
-                self.at = place_after(span, &answer);
+                self.at = place_after(GoesOn::AtEnd, span, &answer);
                 Ok(answer)
             }
             Err(_) => {

@@ -12,14 +12,15 @@ ghost use Rattle.literal_search.specs.SearchValue.{BuildsSearch, CanBeKept, MayR
 ghost use Rattle.literal_search.specs.SearchValue.{NeedTooManyReversed, RefusesSearch, ScansNext, ScansThrice};
 ghost use Rattle.literal_search.specs.SearchValue.{ScansWithin};
 ghost use Rattle.literal_search.specs.SearchValue.{longest_of, looked_upto, reversed, search_by, shortest_of};
-ghost use Rattle.literal_search.specs.MatchesValue.{GivesMatch, most_to_come, place_behind};
+ghost use Rattle.literal_search.specs.MatchesValue.{GivesMatch, GivesStart, GivesThen, most_to_come};
 ghost use Rattle.literal_search.specs.Memory.{TakesBytes};
 ghost use Rattle.literal_search.specs.Prepared.{AreShort, RefusesToPrepare, TakesPlaces, WritesPrepared, longest_in};
 ghost use Rattle.literal_search.specs.Inside.Backward.{AreBackFor, AreMarked, IsPlaced, IsSafe, back_tables_by};
+ghost use Rattle.literal_search.specs.Inside.Backward.{place_by};
 ghost use Rattle.literal_search.specs.Inside.Search.{AreKept, AreParts, patterns_of, search_value, tables_of};
 ghost use Rattle.literal_search.specs.declared.backward.TheConstants.{LEAST};
 
-use crate::backward::{Backward, LEAST, Marks, no_marks, place_after};
+use crate::backward::{Backward, GoesOn, LEAST, Marks, no_marks, place_after};
 use crate::classes::classes_for;
 use crate::grow::GrowError;
 use crate::numbers::{Numbers, prints_for};
@@ -239,6 +240,38 @@ impl Search {
             at: span.start,
             numbers: [0; LEAST],
             marks: no_marks(span.start),
+        }
+    }
+
+    /// The match at each offset of the haystack at which a pattern begins, from the left: of the patterns that occur
+    /// there the one that the match kind prefers. These matches may overlap.
+    pub fn starts<'s, 'h>(&'s self, haystack: &'h [u8]) -> Starts<'s, 'h>
+        ensures { result ≡ record {
+          search = self.now;
+          haystack = haystack.now;
+          span = whole_of haystack.now;
+          at = 0;
+          known = 0;
+        } }
+    {
+        let end = haystack.len();
+        self.starts_in(haystack, Span { start: 0, end })
+    }
+
+    /// The same in a span of the haystack, of which each match lies whole in it. The span has to be valid. No memory is
+    /// asked for, as by [`Search::find_iter_in`].
+    pub fn starts_in<'s, 'h>(&'s self, haystack: &'h [u8], span: Span) -> Starts<'s, 'h>
+        requires { IsValidSpan haystack.now span }
+        ensures { result ≡ record {
+          search = self.now;
+          haystack = haystack.now;
+          span = span;
+          at = span.start;
+          known = span.start;
+        } }
+    {
+        Starts {
+            matches: self.find_iter_in(haystack, span),
         }
     }
 
@@ -551,11 +584,21 @@ impl<'s, 'h> Matches<'s, 'h> {
         ensures scans { ScansNext (longest_of self.old.search.query.patterns) self.old.span self.old.at self.old.known
             self.new.known result tally.old tally.new }
     {
+        self.next_then(GoesOn::AtEnd, tally)
+    }
+
+    /// The next match, after which the iteration goes on at its end, or one byte after its start.
+    fn next_then(&mut self, on: GoesOn, tally: &mut Tally) -> Option<Match>
+        ensures gives { GivesThen (place_by on) self.old result self.new }
+        ensures scans { ScansNext (longest_of self.old.search.query.patterns) self.old.span self.old.at self.old.known
+            self.new.known result tally.old tally.new }
+    {
         let (span, backward) = (self.span, self.parts.backward());
         let next = backward.next_in(
             self.haystack,
             span,
             self.at,
+            on,
             &mut self.numbers,
             &mut self.marks,
             tally,
@@ -563,7 +606,7 @@ impl<'s, 'h> Matches<'s, 'h> {
         let Ok(answer) = next else {
             unreachable!();
         };
-        self.at = place_after(span, &answer);
+        self.at = place_after(on, span, &answer);
         answer
     }
 }
@@ -572,6 +615,45 @@ impl<'s, 'h> Iterator for Matches<'s, 'h> {
     type Item = Match;
 
     ghost next_gives = { GivesMatch };
+
+    ghost remaining = { most_to_come };
+
+    fn next(&mut self) -> Option<Match> {
+        self.next_counted(&mut Tally::new())
+    }
+}
+
+/// What [`Search::starts_in`] goes over. Contracts see the same as of [`Matches`], but after a match the list goes on
+/// one byte after its start. After its first `None` it keeps answering `None`.
+#[derive(Drop)]
+pub struct Starts<'s, 'h> {
+    matches: Matches<'s, 'h>,
+}
+
+impl<'s, 'h> Model for Starts<'s, 'h> {
+    ghost use Rattle.literal_search.specs.MatchesValue.{MatchesValue};
+
+    ghost Value = { MatchesValue };
+
+    ghost view = { λ s. s.matches };
+}
+
+impl<'s, 'h> Starts<'s, 'h> {
+    /// Answers as `next`, and adds each byte that it looks up to a tally, as scanned: a call, and a whole iteration, as
+    /// by [`Matches::next_counted`]. If a pattern has more than 1,024 bytes, each match is searched for anew.
+    pub fn next_counted(&mut self, tally: &mut Tally) -> Option<Match>
+        ensures gives { GivesStart self.old result self.new }
+        ensures scans { ScansNext (longest_of self.old.search.query.patterns) self.old.span self.old.at self.old.known
+            self.new.known result tally.old tally.new }
+    {
+        self.matches.next_then(GoesOn::AfterStart, tally)
+    }
+}
+
+impl<'s, 'h> Iterator for Starts<'s, 'h> {
+    type Item = Match;
+
+    ghost next_gives = { GivesStart };
 
     ghost remaining = { most_to_come };
 

@@ -33,11 +33,12 @@ fn example_of_a_search(rt: HostRuntime) -> Result<(), Fail> {
 const HAYSTACK: &[u8] = b"A SECRET, a Secret";
 
 /// What is found first in the haystack, by the calls that count.
-fn counted(search: &Search) -> [Option<Match>; 2] {
+fn counted(search: &Search) -> [Option<Match>; 3] {
     let (whole, tally) = (Span { start: 0, end: 18 }, &mut Tally::new());
     [
         search.find_in_counted(HAYSTACK, whole, tally),
         search.find_iter_in(HAYSTACK, whole).next_counted(tally),
+        search.starts_in(HAYSTACK, whole).next_counted(tally),
     ]
 }
 
@@ -57,7 +58,7 @@ fn at_place(search: &Search, at: usize) -> [Option<Match>; 2] {
 fn counts_what_it_looks_up(rt: HostRuntime) -> Result<(), Fail> {
     let search = first_of(rt.alloc(), &[b"password", b"secret"])?;
     let first = Some(Match::must(1, Span { start: 2, end: 8 }));
-    assert!(rt; counted(&search) == [first; 2]);
+    assert!(rt; counted(&search) == [first; 3]);
     assert!(rt; at_place(&search, 2) == [first; 2] && at_place(&search, 3) == [None; 2]);
     Ok(())
 }

@@ -54,7 +54,9 @@ fn answer_of_kinds(text: &mut String, alloc: Global, case: Case<'_>) -> Result<(
 fn answer(text: &mut String, alloc: Global, case: &Case<'_>) -> Result<(), Refusal> {
     match case.call() {
         "find_in" | "find_iter" | "builder" => packed_search::packed(text, alloc, case),
-        "search" | "search_in" | "search_all_in" => searches::search(text, alloc, case),
+        "search" | "search_in" | "search_all_in" | "starts" | "starts_in" => searches::search(
+            text, alloc, case,
+        ),
         "overlapping" | "overlapping_in" | "earliest_end" => overlapping::overlapping(
             text, alloc, case,
         ),

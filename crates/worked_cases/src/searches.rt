@@ -64,6 +64,8 @@ fn push_answer(
     match case.call() {
         "search" => push_matches(text, alloc, asked.haystack.as_slice(), search)?,
         "search_in" => push_leftmost(text, &asked, search)?,
+        "starts" => push_starts(text, alloc, &asked, search)?,
+        "starts_in" => push_list(text, starts_in(alloc, &asked, search)?.as_slice())?,
         _ => push_all_in(text, alloc, &asked, search)?,
     }
     Ok(())
@@ -105,6 +107,26 @@ fn push_all_in(
         .find_iter_in(haystack, asked.span)
         .collect::<Vec<Match>>(alloc)?;
     push_lists(text, all.as_slice(), given.as_slice())
+}
+
+/// The match at each offset of a span at which a pattern begins.
+fn starts_in(alloc: Global, asked: &Text, search: &Search) -> Result<Vec<Match>, AllocError> {
+    let starts = search.starts_in(asked.haystack.as_slice(), asked.span);
+    starts.collect(alloc)
+}
+
+/// Writes the same for a whole haystack, by both calls.
+fn push_starts(
+    text: &mut String,
+    alloc: Global,
+    asked: &Text,
+    search: &Search,
+) -> Result<(), AllocError> {
+    let given = search
+        .starts(asked.haystack.as_slice())
+        .collect::<Vec<Match>>(alloc)?;
+    let in_span = starts_in(alloc, asked, search)?;
+    push_lists(text, given.as_slice(), in_span.as_slice())
 }
 
 /// The confirming search for the patterns.

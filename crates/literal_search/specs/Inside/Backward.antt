@@ -1,6 +1,6 @@
 -- Walks through a span from its end, by tables that may be lent.
 use Rattle.std.specs.Prelude.{◌≡◌, ◌⊎◌, ℕ, ◌+◌, ◌-◌, ◌<◌, ◌≤◌, ◌^◌, ◌%◌, List, length, map}
-use Rattle.std.specs.Prelude.{IfOk, Result, max, reverse, slice_index}
+use Rattle.std.specs.Prelude.{IfOk, Option, Result, max, reverse, slice_index}
 use Rattle.std.specs.Result.{IsOkAnd}
 use Rattle.literal_base.specs.Counts.{Counts}
 use Rattle.literal_base.specs.Leftmost.{IsBetter}
@@ -8,12 +8,15 @@ use Rattle.literal_base.specs.MatchValue.{MatchValue}
 use Rattle.literal_base.specs.Occurs.{Occurs, between}
 use Rattle.literal_base.specs.declared.search.Span.{Span}
 use Rattle.literal_ids.specs.declared.primitives.pattern_id.TheConstants.PatternID
+use Rattle.literal_search.specs.MatchesValue.{place_behind, place_further}
 use Rattle.literal_search.specs.SearchValue.{SearchValue}
 use Rattle.literal_search.specs.Inside.Walk.{IsAt, classes_by, rows_by, text_of}
 use Rattle.literal_search.specs.SearchValue.{ScansThrice, looked_by}
 use Rattle.literal_search.specs.Prepared.{AreBackTables, ArePrints, BackTables, texts_back}
 use Rattle.literal_search.specs.Table.{Recognises}
 use Rattle.literal_search.specs.declared.backward.Backward.{Backward}
+use Rattle.literal_search.specs.declared.backward.GoesOn.{GoesOn}
+use Rattle.literal_search.specs.declared.backward.GoesOn.TheVariants.{AfterStart, AtEnd}
 use Rattle.literal_search.specs.declared.backward.Marks.{Marks}
 use Rattle.literal_search.specs.declared.backward.TheConstants.{LEAST}
 use Rattle.literal_search.specs.declared.prepared.Damaged.{Damaged}
@@ -89,6 +92,11 @@ NoneFrom p haystack end from upto = (at : ℕ) → from ≤ at → at < upto →
 abbrev pub AreMarks : BackTables → List ℕ → ℕ → List ℕ → ℕ → ℕ → ℕ → Type 0
 AreMarks p haystack end marks start from upto =
     (at : ℕ) → from ≤ at → at < upto → IsMark p haystack end at (slice_index marks (at - start))
+
+-- where a list goes on after an answer
+abbrev pub place_by : GoesOn → Span → Option MatchValue → ℕ
+place_by AtEnd = place_behind
+place_by AfterStart = place_further
 
 -- where the list goes on at a place, marks stand before one, and up to one it is known what begins; what stands before
 -- the place was looked up

@@ -5,6 +5,7 @@ use Rattle.literal_base.specs.Occurs.{NothingOccurs, between}
 use Rattle.literal_search.specs.Inside.Backward.{AreMarked, IsPlaced, back_tables_by}
 use Rattle.literal_search.specs.Inside.Search.{IsGreedyUpTo, search_value, patterns_of}
 use Rattle.literal_search.specs.MatchesValue.{place_behind}
+use Rattle.literal_search.specs.declared.backward.GoesOn.TheVariants.{AtEnd}
 use Rattle.literal_search.proofs.lemmas.GreedyIn.{leftmost_occurs, on_err, up_to_all, up_to_next}
 use Rattle.literal_search.proofs.search.Parts.all_in.Goals as goal
 
@@ -36,12 +37,12 @@ loop-found-preserved c =
       long = search rules;
       placed = subst (λ e. IsPlaced by.table.longest span e c.next_match.new.marks) (sym c.end-at.ensures.end)
           (subst (λ (a : Option MatchValue). IsPlaced by.table.longest span (place_behind span a)
-          c.next_match.new.marks) is one.placed);
+          c.next_match.new.marks) is (one.placed AtEnd));
       marked = subst (λ e. AreMarked (back_tables_by (search_value p) by) haystack span e c.next_match.new.numbers
           c.next_match.new.marks) (sym c.end-at.ensures.end)
           (subst (λ (a : Option MatchValue). AreMarked (back_tables_by (search_value p) by) haystack span
           (place_behind span a) c.next_match.new.numbers c.next_match.new.marks) is
-          (one.marked (search_value p) c.backward-backward.ensures.is_for so_far.marked));
+          (one.marked (search_value p) c.backward-backward.ensures.is_for so_far.marked AtEnd));
       greedy = subst (λ (all : List MatchValue). IsGreedyUpTo (search_value p) haystack span all c.end-at.result)
           (sym c.in_ok-push-in-Ok-Some.ensures.items)
           (subst (λ e. IsGreedyUpTo (search_value p) haystack span (c.loop-found.all.items ++ found ∷ []) e)
@@ -65,3 +66,7 @@ pub unreachable-requires : goal.unreachable-requires
 unreachable-requires c =
     c.in-Err.ensures.leftmost (search_value c.args.self.now) c.backward-backward.ensures.is_for
     c.loop-found.invariant.marked
+
+pub returns-in-Ok-None-clause-least : goal.returns-in-Ok-None-clause-least
+returns-in-Ok-None-clause-least c =
+    let placed = c.in-Ok-None.ensures.placed AtEnd in grind arith

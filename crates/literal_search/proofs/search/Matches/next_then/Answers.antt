@@ -1,10 +1,10 @@
 use Rattle.std.proofs.Common.{ℕ, ap, arith, subst, sym}
-use Rattle.literal_search.specs.Inside.Backward.{AreMarked, IsAhead}
+use Rattle.literal_search.specs.Inside.Backward.{AreMarked, IsAhead, place_by}
 use Rattle.literal_search.specs.Inside.Search.{search_value, tables_of}
-use Rattle.literal_search.specs.MatchesValue.{GivesMatch, MatchesValue, place_behind}
+use Rattle.literal_search.specs.MatchesValue.{GivesThen, MatchesValue}
 use Rattle.literal_search.specs.Prepared.{BackTables}
 use Rattle.literal_search.proofs.lemmas.Prepared.{some_by}
-use Rattle.literal_search.proofs.search.Matches.next_counted.Goals as goal
+use Rattle.literal_search.proofs.search.Matches.next_then.Goals as goal
 
 pub unreachable-requires : goal.unreachable-requires
 unreachable-requires c =
@@ -29,8 +29,8 @@ invariant_of-self c =
           c.in-Ok.ensures.ahead),
       λ short.
           subst (λ (at : ℕ). AreMarked (tables_of m.parts.now) m.haystack.now m.span at numbers marks) at_is
-          (subst (λ (t : BackTables). AreMarked t m.haystack.now m.span (place_behind m.span c.in-Ok.answer) numbers
-          marks) c.backward-backward.ensures.tables
+          (subst (λ (t : BackTables). AreMarked t m.haystack.now m.span (place_by c.args.on m.span c.in-Ok.answer)
+          numbers marks) c.backward-backward.ensures.tables
           (c.in-Ok.ensures.marked (search_value m.parts.now) c.backward-backward.ensures.is_for
           (omega (arith, short, longest))
           (subst (λ (t : BackTables). AreMarked t m.haystack.now m.span m.at m.numbers m.marks)
@@ -50,8 +50,8 @@ returns-clause-gives c =
       at = at;
       known = c.next_in-next.new.marks.known;
     } in v in
-    subst (λ (v : MatchesValue). GivesMatch v c.in-Ok.answer (new_at c.place_after-self-inside.result))
-    c.self.view_is (record {
+    subst (λ (v : MatchesValue). GivesThen (place_by c.args.on) v c.in-Ok.answer
+    (new_at c.place_after-self-inside.result)) c.self.view_is (record {
       leftmost = told.leftmost (search_value m.parts.now) c.backward-backward.ensures.is_for (λ short.
           subst (λ (t : BackTables). AreMarked t m.haystack.now m.span m.at m.numbers m.marks)
           (sym c.backward-backward.ensures.tables) (old.3 (omega (arith, short, longest))));
