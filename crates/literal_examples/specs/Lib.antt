@@ -1,3 +1,4 @@
+pub mod Confirmed
 pub mod Lexed
 pub mod Redacted
 pub mod Routes

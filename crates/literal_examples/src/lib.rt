@@ -4,6 +4,7 @@
 #![tactic(auto)]
 
 // Parts of programs.
+pub mod confirmed;
 pub mod frequencies;
 pub mod keywords;
 pub mod lexer;

@@ -1,8 +1,8 @@
 //! Whether a word stands in a text, by a `Search` for the words of an array, a slice, a vector, or a list of texts, and
 //! all that occur there.
-ghost use Rattle.std.specs.Prelude.{◌≡◌, IfOk, false, map, string_bytes, true};
+ghost use Rattle.std.specs.Prelude.{◌≡◌, ◌-◌, IfOk, false, map, nat_le, string_bytes, true};
 ghost use Rattle.literal_base.specs.Occurs.{one_occurs, whole_of};
-ghost use Rattle.literal_search.specs.Overlapping.{IsOverlapping};
+ghost use Rattle.literal_search.specs.Overlapping.{AreAllThat, IsOverlapping};
 
 use literal_search::laws::iterations_give_each_occurrence_once;
 use literal_search::{BuildError, Match, MatchKind, Overlapping, Search};
@@ -68,6 +68,26 @@ pub fn collect_all(
     let mut all = Vec::new(alloc);
     for found in search.find_overlapping_iter(text) {
         all.push(found)?;
+    }
+    Ok(all)
+}
+
+/// Every occurrence of at least so many bytes in a text, in the order of ends.
+pub fn occurrences_of_at_least(
+    alloc: Global,
+    search: &Overlapping,
+    text: &[u8],
+    least: usize,
+) -> Result<Vec<Match>, AllocError>
+    ensures { IfOk result (λ all. AreAllThat (λ found. nat_le least (found.end - found.start)) search.now.patterns
+        search.now.ignore_case text.now (whole_of text.now) all.items) }
+{
+    iterations_give_each_occurrence_once();
+    let mut all = Vec::new(alloc);
+    for found in search.find_overlapping_iter(text) {
+        if least <= found.len() {
+            all.push(found)?;
+        }
     }
     Ok(all)
 }
