@@ -33,6 +33,7 @@ CONFIRMING = "crates/literal_prefilters/src/prefilter/confirming.rt"
 MAKERS = (
     "Builder::build", "Searcher::find_in", "Searcher::find_iter", "Prefilter::find_in", "ConfirmingSearch::find_in",
     "Search::find_in", "Search::match_in", "Search::find_all_in", "MatchesIterator::next", "StartsIterator::next",
+    "WholeWords::find_in", "WholeWordMatchesIterator::next",
     "Overlapping::earliest_end", "OverlappingMatchesIterator::next", "Prepared::find_in", "PreparedMatches::next_match",
     "PreparedOverlapping::earliest_end", "PreparedOverlappingMatches::next_match",
 )
@@ -53,6 +54,7 @@ TICKS = {
     "crates/literal_search/src/walk.rt": {
         "Table::code_at": ("tick_scanned", "28ba682a56cc"), "Table::code_by": ("tick_scanned", "e935c45fa3c8"),
     },
+    "crates/literal_search/src/whole_words.rt": {"Parts::is_word_at": ("tick_scanned", "99fb2808b128")},
 }
 READS = ("tick_compared", "tick_scanned")
 
@@ -64,7 +66,7 @@ BYTES = re.compile(r"\b([a-z]\w*)\s*:[^,):]*(?:\[u8\]|\bVec<u8>|\bstr\b)")
 # The types that may keep a slice of bytes: a haystack, patterns, or what C hands over of either.
 KEEPERS = (
     "FindIter", "Matches", "PreparedMatches", "OverlappingMatches", "PreparedOverlappingMatches", "Input", "Pattern",
-    "SearchRequest", "Pieces", "AnySearch",
+    "SearchRequest", "Pieces", "AnySearch", "WholeWordMatches",
 )
 
 # The fields of `BucketEntries` that tell nothing of an entry, and the functions that may name the others: the one that

@@ -40,4 +40,5 @@ pub mod Streams
 pub mod Texts
 pub mod Unmarked
 pub mod Walk
+pub mod WholeWords
 pub mod Written

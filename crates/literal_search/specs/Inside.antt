@@ -20,3 +20,4 @@ pub mod Scan
 pub mod Standing
 pub mod Stream
 pub mod Walk
+pub mod WholeWords

@@ -16,4 +16,5 @@ pub mod SearchBuilderValue
 pub mod States
 pub mod Stream
 pub mod Table
+pub mod WholeWords
 pub mod Words

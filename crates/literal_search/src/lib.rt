@@ -32,11 +32,13 @@ mod standing;
 mod stream;
 mod suffixes;
 mod walk;
+mod whole_words;
 mod window;
 
 pub use automaton::{Automaton, State};
 pub use builder::SearchBuilder;
 use grow::GrowError;
+pub use literal_base::alphabet::ByteSet;
 pub use literal_base::count::Tally;
 pub use literal_base::packed::MatchKind;
 pub use literal_base::{Match, Span};
@@ -53,6 +55,7 @@ use std::alloc::{AllocError, Global};
 use std::error::Error;
 use std::fmt;
 pub use stream::{SoFar, StreamMatches};
+pub use whole_words::{WholeWordMatches, WholeWords};
 
 /// Why there is no automaton for some patterns.
 #[derive(Clone, Copy, Debug, PartialEq, Eq, Drop)]

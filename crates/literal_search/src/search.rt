@@ -331,6 +331,11 @@ impl Search {
         self.parts.numbers.put(array)
     }
 
+    /// Where its memory comes from.
+    pub(crate) fn allocator(&self) -> Global {
+        *self.parts.patterns.allocator()
+    }
+
     /// How many places [`Search::prepare`] writes: an array of as many, or more, is long enough for it.
     #[tactic(auto, using(crate::proofs::lemmas::BackTables::takes_kept))]
     pub fn prepared_len(&self) -> usize

@@ -20,3 +20,5 @@ mod replacing;
 mod searches;
 #[cfg(test)]
 mod streams;
+#[cfg(test)]
+mod whole_words;

@@ -24,3 +24,5 @@ mod replacing;
 mod searchers;
 #[cfg(test)]
 mod searches;
+#[cfg(test)]
+mod whole_words;

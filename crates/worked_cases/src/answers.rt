@@ -4,7 +4,7 @@ use crate::refusal::Refusal;
 use crate::told::push_also;
 use crate::{
     classes, identifiers, numbers, overlapping, packed_search, pattern_lists, prefilters, searches,
-    spans, tables,
+    spans, tables, whole_words,
 };
 use std::alloc::{AllocError, Global};
 
@@ -57,6 +57,7 @@ fn answer(text: &mut String, alloc: Global, case: &Case<'_>) -> Result<(), Refus
         "search" | "search_in" | "search_all_in" | "starts" | "starts_in" => searches::search(
             text, alloc, case,
         ),
+        "words" | "words_in" => whole_words::words(text, alloc, case),
         "overlapping" | "overlapping_in" | "earliest_end" => overlapping::overlapping(
             text, alloc, case,
         ),

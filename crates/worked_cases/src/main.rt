@@ -38,6 +38,7 @@ mod searches;
 mod spans;
 mod tables;
 mod told;
+mod whole_words;
 
 use answers::push_answers;
 use rows::push_report;
