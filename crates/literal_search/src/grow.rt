@@ -43,6 +43,9 @@ const NO_CLASS: u32 = 256;
 /// How many numbers the longest row has.
 const ROW_LEN: usize = 257;
 
+/// For how many numbers there is room at first, at most: they take 64 MiB.
+const MOST_ROOM: usize = 1 << 24;
+
 /// How long all rows may be together.
 const LIMIT: usize = (1 << 31) - 1;
 
@@ -135,6 +138,18 @@ impl<'p> Texts<'p> {
             }
         }
         Ok(whole)
+    }
+
+    /// For how many numbers there is room before the rows grow: for all, even if no two patterns begin alike, but at most
+    /// for `MOST_ROOM`.
+    fn first_room(&self) -> usize
+        requires { AreTexts self.now }
+    {
+        let mut states: usize = 1;
+        for pattern in self.patterns {
+            states = states.saturating_add(pattern.len());
+        }
+        states.saturating_mul(self.width + 1).min(MOST_ROOM)
     }
 
     /// Whether the rows of the prefixes of a pattern are too long.
@@ -253,13 +268,16 @@ impl<'p> Growing<'p> {
         Ok(whole)
     }
 
-    /// The ending of the state to which a number in a row leads.
+    /// The ending of the state to which a number in a row leads. The number itself tells whether there is one.
     fn ending_of(&self, code: u32) -> u32
         requires grows { Grows self.now }
         requires leads { (word : List ℕ) × LeadsIn self.now code word }
         ensures { (word : List ℕ) → LeadsIn self.now code word
             → result ≡ unwrap_or (ending (texts_of self.now.texts) word) nothing }
     {
+        if code < ENDS {
+            return NOTHING;
+        }
         self.states[place_of(code) / (self.texts.width + 1)].ending
     }
 
@@ -514,12 +532,13 @@ fn code_for(place: u32, ending: u32) -> u32
     }
 }
 
-/// The rows for patterns, in classes below the width.
+/// The rows for patterns, in classes below the width. They are made in the memory of a list that is no longer needed.
 pub fn grow(
     alloc: Global,
     classes: &[u8; 256],
     width: usize,
     patterns: &[Vec<u8>],
+    unneeded: Vec<u32>,
 ) -> Result<Vec<u32>, GrowError>
     requires classes { AreClasses classes.now width }
     requires few { length patterns.now ≤ 2 ^ 31 - 1 }
@@ -540,7 +559,7 @@ pub fn grow(
     if texts.has_too_long() {
         return Err(GrowError::TooManyStates);
     }
-    let mut growing = start(alloc, texts)?;
+    let mut growing = start(alloc, texts, unneeded)?;
     let (mut classes_after, mut row) = (Vec::new(alloc), [0; ROW_LEN]);
     let mut state = 0;
     while state < growing.states.len() {
@@ -551,13 +570,16 @@ pub fn grow(
 }
 
 /// The state of the empty word, and no row.
-fn start<'p>(alloc: Global, texts: Texts<'p>) -> Result<Growing<'p>, AllocError>
+fn start<'p>(alloc: Global, texts: Texts<'p>, unneeded: Vec<u32>) -> Result<Growing<'p>, AllocError>
     requires { AreTexts texts }
     ensures grows { IfOk result (λ growing. Grows growing) }
     ensures start { IfOk result (λ growing. growing.rows.items ≡ []) }
     ensures words { IfOk result (λ growing. words_of growing ≡ [] ∷ []) }
     ensures texts { IfOk result (λ growing. growing.texts ≡ texts.entry) }
 {
+    let mut rows = unneeded;
+    rows.clear();
+    rows.reserve(texts.first_room())?;
     let lists = numbers(alloc, texts.patterns.len())?;
     let mut states = Vec::new(alloc);
     states.push(State {
@@ -572,7 +594,7 @@ fn start<'p>(alloc: Global, texts: Texts<'p>) -> Result<Growing<'p>, AllocError>
         texts,
         states,
         lists,
-        rows: Vec::new(alloc),
+        rows,
     })
 }
 

@@ -33,7 +33,13 @@ pub(crate) fn backward_rows(
 {
     let copies = backward_copies(alloc, patterns)?;
     let backward = copies.as_slice();
-    let rows = grow(alloc, &classes.table, classes.width, backward)?;
+    let rows = grow(
+        alloc,
+        &classes.table,
+        classes.width,
+        backward,
+        Vec::new(alloc),
+    )?;
     match kind {
         MatchKind::LeftmostFirst => first_rows(alloc, classes, patterns, backward, rows),
         MatchKind::LeftmostLongest => Ok(rows),
@@ -69,9 +75,8 @@ fn first_rows(
     if !has_shadowed(patterns, &firsts) {
         return Ok(rows);
     }
-    drop(rows);
     let copies = copies_of(alloc, patterns, &firsts)?;
-    grow(alloc, &classes.table, classes.width, &copies)
+    grow(alloc, &classes.table, classes.width, &copies, rows)
 }
 
 impl<'p> Recognised<'p> {

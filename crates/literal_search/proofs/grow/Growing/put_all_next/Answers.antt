@@ -1,4 +1,4 @@
-use Rattle.std.proofs.Common.{◌≡◌, ◌+◌, ◌*◌, ◌<◌, ◌≤◌, ◌∙◌, ap, arith, length, ℕ, refl, sym}
+use Rattle.std.proofs.Common.{◌+◌, ◌*◌, ◌<◌, ◌≤◌, ◌∙◌, ap, arith, length, refl, sym}
 use Rattle.literal_search.specs.Inside.Grown.{symbols_after}
 use Rattle.literal_search.specs.Inside.Growing.{texts_of, words_of}
 use Rattle.literal_search.specs.Table.{stride_of}

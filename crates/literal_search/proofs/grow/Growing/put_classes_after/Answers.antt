@@ -1,4 +1,4 @@
-use Rattle.std.proofs.Common.{arith, ◌∙◌}
+use Rattle.std.proofs.Common.{arith}
 use Rattle.std.proofs.lemmas.List.{take_all}
 use Rattle.literal_search.proofs.lemmas.Growing.{after_is}
 use Rattle.literal_search.proofs.grow.Growing.put_classes_after.Goals as goal

@@ -1,5 +1,5 @@
 use Rattle.std.proofs.lemmas.Grind.{common_steps}
-use Rattle.std.proofs.Common.{arith, ◌≡◌, ◌+◌, ◌<◌, get_or}
+use Rattle.std.proofs.Common.{arith, ◌≡◌, ◌+◌, get_or}
 use Rattle.literal_search.proofs.lemmas.Growing.{link_of_root, link_row}
 use Rattle.literal_search.proofs.grow.Growing.put_failure_row.Goals as goal
 
