@@ -10,8 +10,8 @@ ghost use Rattle.literal_search.specs.Words.{ending, first_equal, live_suffix, w
 ghost use Rattle.literal_search.specs.Inside.Classes.{AreClasses, symbols_in};
 ghost use Rattle.literal_search.specs.Inside.Grown.{AreWords, IsLonger, failure_of, goes_on, list_for, symbols_after};
 ghost use Rattle.literal_search.specs.States.{AreStates, HasTooManyStates, IsRowsLength};
-ghost use Rattle.literal_search.specs.Inside.Growing.{AreTexts, AreWordsTo, Grows, IsNextState, LeadBack, LeadOn, LeadsIn, list_in};
-ghost use Rattle.literal_search.specs.Inside.Growing.{texts_of, word_behind, word_in, words_of};
+ghost use Rattle.literal_search.specs.Inside.Growing.{AreTexts, AreWordsTo, Grows, IsNextState, LeadBack, LeadOn};
+ghost use Rattle.literal_search.specs.Inside.Growing.{LeadsIn, list_in, texts_of, word_behind, word_in, words_of};
 
 use crate::prepared::put_numbers;
 use crate::walk::{ENDS, NOTHING};
@@ -104,8 +104,7 @@ impl<'p> Texts<'p> {
         Ok(self.ends_behind(pattern, depth))
     }
 
-    /// Adds to lists the patterns of a state's list that go on with a class. The classes with which they go on are given.
-    /// Returns the first of them that ends there.
+    /// Adds to lists the patterns of a state's list that go on with a class. Returns the first of them that ends there.
     fn push_longer(
         &self,
         lists: &mut Vec<u32>,
@@ -140,8 +139,8 @@ impl<'p> Texts<'p> {
         Ok(whole)
     }
 
-    /// For how many numbers there is room before the rows grow: for all, even if no two patterns begin alike, but at most
-    /// for `MOST_ROOM`.
+    /// How many numbers the rows have room for at first: as many as they need if no two patterns begin alike, but at
+    /// most `MOST_ROOM`.
     fn first_room(&self) -> usize
         requires { AreTexts self.now }
     {

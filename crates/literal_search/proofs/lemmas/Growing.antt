@@ -1,9 +1,11 @@
 -- States, lists and rows, as they grow.
 use Rattle.std.proofs.lemmas.Grind.{common_steps}
 use Rattle.std.proofs.Common.{◌≡◌, ℕ, ◌+◌, ◌*◌, ◌-◌, ◌<◌, ◌≤◌, ◌^◌, List, [], ◌∷◌, ◌++◌, length, get_or, inl, inr, refl}
-use Rattle.std.proofs.Common.{◌≢◌, get_or-take, map, set, take, get_or-set_other, get_or-set_same, sym, ap, ◌∙◌, arith, subst, ◌/◌, Option, None, Some}
+use Rattle.std.proofs.Common.{◌≢◌, get_or-take, map, set, take, get_or-set_other, get_or-set_same}
+use Rattle.std.proofs.Common.{sym, ap, ◌∙◌, arith, subst, ◌/◌, Option, None, Some}
 use Rattle.std.proofs.lemmas.Bool.{cases_lt}
-use Rattle.std.proofs.lemmas.List.{drop-append-le, get_or-append_right, get_or-map, get_or_append_left, get_or_push, length-drop, length-map}
+use Rattle.std.proofs.lemmas.List.{drop-append-le, get_or-append_right, get_or-map, get_or_append_left, get_or_push}
+use Rattle.std.proofs.lemmas.List.{length-drop, length-map}
 use Rattle.std.proofs.lemmas.List.{length_push, length-append, take-append-le, take_all}
 use Rattle.std.proofs.lemmas.List.FromFn.{get_or-range_with_len, length-range_with_len}
 use Rattle.std.proofs.lemmas.Nat.{mul-add-lt, same_from_place, div-mul-add}
@@ -12,7 +14,7 @@ use Rattle.std.specs.List.{range_with_len}
 use Rattle.std.specs.Option.{unwrap_or, IfSome, option_or}
 use Rattle.literal_search.specs.Table.{LeadsTo, Recognises, nothing, stride_of, code_of}
 use Rattle.literal_search.specs.Words.{ending, live_suffix, word_of, first_equal}
-use Rattle.literal_search.specs.Inside.Grown.{AreRows, AreWords, IsLonger, failure_of, list_for, symbols_after}
+use Rattle.literal_search.specs.Inside.Grown.{AreRows, IsLonger, failure_of, list_for, symbols_after}
 use Rattle.literal_search.specs.Inside.Growing.{AreTexts, IsGrowing, IsStateAt, list_in, texts_of, word_in, words_in}
 use Rattle.literal_search.specs.Inside.Growing.{words_of, HasFailure, LeadBack, LeadOn, LeadsIn, word_behind}
 use Rattle.literal_search.specs.declared.grow.Growing.{Growing}
@@ -133,17 +135,17 @@ module _ (t : Texts) where
       }
 
   -- a place in the last row
-  at_row : (rows row : List ℕ) (state n c : ℕ) → length rows ≡ state * stride_of t.width
-      → length row ≡ stride_of t.width → c < stride_of t.width → length rows ≤ n * stride_of t.width + c
-      → n * stride_of t.width + c < length (rows ++ row)
-      → (state ≡ n) × (get_or (rows ++ row) (n * stride_of t.width + c) 0 ≡ get_or row c 0)
-  at_row rows row state n c full long below late inside =
-      let more = length-append rows row in
-      let rest = n * stride_of t.width + c - length rows in
-      let same = same_from_place state rest n c (stride_of t.width) (omega (arith, more, full, long, late, inside)) below
-      (omega (arith, full, late)) in (
+  at_last : (rows last : List ℕ) (state n c : ℕ) → length rows ≡ state * stride_of t.width
+      → length last ≡ stride_of t.width → c < stride_of t.width → length rows ≤ n * stride_of t.width + c
+      → n * stride_of t.width + c < length (rows ++ last)
+      → (state ≡ n) × (get_or (rows ++ last) (n * stride_of t.width + c) 0 ≡ get_or last c 0)
+  at_last rows last state n c full long below late inside =
+      let at = n * stride_of t.width + c in
+      let more = length-append rows last in
+      let same = same_from_place state (at - length rows) n c (stride_of t.width)
+      (omega (arith, more, full, long, late, inside)) below (omega (arith, full, late)) in (
         same.0,
-        get_or-append_right rows row (length rows) (n * stride_of t.width + c) 0 refl late ∙ ap (λ k. get_or row k 0) same.1,
+        get_or-append_right rows last (length rows) at 0 refl late ∙ ap (λ k. get_or last k 0) same.1,
       )
 
   -- a number leads on from a state with a symbol
@@ -153,46 +155,29 @@ module _ (t : Texts) where
       (live_suffix (texts_of t) (word_of (words_in t states) state ++ symbol ∷ []))
 
   -- one row more: for each symbol a number that leads on from a state, and behind these what ends there
-  pub grown_row : (states : List State) (lists rows row : List ℕ) (state : ℕ)
+  grown_row : (states : List State) (lists rows last : List ℕ) (state : ℕ)
       → IsGrowing t states lists rows → length rows ≡ state * stride_of t.width → state < length states
-      → length row ≡ stride_of t.width
-      → ((symbol : ℕ) → symbol < t.width → LeadsFrom states state symbol (get_or row symbol 0))
-      → get_or row t.width 0 ≡ unwrap_or (ending (texts_of t) (word_of (words_in t states) state)) nothing
-      → IsGrowing t states lists (rows ++ row)
-  grown_row states lists rows row state g full is_state long leads ends =
-      let more = length-append rows row in
+      → length last ≡ stride_of t.width
+      → ((symbol : ℕ) → symbol < t.width → LeadsFrom states state symbol (get_or last symbol 0))
+      → get_or last t.width 0 ≡ unwrap_or (ending (texts_of t) (word_of (words_in t states) state)) nothing
+      → IsGrowing t states lists (rows ++ last)
+  grown_row states lists rows last state g full is_state long leads ends =
+      let fits = mul-add-lt state (stride_of t.width) t.width (length states) is_state (omega arith) in
       record {
         texts = g.texts;
         some = g.some;
         root = g.root;
         few = g.few;
-        filled =
-            let fits = mul-add-lt state (stride_of t.width) t.width (length states) is_state (omega arith) in
-            omega (arith, more, full, long, fits);
+        filled = omega (arith, length-append rows last, full, long, fits);
         numbers = g.numbers;
         each = g.each;
         led = record {
-          leads = λ n c below inside. elim (cases_lt (n * stride_of t.width + c) (length rows)) [
-            | inl before ↦
-                subst (LeadsFrom states n c)
-                (sym (get_or_append_left rows row 0 (n * stride_of t.width + c) before))
-                (g.led.leads n c below before)
-            | inr late ↦
-                let at = at_row rows row state n c full long (omega arith) late inside in
-                subst (LeadsFrom states n c) (sym at.1)
-                (subst (λ m. LeadsFrom states m c (get_or row c 0)) at.0 (leads c below))
-          ];
-          ends = λ n inside. elim (cases_lt (n * stride_of t.width + t.width) (length rows)) [
-            | inl before ↦
-                get_or_append_left rows row 0 (n * stride_of t.width + t.width) before ∙ g.led.ends n before
-            | inr late ↦
-                let at = at_row rows row state n t.width full long (omega arith) late inside in
-                at.1 ∙ (ends
-                ∙ ap (λ x. unwrap_or (ending (texts_of t) (word_of (words_in t states) x)) nothing) at.0)
-          ];
+          leads = grind (arith, cases_lt, get_or_append_left, at_last);
+          ends = grind (arith, cases_lt, get_or_append_left, at_last);
         };
       }
 
+  -- from a list of numbers for at least all symbols
   pub row_pushed : (states : List State) (lists rows longer row whole : List ℕ) (state : ℕ) (s : State)
       → IsGrowing t states lists rows → length rows ≡ state * stride_of t.width → state < length states
       → s ≡ get_or states state s → t.width < length row → whole ≡ take (t.width + 1) (set row t.width s.ending)
@@ -247,16 +232,6 @@ pub words_same : (g g' : Growing) → g'.texts ≡ g.texts → g'.states ≡ g.s
 words_same g g' texts states =
     ap (λ t. words_in t g'.states.items) texts ∙ ap (λ (s : Vec State). words_in g.texts s.items) states
 
-pub words_kept : (g g' : Growing) (upto : ℕ) → g'.texts ≡ g.texts → g'.states ≡ g.states
-    → AreWords (texts_of g.texts) (words_of g) g.texts.width upto
-    → AreWords (texts_of g'.texts) (words_of g') g'.texts.width upto
-words_kept g g' upto texts states are = grind arith
-
--- a row lies whole in rows that are not too long
-row_inside : (state states width : ℕ) → state < states → states * stride_of width ≤ 2 ^ 31 - 1
-    → state * stride_of width + stride_of width ≤ 2 ^ 31 - 1
-row_inside state states width is_state few = grind arith
-
 module _ (t : Texts) (states : List State) (lists rows : List ℕ) (g : IsGrowing t states lists rows) where
   -- a number that leads to a state: its row
   pub row_of : (code : ℕ) (word : List ℕ) (to : LeadsTo (texts_of t) (words_in t states) t.width code word)
@@ -300,14 +275,9 @@ module _ (t : Texts) (states : List State) (lists rows : List ℕ) (g : IsGrowin
             grind (arith, failure_push, long_word) in
             subst (λ p. LeadsTo (texts_of t) (words_in t states) t.width (get_or rows (p + symbol) 0)
             (failure_of (texts_of t) (word ++ symbol ∷ []))) (sym at)
-            (subst (LeadsTo (texts_of t) (words_in t states) t.width (get_or rows (from * stride_of t.width + symbol) 0))
-            next (g.led.leads from symbol is_symbol (omega (arith, whole, filled)))),
+            (subst (LeadsTo (texts_of t) (words_in t states) t.width _) next
+            (g.led.leads from symbol is_symbol (omega (arith, whole, filled)))),
       )
-
-  -- the ending of the state to which a number leads
-  pub ending_at : (code : ℕ) (word : List ℕ) (to : LeadsTo (texts_of t) (words_in t states) t.width code word)
-      → (d : State) → (get_or states to.state d).ending ≡ unwrap_or (ending (texts_of t) word) nothing
-  ending_at code word to d = grind (arith, common_steps)
 
   -- the ending of the state at which a number's row begins
   pub ending_by_place : (code place : ℕ) (s : State)
@@ -339,7 +309,8 @@ module _ (t : Texts) (states : List State) (lists rows : List ℕ) (g : IsGrowin
 
 -- a number more in a row, behind words that may be more
 module _ (g g' : Growing) (state class code : ℕ) (row : List ℕ) (texts : g'.texts ≡ g.texts)
-    (kept : IsLonger (words_of g) (words_of g')) (is_state : state < length (words_of g)) (inside : class < length row) where
+    (kept : IsLonger (words_of g) (words_of g')) (is_state : state < length (words_of g))
+    (inside : class < length row) where
   same_word : word_of (words_of g') state ≡ word_of (words_of g) state
   same_word = kept.same state is_state
 
@@ -373,7 +344,7 @@ module _ (g g' : Growing) (state class code : ℕ) (row : List ℕ) (texts : g'.
       rw get_or-set_other (to_longer (texts_of g.texts) (words_of g) (words_of g') g.texts.width kept _ _
       (back symbol (omega arith) is_symbol))))
 
--- a row whose numbers lead on for the symbols below one, where no pattern goes on with those from that one to a next one
+-- the numbers of a row lead on for more symbols: no pattern goes on with those from one to the next
 pub passed_over : (g : Growing) (state from next : ℕ) (row symbols : List ℕ)
     → symbols ≡ symbols_after (texts_of g.texts) (word_of (words_of g) state) → g.texts.width ≤ 256
     → ((k : ℕ) → k < length symbols → from ≤ get_or symbols k 0 → next ≤ get_or symbols k 0)

@@ -1,8 +1,10 @@
 -- Words of states, as they grow by a symbol.
 use Rattle.std.proofs.Common.{◌≡◌, ℕ, ◌+◌, ◌<◌, ◌≤◌, Bool, true, false, List, [], ◌∷◌, ◌++◌, length, get_or, Option}
-use Rattle.std.proofs.Common.{None, Some, suc, ◌-◌, take, drop, map, nat_eq, ◌&&◌, ltb, eqb, cond, if◌then◌else◌, eq-eqb}
+use Rattle.std.proofs.Common.{None, Some, suc, ◌-◌, take, drop, map, nat_eq, ◌&&◌, ltb, eqb, cond}
+use Rattle.std.proofs.Common.{if◌then◌else◌, eq-eqb}
 use Rattle.std.proofs.Common.{append-nil, append_assoc, refl, sym, ap, ◌∙◌, arith, ◌||◌, not}
-use Rattle.std.proofs.lemmas.Bool.{and_from, and_parts, cond-false, cond-true, eqb-true, lt-ltb, ltb-true, ltb-false, ne_eqb}
+use Rattle.std.proofs.lemmas.Bool.{and_from, and_parts, cond-false, cond-true, eqb-true, lt-ltb}
+use Rattle.std.proofs.lemmas.Bool.{ltb-true, ltb-false, ne_eqb}
 use Rattle.std.proofs.lemmas.Bool.Decides.{Decides-eqb}
 use Rattle.std.proofs.lemmas.List.{drop_all, drop_more, get_or-map, get_or_at, length-append, length-map, take_at}
 use Rattle.std.proofs.lemmas.List.{get_or_append_left}

@@ -18,7 +18,8 @@ list_for patterns word =
 
 -- the symbols with which the patterns that begin with a word go on behind it, and 256 where one ends
 abbrev pub symbols_after : List (List ℕ) → List ℕ → List ℕ
-symbols_after patterns word = map (λ i. slice_index_or (pattern_at patterns i) (length word) 256) (list_for patterns word)
+symbols_after patterns word =
+    map (λ i. slice_index_or (pattern_at patterns i) (length word) 256) (list_for patterns word)
 
 -- the word to which the failure link of a text's state leads: the live suffix of what is behind its first symbol
 abbrev pub failure_of : List (List ℕ) → List ℕ → List ℕ

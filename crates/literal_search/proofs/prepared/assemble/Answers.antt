@@ -46,8 +46,9 @@ returns c =
     checked c.args.version (width ∷ n ∷ places ∷ longest_of bytes ∷ l ++ (rows ++ classes) ++ starts ++ behind) in
     assembled c.args.version width (length patterns) c.len.result (longest_of bytes) c.check_over.result lengths rows
     classes starts c.args.ends.now c.args.prints.now c.shrink_to_fit.new.self.items
-    (all ∙ ap (λ l. ((((l ++ rows) ++ classes) ++ starts) ++ c.args.ends.now) ++ c.args.prints.now) c.in_ok-header.ensures)
+    (all ∙ ap (λ l. ((((l ++ rows) ++ classes) ++ starts) ++ c.args.ends.now) ++ c.args.prints.now)
+    c.in_ok-header.ensures)
     (c.check_over.ensures ∙ ap (λ l. check_of (slice_range l 2 (length l))) c.deref.ensures.value)
     ∙ (ap (λ n. body n c.len.result lengths) (sym (length-map patterns (λ (p : Vec ℕ). p.items)))
     ∙ (ap (λ n. body (length bytes) n lengths) (c.len.ensures ∙ c.args.rows.ok.0)
-    ∙ ap (body (length bytes) (length rows)) (sym (map-map (λ (b : List ℕ). length b) (λ (p : Vec ℕ). p.items) patterns))))
+    ∙ ap (body (length bytes) (length rows)) (sym (map-map (λ (b : List ℕ). length b) _ patterns))))

@@ -10,8 +10,8 @@ returns-clause-on c =
     let is_state : c.args.state < length (words_of g) =
     omega (arith, c.requires.is_state, words_length g.texts g.states.items) in
     let inside : c.args.class < length c.args.row.now = omega arith in
-    put_on g c.next.new.self c.args.state c.args.class c.in_ok-row.field-0 c.args.row.now said.same.0 said.kept is_state
-    inside said.leads c.requires.on
+    put_on g c.next.new.self c.args.state c.args.class c.in_ok-row.field-0 c.args.row.now said.same.0 said.kept
+    is_state inside said.leads c.requires.on
 
 pub returns-clause-back : goal.returns-clause-back
 returns-clause-back c =
@@ -20,5 +20,5 @@ returns-clause-back c =
     let is_state : c.args.state < length (words_of g) =
     omega (arith, c.requires.is_state, words_length g.texts g.states.items) in
     let inside : c.args.class < length c.args.row.now = omega arith in
-    put_back g c.next.new.self c.args.state c.args.class c.in_ok-row.field-0 c.args.row.now said.same.0 said.kept is_state
-    inside c.requires.back
+    put_back g c.next.new.self c.args.state c.args.class c.in_ok-row.field-0 c.args.row.now said.same.0 said.kept
+    is_state inside c.requires.back
